@@ -1,0 +1,64 @@
+-- The records of a text.
+use Rattle.std.specs.Prelude.{◌≡◌, ◌+◌, ℕ, Bool, true, false, List, [], ◌∷◌, length, Option, Some, None, option_map, ⊤}
+use Rattle.csv.specs.Reading.{Ready, default_config, has_failed, is_flexible, names_headers, reader_config, reader_state, reader_trim, records, records_from, source_of, strip_bom}
+use Rattle.csv.specs.Records.{AllText}
+use Rattle.csv.specs.declared.parser.Config.{Config}
+use Rattle.csv.specs.declared.parser.State.{State}
+use Rattle.csv.specs.declared.reader.Reader.{Reader}
+use Rattle.csv.specs.declared.reader.Trim.TheVariants as trim
+use Rattle.csv.specs.declared.error.ErrorKind.{ErrorKind}
+use Rattle.csv.specs.declared.error.ErrorKind.TheVariants as kind
+use Rattle.pb_rows.specs.declared.fault.RecordsFault.{RecordsFault}
+use Rattle.pb_rows.specs.declared.fault.RecordsFault.TheVariants.{ReadFailed, NotText, NoMemory}
+
+-- the fields of a record, each as its bytes
+abbrev pub Fields : Type 0
+Fields = List (List ℕ)
+
+-- a record's fields stand between `;`, in `"` where they need it, with `""` for a quote inside, and a record ends at any line end
+abbrev pub pb_config : Config
+pb_config = record default_config { delimiter = 59 }
+
+-- the records of a text, less one byte order mark at its start
+unfoldable pub records_of : List ℕ → List Fields
+records_of bytes = records pb_config (strip_bom bytes)
+
+-- what is left to read: the records, where the reader's bytes are known, and the fault after which nothing is read
+pub record Left : Type 0 where
+  pub left : Option (List Fields)
+  pub fault : Option RecordsFault
+
+-- an answer on the next record, where it is known what is left: there is one, it has these fields, and the rest is left after it; or none is left
+abbrev pub IsNext : Option (List Fields) → Option (List Fields) → Bool → Fields → Type 0
+IsNext None after found fields = ⊤
+IsNext (Some []) after found fields = found ≡ false
+IsNext (Some (first ∷ rest)) after found fields = (found ≡ true) × (fields ≡ first) × (after ≡ Some rest)
+
+-- the next record has a field that is no text
+abbrev pub NextIsNoText : Option (List Fields) → Type 0
+NextIsNoText None = ⊤
+NextIsNoText (Some []) = ⊥
+NextIsNoText (Some (first ∷ rest)) = ¬ AllText first
+
+-- the records that a reader of csv still gives
+abbrev pub left_of : {R : Type 0} → (R → Option (List ℕ)) → Reader R → Option (List Fields)
+left_of remaining reader =
+    option_map (λ bytes. records_from pb_config (length bytes + 1) (reader_state reader) bytes) (source_of remaining reader)
+
+-- a reader of csv that reads records as above
+pub record IsSetUp {R : Type 0} (reader : Reader R) : Type 0 where
+  pub runs : has_failed reader ≡ false
+  pub config : reader_config reader ≡ pb_config
+  pub trim : reader_trim reader ≡ trim.None
+  pub flexible : is_flexible reader ≡ true
+  pub headers : names_headers reader ≡ false
+  pub ready : Ready reader
+
+-- the fault that an error of csv stands for
+abbrev pub fault_of_kind : ErrorKind → RecordsFault
+fault_of_kind (kind.Io e) = ReadFailed
+fault_of_kind (kind.Utf8 pos err) = NotText
+fault_of_kind kind.OutOfMemory = NoMemory
+fault_of_kind (kind.UnequalLengths pos expected len) = ReadFailed
+fault_of_kind (kind.Serialize text) = ReadFailed
+fault_of_kind (kind.Deserialize pos err) = ReadFailed

@@ -1,0 +1,9 @@
+//! The records of a text with `;` between fields, read one at a time; rows written in the same
+//! form; and the exact spelling of numbers and of lists of places.
+#![tactic(auto)]
+
+mod fault;
+mod records;
+
+pub use fault::RecordsFault;
+pub use records::Records;

@@ -1,0 +1,88 @@
+// The records of a text, one at a time.
+
+ghost use Rattle.std.specs.Prelude.{◌≡◌, Some, None, IfOk, IfErr, IfSome, OnOk, option_map};
+ghost use Rattle.csv.specs.Records.{AllText, fields_of};
+ghost use Rattle.csv.specs.Reading.{error_kind};
+ghost use Rattle.pb_rows.specs.Reading.{IsNext, NextIsNoText, fault_of_kind, records_of};
+
+use crate::fault::RecordsFault;
+use csv::{Error, ErrorKind, Reader, ReaderBuilder, StringRecord};
+use std::alloc::Global;
+use std::io::Read;
+use std::marker::Model;
+
+/// The records of a text, with `;` between fields and of any lengths, read one at a time.
+///
+/// A contract sees `left`, the records that are still to come (`None` where the bytes of the reader
+/// underneath are not known), and `fault`, what stopped the reading.
+#[derive(Drop)]
+pub struct Records<R: Read> {
+    reader: Reader<R>,
+    fault: Option<RecordsFault>,
+}
+
+impl<R: Read> Model for Records<R> {
+    ghost use Rattle.std.specs.Prelude.{◌≡◌, None};
+    ghost use Rattle.pb_rows.specs.Reading.{Left, left_of, IsSetUp};
+
+    ghost Value = { Left };
+
+    ghost view = { λ s. record { left = left_of R.remaining s.reader; fault = s.fault } };
+
+    ghost invariant = { λ s. s.fault ≡ None → IsSetUp s.reader };
+}
+
+impl<R: Read> Records<R> {
+    /// The records of the text that `reader` gives. One byte order mark at its start is no part of
+    /// a field.
+    pub fn new(alloc: Global, reader: R) -> Records<R>
+        ensures left { result.left ≡ option_map records_of (R.remaining reader) }
+        ensures fault { result.fault ≡ None }
+    {
+        let reader = ReaderBuilder::new()
+            .delimiter(b';')
+            .has_headers(false)
+            .flexible(true)
+            .from_reader(alloc, reader);
+        Records {
+            reader,
+            fault: None,
+        }
+    }
+
+    /// Reads the next record into `row`, and answers whether there was one.
+    ///
+    /// Stop at the first fault: each later call answers that fault again.
+    pub fn read(&mut self, row: &mut StringRecord) -> Result<bool, RecordsFault>
+        ensures next { IfOk result (λ found. IsNext self.old.left self.new.left found (fields_of row.new)) }
+        ensures text { OnOk result (AllText (fields_of row.new)) }
+        ensures goes_on { OnOk result (self.new.fault ≡ None) }
+        ensures stops { IfErr result (λ fault. self.new.fault ≡ Some fault) }
+        ensures again { IfSome self.old.fault (λ fault. result ≡ Err fault) }
+        ensures not_text { self.old.fault ≡ None → result ≡ Err RecordsFault.NotText → NextIsNoText self.old.left }
+    {
+        if let Some(fault) = self.fault {
+            return Err(fault);
+        }
+        match self.reader.read_record(row) {
+            Ok(found) => Ok(found),
+            Err(error) => {
+                let fault = fault_of(error);
+                self.fault = Some(fault);
+                Err(fault)
+            }
+        }
+    }
+}
+
+// What an error of csv stands for.
+#[cold]
+fn fault_of(error: Error) -> RecordsFault
+    ensures { result ≡ fault_of_kind (error_kind error) }
+{
+    match error.kind() {
+        ErrorKind::Utf8 { .. } => RecordsFault::NotText,
+        ErrorKind::OutOfMemory => RecordsFault::NoMemory,
+        _ => RecordsFault::ReadFailed,
+    }
+}
