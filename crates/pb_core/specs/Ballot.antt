@@ -1,0 +1,18 @@
+use Rattle.std.specs.Prelude.{◌≡◌, ◌≢◌, ℕ, Bool, List, []}
+use Rattle.std.specs.List.{list_any}
+use Rattle.std.specs.List.Sorted.{IsStrictlyIncreasing}
+use Rattle.std.specs.Str.{trim}
+use Rattle.std.specs.Prelude.{◌==◌}
+
+-- a voter's id is not empty, and trimming leaves it as it is
+pub record IsVoterId (id : List ℕ) : Type 0 where
+  pub not_empty : id ≢ []
+  pub is_trimmed : trim id ≡ id
+
+-- a ballot is a list of places that rises, so that none stands twice
+abbrev pub IsBallot : List ℕ → Type 0
+IsBallot places = IsStrictlyIncreasing places
+
+-- the ballot approves the project at this place
+abbrev pub approves : List ℕ → ℕ → Bool
+approves ballot place = list_any (λ p. p == place) ballot

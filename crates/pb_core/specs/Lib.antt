@@ -1,0 +1,3 @@
+pub mod Ballot
+pub mod Election
+pub mod Money

@@ -1,0 +1,126 @@
+ghost use Rattle.std.specs.Prelude.{◌≡◌, ◌≢◌, ◌<◌, ◌≤◌, ◌↔◌, ◌++◌, ◌∷◌, [], length, All, IsTrue, Contains, OnOk, OnErr, map};
+ghost use Rattle.pb_core.specs.Money.{largest_money};
+
+use crate::money::Money;
+use crate::no_memory::NoMemory;
+use crate::project::Project;
+use crate::voter::Voter;
+use crate::voter_id::VoterId;
+use std::alloc::{Allocator, Global};
+use std::marker::Model;
+
+/// The most projects that an election has.
+pub const MOST_PROJECTS: usize = 10_000;
+
+/// The most voters that an election has.
+pub const MOST_VOTERS: usize = 1_000_000;
+
+/// A budget, the projects in file order, and the voters in file order with their ballots.
+#[derive(Drop)]
+pub struct Election<A: Allocator = Global> {
+    budget: Money,
+    projects: Vec<Project<A>, A>,
+    voters: Vec<Voter<A>, A>,
+}
+
+impl<A: Allocator> Model for Election<A> {
+    ghost use Rattle.pb_core.specs.Election.{ElectionView, IsElection};
+
+    ghost Value = { ElectionView };
+
+    ghost view = { λ e. record { budget = e.budget; projects = e.projects.items; voters = e.voters.items } };
+
+    ghost invariant = { λ e. IsElection (record { budget = e.budget; projects = e.projects.items; voters = e.voters.items }) };
+}
+
+impl<A: Allocator> Election<A> {
+    ghost use Rattle.pb_core.specs.Election.{IsElection, IsVoter, project_ids, voter_ids, most_projects, most_voters};
+
+    /// An election with this budget, and neither projects nor voters yet.
+    pub fn start(alloc: A, budget: Money) -> Election<A>
+    where
+        A: Copy,
+        requires { budget ≤ largest_money }
+        ensures { result ≡ record { budget = budget; projects = []; voters = [] } }
+    {
+        Election {
+            budget,
+            projects: Vec::new(alloc),
+            voters: Vec::new(alloc),
+        }
+    }
+
+    /// The budget, in hundredths.
+    pub fn budget(&self) -> Money
+        ensures budget { result ≡ self.now.budget }
+        ensures is_election { IsElection self.now }
+    {
+        self.budget
+    }
+
+    /// The projects, in file order: a project's place is its index here, from 0.
+    pub fn projects(&self) -> &[Project<A>]
+        ensures projects { result.now ≡ self.now.projects }
+        ensures is_election { IsElection self.now }
+    {
+        self.projects.as_slice()
+    }
+
+    /// The voters, in file order.
+    pub fn voters(&self) -> &[Voter<A>]
+        ensures voters { result.now ≡ self.now.voters }
+        ensures is_election { IsElection self.now }
+    {
+        self.voters.as_slice()
+    }
+
+    /// Whether a project has this id. It looks through all of them.
+    pub fn has_project(&self, id: &str) -> bool
+        ensures { IsTrue result ↔ Contains (project_ids self.now) id.now }
+    {
+        for project in self.projects.iter() {
+            if project.id() == id {
+                return true;
+            }
+        }
+        false
+    }
+
+    /// Whether a voter has this id. It looks through all of them.
+    pub fn has_voter(&self, id: &VoterId<A>) -> bool
+        ensures { IsTrue result ↔ Contains (voter_ids self.now) id.now }
+    {
+        for voter in self.voters.iter() {
+            if voter.id.text() == id.text() {
+                return true;
+            }
+        }
+        false
+    }
+
+    /// Adds a project behind the others.
+    pub fn add_project(&mut self, project: Project<A>) -> Result<(), NoMemory>
+        requires no_voter_yet { self.old.voters ≡ [] }
+        requires room { length self.old.projects < most_projects }
+        requires new_id { ¬ Contains (project_ids self.old) project.id }
+        ensures ok { OnOk result (self.new ≡ record self.old { projects = self.old.projects ++ project ∷ [] }) }
+        ensures err { OnErr result (self.new ≡ self.old) }
+    {
+        let _checked = project.cost();
+        self.projects.push(project)?;
+        Ok(())
+    }
+
+    /// Adds a voter behind the others.
+    pub fn add_voter(&mut self, voter: Voter<A>) -> Result<(), NoMemory>
+        requires room { length self.old.voters < most_voters }
+        requires new_id { ¬ Contains (voter_ids self.old) voter.id }
+        requires known { All (λ place. place < length self.old.projects) voter.ballot }
+        ensures ok { OnOk result (self.new ≡ record self.old { voters = self.old.voters ++ voter ∷ [] }) }
+        ensures err { OnErr result (self.new ≡ self.old) }
+    {
+        let _checked = (voter.id.text().len(), voter.ballot.places().len());
+        self.voters.push(voter)?;
+        Ok(())
+    }
+}
