@@ -1,3 +1,4 @@
 pub mod Ballot
 pub mod Election
 pub mod Money
+pub mod Request

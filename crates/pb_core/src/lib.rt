@@ -1,10 +1,14 @@
 //! Money, projects, ballots and elections: the plain values that every other crate speaks of.
 #![tactic(auto)]
 
+pub mod answer;
 pub mod ballot;
 pub mod election;
+pub mod entry;
 pub mod money;
 pub mod no_memory;
 pub mod project;
+pub mod request;
 pub mod voter;
 pub mod voter_id;
+mod voter_id_eq;
