@@ -1,1 +1,2 @@
-pub mod RecordFacts
+mod RecordFacts
+pub mod RowsText

@@ -1,6 +1,6 @@
 -- How the records that are left follow a read of the next one.
-use Rattle.std.proofs.Common.{◌≡◌, ◌∙◌, ◌+◌, ◌<◌, ℕ, zero, suc, List, [], ◌∷◌, length, Option, Some, None, Bool, true, false, refl, sym, ap, arith, add-one, ◌⊎◌, inl, inr, rules}
-use Rattle.std.specs.Prelude.{option_map, ◌==◌, ◌&&◌, not}
+use Rattle.std.proofs.Common.{◌≡◌, ◌∙◌, ◌+◌, ◌<◌, ℕ, zero, suc, List, [], ◌∷◌, length, Option, Some, None, Bool, true, false, refl, sym, ap, arith, add-one, ◌⊎◌, inl, inr}
+use Rattle.std.specs.Prelude.{option_map}
 use Rattle.csv.specs.Machine.{Read, ends_at_end, field_after, fields_after, is_end, next_record, step}
 use Rattle.csv.specs.Reading.{ExplainsRead, NextIs, ReadRecord, ReadsNext, has_failed, pending_of, source_of, records_from, records_next}
 use Rattle.csv.specs.declared.parser.Config.{Config}

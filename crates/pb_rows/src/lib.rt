@@ -4,6 +4,8 @@
 
 mod fault;
 mod records;
+mod rows_writer;
 
 pub use fault::RecordsFault;
 pub use records::Records;
+pub use rows_writer::RowsWriter;

@@ -1,6 +1,5 @@
-use Rattle.std.proofs.Common.{◌≡◌, ◌∙◌, None, sym, rules}
+use Rattle.std.proofs.Common.{◌∙◌, sym}
 use Rattle.csv.specs.Reading.{error_kind}
-use Rattle.pb_rows.specs.Reading.{IsSetUp, NextIsNoText}
 use Rattle.pb_rows.proofs.RecordFacts.{no_text_read, read_leaves}
 use Rattle.pb_rows.proofs.records.Records.read.Goals as goal
 

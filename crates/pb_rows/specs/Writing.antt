@@ -1,0 +1,29 @@
+-- The text of rows.
+use Rattle.std.specs.Prelude.{◌≡◌, ◌++◌, ℕ, false, true, List, [], ◌∷◌}
+use Rattle.csv.specs.Writing.{default_writer, fields_written, has_written, row_text, writer_pending, writer_setup, writer_under, with_delimiter, with_flexible}
+use Rattle.csv.specs.declared.writer.WriterBuilder.{WriterBuilder}
+use Rattle.csv.specs.declared.writer.Writer.{Writer}
+use Rattle.pb_rows.specs.Reading.{Fields}
+
+-- a row is written with `;` between its fields, quotes only where they are needed, and `\n` after it
+abbrev pub pb_writer : WriterBuilder
+pb_writer = with_flexible (with_delimiter default_writer 59) true
+
+-- the text of a row
+unfoldable pub text_of_row : Fields → List ℕ
+text_of_row fields = row_text pb_writer fields
+
+-- the text of rows, one after the other
+unfoldable pub text_of_rows : List Fields → List ℕ
+text_of_rows [] = []
+text_of_rows (row ∷ rows) = text_of_row row ++ text_of_rows rows
+
+-- a writer of csv that writes rows as above, and stands at the start of one
+pub record IsAtRowStart {W : Type 0} (writer : Writer W) : Type 0 where
+  pub setup : writer_setup writer ≡ pb_writer
+  pub fields : fields_written writer ≡ 0
+  pub clean : has_written writer ≡ false
+
+-- what a writer of csv has written: what is in the writer underneath, and what is not yet there
+abbrev pub written_by : {W : Type 0} → Writer W → (W → List ℕ) → List ℕ
+written_by writer contents = contents (writer_under writer) ++ writer_pending writer

@@ -1,0 +1,93 @@
+// Rows, written as text.
+
+ghost use Rattle.std.specs.Prelude.{◌≡◌, ◌++◌, [], map, IfOk, OnOk};
+ghost use Rattle.pb_rows.specs.Writing.{IsAtRowStart, text_of_row, written_by};
+
+use csv::{Writer, WriterBuilder};
+use std::alloc::{AllocError, Global};
+use std::marker::Model;
+
+/// A text that grows by rows: `;` between two fields, quotes where a field needs them, and `\n`
+/// after each row.
+///
+/// A contract sees it as the text so far.
+#[derive(Drop)]
+pub struct RowsWriter {
+    writer: Writer<Vec<u8>>,
+    // No row was refused so far: one that was may stand there in part.
+    is_whole: bool,
+}
+
+impl Model for RowsWriter {
+    ghost use Rattle.std.specs.Prelude.{◌≡◌, ℕ, List, true};
+    ghost use Rattle.pb_rows.specs.Writing.{IsAtRowStart, written_by};
+
+    ghost Value = { List ℕ };
+
+    ghost view = { λ s. written_by s.writer (λ text. text.items) };
+
+    ghost invariant = { λ s. s.is_whole ≡ true → IsAtRowStart s.writer };
+}
+
+impl RowsWriter {
+    /// A text of no row.
+    pub fn start(alloc: Global) -> RowsWriter
+        ensures { result ≡ [] }
+    {
+        let writer = WriterBuilder::new()
+            .delimiter(b';')
+            .flexible(true)
+            .from_writer(Vec::new(alloc));
+        RowsWriter {
+            writer,
+            is_whole: true,
+        }
+    }
+
+    /// Writes a row of these fields.
+    ///
+    /// It fails only where memory is refused. The row may then stand there in part, so each later
+    /// call fails too, `finish` among them.
+    pub fn put_row(&mut self, fields: &[&str]) -> Result<(), AllocError>
+        ensures { OnOk result (self.new ≡ self.old ++ text_of_row (map (λ field. field.now) fields.now)) }
+    {
+        if !self.is_whole {
+            return Err(AllocError);
+        }
+        self.is_whole = false;
+        write_row(&mut self.writer, fields)?;
+        self.is_whole = true;
+        Ok(())
+    }
+
+    /// The text of all rows. It fails only where memory is refused, here or at an earlier call.
+    pub fn finish(self) -> Result<Vec<u8>, AllocError>
+        ensures { IfOk result (λ text. text.items ≡ self) }
+    {
+        if !self.is_whole {
+            return Err(AllocError);
+        }
+        match self.writer.into_inner() {
+            Ok(text) => Ok(text),
+            Err(_) => Err(AllocError),
+        }
+    }
+}
+
+// Writes one row with a writer that stands at the start of one, and leaves it at the next.
+fn write_row(writer: &mut Writer<Vec<u8>>, fields: &[&str]) -> Result<(), AllocError>
+    requires { IsAtRowStart writer.old }
+    ensures next { OnOk result (IsAtRowStart writer.new) }
+    ensures text { OnOk result (written_by writer.new (λ text. text.items)
+        ≡ written_by writer.old (λ text. text.items) ++ text_of_row (map (λ field. field.now) fields.now)) }
+{
+    for field in fields {
+        if let Err(_) = writer.write_field(field.as_bytes()) {
+            return Err(AllocError);
+        }
+    }
+    if let Err(_) = writer.end_record() {
+        return Err(AllocError);
+    }
+    Ok(())
+}
