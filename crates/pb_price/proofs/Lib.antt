@@ -1,0 +1,3 @@
+pub mod FirstInRange
+pub mod Payments
+pub mod SupporterLists

@@ -1,0 +1,2 @@
+pub mod Price
+pub mod Supporters
