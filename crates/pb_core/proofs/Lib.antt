@@ -1,1 +1,5 @@
 pub mod Elections
+pub mod MoneyTexts
+pub mod Rising
+pub mod Tests
+pub mod Trim

@@ -1,8 +1,7 @@
-use Rattle.std.specs.Prelude.{◌≡◌, ◌≢◌, ℕ, Bool, List, []}
+use Rattle.std.specs.Prelude.{◌≡◌, ◌≢◌, ◌↔◌, ◌==◌, ℕ, Bool, List, [], Contains}
 use Rattle.std.specs.List.{list_any}
 use Rattle.std.specs.List.Sorted.{IsStrictlyIncreasing}
 use Rattle.std.specs.Str.{trim}
-use Rattle.std.specs.Prelude.{◌==◌}
 
 -- a voter's id is not empty, and trimming leaves it as it is
 pub record IsVoterId (id : List ℕ) : Type 0 where
@@ -16,3 +15,7 @@ IsBallot places = IsStrictlyIncreasing places
 -- the ballot approves the project at this place
 abbrev pub approves : List ℕ → ℕ → Bool
 approves ballot place = list_any (λ p. p == place) ballot
+
+-- the two lists have the same members
+abbrev pub HasSameMembers : List ℕ → List ℕ → Type 0
+HasSameMembers xs ys = (x : ℕ) → Contains xs x ↔ Contains ys x

@@ -1,4 +1,6 @@
 pub mod Ballot
 pub mod Election
 pub mod Money
+pub mod MoneyFault
+pub mod MoneyText
 pub mod Request

@@ -1,6 +1,7 @@
-ghost use Rattle.std.specs.Prelude.{◌≡◌, ℕ, List};
-ghost use Rattle.pb_core.specs.Ballot.{IsBallot, approves};
+ghost use Rattle.std.specs.Prelude.{◌≡◌, ◌↔◌, ℕ, List, IsTrue, IfOk};
+ghost use Rattle.pb_core.specs.Ballot.{IsBallot, approves, HasSameMembers};
 
+use crate::no_memory::NoMemory;
 use std::alloc::{Allocator, Global};
 use std::marker::Model;
 
@@ -19,6 +20,26 @@ impl<A: Allocator> Model for Ballot<A> {
 }
 
 impl<A: Allocator> Ballot<A> {
+    /// A ballot that approves these places, in whatever order and however often they stand.
+    pub fn of(alloc: A, places: &[u32]) -> Result<Ballot<A>, NoMemory>
+        ensures members { IfOk result (HasSameMembers places.now) }
+        ensures in_order { IsBallot places.now → IfOk result (λ ballot. ballot ≡ places.now) }
+    {
+        let mut own = Vec::from_slice(alloc, places)?;
+        if is_rising(places) {
+            return Ok(Ballot { places: own });
+        }
+        make_rising(&mut own);
+        Ok(Ballot { places: own })
+    }
+
+    /// A ballot with the same places, in memory of its own.
+    pub fn copy<B: Allocator>(&self, alloc: B) -> Result<Ballot<B>, NoMemory>
+        ensures { IfOk result (λ ballot. ballot ≡ self.now) }
+    {
+        Ballot::of(alloc, self.places())
+    }
+
     /// The approved places, from 0, rising.
     pub fn places(&self) -> &[u32]
         ensures places { result.now ≡ self.now }
@@ -33,4 +54,25 @@ impl<A: Allocator> Ballot<A> {
     {
         self.places.contains(&place)
     }
+}
+
+/// Whether each place is above the one before it.
+fn is_rising(places: &[u32]) -> bool
+    ensures { IsTrue result ↔ IsBallot places.now }
+{
+    for i in 1..places.len() {
+        if places[i] <= places[i - 1] {
+            return false;
+        }
+    }
+    true
+}
+
+/// Puts the places in rising order, each once.
+fn make_rising<A: Allocator>(places: &mut Vec<u32, A>)
+    ensures rising { IsBallot places.new.items }
+    ensures members { HasSameMembers places.old.items places.new.items }
+{
+    places.sort_unstable();
+    places.dedup();
 }

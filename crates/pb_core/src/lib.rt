@@ -6,6 +6,7 @@ pub mod ballot;
 pub mod election;
 pub mod entry;
 pub mod money;
+pub mod money_fault;
 pub mod no_memory;
 pub mod project;
 pub mod request;

@@ -1,5 +1,14 @@
-ghost use Rattle.std.specs.Prelude.{◌≡◌, ℕ};
+ghost use Rattle.std.specs.Prelude.{◌≡◌, ◌==◌, ◌&&◌, ◌||◌, ℕ, ◌+◌, ◌*◌, ◌^◌, ◌<◌, ◌≤◌, IsTrue, IfOk, min, string_bytes, take, drop, length, true, ◌++◌, codes};
+ghost use Rattle.std.specs.Char.{is_ascii_digit};
+ghost use Rattle.std.specs.List.{list_all, position_or_len};
+ghost use Rattle.std.specs.Str.Parse.{digits_value};
+ghost use Rattle.pb_core.specs.MoneyText.{is_number, is_mark, whole_part, fraction, money_text, is_in_hundredths, hundredths};
+ghost use Rattle.pb_core.specs.Money.{money_of};
 
+use crate::money_fault::MoneyFault;
+use crate::no_memory::NoMemory;
+use itoa::Buffer;
+use std::alloc::Allocator;
 use std::marker::Model;
 
 /// An amount of money, in hundredths.
@@ -17,4 +26,113 @@ impl Model for Money {
 impl Money {
     /// The largest amount that is read, in hundredths: ten million million units.
     pub const LARGEST: Money = Money(1_000_000_000_000_000);
+
+    /// The amount that a text names: digits, then perhaps `.` or `,` and further digits, of which those
+    /// behind the second are zeros. The caller trims; a comma is never a mark of thousands.
+    pub fn read(text: &str) -> Result<Money, MoneyFault>
+        ensures { result ≡ money_of text.now }
+    {
+        let text = text.as_bytes();
+        let (whole, decimals) = parts(text);
+        if !is_money(text, whole, decimals) {
+            return Err(MoneyFault::BadMoney);
+        }
+        if !has_two_decimals(decimals) {
+            return Err(MoneyFault::MoneyTooFine);
+        }
+        let hundredths = 100 * number(whole) + hundreds(decimals);
+        if hundredths > Money::LARGEST.0 {
+            return Err(MoneyFault::MoneyTooLarge);
+        }
+        Ok(Money(hundredths))
+    }
+
+    /// The amount as text: whole units, a point and two decimals, as `12.30`.
+    pub fn text<A: Allocator>(self, alloc: A) -> Result<String<A>, NoMemory>
+        ensures { IfOk result (λ text. string_bytes text ≡ money_text self) }
+    {
+        let mut buffer = Buffer::new();
+        let mut text = String::from_str(alloc, buffer.format(self.0 / 100))?;
+        text.push('.')?;
+        text.push(char::from((self.0 / 10 % 10) as u8 + b'0'))?;
+        text.push(char::from((self.0 % 10) as u8 + b'0'))?;
+        Ok(text)
+    }
+}
+
+fn is_mark(c: u8) -> bool
+    ensures { result ≡ is_mark c }
+{
+    c == b'.' || c == b','
+}
+
+/// Where the first point or comma stands; the text's length where there is none.
+fn mark_place(text: &[u8]) -> usize
+    ensures { result ≡ position_or_len is_mark text.now }
+{
+    text.iter().take_while(|c| !is_mark(**c)).count()
+}
+
+/// What stands before the first point or comma, and behind it.
+fn parts(text: &[u8]) -> (&[u8], &[u8])
+    ensures whole { result.0.now ≡ whole_part text.now }
+    ensures decimals { result.1.now ≡ fraction text.now }
+{
+    let mark = mark_place(text);
+    if mark < text.len() {
+        (&text[..mark], &text[mark + 1..])
+    } else {
+        (text, &[])
+    }
+}
+
+/// Whether each digit behind the second is `0`.
+fn has_two_decimals(decimals: &[u8]) -> bool
+    ensures { result ≡ list_all (λ c. c == 48) (drop 2 decimals.now) }
+{
+    decimals.iter().skip(2).all(|digit| *digit == b'0')
+}
+
+fn are_digits(text: &[u8]) -> bool
+    ensures { result ≡ list_all is_ascii_digit text.now }
+{
+    text.iter().all(|c| c.is_ascii_digit())
+}
+
+/// Whether there is a digit, and nothing but digits.
+fn is_number(text: &[u8]) -> bool
+    ensures { result ≡ is_number text.now }
+{
+    !text.is_empty() && are_digits(text)
+}
+
+fn is_money(text: &[u8], whole: &[u8], decimals: &[u8]) -> bool
+    ensures { result ≡ (is_number text.now || is_number whole.now && is_number decimals.now) }
+{
+    is_number(text) || is_number(whole) && is_number(decimals)
+}
+
+/// The number that digits name, up to ten thousand million million.
+fn number(digits: &[u8]) -> u64
+    requires { list_all is_ascii_digit digits.now ≡ true }
+    ensures { result ≡ min (digits_value 10 digits.now) (10 ^ 16) }
+{
+    let mut number = 0;
+    for digit in digits {
+        number = (10 * number + u64::from(*digit - b'0')).min(10_000_000_000_000_000);
+    }
+    number
+}
+
+/// The first two decimals as a number below 100; missing ones are zeros.
+fn hundreds(decimals: &[u8]) -> u64
+    requires { list_all is_ascii_digit decimals.now ≡ true }
+    ensures value { result ≡ digits_value 10 (take 2 (decimals.now ++ codes "00")) }
+    ensures below { result < 100 }
+{
+    match decimals {
+        [] => 0,
+        [tenths] => 10 * u64::from(*tenths - b'0'),
+        [tenths, hundredths, ..] => 10 * u64::from(*tenths - b'0') + u64::from(*hundredths - b'0'),
+    }
 }

@@ -1,6 +1,8 @@
-ghost use Rattle.std.specs.Prelude.{◌≡◌, ℕ, List, string_bytes};
+ghost use Rattle.std.specs.Prelude.{◌≡◌, ◌≢◌, ℕ, List, [], string_bytes, IfOk, MatchOption};
+ghost use Rattle.std.specs.Str.{trim};
 ghost use Rattle.pb_core.specs.Ballot.{IsVoterId};
 
+use crate::no_memory::NoMemory;
 use std::alloc::{Allocator, Global};
 use std::marker::Model;
 
@@ -19,6 +21,26 @@ impl<A: Allocator> Model for VoterId<A> {
 }
 
 impl<A: Allocator> VoterId<A> {
+    /// The id that a text has once white space at its ends is taken off; none where nothing is left.
+    pub fn new(alloc: A, text: &str) -> Result<Option<VoterId<A>>, NoMemory>
+        ensures { IfOk result (λ id. MatchOption id (trim text.now ≡ []) (λ id. (trim text.now ≢ []) × (id ≡ trim text.now))) }
+    {
+        let trimmed = text.trim();
+        if trimmed.is_empty() {
+            return Ok(None);
+        }
+        let text = String::from_str(alloc, trimmed)?;
+        Ok(Some(VoterId { text }))
+    }
+
+    /// The same id, in memory of its own.
+    pub fn copy<B: Allocator>(&self, alloc: B) -> Result<VoterId<B>, NoMemory>
+        ensures { IfOk result (λ id. id ≡ self.now) }
+    {
+        let text = String::from_str(alloc, self.text())?;
+        Ok(VoterId { text })
+    }
+
     /// The id as text.
     pub fn text(&self) -> &str
         ensures text { result.now ≡ self.now }

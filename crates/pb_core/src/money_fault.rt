@@ -1,0 +1,42 @@
+ghost use Rattle.std.specs.Prelude.{◌≡◌, codes};
+ghost use Rattle.pb_core.specs.MoneyFault.{number_of, name_of};
+
+use thiserror::Error;
+
+/// Why a text is no amount of money. The first of these that applies is answered.
+#[derive(Clone, Copy, Debug, PartialEq, Eq, Error)]
+pub enum MoneyFault {
+    /// The text is not digits, or digits, a point or comma, and digits.
+    #[error("not an amount of money")]
+    BadMoney,
+    /// A digit behind the second decimal is not `0`.
+    #[error("finer than a hundredth")]
+    MoneyTooFine,
+    /// The amount is above `Money::LARGEST`.
+    #[error("above ten million million")]
+    MoneyTooLarge,
+}
+
+impl MoneyFault {
+    /// The fault's number, from 1.
+    pub fn number(&self) -> u32
+        ensures { result ≡ number_of self.now }
+    {
+        match self {
+            MoneyFault::BadMoney => 1,
+            MoneyFault::MoneyTooFine => 2,
+            MoneyFault::MoneyTooLarge => 3,
+        }
+    }
+
+    /// The fault's name.
+    pub fn name(&self) -> &'static str
+        ensures { result.now ≡ name_of self.now }
+    {
+        match self {
+            MoneyFault::BadMoney => "BadMoney",
+            MoneyFault::MoneyTooFine => "MoneyTooFine",
+            MoneyFault::MoneyTooLarge => "MoneyTooLarge",
+        }
+    }
+}
