@@ -1,0 +1,75 @@
+-- What each voter pays for an elected project, and the rests afterwards.
+use Rattle.std.proofs.Common.{◌≡◌, ℕ, ◌-◌, ◌≤◌, min, List, length, map, Bool, true, false, cond, refl, ◌∙◌, inl, inr, arith}
+use Rattle.std.specs.Prelude.{sum, slice_index, if◌then◌else◌}
+use Rattle.std.specs.List.{range_with_len}
+use Rattle.std.proofs.lemmas.Bool.{cases_lt}
+use Rattle.std.proofs.lemmas.List.{get_or_past}
+use Rattle.std.proofs.lemmas.List.FromFn.{length-map-range_with_len, get_or-map-range_with_len}
+use Rattle.std.proofs.lemmas.List.Sums.{sum-map}
+use Rattle.pb_price.specs.Price.{paid_at}
+use Rattle.pb_rounds.specs.Run.{is_listed, charged}
+use Rattle.pb_rounds.proofs.Listed.{RisesWithin, sum_by-listed}
+
+-- what a voter pays
+abbrev pub payment_of : List ℕ → ℕ → List ℕ → ℕ → ℕ
+payment_of supporters price rests v = if is_listed supporters v then min (slice_index rests v) price else 0
+
+-- what each voter pays
+pub payments_of : List ℕ → ℕ → List ℕ → List ℕ
+payments_of supporters price rests = map (payment_of supporters price rests) (range_with_len 0 (length rests))
+
+paid-within_price : (b : Bool) (rest price : ℕ) → cond b (min rest price) 0 ≤ price
+paid-within_price true rest price = omega arith
+paid-within_price false rest price = omega arith
+
+paid-within_rest : (b : Bool) (rest price : ℕ) → cond b (min rest price) 0 ≤ rest
+paid-within_rest true rest price = omega arith
+paid-within_rest false rest price = omega arith
+
+less_paid : (b : Bool) (rest price : ℕ) → cond b (rest - min rest price) rest ≡ rest - cond b (min rest price) 0
+less_paid true rest price = refl
+less_paid false rest price = omega arith
+
+module _ (supporters : List ℕ) (price : ℕ) (rests : List ℕ) where
+  pub length-payments_of : length (payments_of supporters price rests) ≡ length rests
+  unfolding payments_of
+  length-payments_of = length-map-range_with_len (payment_of supporters price rests) 0 (length rests)
+
+  pub length-charged : length (charged supporters price rests) ≡ length rests
+  unfolding charged
+  length-charged = length-map-range_with_len _ 0 (length rests)
+
+  -- past the last voter nobody pays
+  pub payment_at : (v : ℕ) → slice_index (payments_of supporters price rests) v ≡ payment_of supporters price rests v
+  unfolding payments_of
+  payment_at v = elim (cases_lt v (length rests)) [
+    | inl within ↦ get_or-map-range_with_len (payment_of supporters price rests) 0 (length rests) v v 0 within (omega arith)
+    | inr past ↦
+        let gone : slice_index (payments_of supporters price rests) v ≡ 0 = get_or_past _ v 0 (rw length-payments_of past) in
+        let none : slice_index rests v ≡ 0 = get_or_past rests v 0 past in
+        let small = paid-within_rest (is_listed supporters v) (slice_index rests v) price in
+        omega (arith, gone, none, small)
+  ]
+
+  -- a rest is what is left after the payment
+  pub charged_at : (v : ℕ) → slice_index (charged supporters price rests) v ≡ slice_index rests v - payment_of supporters price rests v
+  unfolding charged
+  charged_at v = elim (cases_lt v (length rests)) [
+    | inl within ↦ get_or-map-range_with_len _ 0 (length rests) v v 0 within (omega arith) ∙ less_paid (is_listed supporters v) (slice_index rests v) price
+    | inr past ↦
+        let gone : slice_index (charged supporters price rests) v ≡ 0 = get_or_past _ v 0 (rw length-charged past) in
+        let none : slice_index rests v ≡ 0 = get_or_past rests v 0 past in
+        omega (arith, gone, none)
+  ]
+
+  pub payment-within_price : (v : ℕ) → payment_of supporters price rests v ≤ price
+  payment-within_price v = paid-within_price (is_listed supporters v) (slice_index rests v) price
+
+  pub payment-within_rest : (v : ℕ) → payment_of supporters price rests v ≤ slice_index rests v
+  payment-within_rest v = paid-within_rest (is_listed supporters v) (slice_index rests v) price
+
+  pub sum-payments_of : RisesWithin 0 (length rests) supporters
+      → sum (payments_of supporters price rests) ≡ paid_at supporters rests price
+  unfolding payments_of
+  sum-payments_of h = sum-map (payment_of supporters price rests) (range_with_len 0 (length rests))
+      ∙ sum_by-listed (λ v. min (slice_index rests v) price) supporters 0 (length rests) (length rests) (omega arith) h

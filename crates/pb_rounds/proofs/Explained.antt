@@ -1,0 +1,130 @@
+-- Every run has a price system.
+use Rattle.std.proofs.Common.{◌≡◌, ◌≢◌, ℕ, zero, suc, ◌+◌, ◌<◌, ◌≤◌, min, List, [], ◌∷◌, length, Option, Some, None, true, refl, sym, ◌∙◌, arith}
+use Rattle.std.specs.Prelude.{All, sum_by, slice_index}
+use Rattle.std.specs.List.{AllZip}
+use Rattle.std.specs.Option.{option_map_or}
+use Rattle.std.proofs.lemmas.Bool.{false_from_ne_true, cond-true, cond-false, true≢false}
+use Rattle.std.proofs.lemmas.List.Elements.{All-head, All-tail}
+use Rattle.std.proofs.lemmas.List.Sums.{sum_by-cons}
+use Rattle.pb_price.specs.Supporters.{SupportView, IsSupport, supporters_at, cost_at}
+use Rattle.pb_price.specs.Price.{total_rest, price_at}
+use Rattle.pb_price.proofs.Payments.{least_from_price, short_from_no_price, collected_below}
+use Rattle.pb_rounds.specs.Bid.{Bid}
+use Rattle.pb_rounds.specs.Run.{RunView, best_of, charged, elected_by, then_run, run_from, without, is_listed}
+use Rattle.pb_rounds.specs.PriceSystem.{PaysFor}
+use Rattle.pb_rounds.proofs.Charged.{payments_of, payment_of, payment_at, charged_at, length-payments_of, length-charged, payment-within_price, payment-within_rest, sum-payments_of}
+use Rattle.pb_rounds.proofs.Listed.{RisesWithin, rises_within, contains_from_listed, listed_from_contains, is_listed-without, length-without, listed_from_without}
+use Rattle.pb_rounds.proofs.Rounds.{IsBid, best_is_bid, no_price_without_best}
+
+-- payments that explain the election of these from these rests to those, with these projects left at first
+pub record Explains (s : SupportView) (before left : List ℕ) (run : RunView) (payments : List (List ℕ)) : Type 0 where
+  pub one_each : length run.rests ≡ s.voters
+  pub paid : AllZip (PaysFor s run.rests) run.elected payments
+  pub endowed : (v : ℕ) → sum_by (λ row. slice_index row v) payments + slice_index run.rests v ≡ slice_index before v
+  pub too_dear : (place : ℕ) → is_listed left place ≡ true → All (λ w. w.place ≢ place) run.elected
+      → total_rest (supporters_at s place) run.rests < cost_at s place
+
+abbrev pub IsExplained : SupportView → List ℕ → List ℕ → RunView → Type 0
+IsExplained s before left run = (payments : List (List ℕ)) × Explains s before left run payments
+
+-- what a run needs
+pub record IsRound (s : SupportView) (rests left : List ℕ) : Type 0 where
+  pub one_each : length rests ≡ s.voters
+  pub known : (place : ℕ) → is_listed left place ≡ true → place < length s.costs
+
+pub supporters_rise : (s : SupportView) → IsSupport s → (place : ℕ) → place < length s.costs → RisesWithin 0 s.voters (supporters_at s place)
+supporters_rise s h place below =
+    rises_within (supporters_at s place) 0 s.voters (λ _. omega arith)
+    (h.supporters_known place [] (rw h.paired below)) (h.supporters_rise place [] (rw h.paired below))
+
+-- the payments for one winner
+winner_paid : (s : SupportView) → IsSupport s → (rests left : List ℕ) → IsRound s rests left
+    → (b : Bid) → IsBid s rests left b → (after : List ℕ)
+    → ((v : ℕ) → slice_index after v ≤ slice_index (charged (supporters_at s b.place) b.price rests) v)
+    → PaysFor s after (elected_by s rests b) (payments_of (supporters_at s b.place) b.price rests)
+winner_paid s h rests left round b bid after less =
+    let supporters = supporters_at s b.place in
+    let below = round.known b.place bid.is_left in
+    let least = least_from_price supporters rests (cost_at s b.place) b.price bid.is_price in
+    record {
+      one_each = length-payments_of supporters b.price rests ∙ round.one_each;
+      by_supporters = λ v other. payment_at supporters b.price rests v
+          ∙ cond-false _ _ _ (false_from_ne_true _ (λ e. other (contains_from_listed supporters v e)));
+      within_price = λ v. rw (payment_at supporters b.price rests v) (payment-within_price supporters b.price rests v);
+      collected = sum-payments_of supporters b.price rests (rw round.one_each (supporters_rise s h b.place below));
+      covered = least.covers;
+      little_more = collected_below supporters rests (cost_at s b.place) b.price least (h.costs_positive b.place 0 below);
+      spent = λ v among short.
+          let paid : payment_of supporters b.price rests v ≡ min (slice_index rests v) b.price = cond-true _ _ _ (listed_from_contains supporters v among) in
+          omega (arith, paid, less v, charged_at supporters b.price rests v, payment_at supporters b.price rests v);
+    }
+
+explained_none : (s : SupportView) (rests left : List ℕ) → IsRound s rests left
+    → ((place : ℕ) → is_listed left place ≡ true → price_at s rests place ≡ None)
+    → IsExplained s rests left (record { elected = []; rests = rests })
+explained_none s rests left round none = (
+  [],
+  record {
+    one_each = round.one_each;
+    paid = tt;
+    endowed = λ v. omega arith;
+    too_dear = λ place among _. short_from_no_price (supporters_at s place) rests (cost_at s place) (none place among);
+  },
+)
+
+explained_some : (s : SupportView) → IsSupport s → (rests left : List ℕ) → IsRound s rests left
+    → (b : Bid) → IsBid s rests left b → (run : RunView)
+    → IsExplained s (charged (supporters_at s b.place) b.price rests) (without b.place left) run
+    → IsExplained s rests left (then_run (elected_by s rests b) run)
+explained_some s h rests left round b bid run (payments, later) =
+    let supporters = supporters_at s b.place in
+    let row = payments_of supporters b.price rests in (
+      row ∷ payments,
+      record {
+        one_each = later.one_each;
+        paid = (winner_paid s h rests left round b bid run.rests (λ v. let e = later.endowed v in omega arith), later.paid);
+        endowed = λ v.
+            omega (
+              arith,
+              sum_by-cons (λ r. slice_index r v) row payments,
+              later.endowed v,
+              charged_at supporters b.price rests v,
+              payment_at supporters b.price rests v,
+              payment-within_rest supporters b.price rests v,
+            );
+        too_dear = λ place among others.
+            let other : place ≢ b.place = λ e. All-head (λ w. w.place ≢ place) (elected_by s rests b) run.elected others (sym e) in
+            later.too_dear place (is_listed-without left b.place place other ∙ among)
+            (All-tail (λ w. w.place ≢ place) (elected_by s rests b) run.elected others);
+      },
+    )
+
+next_round : (s : SupportView) (rests left : List ℕ) → IsRound s rests left → (b : Bid)
+    → IsRound s (charged (supporters_at s b.place) b.price rests) (without b.place left)
+next_round s rests left round b = record {
+  one_each = length-charged (supporters_at s b.place) b.price rests ∙ round.one_each;
+  known = λ place among. round.known place (listed_from_without left b.place place among);
+}
+
+explained_step : (s : SupportView) → IsSupport s → (rests left : List ℕ) → IsRound s rests left
+    → (n : ℕ) → length left ≤ suc n
+    → ((rests left : List ℕ) → IsRound s rests left → length left ≤ n → IsExplained s rests left (run_from s n rests left))
+    → (o : Option Bid) → best_of s rests left ≡ o
+    → IsExplained s rests left
+    (option_map_or (λ b. then_run (elected_by s rests b) (run_from s n (charged (supporters_at s b.place) b.price rests) (without b.place left)))
+    o (record { elected = []; rests = rests }))
+explained_step s h rests left round n short later None e =
+    explained_none s rests left round (no_price_without_best s rests left e)
+explained_step s h rests left round n short later (Some b) e =
+    let bid = best_is_bid s rests left b e in
+    explained_some s h rests left round b bid _
+    (later _ _ (next_round s rests left round b) (let less = length-without left b.place bid.is_left in omega arith))
+
+-- a run that has a round for each project left has a price system
+pub run_is_explained : (s : SupportView) → IsSupport s → (n : ℕ) (rests left : List ℕ) → IsRound s rests left
+    → length left ≤ n → IsExplained s rests left (run_from s n rests left)
+unfolding run_from
+run_is_explained s h zero rests [] round short = explained_none s rests [] round (λ place among. absurd (true≢false (sym among)))
+run_is_explained s h zero rests (place ∷ left) round short = absurd (omega arith)
+run_is_explained s h (suc n) rests left round short =
+    explained_step s h rests left round n short (run_is_explained s h n) (best_of s rests left) refl

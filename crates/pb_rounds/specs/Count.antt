@@ -1,0 +1,79 @@
+use Rattle.std.specs.Prelude.{ℕ, Bool, Option, Some, List, ◌+◌, ◌-◌, ◌*◌, ◌/◌, ◌&&◌, ◌||◌, ◌==◌, not, nat_lt, nat_le, find, length, option_map, sum_by, if◌then◌else◌}
+use Rattle.std.specs.List.{list_any, range_with_len}
+use Rattle.pb_core.specs.Election.{ElectionView}
+use Rattle.pb_price.specs.Supporters.{SupportView, support_of, supporters_at, cost_at}
+use Rattle.pb_rounds.specs.Outcome.{OutcomeView}
+use Rattle.pb_rounds.specs.Run.{ElectedView, outcome_of}
+use Rattle.pb_rounds.specs.declared.options.Completion.{Completion}
+use Rattle.pb_rounds.specs.declared.options.Completion.TheVariants.{Plain, Add1}
+use Rattle.pb_rounds.specs.declared.options.CountOptions.{CountOptions}
+
+-- what the elected cost together
+abbrev pub spent_on : SupportView → List ElectedView → ℕ
+spent_on s elected = sum_by (λ w. cost_at s w.place) elected
+
+abbrev pub is_elected : List ElectedView → ℕ → Bool
+is_elected elected place = list_any (λ w. w.place == place) elected
+
+-- the elected cost more than the budget
+unfoldable pub is_over : SupportView → ℕ → List ElectedView → Bool
+is_over s budget elected = nat_lt budget (spent_on s elected)
+
+-- the project is not elected, has a supporter, and costs no more than the elected leave of the budget
+abbrev pub could_be_added : SupportView → ℕ → List ElectedView → ℕ → Bool
+could_be_added s budget elected place =
+    not (is_elected elected place) && nat_lt 0 (length (supporters_at s place)) && nat_le (cost_at s place) (budget - spent_on s elected)
+
+-- the elected are within the budget, and no project could be added
+unfoldable pub is_exhausted : SupportView → ℕ → List ElectedView → Bool
+is_exhausted s budget elected =
+    not (is_over s budget elected) && not (list_any (could_be_added s budget elected) (range_with_len 0 (length s.costs)))
+
+-- the voters share the budget, down to whole hundredths
+abbrev pub opening_share : ElectionView → ℕ
+opening_share e = if length e.voters == 0 then 0 else e.budget / length e.voters
+
+-- the share after so many raises by a step
+abbrev pub share_after : ElectionView → ℕ → ℕ → ℕ
+share_after e step raises = opening_share e + raises * step
+
+abbrev pub elected_after : ElectionView → ℕ → ℕ → List ElectedView
+elected_after e step raises = (outcome_of e (share_after e step raises)).elected
+
+abbrev pub is_over_after : ElectionView → ℕ → ℕ → Bool
+is_over_after e step raises = is_over (support_of e) e.budget (elected_after e step raises)
+
+abbrev pub is_exhausted_after : ElectionView → ℕ → ℕ → Bool
+is_exhausted_after e step raises = is_exhausted (support_of e) e.budget (elected_after e step raises)
+
+-- the first number of raises, up to a limit, whose outcome is over or exhausted
+unfoldable pub first_end : ElectionView → ℕ → ℕ → Option ℕ
+first_end e step limit = find (λ raises. is_over_after e step raises || is_exhausted_after e step raises) (range_with_len 0 (limit + 1))
+
+-- completion by raises: the first outcome that is exhausted, or the last one before the first that is over
+abbrev pub add1_of : ElectionView → ℕ → ℕ → Option ℕ
+add1_of e step limit = option_map (λ raises. if is_over_after e step raises then raises - 1 else raises) (first_end e step limit)
+
+-- how many raises a completion decides on, if it does within the limit
+abbrev pub raises_of : Completion → ElectionView → ℕ → ℕ → Option ℕ
+raises_of Plain e step limit = Some 0
+raises_of Add1 e step limit = add1_of e step limit
+
+-- What the rules settle of an outcome: all but how many prices were computed.
+pub record Settled : Type 0 where
+  pub share : ℕ
+  pub raised : ℕ
+  pub elected : List ElectedView
+  pub rests : List ℕ
+
+abbrev pub settled : OutcomeView → Settled
+settled o = record { share = o.share; raised = o.raised; elected = o.elected; rests = o.rests }
+
+-- the outcome of a run at this share, after so many raises
+abbrev pub settled_at : ElectionView → ℕ → ℕ → Settled
+settled_at e share raised = record { share = share; raised = raised; elected = (outcome_of e share).elected; rests = (outcome_of e share).rests }
+
+-- the count: the outcome at the share that the completion decides on; none where it does not decide within the limit
+abbrev pub count_of : ElectionView → CountOptions → Option Settled
+count_of e options =
+    option_map (λ raises. settled_at e (share_after e options.step raises) raises) (raises_of options.completion e options.step options.max_raises)

@@ -1,0 +1,6 @@
+pub mod Bid
+pub mod BidOrder
+pub mod Count
+pub mod Outcome
+pub mod PriceSystem
+pub mod Run

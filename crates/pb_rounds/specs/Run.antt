@@ -1,0 +1,66 @@
+use Rattle.std.specs.Prelude.{ℕ, zero, suc, Bool, Option, List, [], ◌∷◌, ◌-◌, ◌==◌, not, min, map, filter, filter_map, length, option_map, slice_index, replicate, if◌then◌else◌}
+use Rattle.std.specs.List.{list_any, range_with_len}
+use Rattle.std.specs.Option.{option_map_or}
+use Rattle.pb_core.specs.Election.{ElectionView}
+use Rattle.pb_price.specs.Supporters.{SupportView, support_of, supporters_at}
+use Rattle.pb_price.specs.Price.{paid_at, price_at}
+use Rattle.pb_rounds.specs.Bid.{Bid, is_before, first_least}
+
+-- an elected project: its place, the price that each supporter paid at most, and the sum of their payments
+pub record ElectedView : Type 0 where
+  pub place : ℕ
+  pub price : ℕ
+  pub collected : ℕ
+
+-- what a run gives: the elected in order of election, and what is left of each voter's share
+pub record RunView : Type 0 where
+  pub elected : List ElectedView
+  pub rests : List ℕ
+
+-- the project with its price at these rests, where it has one
+abbrev pub bid_at : SupportView → List ℕ → ℕ → Option Bid
+bid_at s rests place = option_map (λ price. record { price = price; place = place }) (price_at s rests place)
+
+-- the bids of the projects left, in file order
+abbrev pub bids_at : SupportView → List ℕ → List ℕ → List Bid
+bids_at s rests left = filter_map (bid_at s rests) left
+
+-- the best project of a round: the least price among the projects left, the first in the file among equals
+unfoldable pub best_of : SupportView → List ℕ → List ℕ → Option Bid
+best_of s rests left = first_least is_before (bids_at s rests left)
+
+-- whether the number is in the list
+abbrev pub is_listed : List ℕ → ℕ → Bool
+is_listed numbers n = list_any (λ m. m == n) numbers
+
+-- the rests once each supporter paid the price, or the whole rest where that is less
+unfoldable pub charged : List ℕ → ℕ → List ℕ → List ℕ
+charged supporters price rests =
+    map (λ v. if is_listed supporters v then slice_index rests v - min (slice_index rests v) price else slice_index rests v) (range_with_len 0 (length rests))
+
+-- the project elected by this bid
+abbrev pub elected_by : SupportView → List ℕ → Bid → ElectedView
+elected_by s rests b = record { place = b.place; price = b.price; collected = paid_at (supporters_at s b.place) rests b.price }
+
+-- the projects left without the one at this place
+abbrev pub without : ℕ → List ℕ → List ℕ
+without place left = filter (λ p. not (p == place)) left
+
+abbrev pub then_run : ElectedView → RunView → RunView
+then_run w run = record { elected = w ∷ run.elected; rests = run.rests }
+
+-- a run of so many rounds at most: while there is a best project it is elected, and its supporters pay
+unfoldable pub run_from : SupportView → ℕ → List ℕ → List ℕ → RunView
+run_from s zero rests left = record { elected = []; rests = rests }
+run_from s (suc rounds) rests left =
+    option_map_or (λ b. then_run (elected_by s rests b) (run_from s rounds (charged (supporters_at s b.place) b.price rests) (without b.place left)))
+    (best_of s rests left)
+    (record { elected = []; rests = rests })
+
+-- a run at a share: all projects are left, and every voter's rest is the share
+unfoldable pub run_of : SupportView → ℕ → RunView
+run_of s share = run_from s (length s.costs) (replicate s.voters share) (range_with_len 0 (length s.costs))
+
+-- the outcome of an election at a share
+abbrev pub outcome_of : ElectionView → ℕ → RunView
+outcome_of e share = run_of (support_of e) share

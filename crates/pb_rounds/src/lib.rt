@@ -1,0 +1,6 @@
+//! The Method of Equal Shares in rounds (Peters, Pierczynski and Skowron 2021), and its completion by raising everyone's share.
+#![tactic(auto)]
+
+pub mod key;
+pub mod options;
+pub mod outcome;

@@ -1,0 +1,39 @@
+ghost use Rattle.std.specs.Prelude.{◌≡◌};
+ghost use Rattle.pb_rounds.specs.declared.options.Completion.TheVariants.{Add1};
+
+use pb_core::money::Money;
+
+/// What is done with the money that a first run leaves.
+#[derive(Clone, Copy, Debug, PartialEq, Eq)]
+pub enum Completion {
+    /// Nothing: the outcome at the opening share stands.
+    Plain,
+    /// Everyone's share is raised step by step, until the elected cost too much or nothing more could be bought.
+    Add1,
+}
+
+/// How to count.
+#[derive(Clone, Copy, Debug, PartialEq, Eq)]
+pub struct CountOptions {
+    /// By how much a raise lifts everyone's share, in hundredths: 1 to 1,000,000,000.
+    pub step: Money,
+    /// How many raises there are at most: 0 to 1,000,000.
+    pub max_raises: u32,
+    /// How many workers compute prices side by side: 1 to 64. The outcome is the same for any number.
+    pub workers: u32,
+    pub completion: Completion,
+}
+
+impl CountOptions {
+    /// One worker, steps of 1.00, up to 1,000,000 raises, and completion by raises.
+    pub fn standard() -> CountOptions
+        ensures { result ≡ record { step = 100; max_raises = 1000000; workers = 1; completion = Add1 } }
+    {
+        CountOptions {
+            step: Money(100),
+            max_raises: 1_000_000,
+            workers: 1,
+            completion: Completion::Add1,
+        }
+    }
+}

@@ -1,0 +1,47 @@
+use pb_core::money::Money;
+use std::alloc::{Allocator, Global};
+use std::marker::Model;
+
+/// An elected project.
+#[derive(Clone, Copy, Debug, PartialEq, Eq)]
+pub struct Elected {
+    /// Its place in the file, from 0.
+    pub place: u32,
+    /// What each supporter paid at most, in hundredths.
+    pub price: Money,
+    /// The sum of the payments, in hundredths: at least the cost.
+    pub collected: Money,
+}
+
+impl Model for Elected {
+    ghost use Rattle.pb_rounds.specs.Run.{ElectedView};
+
+    ghost Value = { ElectedView };
+
+    ghost view = { λ w. record { place = w.place; price = w.price; collected = w.collected } };
+
+    ghost inverse = { λ w. record { place = w.place; price = w.price; collected = w.collected } };
+}
+
+/// What a run of Equal Shares gives.
+#[derive(Drop)]
+pub struct Outcome<A: Allocator = Global> {
+    /// Each voter's share of the budget, in hundredths.
+    pub share: Money,
+    /// How many times the share was raised.
+    pub raised: u32,
+    /// The elected projects, in order of election.
+    pub elected: Vec<Elected, A>,
+    /// What is left of each voter's share, in file order, in hundredths.
+    pub rests: Vec<Money, A>,
+    /// How many prices each round computed, the last round, which elects nothing, included.
+    pub priced: Vec<u64, A>,
+}
+
+impl<A: Allocator> Model for Outcome<A> {
+    ghost use Rattle.pb_rounds.specs.Outcome.{OutcomeView};
+
+    ghost Value = { OutcomeView };
+
+    ghost view = { λ o. record { share = o.share; raised = o.raised; elected = o.elected.items; rests = o.rests.items; priced = o.priced.items } };
+}
