@@ -1,4 +1,8 @@
+ghost use Rattle.std.specs.Prelude.{◌≡◌, IfOk};
+ghost use Rattle.pb_core.specs.Request.{asked};
+
 use crate::ballot::Ballot;
+use crate::no_memory::NoMemory;
 use crate::voter_id::VoterId;
 use std::alloc::{Allocator, Global};
 
@@ -13,4 +17,24 @@ pub enum Request<A: Allocator = Global> {
     Withdraw(VoterId<A>),
     /// No more changes.
     Shut,
+}
+
+impl<A: Allocator> Request<A> {
+    /// An equal request, with memory of its own.
+    pub fn copy<B: Allocator>(&self, alloc: B) -> Result<Request<B>, NoMemory>
+    where
+        B: Copy,
+        ensures { IfOk result (λ request. asked request ≡ asked self.now) }
+    {
+        match self {
+            Request::Cast(voter, ballot) => {
+                Ok(Request::Cast(voter.copy(alloc)?, ballot.copy(alloc)?))
+            }
+            Request::Replace(voter, ballot) => {
+                Ok(Request::Replace(voter.copy(alloc)?, ballot.copy(alloc)?))
+            }
+            Request::Withdraw(voter) => Ok(Request::Withdraw(voter.copy(alloc)?)),
+            Request::Shut => Ok(Request::Shut),
+        }
+    }
 }
