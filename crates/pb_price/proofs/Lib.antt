@@ -1,3 +1,4 @@
+pub mod BuiltLists
 pub mod FirstInRange
 pub mod Payments
 pub mod SupporterLists

@@ -1,2 +1,4 @@
+pub mod Lists
+pub mod Payment
 pub mod Price
 pub mod Supporters

@@ -1,4 +1,6 @@
-//! Who supports each project, and the price of a project at what is left to its supporters.
 #![tactic(auto)]
 
+pub mod gate;
+pub mod supporters;
 pub mod tally;
+mod voter_list;

@@ -1,0 +1,9 @@
+use Rattle.std.proofs.Common.{◌≡◌, length, ap, sym}
+use Rattle.pb_price.specs.Supporters.{SupportView, support_of, IsSupport}
+use Rattle.pb_price.proofs.SupporterLists.{IsSupport-support_of}
+use Rattle.pb_price.proofs.supporters.Supporters.build.Goals as goal
+
+pub invariant_of-result : goal.invariant_of-result
+invariant_of-result g c =
+    rw (ap length c.voters.ensures.voters, c.in_ok-costs.ensures, c.in_ok-lists.ensures)
+    (IsSupport-support_of c.args.election.now c.voters.ensures.is_election)

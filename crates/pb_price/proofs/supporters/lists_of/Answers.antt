@@ -1,0 +1,29 @@
+use Rattle.std.proofs.Common.{◌≡◌, ◌<◌, length, ap, ◌∙◌, arith}
+use Rattle.pb_price.proofs.BuiltLists.{ListsSoFar, ballot_read, ballot_known, ListsSoFar-more, lists_from_all}
+use Rattle.pb_price.proofs.supporters.lists_of.Goals as goal
+
+pub add_ballot-requires-clause-known : goal.add_ballot-requires-clause-known
+add_ballot-requires-clause-known g c =
+    let e = c.args.election.now in
+    let i = c.loop-position.position in
+    let ballot = c.places.result.now in
+    let same = c.voters-voter-items.ensures.voters in
+    let l = c.loop-position-test.true in
+    let read = ballot_read e c.voters-voter-items.result.now i c.voter-item.result ballot same l c.voter-item.is (c.places.ensures.places ∙ ap (λ v. v.ballot) c.voter.view_is) in
+    let known = ballot_known e i ballot c.voters-voter-items.ensures.is_election (omega (arith, ap length same)) read in
+    λ k d h. omega (arith, known k d h, c.loop-position.invariant.one_each)
+
+pub loop-position-preserved : goal.loop-position-preserved
+loop-position-preserved g c =
+    let e = c.args.election.now in
+    let i = c.loop-position.position in
+    let ballot = c.places.result.now in
+    let read = ballot_read e c.voters-voter-items.result.now i c.voter-item.result ballot c.voters-voter-items.ensures.voters c.loop-position-test.true c.voter-item.is (c.places.ensures.places ∙ ap (λ v. v.ballot) c.voter.view_is) in
+    ListsSoFar-more e c.loop-position.lists.items c.add_ballot.new.lists.items i ballot c.loop-position.invariant c.in_ok-add_ballot.ensures read
+
+pub returns : goal.returns
+returns g c =
+    let e = c.args.election.now in
+    let same = c.voters-voter-items.ensures.voters in
+    let end : c.loop-position.position ≡ length e.voters = omega (arith, ap length same) in
+    lists_from_all e c.loop-position.lists.items (rw (← end) c.loop-position.invariant)

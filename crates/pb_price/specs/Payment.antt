@@ -1,0 +1,10 @@
+use Rattle.std.specs.Prelude.{ℕ, ◌<◌, ◌≤◌, min, List, sum_by}
+
+-- what people with these rests pay together where each pays p, or all that is left where that is less
+abbrev pub paid_from : List ℕ → ℕ → ℕ
+paid_from rests p = sum_by (λ rest. min rest p) rests
+
+-- p is the least payment by which people with these rests cover the cost
+pub record IsLeastFrom (rests : List ℕ) (cost p : ℕ) : Type 0 where
+  pub covers : cost ≤ paid_from rests p
+  pub least : (q : ℕ) → q < p → paid_from rests q < cost
