@@ -1,2 +1,3 @@
+mod NumberFacts
 mod RecordFacts
 pub mod RowsText

@@ -3,9 +3,11 @@
 #![tactic(auto)]
 
 mod fault;
+mod number;
 mod records;
 mod rows_writer;
 
 pub use fault::RecordsFault;
+pub use number::read_number;
 pub use records::Records;
 pub use rows_writer::RowsWriter;
