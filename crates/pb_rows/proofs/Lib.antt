@@ -1,3 +1,5 @@
 mod NumberFacts
+pub mod PlacesText
 mod RecordFacts
+pub mod RecordsRead
 pub mod RowsText

@@ -4,10 +4,12 @@
 
 mod fault;
 mod number;
+mod places;
 mod records;
 mod rows_writer;
 
 pub use fault::RecordsFault;
 pub use number::read_number;
+pub use places::{read_place_list, read_places, write_places};
 pub use records::Records;
 pub use rows_writer::RowsWriter;

@@ -1,4 +1,4 @@
-use Rattle.std.proofs.Common.{◌<◌, ◌≤◌, length, get_or, arith}
+use Rattle.std.proofs.Common.{arith}
 use Rattle.pb_rows.proofs.NumberFacts.{not_spelled, parse_refuses, parse_spells}
 use Rattle.pb_rows.proofs.number.read_number.Goals as goal
 use Rattle.pb_rows.proofs.number.read_number.Goals.{else-bytes-gt1-via-then-bytes-gt1+else-bytes-lt49, else-bytes-gt1-via-else-bytes-gt1}

@@ -1,0 +1,73 @@
+// Lists of places as text.
+
+ghost use Rattle.std.specs.Prelude.{◌≡◌, ◌≢◌, ◌++◌, ◌↔◌, ℕ, List, IsTrue, IfOk, OnOk, string_bytes, true, false};
+ghost use Rattle.std.specs.List.Sorted.{IsStrictlyIncreasing};
+ghost use Rattle.pb_rows.specs.Numbers.{AreNumbers, places_text};
+
+use crate::number::read_number;
+use itoa::Buffer;
+use std::alloc::{AllocError, Allocator};
+
+/// Reads a list of places into `places`, in any order and with repeats, and answers whether the
+/// text is one: numbers as `read_number` reads them, with `,` between two. The empty text is the
+/// empty list.
+///
+/// Where it is none, `places` holds some of the numbers, as it may where memory is refused.
+pub fn read_place_list<A: Allocator>(
+    text: &str,
+    places: &mut Vec<u32, A>,
+) -> Result<bool, AllocError>
+    ensures listed { IfOk result (λ is_list. is_list ≡ true → text.now ≡ places_text places.new.items) }
+    ensures other { IfOk result (λ is_list. is_list ≡ false
+        → (list : List ℕ) → AreNumbers list → text.now ≢ places_text list) }
+{
+    places.clear();
+    if text.is_empty() {
+        return Ok(true);
+    }
+    for piece in text.split(',') {
+        let Some(place) = read_number(piece) else {
+            return Ok(false);
+        };
+        places.push(place)?;
+    }
+    Ok(true)
+}
+
+/// Reads a list of places that rises, none twice, as `read_place_list` does otherwise.
+pub fn read_places<A: Allocator>(text: &str, places: &mut Vec<u32, A>) -> Result<bool, AllocError>
+    ensures listed { IfOk result (λ is_list. is_list ≡ true → text.now ≡ places_text places.new.items) }
+    ensures rising { IfOk result (λ is_list. is_list ≡ true → IsStrictlyIncreasing places.new.items) }
+    ensures other { IfOk result (λ is_list. is_list ≡ false
+        → (list : List ℕ) → AreNumbers list → IsStrictlyIncreasing list → text.now ≢ places_text list) }
+{
+    Ok(read_place_list(text, places)? && is_rising(places))
+}
+
+// Whether each place is above the one before it.
+fn is_rising(places: &[u32]) -> bool
+    ensures { IsTrue result ↔ IsStrictlyIncreasing places.now }
+{
+    for i in 1..places.len() {
+        if places[i] <= places[i - 1] {
+            return false;
+        }
+    }
+    true
+}
+
+/// Writes the places at the end of `text`, in decimal with `,` between two.
+///
+/// It fails only where memory is refused, and then some of them may stand there.
+pub fn write_places<A: Allocator>(places: &[u32], text: &mut String<A>) -> Result<(), AllocError>
+    ensures { OnOk result (string_bytes text.new ≡ string_bytes text.old ++ places_text places.now) }
+{
+    let mut digits = Buffer::new();
+    for (i, place) in places.iter().enumerate() {
+        if i > 0 {
+            text.push_str(",")?;
+        }
+        text.push_str(digits.format(*place))?;
+    }
+    Ok(())
+}
