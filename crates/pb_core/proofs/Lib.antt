@@ -1,5 +1,5 @@
+pub mod Conditions
 pub mod Elections
 pub mod MoneyTexts
 pub mod Rising
-pub mod Tests
 pub mod Trim

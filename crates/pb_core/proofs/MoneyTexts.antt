@@ -3,7 +3,7 @@ use Rattle.std.specs.Char.{is_ascii_digit, digit_value}
 use Rattle.std.specs.List.{list_all, position_or_len}
 use Rattle.std.specs.Str.Parse.{digits_value}
 use Rattle.std.proofs.lemmas.Int.Digits.{digits_value_push}
-use Rattle.pb_core.proofs.Tests.{left_of, right_of, both, or_true}
+use Rattle.pb_core.proofs.Conditions.{left_of, right_of, both, or_true}
 use Rattle.pb_core.specs.MoneyText.{is_number, is_mark, whole_part, fraction, has_money_form}
 
 -- one more digit, where numbers past ten thousand million million are kept at that

@@ -1,5 +1,5 @@
 use Rattle.std.proofs.Common.{◌≡◌, ℕ, Bool, true, false, ◌&&◌, ◌==◌, cond, List, [], ◌∷◌, length, refl, ap}
-use Rattle.pb_core.proofs.Tests.{left_of, right_of, both}
+use Rattle.pb_core.proofs.Conditions.{left_of, right_of, both}
 use Rattle.std.specs.Char.{is_whitespace}
 use Rattle.std.specs.Prelude.{encode_utf8_all}
 use Rattle.std.specs.Str.{IsUtf8, chars, skip_leading_whitespace, drop_trailing_whitespace, trim, trim_start, trim_end}

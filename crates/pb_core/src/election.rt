@@ -1,6 +1,7 @@
 ghost use Rattle.std.specs.Prelude.{◌≡◌, ◌≢◌, ◌<◌, ◌≤◌, ◌↔◌, ◌++◌, ◌∷◌, [], length, All, IsTrue, Contains, OnOk, OnErr, map};
 ghost use Rattle.pb_core.specs.Money.{largest_money};
 
+use crate::ballot::Ballot;
 use crate::money::Money;
 use crate::no_memory::NoMemory;
 use crate::project::Project;
@@ -96,6 +97,17 @@ impl<A: Allocator> Election<A> {
             }
         }
         false
+    }
+
+    /// Whether each place that the ballot approves is one of a project here.
+    pub fn knows(&self, ballot: &Ballot<A>) -> bool
+        ensures { IsTrue result ↔ All (λ place. place < length self.now.projects) ballot.now }
+    {
+        let projects = self.projects.len();
+        ballot
+            .places()
+            .iter()
+            .all(|place| (*place as usize) < projects)
     }
 
     /// Adds a project behind the others.

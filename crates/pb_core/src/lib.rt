@@ -10,6 +10,8 @@ pub mod money_fault;
 pub mod no_memory;
 pub mod project;
 pub mod request;
+#[cfg(test)]
+mod tests;
 pub mod voter;
 pub mod voter_id;
 mod voter_id_eq;
