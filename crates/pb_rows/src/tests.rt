@@ -1,0 +1,165 @@
+use crate::{
+    Records, RecordsFault, RowsWriter, read_number, read_place_list, read_places, write_places,
+};
+use csv::StringRecord;
+use std::alloc::Global;
+use std::io;
+use std::io::{ErrorKind, Read};
+use std::test::Fail;
+
+// The records of a text: each field in brackets, and a bar after each record.
+fn shown(alloc: Global, text: &[u8]) -> Result<String, Fail> {
+    let mut records = Records::new(alloc, text);
+    let mut row = StringRecord::new(alloc);
+    let mut shown = String::new(alloc);
+    for _ in 0..100 {
+        if !records.read(&mut row)? {
+            return Ok(shown);
+        }
+        for field in row.iter() {
+            shown.push_str("[")?;
+            shown.push_str(field)?;
+            shown.push_str("]")?;
+        }
+        shown.push_str("|")?;
+    }
+    Ok(shown)
+}
+
+#[test]
+fn records(rt: HostRuntime) -> Result<(), Fail> {
+    for (text, want) in [
+        ("", ""),
+        ("a;b\nc;d;e\nf", "[a][b]|[c][d][e]|[f]|"),
+        ("\"x;y\";\"say \"\"hi\"\"\"\r\nz", "[x;y][say \"hi\"]|[z]|"),
+        ("\"two\nlines\"; b \n", "[two\nlines][ b ]|"),
+        ("a,b\n\n\r\nc\n", "[a,b]|[c]|"),
+        (";\n\"\"\n", "[][]|[]|"),
+        ("\u{feff}a\n\u{feff}b\n", "[a]|[\u{feff}b]|"),
+        ("\u{feff}\u{feff}a", "[\u{feff}a]|"),
+    ] {
+        let answer = shown(rt.alloc(), text.as_bytes())?;
+        assert_eq!(rt; answer.as_str(), want);
+    }
+    Ok(())
+}
+
+#[test]
+fn stops_at_a_field_that_is_no_text(rt: HostRuntime) -> Result<(), Fail> {
+    let mut records = Records::new(rt.alloc(), b"a\nb;\xff\nc\n".as_slice());
+    let mut row = StringRecord::new(rt.alloc());
+    assert_eq!(rt; records.read(&mut row), Ok(true));
+    assert_eq!(rt; records.read(&mut row), Err(RecordsFault::NotText));
+    assert_eq!(rt; records.read(&mut row), Err(RecordsFault::NotText));
+    Ok(())
+}
+
+// Gives its text byte by byte, and then an error, and then an end.
+#[derive(Drop)]
+struct Broken<'a> {
+    text: &'a [u8],
+    has_failed: bool,
+}
+
+impl<'a> Read for Broken<'a> {
+    fn read(&mut self, buf: &mut [u8]) -> io::Result<usize> {
+        match (self.text.split_first(), buf.first_mut()) {
+            (Some((byte, rest)), Some(place)) => {
+                *place = *byte;
+                self.text = rest;
+                Ok(1)
+            }
+            _ if self.has_failed => Ok(0),
+            _ => {
+                self.has_failed = true;
+                Err(io::Error::from(ErrorKind::Other))
+            }
+        }
+    }
+}
+
+#[test]
+fn stops_at_a_reader_that_fails(rt: HostRuntime) -> Result<(), Fail> {
+    let broken = Broken {
+        text: b"a;b\nc",
+        has_failed: false,
+    };
+    let mut records = Records::new(rt.alloc(), broken);
+    let mut row = StringRecord::new(rt.alloc());
+    assert_eq!(rt; records.read(&mut row), Ok(true));
+    assert_eq!(rt; records.read(&mut row), Err(RecordsFault::ReadFailed));
+    assert_eq!(rt; records.read(&mut row), Err(RecordsFault::ReadFailed));
+    Ok(())
+}
+
+#[test]
+fn rows(rt: HostRuntime) -> Result<(), Fail> {
+    let mut rows = RowsWriter::start(rt.alloc());
+    rows.put_row(&["budget", "10.00"])?;
+    rows.put_row(&["a;b", "say \"hi\"", "two\nlines", " c,d "])?;
+    rows.put_row(&[""])?;
+    rows.put_row(&["", ""])?;
+    let text = rows.finish()?;
+    let want = "budget;10.00\n\"a;b\";\"say \"\"hi\"\"\";\"two\nlines\"; c,d \n\"\"\n;\n";
+    assert_eq!(rt; text.as_slice(), want.as_bytes());
+    let nothing = RowsWriter::start(rt.alloc()).finish()?;
+    assert!(rt; nothing.is_empty());
+    Ok(())
+}
+
+#[test]
+fn numbers(rt: HostRuntime) {
+    for (text, want) in [
+        ("0", Some(0)),
+        ("7", Some(7)),
+        ("10", Some(10)),
+        ("4294967295", Some(4_294_967_295)),
+        ("4294967296", None),
+        ("007", None),
+        ("00", None),
+        ("+5", None),
+        ("-5", None),
+        ("+", None),
+        ("", None),
+        (" 5", None),
+        ("5 ", None),
+        ("1.0", None),
+    ] {
+        assert_eq!(rt; read_number(text), want, "at {text}");
+    }
+}
+
+#[test]
+fn places(rt: HostRuntime) -> Result<(), Fail> {
+    let alloc = rt.alloc();
+    let mut list = Vec::new(alloc);
+    for (text, is_list, is_rising) in [
+        ("", true, true),
+        ("0", true, true),
+        ("0,2,9", true, true),
+        ("4294967295", true, true),
+        ("2,1", true, false),
+        ("1,1", true, false),
+        ("1,", false, false),
+        (",", false, false),
+        ("1,,2", false, false),
+        ("01", false, false),
+        ("1, 2", false, false),
+        ("1;2", false, false),
+    ] {
+        assert_eq!(rt; read_place_list(text, &mut list), Ok(is_list), "at {text}");
+        if is_list {
+            let mut back = String::new(alloc);
+            write_places(list.as_slice(), &mut back)?;
+            assert_eq!(rt; back.as_str(), text);
+        }
+        assert_eq!(rt; read_places(text, &mut list), Ok(is_rising), "at {text}");
+    }
+    assert_eq!(rt; read_place_list("7,0,7", &mut list), Ok(true));
+    assert_eq!(rt; list.as_slice(), [7, 0, 7].as_slice());
+    let mut after = String::new(alloc);
+    after.push_str("places ")?;
+    write_places(&[0, 2, 10], &mut after)?;
+    assert_eq!(rt; after.as_str(), "places 0,2,10");
+    Ok(())
+}
