@@ -1,0 +1,3 @@
+pub mod Ballots
+pub mod Replays
+pub mod Steps

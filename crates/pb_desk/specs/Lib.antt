@@ -1,0 +1,5 @@
+pub mod Desk
+pub mod DeskFault
+pub mod Replay
+pub mod Standing
+pub mod Step

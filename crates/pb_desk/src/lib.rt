@@ -1,0 +1,7 @@
+//! The desk of one clerk: its ballots, its journal, and the audit of a journal.
+#![tactic(auto)]
+
+mod ballot_box;
+pub mod desk;
+pub mod desk_fault;
+pub mod start_fault;
