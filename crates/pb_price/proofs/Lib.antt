@@ -2,3 +2,4 @@ pub mod BuiltLists
 pub mod FirstInRange
 pub mod Payments
 pub mod SupporterLists
+pub mod WalkedRests

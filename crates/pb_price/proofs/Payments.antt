@@ -1,8 +1,9 @@
 -- What supporters pay at a payment, and the price as the least payment that covers the cost.
 use Rattle.std.proofs.Common.{◌≡◌, ℕ, zero, suc, ◌+◌, ◌<◌, ◌≤◌, min, max, List, [], ◌∷◌, length, Option, Some, None, Bool, true, false, refl, sym, ◌∙◌, ap, inl, inr, arith}
-use Rattle.std.specs.Prelude.{MatchOption, nat_le, slice_index, sum_by}
+use Rattle.std.specs.Prelude.{All, MatchOption, nat_le, slice_index, sum_by}
 use Rattle.std.specs.List.{find, range_with_len}
 use Rattle.std.proofs.lemmas.Bool.{leb-true, leb-false, le-leb, lt-leb, cases_lt}
+use Rattle.std.proofs.lemmas.List.Elements.{All-tail}
 use Rattle.std.proofs.lemmas.List.Sums.{sum_by-cons, sum_by-le-sum_by}
 use Rattle.pb_price.specs.Price.{paid_at, total_rest, largest_rest, price_of, IsLeastPayment, IsPrice}
 use Rattle.pb_price.proofs.FirstInRange.{IsFirstInRange, NoneInRange, find-range_with_len, find_from_first}
@@ -156,3 +157,12 @@ short_from_no_price supporters rests cost e =
 pub no_price_from_short : (supporters rests : List ℕ) (cost : ℕ) → total_rest supporters rests < cost
     → price_of supporters rests cost ≡ None
 no_price_from_short supporters rests cost h = sym (price_from_is_price supporters rests cost None h)
+
+-- where no voter has more than a bound, neither has a supporter
+pub largest_rest-le : (supporters rests : List ℕ) (most : ℕ) → All (λ voter. voter < length rests) supporters
+    → All (λ rest. rest ≤ most) rests → largest_rest supporters rests ≤ most
+largest_rest-le [] rests most known bounded = omega arith
+largest_rest-le (v ∷ vs) rests most known bounded =
+    let here = bounded v 0 (known 0 0 (omega arith)) in
+    let others = largest_rest-le vs rests most (All-tail (λ voter. voter < length rests) v vs known) bounded in
+    omega (arith, here, others)

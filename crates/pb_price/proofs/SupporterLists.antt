@@ -80,3 +80,12 @@ length_of_rising (x ∷ xs) n up below =
     let last = length xs in
     let far = place-le-rising (x ∷ xs) up last (omega arith) in
     omega (arith, far, below last 0 (omega arith))
+
+-- the supporters at a place are voters, and rise
+pub supporters_at_known : (s : SupportView) (place : ℕ) → IsSupport s → place < length s.costs
+    → All (λ voter. voter < s.voters) (supporters_at s place)
+supporters_at_known s place h l = h.supporters_known place [] (omega (arith, h.paired))
+
+pub supporters_at_rise : (s : SupportView) (place : ℕ) → IsSupport s → place < length s.costs
+    → IsStrictlyIncreasing (supporters_at s place)
+supporters_at_rise s place h l = h.supporters_rise place [] (omega (arith, h.paired))
