@@ -5,6 +5,7 @@ pub mod answer;
 pub mod ballot;
 pub mod election;
 pub mod entry;
+pub mod laws;
 pub mod money;
 pub mod money_fault;
 pub mod no_memory;

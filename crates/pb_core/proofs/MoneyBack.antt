@@ -1,0 +1,86 @@
+use Rattle.std.proofs.Common.{◌≡◌, nat_le, subst, ℕ, ◌+◌, ◌*◌, ◌/◌, ◌%◌, ◌^◌, ◌<◌, ◌≤◌, Bool, true, false, ◌&&◌, ◌||◌, Ok, List, [], ◌∷◌, ◌++◌, length, decimal, refl, sym, ◌∙◌, ap, arith, rules}
+use Rattle.std.proofs.Math.Nat.{div-add-mod}
+use Rattle.std.proofs.Math.Seq.{take-append_seam, drop-append-add}
+use Rattle.std.proofs.lemmas.Fmt.{decimal_by_steps, decimal_is_IsNumeral}
+use Rattle.std.proofs.lemmas.List.{append_assoc}
+use Rattle.std.specs.Char.{is_ascii_digit, digit_value}
+use Rattle.std.specs.List.{list_all, position_or_len}
+use Rattle.std.specs.Str.Parse.{digits_value}
+use Rattle.pb_core.proofs.Conditions.{left_of, right_of, both}
+use Rattle.pb_core.proofs.MoneyTexts.{digit_value-digit}
+use Rattle.pb_core.specs.Money.{money_of, largest_money}
+use Rattle.pb_core.specs.MoneyText.{is_number, is_mark, whole_part, fraction, has_money_form, is_in_hundredths, hundredths, money_text}
+
+nat_le-within : (a b : ℕ) → a ≤ b → nat_le a b ≡ true
+nat_le-within a b within = search rules
+
+money_of-ok : (t : List ℕ) (h : ℕ) → has_money_form t ≡ true → is_in_hundredths t ≡ true → h ≡ hundredths t → h ≤ largest_money → money_of t ≡ Ok h
+money_of-ok t h form fine same within =
+    rw form (rw fine (rw (nat_le-within (hundredths t) largest_money (subst (λ n. n ≤ largest_money) same within)) (ap Ok (sym same))))
+
+digit-below : (d : ℕ) → d < 10 → is_ascii_digit (48 + d) ≡ true
+digit-below d below = search (rules, arith)
+
+list_all-append : (p : ℕ → Bool) (xs ys : List ℕ) → list_all p xs ≡ true → list_all p ys ≡ true → list_all p (xs ++ ys) ≡ true
+list_all-append p [] ys all_xs all_ys = all_ys
+list_all-append p (x ∷ xs) ys all_xs all_ys =
+    both (p x) (list_all p (xs ++ ys)) (left_of (p x) (list_all p xs) all_xs) (list_all-append p xs ys (right_of (p x) (list_all p xs) all_xs) all_ys)
+
+decimal-digits : (n : ℕ) → n < 2 ^ 64 → list_all is_ascii_digit (decimal n) ≡ true
+decimal-digits =
+    decimal_by_steps (λ n ds. list_all is_ascii_digit ds ≡ true)
+    (λ n below. both (is_ascii_digit (48 + n)) true (digit-below n below) refl)
+    (λ n ds big all. list_all-append is_ascii_digit ds ((48 + n % 10) ∷ []) all (both (is_ascii_digit (48 + n % 10)) true (digit-below (n % 10) (omega arith)) refl))
+
+no_mark : (c : ℕ) → is_ascii_digit c ≡ true → is_mark c ≡ false
+no_mark c is_digit = search (rules, arith)
+
+first_mark : (ds rest : List ℕ) → list_all is_ascii_digit ds ≡ true → position_or_len is_mark (ds ++ 46 ∷ rest) ≡ length ds
+first_mark [] rest all = refl
+first_mark (c ∷ ds) rest all =
+    let goes_on : is_mark c ≡ false = no_mark c (left_of (is_ascii_digit c) (list_all is_ascii_digit ds) all) in
+    rw goes_on (rw (first_mark ds rest (right_of (is_ascii_digit c) (list_all is_ascii_digit ds) all)) (omega arith))
+
+is_number-of : (ds : List ℕ) → 0 < length ds → list_all is_ascii_digit ds ≡ true → is_number ds ≡ true
+is_number-of ds some all = search rules
+
+or_right : (x y : Bool) → y ≡ true → (x || y) ≡ true
+or_right true y h = refl
+or_right false y h = h
+
+digit-shown : (d : ℕ) → d < 10 → digit_value (48 + d) ≡ d
+digit-shown d below = digit_value-digit (48 + d) (digit-below d below) ∙ omega arith
+
+-- a text of digits, a point and two digits is the amount that it shows
+shown : (ds : List ℕ) (a b : ℕ) → 0 < length ds → list_all is_ascii_digit ds ≡ true → a < 10 → b < 10 →
+    100 * digits_value 10 ds + (10 * a + b) ≤ largest_money →
+    money_of (ds ++ 46 ∷ (48 + a) ∷ (48 + b) ∷ []) ≡ Ok (100 * digits_value 10 ds + (10 * a + b))
+shown ds a b some all small_a small_b within =
+    let t : List ℕ = ds ++ 46 ∷ (48 + a) ∷ (48 + b) ∷ [] in
+    let mark : position_or_len is_mark t ≡ length ds = first_mark ds ((48 + a) ∷ (48 + b) ∷ []) all in
+    let whole_is : whole_part t ≡ ds = rw mark (take-append_seam ds (46 ∷ (48 + a) ∷ (48 + b) ∷ [])) in
+    let fraction_is : fraction t ≡ (48 + a) ∷ (48 + b) ∷ [] = rw mark (drop-append-add ds (46 ∷ (48 + a) ∷ (48 + b) ∷ []) 1) in
+    let small : list_all is_ascii_digit ((48 + a) ∷ (48 + b) ∷ []) ≡ true =
+    both (is_ascii_digit (48 + a)) (list_all is_ascii_digit ((48 + b) ∷ [])) (digit-below a small_a)
+    (both (is_ascii_digit (48 + b)) true (digit-below b small_b) refl) in
+    let form : has_money_form t ≡ true =
+    or_right (is_number t) (is_number (whole_part t) && is_number (fraction t))
+    (both (is_number (whole_part t)) (is_number (fraction t)) (rw whole_is (is_number-of ds some all))
+    (rw fraction_is (is_number-of ((48 + a) ∷ (48 + b) ∷ []) (omega arith) small))) in
+    let fine : is_in_hundredths t ≡ true = rw fraction_is refl in
+    let a_is : digit_value (48 + a) ≡ a = digit-shown a small_a in
+    let b_is : digit_value (48 + b) ≡ b = digit-shown b small_b in
+    let is : hundredths t ≡ 100 * digits_value 10 ds + (10 * a + b) = rw whole_is (rw fraction_is (rw a_is (rw b_is (omega arith)))) in
+    money_of-ok t (100 * digits_value 10 ds + (10 * a + b)) form fine (sym is) within
+
+pub reads_back : (h : ℕ) → h ≤ largest_money → money_of (money_text h) ≡ Ok h
+reads_back h within =
+    let small : h / 100 < 2 ^ 64 = omega arith in
+    let numeral = decimal_is_IsNumeral (h / 100) small in
+    let parts : 100 * (h / 100) + (10 * (h / 10 % 10) + h % 10) ≡ h =
+    omega (arith, div-add-mod (h / 10) 10, div-add-mod h 10, div-add-mod h 100) in
+    let is : 100 * digits_value 10 (decimal (h / 100)) + (10 * (h / 10 % 10) + h % 10) ≡ h = rw numeral.1 parts in
+    let text_is : money_text h ≡ decimal (h / 100) ++ 46 ∷ (48 + h / 10 % 10) ∷ (48 + h % 10) ∷ [] =
+    append_assoc (decimal (h / 100)) (46 ∷ []) ((48 + h / 10 % 10) ∷ (48 + h % 10) ∷ []) in
+    rw text_is
+    (shown (decimal (h / 100)) (h / 10 % 10) (h % 10) numeral.0.0 (decimal-digits (h / 100) small) (omega arith) (omega arith) (rw is within) ∙ ap Ok is)
