@@ -1,3 +1,4 @@
 pub mod Ballots
+pub mod Openings
 pub mod Replays
 pub mod Steps

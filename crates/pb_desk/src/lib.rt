@@ -4,4 +4,5 @@
 mod ballot_box;
 pub mod desk;
 pub mod desk_fault;
+pub mod laws;
 pub mod start_fault;
