@@ -2,4 +2,6 @@ mod NumberFacts
 pub mod PlacesText
 mod RecordFacts
 pub mod RecordsRead
+pub mod RoundTrip
+mod RowTrip
 pub mod RowsText

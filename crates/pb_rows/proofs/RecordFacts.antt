@@ -38,7 +38,7 @@ next_is_shorter cfg s fields field (c ∷ rest) p e = more (is_end (step cfg s c
     more false is e again = elim (again (rw is at e)) [ inl ended ↦ inl ended | inr shorter ↦ inr (omega arith) ]
 
 -- an empty text has no record
-none_in_empty : (cfg : Config) (n : ℕ) → records_from cfg n st.StartRecord [] ≡ []
+pub none_in_empty : (cfg : Config) (n : ℕ) → records_from cfg n st.StartRecord [] ≡ []
 unfolding records_from next_record
 none_in_empty cfg zero = refl
 none_in_empty cfg (suc n) = refl
@@ -61,11 +61,11 @@ records_enough cfg (suc n) (suc m) s xs a b = next (next_record cfg s [] [] xs) 
     ]))
 
 -- the records of a text that has a next one: it, and those of the text after it
-records_more : (cfg : Config) (s : State) (xs : List ℕ) (p : Read) → next_record cfg s [] [] xs ≡ Some p
+pub records_more : (cfg : Config) (s : State) (xs : List ℕ) (p : Read) → next_record cfg s [] [] xs ≡ Some p
     → records_from cfg (length xs + 1) s xs ≡ p.0 ∷ records_from cfg (length p.2 + 1) p.1 p.2
 unfolding records_from
 records_more cfg s xs p e =
-    rw (add-one, e) (ap (λ (t : List Fields). p.0 ∷ t) (elim (next_is_shorter cfg s [] [] xs p e) [
+    rw (add-one (length xs), e) (ap (λ (t : List Fields). p.0 ∷ t) (elim (next_is_shorter cfg s [] [] xs p e) [
       | inl ended ↦ rw (ended.0, ended.1) (none_in_empty cfg (length xs) ∙ sym (none_in_empty cfg 1))
       | inr shorter ↦ records_enough cfg (length xs) (length p.2 + 1) p.1 p.2 shorter (omega arith)
     ]))
@@ -81,7 +81,7 @@ reads_next s s2 (Some xs) (Some ys) found fields h = next (next_record pb_config
   where
     next : (o : Option Read) → next_record pb_config s [] [] xs ≡ o → NextIs (next_record pb_config s [] [] xs) found fields s2 ys
         → IsNext (Some (records_from pb_config (length xs + 1) s xs)) (Some (records_from pb_config (length ys + 1) s2 ys)) found fields
-    next None e is = rw (add-one, e) (rw e at is)
+    next None e is = rw (add-one (length xs), e) (rw e at is)
     next (Some p) e is =
         let same = rw e at is in
         rw (records_more pb_config s xs p e) (same.0, same.1, rw (same.2, same.3) refl)

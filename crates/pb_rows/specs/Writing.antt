@@ -1,5 +1,5 @@
 -- The text of rows.
-use Rattle.std.specs.Prelude.{◌≡◌, ◌++◌, ℕ, false, true, List, [], ◌∷◌}
+use Rattle.std.specs.Prelude.{◌≡◌, ◌<◌, ◌++◌, ℕ, false, true, List, [], ◌∷◌, All, length, slice_index}
 use Rattle.csv.specs.Writing.{default_writer, fields_written, has_written, row_text, writer_pending, writer_setup, writer_under, with_delimiter, with_flexible}
 use Rattle.csv.specs.declared.writer.WriterBuilder.{WriterBuilder}
 use Rattle.csv.specs.declared.writer.Writer.{Writer}
@@ -17,6 +17,17 @@ text_of_row fields = row_text pb_writer fields
 unfoldable pub text_of_rows : List Fields → List ℕ
 text_of_rows [] = []
 text_of_rows (row ∷ rows) = text_of_row row ++ text_of_rows rows
+
+-- the first byte of the first field, or 0
+abbrev pub first_byte : List Fields → ℕ
+first_byte [] = 0
+first_byte ([] ∷ rows) = 0
+first_byte ((field ∷ fields) ∷ rows) = slice_index field 0
+
+-- rows that are read back as they were written: each has a field, and the text begins with no byte order mark
+pub record ComeBack (rows : List Fields) : Type 0 where
+  pub some_field : All (λ fields. 0 < length fields) rows
+  pub ascii_first : first_byte rows < 128
 
 -- a writer of csv that writes rows as above, and stands at the start of one
 pub record IsAtRowStart {W : Type 0} (writer : Writer W) : Type 0 where

@@ -3,12 +3,14 @@
 #![tactic(auto)]
 
 mod fault;
+mod laws;
 mod number;
 mod places;
 mod records;
 mod rows_writer;
 
 pub use fault::RecordsFault;
+pub use laws::rows_come_back;
 pub use number::read_number;
 pub use places::{read_place_list, read_places, write_places};
 pub use records::Records;

@@ -26,18 +26,21 @@ fn shown(alloc: Global, text: &[u8]) -> Result<String, Fail> {
     Ok(shown)
 }
 
+// Texts, and their records as `shown` gives them.
+const RECORDS: [(&str, &str); 8] = [
+    ("", ""),
+    ("a;b\nc;d;e\nf", "[a][b]|[c][d][e]|[f]|"),
+    ("\"x;y\";\"say \"\"hi\"\"\"\r\nz", "[x;y][say \"hi\"]|[z]|"),
+    ("\"two\nlines\"; b \n", "[two\nlines][ b ]|"),
+    ("a,b\n\n\r\nc\n", "[a,b]|[c]|"),
+    (";\n\"\"\n", "[][]|[]|"),
+    ("\u{feff}a\n\u{feff}b\n", "[a]|[\u{feff}b]|"),
+    ("\u{feff}\u{feff}a", "[\u{feff}a]|"),
+];
+
 #[test]
 fn records(rt: HostRuntime) -> Result<(), Fail> {
-    for (text, want) in [
-        ("", ""),
-        ("a;b\nc;d;e\nf", "[a][b]|[c][d][e]|[f]|"),
-        ("\"x;y\";\"say \"\"hi\"\"\"\r\nz", "[x;y][say \"hi\"]|[z]|"),
-        ("\"two\nlines\"; b \n", "[two\nlines][ b ]|"),
-        ("a,b\n\n\r\nc\n", "[a,b]|[c]|"),
-        (";\n\"\"\n", "[][]|[]|"),
-        ("\u{feff}a\n\u{feff}b\n", "[a]|[\u{feff}b]|"),
-        ("\u{feff}\u{feff}a", "[\u{feff}a]|"),
-    ] {
+    for (text, want) in RECORDS {
         let answer = shown(rt.alloc(), text.as_bytes())?;
         assert_eq!(rt; answer.as_str(), want);
     }
@@ -107,46 +110,52 @@ fn rows(rt: HostRuntime) -> Result<(), Fail> {
     Ok(())
 }
 
+// Texts, and the number that each spells.
+const NUMBERS: [(&str, Option<u32>); 14] = [
+    ("0", Some(0)),
+    ("7", Some(7)),
+    ("10", Some(10)),
+    ("4294967295", Some(4_294_967_295)),
+    ("4294967296", None),
+    ("007", None),
+    ("00", None),
+    ("+5", None),
+    ("-5", None),
+    ("+", None),
+    ("", None),
+    (" 5", None),
+    ("5 ", None),
+    ("1.0", None),
+];
+
 #[test]
 fn numbers(rt: HostRuntime) {
-    for (text, want) in [
-        ("0", Some(0)),
-        ("7", Some(7)),
-        ("10", Some(10)),
-        ("4294967295", Some(4_294_967_295)),
-        ("4294967296", None),
-        ("007", None),
-        ("00", None),
-        ("+5", None),
-        ("-5", None),
-        ("+", None),
-        ("", None),
-        (" 5", None),
-        ("5 ", None),
-        ("1.0", None),
-    ] {
+    for (text, want) in NUMBERS {
         assert_eq!(rt; read_number(text), want, "at {text}");
     }
 }
+
+// Texts, whether each is a list of places, and whether that list rises.
+const PLACES: [(&str, bool, bool); 12] = [
+    ("", true, true),
+    ("0", true, true),
+    ("0,2,9", true, true),
+    ("4294967295", true, true),
+    ("2,1", true, false),
+    ("1,1", true, false),
+    ("1,", false, false),
+    (",", false, false),
+    ("1,,2", false, false),
+    ("01", false, false),
+    ("1, 2", false, false),
+    ("1;2", false, false),
+];
 
 #[test]
 fn places(rt: HostRuntime) -> Result<(), Fail> {
     let alloc = rt.alloc();
     let mut list = Vec::new(alloc);
-    for (text, is_list, is_rising) in [
-        ("", true, true),
-        ("0", true, true),
-        ("0,2,9", true, true),
-        ("4294967295", true, true),
-        ("2,1", true, false),
-        ("1,1", true, false),
-        ("1,", false, false),
-        (",", false, false),
-        ("1,,2", false, false),
-        ("01", false, false),
-        ("1, 2", false, false),
-        ("1;2", false, false),
-    ] {
+    for (text, is_list, is_rising) in PLACES {
         assert_eq!(rt; read_place_list(text, &mut list), Ok(is_list), "at {text}");
         if is_list {
             let mut back = String::new(alloc);

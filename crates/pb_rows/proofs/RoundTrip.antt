@@ -1,0 +1,83 @@
+-- What is written as rows is read back as records.
+use Rattle.std.proofs.Common.{◌≡◌, ◌∙◌, ◌++◌, ◌+◌, ◌<◌, [], ◌∷◌, ℕ, suc, List, get_or, length, map, refl, ap, arith, true, false, inl, inr}
+use Rattle.std.specs.Prelude.{◌==◌, All}
+use Rattle.std.specs.List.{list_any}
+use Rattle.std.proofs.lemmas.Bool.{cases_Bool, ne_eqb}
+use Rattle.csv.specs.Reading.{records_from, strip_bom}
+use Rattle.csv.specs.Writing.{field_text, fields_text, is_blank, needs_byte, read_back}
+use Rattle.csv.specs.declared.parser.State.TheVariants as st
+use Rattle.pb_rows.specs.Reading.{Fields, pb_config, records_of}
+use Rattle.pb_rows.specs.Writing.{ComeBack, first_byte, pb_writer, text_of_row, text_of_rows}
+use Rattle.pb_rows.proofs.RecordFacts.{none_in_empty, records_more}
+use Rattle.pb_rows.proofs.RowTrip.{empty-field, head-of, read-write, row-plain, tail-of, text-head}
+
+-- rows, written one after the other, are read back
+rows_read_back : (rows : List Fields)
+    → records_from pb_config (length (text_of_rows rows) + 1) st.StartRecord (text_of_rows rows) ≡ map read_back rows
+unfolding text_of_row text_of_rows
+rows_read_back [] = none_in_empty pb_config 1
+rows_read_back (row ∷ rows) =
+    records_more pb_config st.StartRecord _ (read_back row, st.StartRecord, text_of_rows rows) (read-write row (text_of_rows rows))
+    ∙ ap (λ (t : List Fields). read_back row ∷ t) (rows_read_back rows)
+
+-- rows of some field each are themselves what they are read back as
+read_back_same : (rows : List Fields) → All (λ fields. 0 < length fields) rows → map read_back rows ≡ rows
+read_back_same [] some = refl
+read_back_same ([] ∷ rows) some =
+    let none : 0 < 0 = some 0 [] (omega arith) in
+    absurd (omega arith)
+read_back_same ((x ∷ rest) ∷ rows) some = ap (λ (t : List Fields). (x ∷ rest) ∷ t) (read_back_same rows (λ k d within. some (suc k) d (omega arith)))
+
+-- a text that begins with an ASCII character begins with no byte order mark
+no_mark : (text : List ℕ) → get_or text 0 0 < 128 → strip_bom text ≡ text
+unfolding strip_bom
+no_mark [] ascii = refl
+no_mark (a ∷ []) ascii = refl
+no_mark (a ∷ b ∷ []) ascii = refl
+no_mark (a ∷ b ∷ c ∷ rest) ascii =
+    let other : (a == 0xEF) ≡ false = ne_eqb a 0xEF (λ e. absurd (omega arith)) in
+    rw other refl
+
+-- a field begins in the text as it does by itself, or with a quote
+field_first : (x : List ℕ) (c : ℕ) (tail : List ℕ) → get_or x 0 0 < 128 → c < 128 → get_or (field_text pb_writer x ++ (c ∷ tail)) 0 0 < 128
+field_first x c tail ascii next = elim (cases_Bool (list_any (needs_byte pb_writer) x)) [
+  | inl needs ↦ rw needs (omega arith)
+  | inr plain ↦ rw plain (first x ascii)
+]
+  where
+    first : (xs : List ℕ) → get_or xs 0 0 < 128 → get_or (xs ++ (c ∷ tail)) 0 0 < 128
+    first [] a = next
+    first (b ∷ bs) a = a
+
+row_first : (x : List ℕ) (rest : Fields) (tail : List ℕ) → get_or x 0 0 < 128 → get_or (text_of_row (x ∷ rest) ++ tail) 0 0 < 128
+unfolding text_of_row is_blank fields_text
+row_first x rest tail ascii = elim (cases_Bool (is_blank pb_writer (x ∷ rest))) [
+  | inl blank ↦ blank_first x rest blank
+  | inr shows ↦
+      let shown = row-plain x rest tail shows in
+      let next = text-head rest tail in
+      rw (shown, next) (field_first x (head-of rest) (tail-of rest tail) ascii (head_ascii rest))
+]
+  where
+    head_ascii : (fields : Fields) → head-of fields < 128
+    head_ascii [] = omega arith
+    head_ascii (field ∷ fields) = omega arith
+
+    blank_first : (field : List ℕ) (fields : Fields) → is_blank pb_writer (field ∷ fields) ≡ true → get_or (text_of_row (field ∷ fields) ++ tail) 0 0 < 128
+    blank_first field [] blank = rw (empty-field field blank) (omega arith)
+    blank_first field (next ∷ fields) blank = cc blank
+
+-- and so does the text of rows
+rows_first : (rows : List Fields) → first_byte rows < 128 → All (λ fields. 0 < length fields) rows → get_or (text_of_rows rows) 0 0 < 128
+unfolding text_of_rows
+rows_first [] ascii some = omega arith
+rows_first ([] ∷ rows) ascii some =
+    let none : 0 < 0 = some 0 [] (omega arith) in
+    absurd (omega arith)
+rows_first ((x ∷ rest) ∷ rows) ascii some = row_first x rest (text_of_rows rows) ascii
+
+-- rows that each have a field, the first byte of all in ASCII, are the records of their text
+pub records_of-text_of_rows : (rows : List Fields) → ComeBack rows → records_of (text_of_rows rows) ≡ rows
+unfolding records_of
+records_of-text_of_rows rows come =
+    rw (no_mark (text_of_rows rows) (rows_first rows come.ascii_first come.some_field)) (rows_read_back rows ∙ read_back_same rows come.some_field)
