@@ -1,8 +1,10 @@
 use crate::ballot::Ballot;
 use crate::election::Election;
+use crate::laws::money_reads_back;
 use crate::money::Money;
 use crate::money_fault::MoneyFault;
 use crate::project::Project;
+use crate::request::Request;
 use crate::voter::Voter;
 use crate::voter_id::VoterId;
 use std::alloc::Global;
@@ -42,6 +44,14 @@ fn writes_money(rt: HostRuntime) -> Result<(), Fail> {
         let text = Money(hundredths).text(rt.alloc())?;
         assert_eq!(rt; text.as_str(), wanted);
     }
+    Ok(())
+}
+
+#[test]
+fn reads_back_what_it_writes(rt: HostRuntime) -> Result<(), Fail> {
+    let amount = Money(120_050);
+    money_reads_back(amount);
+    assert_eq!(rt; Money::read(amount.text(rt.alloc())?.as_str()), Ok(amount));
     Ok(())
 }
 
@@ -103,5 +113,19 @@ fn holds_an_election(rt: HostRuntime) -> Result<(), Fail> {
     assert_eq!(rt; election.budget(), Money(10_000));
     assert_eq!(rt; election.projects().len(), 1);
     assert_eq!(rt; election.voters().len(), 1);
+    Ok(())
+}
+
+#[test]
+fn copies_requests(rt: HostRuntime) -> Result<(), Fail> {
+    let alloc = rt.alloc();
+    let ballot = Ballot::of(alloc, &[1])?;
+    let replace = Request::Replace(id(&rt, alloc, "ann"), ballot);
+    let Request::Replace(voter, ballot) = replace.copy(alloc)? else {
+        return Err(Fail::new("another request"));
+    };
+    assert_eq!(rt; voter.text(), "ann");
+    assert_eq!(rt; ballot.places(), [1].as_slice());
+    assert!(rt; matches!(Request::<Global>::Shut.copy(alloc)?, Request::Shut));
     Ok(())
 }
