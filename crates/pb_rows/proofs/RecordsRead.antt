@@ -1,5 +1,5 @@
 -- How the records that were read so far follow each read: for the invariant of a loop over `Records::read`.
-use Rattle.std.proofs.Common.{◌≡◌, ◌∙◌, ◌++◌, ℕ, List, [], ◌∷◌, Option, Some, None, IfSome, true, false, refl, sym, append_assoc}
+use Rattle.std.proofs.Common.{◌≡◌, ◌∙◌, ◌++◌, ℕ, List, [], ◌∷◌, Option, Some, None, IfSome, Bool, true, false, refl, sym, append_assoc}
 use Rattle.std.specs.Prelude.{option_map}
 use Rattle.std.proofs.lemmas.List.{append-nil}
 use Rattle.csv.specs.Records.{AllText}
@@ -11,21 +11,21 @@ HasRead-start None = tt
 HasRead-start (Some bytes) = refl
 
 -- a record that was read joins those before it
-pub HasRead-more : (known : Option (List ℕ)) (done : List Fields) (left after : Option (List Fields)) (fields : Fields)
-    → HasRead known done left → IsNext left after true fields → HasRead known (done ++ fields ∷ []) after
-HasRead-more None done left after fields so_far next = tt
-HasRead-more (Some bytes) done None after fields so_far next = absurd so_far
-HasRead-more (Some bytes) done (Some []) after fields so_far next = cc next
-HasRead-more (Some bytes) done (Some (first ∷ rest)) after fields so_far next =
+pub HasRead-more : (known : Option (List ℕ)) (done : List Fields) (left after : Option (List Fields)) (found : Bool) (fields : Fields)
+    → found ≡ true → HasRead known done left → IsNext left after found fields → HasRead known (done ++ fields ∷ []) after
+HasRead-more None done left after found fields is so_far next = tt
+HasRead-more (Some bytes) done None after found fields is so_far next = absurd so_far
+HasRead-more (Some bytes) done (Some []) after found fields is so_far next = cc (is, next)
+HasRead-more (Some bytes) done (Some (first ∷ rest)) after found fields is so_far next =
     rw (next.2, next.1) (so_far ∙ sym (append_assoc done (first ∷ []) rest))
 
 -- where none is left, those that were read are all
-pub HasRead-end : (known : Option (List ℕ)) (done : List Fields) (left after : Option (List Fields)) (fields : Fields)
-    → HasRead known done left → IsNext left after false fields → IfSome known (λ bytes. records_of bytes ≡ done)
-HasRead-end None done left after fields so_far next = tt
-HasRead-end (Some bytes) done None after fields so_far next = absurd so_far
-HasRead-end (Some bytes) done (Some []) after fields so_far next = so_far ∙ append-nil done
-HasRead-end (Some bytes) done (Some (first ∷ rest)) after fields so_far next = cc next.0
+pub HasRead-end : (known : Option (List ℕ)) (done : List Fields) (left after : Option (List Fields)) (found : Bool) (fields : Fields)
+    → found ≡ false → HasRead known done left → IsNext left after found fields → IfSome known (λ bytes. records_of bytes ≡ done)
+HasRead-end None done left after found fields is so_far next = tt
+HasRead-end (Some bytes) done None after found fields is so_far next = absurd so_far
+HasRead-end (Some bytes) done (Some []) after found fields is so_far next = so_far ∙ append-nil done
+HasRead-end (Some bytes) done (Some (first ∷ rest)) after found fields is so_far next = cc (is, next.0)
 
 -- where the next is no text, it stands after those that were read
 pub HasRead-no_text : (known : Option (List ℕ)) (done : List Fields) (left : Option (List Fields))
