@@ -1,5 +1,5 @@
 -- The first least of some bids: the last of a running best, and what is known of it.
-use Rattle.std.proofs.Common.{◌≡◌, ℕ, List, [], ◌∷◌, ◌++◌, length, get_or, Option, Some, None, Bool, cond, not, refl, sym, ◌∙◌, ap, arith}
+use Rattle.std.proofs.Common.{◌≡◌, ℕ, List, [], ◌∷◌, ◌++◌, length, get_or, Some, None, Bool, cond, not, refl, sym, ◌∙◌, ap, arith}
 use Rattle.std.specs.Cmp.{IsStrictWeakOrder}
 use Rattle.std.specs.List.{find, list_all, position_or_len, IsFirstBest, best_of as best_from}
 use Rattle.std.proofs.lemmas.Bool.{not_from_true, not_from_false}
@@ -9,7 +9,7 @@ use Rattle.std.proofs.lemmas.List.MinMax.{IsFirstBest-from_best_of, ranks_by}
 use Rattle.std.proofs.lemmas.List.Sums.{position_or_len_is, list_all-from_AllPass, fold_push}
 use Rattle.std.proofs.lemmas.Option.{slice_get-get_or, none-some}
 use Rattle.pb_rounds.specs.BidOrder.{bid_cmp-total}
-use Rattle.pb_rounds.specs.Bid.{Bid, is_before, first_least}
+use Rattle.pb_rounds.specs.Bid.{Bid, is_before, first_least, better_of}
 
 -- the order of bids ranks them
 pub is_before_ranks : IsStrictWeakOrder is_before
@@ -32,11 +32,6 @@ module _ {X : Type 0} (before : X → X → Bool) (order : IsStrictWeakOrder bef
   first_least-cons x xs =
       let found = IsFirstBest-from_best_of order x xs in
       first_best_is_found (x ∷ xs) found.0 x found.1 ∙ ap (λ b. Some b) found.2
-
--- the better of a best so far, if any, and one more bid
-abbrev pub better_of : Option Bid → Bid → Bid
-better_of None x = x
-better_of (Some b) x = cond (is_before x b) x b
 
 -- one more bid
 pub first_least-push : (bids : List Bid) (x : Bid)

@@ -14,7 +14,7 @@ use Rattle.pb_rounds.specs.Run.{RunView, best_of, charged, elected_by, then_run,
 use Rattle.pb_rounds.specs.PriceSystem.{PaysFor}
 use Rattle.pb_rounds.proofs.Charged.{payments_of, payment_of, payment_at, charged_at, length-payments_of, length-charged, payment-within_price, payment-within_rest, sum-payments_of}
 use Rattle.pb_rounds.proofs.Listed.{RisesWithin, rises_within, contains_from_listed, listed_from_contains, is_listed-without, length-without, listed_from_without}
-use Rattle.pb_rounds.proofs.Rounds.{IsBid, best_is_bid, no_price_without_best}
+use Rattle.pb_rounds.proofs.BestBid.{IsBid, best_is_bid, no_price_without_best}
 
 -- payments that explain the election of these from these rests to those, with these projects left at first
 pub record Explains (s : SupportView) (before left : List ℕ) (run : RunView) (payments : List (List ℕ)) : Type 0 where

@@ -1,6 +1,9 @@
+pub mod Progress
 mod ThreeVoters
 pub mod Best
+pub mod Charge
 pub mod Charged
+pub mod Collected
 pub mod Explained
 pub mod Listed
-pub mod Rounds
+pub mod BestBid

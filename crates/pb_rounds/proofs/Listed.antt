@@ -1,11 +1,12 @@
 -- Numbers that are listed, a list without a number, and a sum over the listed numbers of a range.
-use Rattle.std.proofs.Common.{◌≡◌, ◌≢◌, ℕ, zero, suc, ◌+◌, ◌<◌, ◌≤◌, List, [], ◌∷◌, length, get_or, true, false, cond, not, refl, sym, ◌∙◌, ap, inl, inr, arith, ◌||◌}
+use Rattle.std.proofs.Common.{◌≡◌, ◌≢◌, ℕ, zero, suc, ◌+◌, ◌<◌, ◌≤◌, List, [], ◌∷◌, ◌++◌, length, get_or, true, false, cond, not, refl, sym, ◌∙◌, ap, inl, inr, arith, ◌||◌}
 use Rattle.std.specs.Prelude.{Contains, sum_by, ◌==◌, All, Any}
 use Rattle.std.specs.List.{range_with_len}
 use Rattle.std.specs.List.Sorted.{IsStrictlyIncreasing}
-use Rattle.std.proofs.lemmas.Bool.{eq-eqb, eqb-true, ne_eqb, cases_eq, true≢false, or_left, or_right, or_cases, or_from, cond-true, cond-false}
-use Rattle.std.proofs.lemmas.List.{get_or_default}
-use Rattle.std.proofs.lemmas.List.Elements.{All-tail}
+use Rattle.std.proofs.lemmas.Bool.{eq-eqb, eqb-true, ne_eqb, cases_eq, true≢false, or_left, or_right, or_cases, or_from, or_parts, cond-true, cond-false}
+use Rattle.std.proofs.lemmas.List.{get_or_default, map-id}
+use Rattle.std.proofs.lemmas.List.Elements.{All-nil, All-cons, All-tail, All-contains}
+use Rattle.std.proofs.lemmas.List.FromFn.{map-range_with_len_more}
 use Rattle.std.proofs.lemmas.List.Folds.{list_any_at, Any-from_list_any}
 use Rattle.std.proofs.lemmas.List.Sums.{sum_by-cons, length-filter, count_by-le-length}
 use Rattle.pb_rounds.specs.Run.{is_listed, without}
@@ -113,3 +114,57 @@ sum_by-listed f (x ∷ xs) low (suc n) high e (from, to, rest) = elim (cases_eq 
       sum_by-cons (λ k. cond (is_listed (x ∷ xs) k) (f k) 0) low (range_with_len (low + 1) n)
       ∙ omega (arith, here, found)
 ]
+
+-- a range with one number more
+pub range-push : (n : ℕ) → range_with_len 0 (n + 1) ≡ range_with_len 0 n ++ n ∷ []
+range-push n =
+    sym (map-id (range_with_len 0 (n + 1))) ∙ map-range_with_len_more (λ k. k) 0 n n (omega arith)
+    ∙ ap (λ xs. xs ++ n ∷ []) (map-id (range_with_len 0 n))
+
+pub range_rises : (low n high : ℕ) → low + n ≡ high → RisesWithin low high (range_with_len low n)
+range_rises low zero high e = tt
+range_rises low (suc n) high e = (omega arith, omega arith, range_rises (low + 1) n high (omega arith))
+
+pub RisesWithin-lower : (xs : List ℕ) (lower low high : ℕ) → lower ≤ low → RisesWithin low high xs → RisesWithin lower high xs
+RisesWithin-lower [] lower low high h rises = tt
+RisesWithin-lower (x ∷ xs) lower low high h (from, to, rest) = (omega arith, to, rest)
+
+without_unlisted : (xs : List ℕ) (m : ℕ) → is_listed xs m ≡ false → without m xs ≡ xs
+without_unlisted [] m e = refl
+without_unlisted (x ∷ xs) m e =
+    let parts = or_parts (x == m) _ e in
+    rw parts.0 (ap (λ ys. x ∷ ys) (without_unlisted xs m parts.1))
+
+-- rising numbers rise without one of them, and there is just one less
+pub RisesWithin-without : (xs : List ℕ) (low high m : ℕ) → RisesWithin low high xs → RisesWithin low high (without m xs)
+RisesWithin-without [] low high m h = tt
+RisesWithin-without (x ∷ xs) low high m (from, to, rest) = elim (cases_eq x m) [
+  | inl same ↦ rw (eq-eqb x m same) (RisesWithin-lower (without m xs) low (x + 1) high (omega arith) (RisesWithin-without xs (x + 1) high m rest))
+  | inr other ↦ rw (ne_eqb x m other) (from, to, RisesWithin-without xs (x + 1) high m rest)
+]
+
+pub length-without_one : (xs : List ℕ) (low high m : ℕ) → RisesWithin low high xs → is_listed xs m ≡ true → length (without m xs) + 1 ≡ length xs
+length-without_one [] low high m h e = absurd (true≢false (sym e))
+length-without_one (x ∷ xs) low high m (from, to, rest) e = elim (cases_eq x m) [
+  | inl same ↦
+      let gone : without m xs ≡ xs = without_unlisted xs m (not_listed_below xs (x + 1) high m rest (omega arith)) in
+      rw (eq-eqb x m same) (rw gone (omega arith))
+  | inr other ↦
+      let later : is_listed xs m ≡ true = rw (ne_eqb x m other) at e in
+      rw (ne_eqb x m other) (let less = length-without_one xs (x + 1) high m rest later in omega arith)
+]
+
+-- rising numbers are below their end
+pub RisesWithin-below : (xs : List ℕ) (low high : ℕ) → RisesWithin low high xs → All (λ x. x < high) xs
+RisesWithin-below [] low high h = All-nil (λ x. x < high)
+RisesWithin-below (x ∷ xs) low high (from, to, rest) = All-cons (λ x. x < high) x xs to (RisesWithin-below xs (x + 1) high rest)
+
+pub is_listed-without_same : (xs : List ℕ) (m : ℕ) → is_listed (without m xs) m ≡ false
+is_listed-without_same [] m = refl
+is_listed-without_same (x ∷ xs) m = elim (cases_eq x m) [
+  | inl same ↦ rw (eq-eqb x m same) (is_listed-without_same xs m)
+  | inr other ↦ rw (ne_eqb x m other) (or_from (x == m) _ (ne_eqb x m other) (is_listed-without_same xs m))
+]
+
+pub listed-below : (xs : List ℕ) (high n : ℕ) → All (λ x. x < high) xs → is_listed xs n ≡ true → n < high
+listed-below xs high n h e = All-contains (λ x. x < high) xs n h (contains_from_listed xs n e)

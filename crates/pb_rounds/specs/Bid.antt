@@ -1,4 +1,4 @@
-use Rattle.std.specs.Prelude.{ℕ, Bool, Option, List, not, find}
+use Rattle.std.specs.Prelude.{ℕ, Bool, Option, None, Some, List, not, find, if◌then◌else◌}
 use Rattle.std.specs.List.{list_all}
 use Rattle.std.specs.Ordering.{is_lt, nat_cmp, on, then_cmp}
 use Rattle.std.specs.declared.cmp.Ordering.{Ordering}
@@ -19,3 +19,8 @@ is_before a b = is_lt (bid_cmp a b)
 -- the first bid that no other comes before
 abbrev pub first_least : (Bid → Bid → Bool) → List Bid → Option Bid
 first_least before bids = find (λ b. list_all (λ other. not (before other b)) bids) bids
+
+-- the better of a best so far, if there is one, and one more bid
+abbrev pub better_of : Option Bid → Bid → Bid
+better_of None b = b
+better_of (Some best) b = if is_before b best then b else best

@@ -2,8 +2,8 @@ use Rattle.std.specs.Prelude.{ℕ, Bool, Option, Some, List, ◌+◌, ◌-◌, �
 use Rattle.std.specs.List.{list_any, range_with_len}
 use Rattle.pb_core.specs.Election.{ElectionView}
 use Rattle.pb_price.specs.Supporters.{SupportView, support_of, supporters_at, cost_at}
-use Rattle.pb_rounds.specs.Outcome.{OutcomeView}
-use Rattle.pb_rounds.specs.Run.{ElectedView, outcome_of}
+use Rattle.pb_rounds.specs.Outcome.{Settled, settled_by}
+use Rattle.pb_rounds.specs.Run.{ElectedView, is_elected, outcome_of}
 use Rattle.pb_rounds.specs.declared.options.Completion.{Completion}
 use Rattle.pb_rounds.specs.declared.options.Completion.TheVariants.{Plain, Add1}
 use Rattle.pb_rounds.specs.declared.options.CountOptions.{CountOptions}
@@ -11,9 +11,6 @@ use Rattle.pb_rounds.specs.declared.options.CountOptions.{CountOptions}
 -- what the elected cost together
 abbrev pub spent_on : SupportView → List ElectedView → ℕ
 spent_on s elected = sum_by (λ w. cost_at s w.place) elected
-
-abbrev pub is_elected : List ElectedView → ℕ → Bool
-is_elected elected place = list_any (λ w. w.place == place) elected
 
 -- the elected cost more than the budget
 unfoldable pub is_over : SupportView → ℕ → List ElectedView → Bool
@@ -59,21 +56,7 @@ abbrev pub raises_of : Completion → ElectionView → ℕ → ℕ → Option �
 raises_of Plain e step limit = Some 0
 raises_of Add1 e step limit = add1_of e step limit
 
--- What the rules settle of an outcome: all but how many prices were computed.
-pub record Settled : Type 0 where
-  pub share : ℕ
-  pub raised : ℕ
-  pub elected : List ElectedView
-  pub rests : List ℕ
-
-abbrev pub settled : OutcomeView → Settled
-settled o = record { share = o.share; raised = o.raised; elected = o.elected; rests = o.rests }
-
--- the outcome of a run at this share, after so many raises
-abbrev pub settled_at : ElectionView → ℕ → ℕ → Settled
-settled_at e share raised = record { share = share; raised = raised; elected = (outcome_of e share).elected; rests = (outcome_of e share).rests }
-
 -- the count: the outcome at the share that the completion decides on; none where it does not decide within the limit
 abbrev pub count_of : ElectionView → CountOptions → Option Settled
 count_of e options =
-    option_map (λ raises. settled_at e (share_after e options.step raises) raises) (raises_of options.completion e options.step options.max_raises)
+    option_map (λ raises. settled_by (share_after e options.step raises) raises (outcome_of e (share_after e options.step raises))) (raises_of options.completion e options.step options.max_raises)

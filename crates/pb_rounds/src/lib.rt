@@ -4,3 +4,5 @@
 pub mod key;
 pub mod options;
 pub mod outcome;
+mod round;
+mod rounds;
