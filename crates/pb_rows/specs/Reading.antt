@@ -22,7 +22,7 @@ pb_config = record default_config { delimiter = 59 }
 unfoldable pub records_of : List ℕ → List Fields
 records_of bytes = records pb_config (strip_bom bytes)
 
--- what is left to read: the records, where the reader's bytes are known, and the fault after which nothing is read
+-- what is left to read: the records, where the reader's bytes are known and no fault stopped the reading, and that fault
 pub record Left : Type 0 where
   pub left : Option (List Fields)
   pub fault : Option RecordsFault
@@ -49,6 +49,11 @@ HasRead (Some bytes) done (Some rest) = records_of bytes ≡ done ++ rest
 abbrev pub left_of : {R : Type 0} → (R → Option (List ℕ)) → Reader R → Option (List Fields)
 left_of remaining reader =
     option_map (λ bytes. records_from pb_config (length bytes + 1) (reader_state reader) bytes) (source_of remaining reader)
+
+-- the same, where it is known that no fault stopped the reading
+abbrev pub left_unless : Option RecordsFault → Option (List Fields) → Option (List Fields)
+left_unless None left = left
+left_unless (Some fault) left = None
 
 -- a reader of csv that reads records as above
 pub record IsSetUp {R : Type 0} (reader : Reader R) : Type 0 where

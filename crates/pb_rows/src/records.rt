@@ -14,7 +14,7 @@ use std::marker::Model;
 /// The records of a text, with `;` between fields and of any lengths, read one at a time.
 ///
 /// A contract sees `left`, the records that are still to come (`None` where the bytes of the reader
-/// underneath are not known), and `fault`, what stopped the reading.
+/// underneath are not known, and after a fault), and `fault`, what stopped the reading.
 #[derive(Drop)]
 pub struct Records<R: Read> {
     reader: Reader<R>,
@@ -23,11 +23,11 @@ pub struct Records<R: Read> {
 
 impl<R: Read> Model for Records<R> {
     ghost use Rattle.std.specs.Prelude.{◌≡◌, None};
-    ghost use Rattle.pb_rows.specs.Reading.{Left, left_of, IsSetUp};
+    ghost use Rattle.pb_rows.specs.Reading.{IsSetUp, Left, left_of, left_unless};
 
     ghost Value = { Left };
 
-    ghost view = { λ s. record { left = left_of R.remaining s.reader; fault = s.fault } };
+    ghost view = { λ s. record { left = left_unless s.fault (left_of R.remaining s.reader); fault = s.fault } };
 
     ghost invariant = { λ s. s.fault ≡ None → IsSetUp s.reader };
 }
@@ -50,7 +50,9 @@ impl<R: Read> Records<R> {
         }
     }
 
-    /// Reads the next record into `row`, and answers whether there was one.
+    /// Reads the next record into `row`, and answers whether there was one. Its fields are
+    /// `row.get(i)`, or `row.iter()`; a contract has them as csv's `fields_of row`, and the one at
+    /// `i` as `field_at (fields_of row) i`.
     ///
     /// Stop at the first fault: each later call answers that fault again.
     pub fn read(&mut self, row: &mut StringRecord) -> Result<bool, RecordsFault>
@@ -59,7 +61,7 @@ impl<R: Read> Records<R> {
         ensures goes_on { OnOk result (self.new.fault ≡ None) }
         ensures stops { IfErr result (λ fault. self.new.fault ≡ Some fault) }
         ensures again { IfSome self.old.fault (λ fault. result ≡ Err fault) }
-        ensures not_text { self.old.fault ≡ None → result ≡ Err RecordsFault.NotText → NextIsNoText self.old.left }
+        ensures not_text { result ≡ Err RecordsFault.NotText → NextIsNoText self.old.left }
     {
         if let Some(fault) = self.fault {
             return Err(fault);

@@ -6,11 +6,12 @@ use Rattle.pb_rows.proofs.records.Records.read.Goals as goal
 pub returns-in-Ok-clause-next : goal.returns-in-Ok-clause-next
 returns-in-Ok-clause-next g c =
     let is = c.self.invariant c.in_default.is in
-    rw (← c.self.view_is) (read_leaves g.R.Read.remaining c.self.inside.reader c.read_record.new.self _ _ is
+    rw (← c.self.view_is, c.in_default.is) (read_leaves g.R.Read.remaining c.self.inside.reader c.read_record.new.self _ _ is
     (c.in-Ok.ensures.goes ∙ is.runs) (c.in-Ok.ensures.reads is.trim is.ready))
 
 pub returns-in-Err-clause-not_text : goal.returns-in-Err-clause-not_text
 returns-in-Err-clause-not_text g c =
-    λ running named.
+    λ named.
     let is = c.self.invariant c.in_default.is in
-    rw (← c.self.view_is) (no_text_read g.R.Read.remaining c.self.inside.reader c.read_record.new.self (error_kind c.in-Err.error) is (sym c.fault_of-fault.ensures ∙ (cc)) (c.in-Err.ensures.why is.trim is.ready))
+    rw (← c.self.view_is, c.in_default.is) (no_text_read g.R.Read.remaining c.self.inside.reader c.read_record.new.self (error_kind c.in-Err.error) is (sym c.fault_of-fault.ensures ∙ (cc))
+    (c.in-Err.ensures.why is.trim is.ready))
