@@ -5,4 +5,6 @@ mod ballot_box;
 pub mod desk;
 pub mod desk_fault;
 pub mod laws;
+mod row_writer;
 pub mod start_fault;
+pub mod write_fault;
