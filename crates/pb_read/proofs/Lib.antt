@@ -1,0 +1,3 @@
+pub mod ListFacts
+pub mod MachineLaws
+pub mod Keeps

@@ -1,0 +1,61 @@
+-- Facts about lists, texts and tests that several proofs share.
+use Rattle.std.proofs.Common.{◌≡◌, ◌≢◌, ℕ, zero, suc, ◌+◌, ◌<◌, ◌≤◌, Bool, true, false, cond, not, ◌&&◌, ◌||◌, List, [], ◌∷◌, ◌++◌, length, map, All, Contains, Option, Some, None, Result, Ok, Err, refl, sym, ◌∙◌, ap, subst, get_or, arith, inl, inr, length-append, append_assoc}
+use Rattle.std.specs.List.{AllByRecursion, AllZip, AllPairs, list_any, slice_index_or}
+use Rattle.std.specs.Str.{bytes_eq}
+use Rattle.std.proofs.lemmas.Bool.{false≢true, true≢false, false_from_ne_true}
+use Rattle.std.proofs.lemmas.List.{map-append}
+use Rattle.std.proofs.lemmas.List.Elements.{Contains-append_right, Contains-append_left, Contains-get_or, All-get_or}
+use Rattle.std.proofs.lemmas.Map.Views.{Contains-from_any}
+use Rattle.std.proofs.lemmas.Slice.Eq.{bytes_eq-Decides}
+use Rattle.pb_core.specs.Election.{AreDistinct}
+use Rattle.pb_read.specs.Voting.{is_among}
+
+pub some≢none : {A : Type 0} {x : A} → Some x ≡ None → ⊥
+some≢none e = cc
+
+pub ok≢err : {A E : Type 0} {x : A} {y : E} → ◌≡◌ {A = Result A E} (Ok x) (Err y) → ⊥
+ok≢err e = cc
+
+-- a check that was passed
+pub cond_none : {A : Type 0} (t : Bool) (k : A) (x : Option A) → cond t (Some k) x ≡ None → (t ≡ false) × (x ≡ None)
+cond_none true k x e = absurd (some≢none e)
+cond_none false k x e = (refl, e)
+
+pub AllByRecursion-append : {X : Type 0} (P : X → Type 0) (xs ys : List X) → AllByRecursion P xs → AllByRecursion P ys → AllByRecursion P (xs ++ ys)
+AllByRecursion-append P [] ys f g = g
+AllByRecursion-append P (x ∷ xs) ys f g = (f.0, AllByRecursion-append P xs ys f.1 g)
+
+pub AllByRecursion-left : {X : Type 0} (P : X → Type 0) (xs ys : List X) → AllByRecursion P (xs ++ ys) → AllByRecursion P xs
+AllByRecursion-left P [] ys f = tt
+AllByRecursion-left P (x ∷ xs) ys f = (f.0, AllByRecursion-left P xs ys f.1)
+
+pub AllByRecursion-right : {X : Type 0} (P : X → Type 0) (xs ys : List X) → AllByRecursion P (xs ++ ys) → AllByRecursion P ys
+AllByRecursion-right P [] ys f = f
+AllByRecursion-right P (x ∷ xs) ys f = AllByRecursion-right P xs ys f.1
+
+pub AllZip-push : {X Y : Type 0} (R : X → Y → Type 0) (xs : List X) (ys : List Y) (x : X) (y : Y) → AllZip R xs ys → R x y → AllZip R (xs ++ x ∷ []) (ys ++ y ∷ [])
+AllZip-push R [] [] x y f r = (r, tt)
+AllZip-push R [] (b ∷ ys) x y f r = absurd f
+AllZip-push R (a ∷ xs) [] x y f r = absurd f
+AllZip-push R (a ∷ xs) (b ∷ ys) x y f r = (f.0, AllZip-push R xs ys x y f.1 r)
+
+-- an id is among the ids exactly where the list contains it
+pub Contains-is_among : (ids : List (List ℕ)) (id : List ℕ) → is_among ids id ≡ true → Contains ids id
+Contains-is_among ids id e = Contains-from_any {eq = bytes_eq} (λ x y. (bytes_eq-Decides x y).0) id ids e
+
+pub Contains-cons : {X : Type 0} (y : X) (xs : List X) (x : X) → Contains xs x → Contains (y ∷ xs) x
+Contains-cons y xs x c = Contains-append_right (y ∷ []) xs x c
+
+pub is_among-Contains : (ids : List (List ℕ)) (id : List ℕ) → Contains ids id → is_among ids id ≡ true
+is_among-Contains [] id c = absurd (omega (arith, c.1))
+is_among-Contains (x ∷ xs) id c = go (is_among-Contains xs id) (bytes_eq id x) refl
+  where
+    rest : bytes_eq id x ≡ false → Contains xs id
+    rest e = at c.0 c.1 c.2
+      where
+        at : (k : ℕ) → k < length (x ∷ xs) → get_or (x ∷ xs) k id ≡ id → Contains xs id
+        at zero l h = absurd (false≢true (sym e ∙ (bytes_eq-Decides id x).1 (sym h)))
+        at (suc k) l h = (k, omega (arith, l), h)
+    go : (Contains xs id → is_among xs id ≡ true) → (b : Bool) → bytes_eq id x ≡ b → (b || is_among xs id) ≡ true
+    go later true e = refl
+    go later false e = later (rest e)

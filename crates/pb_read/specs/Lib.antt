@@ -1,0 +1,9 @@
+pub mod Columns
+pub mod Faults
+pub mod FirstFault
+pub mod Kinds
+pub mod Machine
+pub mod MetaRows
+pub mod Rows
+pub mod StandsFor
+pub mod Voting

@@ -1,0 +1,115 @@
+-- The reading of rows one by one. Private contracts and proofs speak of it; what a file stands for does not rest on it.
+use Rattle.std.specs.Prelude.{◌≡◌, ℕ, Bool, not, if◌then◌else◌, List, [], ◌∷◌, ◌++◌, Option, Some, None, Result, Ok, Err, codes}
+use Rattle.std.specs.Option.{option_map_or}
+use Rattle.pb_core.specs.Election.{ElectionView, ProjectView, VoterView, IsElection, project_ids}
+use Rattle.pb_core.specs.Money.{money_of}
+use Rattle.pb_core.specs.declared.money_fault.MoneyFault.{MoneyFault}
+use Rattle.pb_core.specs.declared.money_fault.MoneyFault.TheVariants as money
+use Rattle.pb_rows.specs.Reading.{Fields}
+use Rattle.pb_read.specs.Columns.{project_columns, vote_columns, name_field}
+use Rattle.pb_read.specs.Faults.{fails_by, is_nothing, Position, start, meta_head, in_meta, projects_head, in_projects, votes_head, in_votes, Next, the_end, blank, head, plain, next_row, row_fault}
+use Rattle.pb_read.specs.MetaRows.{meta_of}
+use Rattle.pb_read.specs.Rows.{field, is_word}
+use Rattle.pb_read.specs.StandsFor.{opening}
+use Rattle.pb_read.specs.Voting.{ballot_of}
+use Rattle.pb_read.specs.declared.columns.ProjectColumns.{ProjectColumns}
+use Rattle.pb_read.specs.declared.columns.VoteColumns.{VoteColumns}
+use Rattle.pb_read.specs.declared.fault.ReadKind.{ReadKind}
+use Rattle.pb_read.specs.declared.fault.ReadKind.TheVariants.{MissingField, MissingKey, VoteType, BadMoney, MoneyTooFine, MoneyTooLarge, ZeroCost, EmptyId, RepeatedProject, RepeatedVoter, UnknownProject, TooManyProjects, TooManyVoters}
+use Rattle.pb_read.specs.declared.meta.Meta.{Meta}
+
+-- what META says with one more row
+abbrev pub with_row : Meta → Fields → Meta
+with_row meta row = record {
+  budget = if is_word (codes "budget") (field row 0) then Some (money_of (field row 1)) else meta.budget;
+  approval = if is_word (codes "vote_type") (field row 0) then Some (is_word (codes "approval") (field row 1)) else meta.approval;
+}
+
+abbrev pub amount_of : Result ℕ MoneyFault → ℕ
+amount_of (Ok amount) = amount
+amount_of (Err fault) = 0
+
+abbrev pub budget_of : Option (Result ℕ MoneyFault) → ℕ
+budget_of None = 0
+budget_of (Some read) = amount_of read
+
+abbrev pub project_of : ProjectColumns → Fields → ProjectView
+project_of columns row = record { id = field row columns.id; name = name_field columns row; cost = amount_of (money_of (field row columns.cost)) }
+
+abbrev pub with_project : ProjectColumns → Fields → ElectionView → ElectionView
+with_project columns row e = record e { projects = e.projects ++ project_of columns row ∷ [] }
+
+abbrev pub voter_of : VoteColumns → List (List ℕ) → Fields → VoterView
+voter_of columns ids row = record { id = field row columns.voter; ballot = ballot_of ids (field row columns.vote) }
+
+abbrev pub with_voter : VoteColumns → Fields → ElectionView → ElectionView
+with_voter columns row e = record e { voters = e.voters ++ voter_of columns (project_ids e) row ∷ [] }
+
+-- the position behind what comes next, where that is no fault
+abbrev pub advance : Position → Next → Position
+advance start (head name) = meta_head
+advance meta_head (plain row) = in_meta (meta_of [])
+advance (in_meta meta) (head name) = projects_head (opening (budget_of meta.budget))
+advance (in_meta meta) (plain row) = in_meta (with_row meta row)
+advance (projects_head e) (plain header) = option_map_or (λ columns. in_projects columns e) (project_columns header) start
+advance (in_projects columns e) (head name) = votes_head e
+advance (in_projects columns e) (plain row) = in_projects columns (with_project columns row e)
+advance (votes_head e) (plain header) = option_map_or (λ columns. in_votes columns e) (vote_columns header) start
+advance (in_votes columns e) (plain row) = in_votes columns (with_voter columns row e)
+advance p n = p
+
+abbrev pub step_or : Option ReadKind → Position → Result Position ReadKind
+step_or None q = Ok q
+step_or (Some kind) q = Err kind
+
+unfoldable pub step : Position → Next → Result Position ReadKind
+step p n = step_or (row_fault p n) (advance p n)
+
+abbrev pub bind : Result Position ReadKind → (Position → Result Position ReadKind) → Result Position ReadKind
+bind (Ok p) f = f p
+bind (Err kind) f = Err kind
+
+-- rows that are read one after another
+abbrev pub run : Position → List Fields → Result Position ReadKind
+run p [] = Ok p
+run p (row ∷ rows) = bind (step p (next_row row)) (λ q. run q rows)
+
+-- what an election has at each position
+abbrev pub IsLegit : Position → Type 0
+IsLegit (projects_head e) = IsElection e × (e.voters ≡ [])
+IsLegit (in_projects columns e) = IsElection e × (e.voters ≡ [])
+IsLegit (votes_head e) = IsElection e × (e.voters ≡ [])
+IsLegit (in_votes columns e) = IsElection e
+IsLegit p = Unit {0}
+
+
+-- the checks of PROJECTS' head, of a project row and of a vote row, in their order
+abbrev pub money_checks : Result ℕ MoneyFault → Option ReadKind → Option ReadKind
+money_checks (Ok amount) more = more
+money_checks (Err money.BadMoney) more = Some BadMoney
+money_checks (Err money.MoneyTooFine) more = Some MoneyTooFine
+money_checks (Err money.MoneyTooLarge) more = Some MoneyTooLarge
+
+abbrev pub head_checks : Option (Result ℕ MoneyFault) → Option Bool → Option ReadKind
+head_checks None approval = Some MissingKey
+head_checks (Some budget) None = Some MissingKey
+head_checks (Some budget) (Some approval) = if not approval then Some VoteType else money_checks budget None
+
+abbrev pub project_checks : Bool → Result ℕ MoneyFault → Bool → Bool → Bool → Option ReadKind
+project_checks whole cost no_id repeated full =
+    if not whole then Some MissingField
+    else money_checks cost (
+    if is_nothing cost then Some ZeroCost
+    else if no_id then Some EmptyId
+    else if repeated then Some RepeatedProject
+    else if full then Some TooManyProjects
+    else None)
+
+abbrev pub vote_checks : Bool → Bool → Bool → Bool → Bool → Option ReadKind
+vote_checks whole no_id repeated known full =
+    if not whole then Some MissingField
+    else if no_id then Some EmptyId
+    else if repeated then Some RepeatedVoter
+    else if not known then Some UnknownProject
+    else if full then Some TooManyVoters
+    else None

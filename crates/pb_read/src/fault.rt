@@ -1,0 +1,160 @@
+// Why a file is refused, and where.
+
+ghost use Rattle.std.specs.Prelude.{◌≡◌};
+ghost use Rattle.pb_read.specs.Kinds.{name_of, number_of};
+
+use thiserror::Error;
+
+/// Why a file is refused. Within one record the checks run in rising number.
+#[derive(Clone, Copy, PartialEq, Eq, Debug, Error)]
+pub enum ReadKind {
+    /// The reader failed while this record was read.
+    #[error("the reader failed")]
+    ReadFailed,
+    /// A field of this record is not UTF-8.
+    #[error("a field is not UTF-8")]
+    NotText,
+    /// This is record 2,000,001.
+    #[error("too many records")]
+    TooManyRecords,
+    /// A section's head was due: the first record that is not blank is none, or the file ends
+    /// before META, or while PROJECTS or VOTES is still to come.
+    #[error("a section is missing")]
+    NoSection,
+    /// A section's head that is not the next in order.
+    #[error("a section out of order")]
+    SectionOrder,
+    /// A section's head, or the end of the file, where a header row is due.
+    #[error("a section has no header row")]
+    NoHeader,
+    /// A header row of PROJECTS or VOTES lacks a needed column.
+    #[error("a needed column is missing")]
+    MissingColumn,
+    /// A row of PROJECTS or VOTES ends before a needed column.
+    #[error("a needed field is missing")]
+    MissingField,
+    /// At PROJECTS' head: META lacks `budget` or `vote_type`.
+    #[error("a needed key of META is missing")]
+    MissingKey,
+    /// At PROJECTS' head: the vote type is not `approval`.
+    #[error("the vote type is not approval")]
+    VoteType,
+    /// The budget, at PROJECTS' head, or a project's cost is no money text.
+    #[error("an amount is malformed")]
+    BadMoney,
+    /// The same is finer than a hundredth.
+    #[error("an amount is finer than a hundredth")]
+    MoneyTooFine,
+    /// The same is above the largest amount.
+    #[error("an amount is too large")]
+    MoneyTooLarge,
+    /// A project's cost is 0.
+    #[error("a project costs nothing")]
+    ZeroCost,
+    /// A project's or a voter's id is empty.
+    #[error("an id is empty")]
+    EmptyId,
+    /// The project's id stood in an earlier row.
+    #[error("a project's id is repeated")]
+    RepeatedProject,
+    /// The voter's id stood in an earlier row.
+    #[error("a voter's id is repeated")]
+    RepeatedVoter,
+    /// A vote names an id that no project has.
+    #[error("a vote names an unknown project")]
+    UnknownProject,
+    /// The 10,001st project row.
+    #[error("too many projects")]
+    TooManyProjects,
+    /// The 1,000,001st vote row.
+    #[error("too many voters")]
+    TooManyVoters,
+    /// Memory was refused while this record was in work.
+    #[error("out of memory")]
+    NoMemory,
+}
+
+impl ReadKind {
+    /// The kind's number, from 1.
+    pub fn number(&self) -> u32
+        ensures { result ≡ number_of self.now }
+    {
+        match self {
+            ReadKind::ReadFailed => 1,
+            ReadKind::NotText => 2,
+            ReadKind::TooManyRecords => 3,
+            ReadKind::NoSection => 4,
+            ReadKind::SectionOrder => 5,
+            ReadKind::NoHeader => 6,
+            ReadKind::MissingColumn => 7,
+            ReadKind::MissingField => 8,
+            ReadKind::MissingKey => 9,
+            ReadKind::VoteType => 10,
+            ReadKind::BadMoney => 11,
+            ReadKind::MoneyTooFine => 12,
+            ReadKind::MoneyTooLarge => 13,
+            ReadKind::ZeroCost => 14,
+            ReadKind::EmptyId => 15,
+            ReadKind::RepeatedProject => 16,
+            ReadKind::RepeatedVoter => 17,
+            ReadKind::UnknownProject => 18,
+            ReadKind::TooManyProjects => 19,
+            ReadKind::TooManyVoters => 20,
+            ReadKind::NoMemory => 21,
+        }
+    }
+
+    /// The kind's name, as fault lines print it.
+    pub fn name(&self) -> &'static str
+        ensures { result.now ≡ name_of self.now }
+    {
+        match self {
+            ReadKind::ReadFailed => "ReadFailed",
+            ReadKind::NotText => "NotText",
+            ReadKind::TooManyRecords => "TooManyRecords",
+            ReadKind::NoSection => "NoSection",
+            ReadKind::SectionOrder => "SectionOrder",
+            ReadKind::NoHeader => "NoHeader",
+            ReadKind::MissingColumn => "MissingColumn",
+            ReadKind::MissingField => "MissingField",
+            ReadKind::MissingKey => "MissingKey",
+            ReadKind::VoteType => "VoteType",
+            ReadKind::BadMoney => "BadMoney",
+            ReadKind::MoneyTooFine => "MoneyTooFine",
+            ReadKind::MoneyTooLarge => "MoneyTooLarge",
+            ReadKind::ZeroCost => "ZeroCost",
+            ReadKind::EmptyId => "EmptyId",
+            ReadKind::RepeatedProject => "RepeatedProject",
+            ReadKind::RepeatedVoter => "RepeatedVoter",
+            ReadKind::UnknownProject => "UnknownProject",
+            ReadKind::TooManyProjects => "TooManyProjects",
+            ReadKind::TooManyVoters => "TooManyVoters",
+            ReadKind::NoMemory => "NoMemory",
+        }
+    }
+}
+
+/// A refused file: the kind of its first fault, and the record in which that fault stands.
+/// Records are numbered from 1, blank ones too; the end of the file counts as one past the last.
+#[derive(Clone, Copy, PartialEq, Eq, Debug, Error)]
+#[error("record {at}: {kind}")]
+pub struct ReadFault {
+    pub kind: ReadKind,
+    pub at: u32,
+}
+
+impl ReadFault {
+    /// The number of its kind, from 1.
+    pub fn number(&self) -> u32
+        ensures { result ≡ number_of self.now.kind }
+    {
+        self.kind.number()
+    }
+
+    /// The name of its kind, as fault lines print it.
+    pub fn name(&self) -> &'static str
+        ensures { result.now ≡ name_of self.now.kind }
+    {
+        self.kind.name()
+    }
+}

@@ -1,0 +1,9 @@
+//! The reader of Pabulib's .pb files: META, PROJECTS and VOTES of an approval election.
+#![tactic(auto)]
+
+mod columns;
+mod fault;
+mod meta;
+mod section;
+
+pub use fault::{ReadFault, ReadKind};
