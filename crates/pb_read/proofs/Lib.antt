@@ -1,3 +1,5 @@
 pub mod ListFacts
 pub mod MachineLaws
 pub mod Keeps
+pub mod Runs
+pub mod GoesOn

@@ -1,5 +1,5 @@
 -- The rows of a file: its records, each field trimmed, without those that are blank.
-use Rattle.std.specs.Prelude.{ℕ, Bool, not, List, [], ◌∷◌, map, filter, length, Option, None, Some, codes, if◌then◌else◌, ◌==◌}
+use Rattle.std.specs.Prelude.{ℕ, Bool, not, List, [], ◌∷◌, map, filter, true, false, Option, None, Some, codes, if◌then◌else◌}
 use Rattle.std.specs.List.{list_all, slice_index_or}
 use Rattle.std.specs.Char.{to_ascii_lowercase}
 use Rattle.std.specs.Str.{trim, bytes_eq}
@@ -12,7 +12,8 @@ abbrev pub trimmed : Fields → Fields
 trimmed record' = map trim record'
 
 abbrev pub is_empty : List ℕ → Bool
-is_empty text = length text == 0
+is_empty [] = true
+is_empty (b ∷ text) = false
 
 -- all fields of a row are empty
 abbrev pub is_blank : Fields → Bool

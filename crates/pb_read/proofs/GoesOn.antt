@@ -1,0 +1,286 @@
+-- Records that were read without fault may go on to stand for an election; behind a fault nothing helps.
+use Rattle.std.proofs.Common.{◌≡◌, ◌≢◌, ◌<◌, ◌≤◌, ◌+◌, ◌==◌, ◌&&◌, ◌⊎◌, ℕ, Bool, true, false, cond, not, List, [], ◌∷◌, ◌++◌, length, map, filter, Option, Some, None, Result, Ok, Err, refl, ap, sym, ◌∙◌, subst, arith, inl, inr, append_assoc}
+use Rattle.std.specs.Prelude.{codes, is_some}
+use Rattle.std.specs.Option.{option_map_or}
+use Rattle.std.specs.List.{AllByRecursion, list_all}
+use Rattle.std.specs.Str.{is_utf8, trim, trim_start, trim_end, chars}
+use Rattle.std.proofs.lemmas.Bool.{eqb-true, and_parts, and_from, false≢true}
+use Rattle.std.proofs.lemmas.List.{append-nil, map-append}
+use Rattle.std.proofs.lemmas.List.Elements.{filter-append}
+use Rattle.std.proofs.lemmas.Option.{same_Some}
+use Rattle.std.proofs.lemmas.Str.{IsUtf8-from_is_utf8, is_utf8-from_IsUtf8}
+use Rattle.csv.specs.Records.{AllText}
+use lib.Utf8.{encode}
+use Rattle.pb_core.specs.Election.{ElectionView}
+use Rattle.pb_rows.specs.Reading.{Fields}
+use Rattle.pb_read.proofs.Keeps.{IsTidy, IsTidy-trimmed, kept, next_follows}
+use Rattle.pb_read.proofs.ListFacts.{some≢none, ok≢err, same_Ok, AllByRecursion-append, AllByRecursion-left, AllByRecursion-right}
+use Rattle.pb_read.proofs.Runs.{AreFull, run_fault, run_onto, run_row, runs}
+use Rattle.pb_read.specs.Faults.{Position, start, meta_head, in_meta, projects_head, in_projects, votes_head, in_votes, Next, the_end, blank, head, plain, next_row, next_of, row_fault, IsAt, is_text, lowest_kind}
+use Rattle.pb_read.specs.FirstFault.{MayGoOn, HasNoFault, IsAtFault, IsFirstFault, first_of}
+use Rattle.pb_read.specs.Machine.{advance, IsLegit, run, step, step_or, bind}
+use Rattle.pb_read.specs.Rows.{head_of, is_blank, rows_of, trimmed}
+use Rattle.pb_read.specs.StandsFor.{Describes, StandsFor, IsVotes, most_records}
+use Rattle.pb_read.specs.declared.columns.VoteColumns.{VoteColumns}
+use Rattle.pb_read.specs.declared.fault.ReadKind.{ReadKind}
+use Rattle.pb_read.specs.declared.fault.ReadKind.TheVariants as kinds
+
+pub rows_of-append : (xs ys : List Fields) → rows_of (xs ++ ys) ≡ rows_of xs ++ rows_of ys
+rows_of-append xs ys = ap (filter (λ row. not (is_blank row))) (map-append trimmed xs ys) ∙ filter-append (λ row. not (is_blank row)) (map trimmed xs) (map trimmed ys)
+
+rows_of-full : (r : Fields) (rest : List Fields) → is_blank (trimmed r) ≡ false → rows_of (r ∷ rest) ≡ trimmed r ∷ rows_of rest
+rows_of-full r rest full = ap (λ t. cond (not t) (trimmed r ∷ rows_of rest) (rows_of rest)) full
+
+rows_of-blank : (r : Fields) (rest : List Fields) → is_blank (trimmed r) ≡ true → rows_of (r ∷ rest) ≡ rows_of rest
+rows_of-blank r rest none = ap (λ t. cond (not t) (trimmed r ∷ rows_of rest) (rows_of rest)) none
+
+-- of each row that counts holds what holds of the trimmed records
+AllByRecursion-rows_of : (P : Fields → Type 0) (records : List Fields) → AllByRecursion (λ r. is_blank (trimmed r) ≡ false → P (trimmed r)) records → AllByRecursion P (rows_of records)
+AllByRecursion-rows_of P [] all = tt
+AllByRecursion-rows_of P (r ∷ records) all = go (is_blank (trimmed r)) refl (AllByRecursion-rows_of P records all.1)
+  where
+    go : (none : Bool) → is_blank (trimmed r) ≡ none → AllByRecursion P (rows_of records) → AllByRecursion P (cond (not none) (trimmed r ∷ rows_of records) (rows_of records))
+    go true e rest = rest
+    go false e rest = (all.0 e, rest)
+
+pub AllByRecursion-from : {X : Type 0} (P : X → Type 0) → ((x : X) → P x) → (xs : List X) → AllByRecursion P xs
+AllByRecursion-from P all [] = tt
+AllByRecursion-from P all (x ∷ xs) = (all x, AllByRecursion-from P all xs)
+
+AllByRecursion-weaker : {X : Type 0} (P Q : X → Type 0) → ((x : X) → P x → Q x) → (xs : List X) → AllByRecursion P xs → AllByRecursion Q xs
+AllByRecursion-weaker P Q f [] all = tt
+AllByRecursion-weaker P Q f (x ∷ xs) all = (f x all.0, AllByRecursion-weaker P Q f xs all.1)
+
+pub rows_of-are_full : (records : List Fields) → AreFull (rows_of records)
+rows_of-are_full records = AllByRecursion-rows_of _ records (AllByRecursion-from _ (λ r full. full) records)
+
+rows_of-are_tidy : (records : List Fields) → AllByRecursion AllText records → AllByRecursion IsTidy (rows_of records)
+rows_of-are_tidy records text = AllByRecursion-rows_of IsTidy records (AllByRecursion-weaker AllText _ (λ r t full. IsTidy-trimmed r t) records text)
+
+-- the test of text decides it
+pub AllText-from_test : (r : Fields) → list_all is_utf8 r ≡ true → AllText r
+unfolding AllText
+AllText-from_test [] e = tt
+AllText-from_test (f ∷ fields) e =
+    let parts = and_parts (is_utf8 f) (list_all is_utf8 fields) e in
+    (IsUtf8-from_is_utf8 f parts.0, AllText-from_test fields parts.1)
+
+pub test-from_AllText : (r : Fields) → AllText r → list_all is_utf8 r ≡ true
+unfolding AllText
+test-from_AllText [] t = refl
+test-from_AllText (f ∷ fields) t = and_from (is_utf8 f) (list_all is_utf8 fields) (is_utf8-from_IsUtf8 f t.0) (test-from_AllText fields t.1)
+
+are_text : (records : List Fields) → list_all (list_all is_utf8) records ≡ true → AllByRecursion AllText records
+are_text [] e = tt
+are_text (r ∷ records) e =
+    let parts = and_parts (list_all is_utf8 r) (list_all (list_all is_utf8) records) e in
+    (AllText-from_test r parts.0, are_text records parts.1)
+
+-- rows that complete a file from each position
+abbrev vote_header : List Fields
+vote_header = (codes "voter_id" ∷ codes "vote" ∷ []) ∷ []
+
+abbrev votes : List Fields
+votes = (codes "VOTES" ∷ []) ∷ vote_header
+
+abbrev project_header : List Fields
+project_header = (codes "project_id" ∷ codes "cost" ∷ []) ∷ votes
+
+abbrev meta_rows : List Fields
+meta_rows = (codes "budget" ∷ codes "0" ∷ []) ∷ (codes "vote_type" ∷ codes "approval" ∷ []) ∷ (codes "PROJECTS" ∷ []) ∷ project_header
+
+abbrev meta_header : List Fields
+meta_header = (codes "key" ∷ codes "value" ∷ []) ∷ meta_rows
+
+abbrev completion : Position → List Fields
+completion start = (codes "META" ∷ []) ∷ meta_header
+completion meta_head = meta_header
+completion (in_meta meta) = meta_rows
+completion (projects_head e) = project_header
+completion (in_projects columns e) = votes
+completion (votes_head e) = vote_header
+completion (in_votes columns e) = []
+
+completes : (p : Position) → (columns : VoteColumns) × (e : ElectionView) × (run p (completion p) ≡ Ok (in_votes columns e))
+unfolding step row_fault head_of
+completes start = (_, _, refl)
+completes meta_head = (_, _, refl)
+completes (in_meta meta) = (_, _, refl)
+completes (projects_head e) = (_, _, refl)
+completes (in_projects columns e) = (_, _, refl)
+completes (votes_head e) = (_, _, refl)
+completes (in_votes columns e) = (columns, e, refl)
+
+completion_rows : (p : Position) → rows_of (completion p) ≡ completion p
+unfolding trim_start trim_end chars encode
+completion_rows start = refl
+completion_rows meta_head = refl
+completion_rows (in_meta meta) = refl
+completion_rows (projects_head e) = refl
+completion_rows (in_projects columns e) = refl
+completion_rows (votes_head e) = refl
+completion_rows (in_votes columns e) = refl
+
+completion_text : (p : Position) → list_all (list_all is_utf8) (completion p) ≡ true
+unfolding is_utf8 chars encode
+completion_text start = refl
+completion_text meta_head = refl
+completion_text (in_meta meta) = refl
+completion_text (projects_head e) = refl
+completion_text (in_projects columns e) = refl
+completion_text (votes_head e) = refl
+completion_text (in_votes columns e) = refl
+
+-- rows without fault, one after another
+run_keeps : (p q : Position) (rows more : List Fields) → AreFull more → AllByRecursion IsTidy more → IsAt rows p → IsLegit p → run p more ≡ Ok q → IsAt (rows ++ more) q × IsLegit q
+run_keeps p q rows [] full tidy at legit e =
+    let same : p ≡ q = cc in
+    subst (λ x. IsAt (rows ++ []) x × IsLegit x) same (subst (λ xs. IsAt xs p) (sym (append-nil rows)) at, legit)
+run_keeps p q rows (row ∷ more) full tidy at legit e = go (run_keeps (advance p (next_row row)) q (rows ++ row ∷ []) more full.1 tidy.1) (row_fault p (next_row row)) refl
+  where
+    go : (IsAt (rows ++ row ∷ []) (advance p (next_row row)) → IsLegit (advance p (next_row row)) → run (advance p (next_row row)) more ≡ Ok q → IsAt ((rows ++ row ∷ []) ++ more) q × IsLegit q) →
+        (fault : Option ReadKind) → row_fault p (next_row row) ≡ fault → IsAt (rows ++ row ∷ more) q × IsLegit q
+    go later (Some kind) f = absurd (ok≢err (sym e ∙ run_fault p row more kind f))
+    go later None f =
+        let next = kept p (next_row row) rows row (next_follows row full.0) tidy.0 f at legit in
+        let rest = later next.0 next.1 (sym (run_row p row more (next_row row) refl f) ∙ e) in
+        (subst (λ xs. IsAt xs q) (append_assoc rows (row ∷ []) more) rest.0, rest.1)
+
+blank_passes : (p : Position) → row_fault p blank ≡ None
+unfolding row_fault
+blank_passes start = refl
+blank_passes meta_head = refl
+blank_passes (in_meta meta) = refl
+blank_passes (projects_head e) = refl
+blank_passes (in_projects columns e) = refl
+blank_passes (votes_head e) = refl
+blank_passes (in_votes columns e) = refl
+
+advance-blank : (p : Position) → advance p blank ≡ p
+advance-blank start = refl
+advance-blank meta_head = refl
+advance-blank (in_meta meta) = refl
+advance-blank (projects_head e) = refl
+advance-blank (in_projects columns e) = refl
+advance-blank (votes_head e) = refl
+advance-blank (in_votes columns e) = refl
+
+-- the records are text, and were read to this position without fault
+pub record Reached (done : List Fields) (p : Position) : Type 0 where
+  pub text : AllByRecursion AllText done
+  pub at : IsAt (rows_of done) p
+  pub legit : IsLegit p
+
+pub reached_start : Reached [] start
+reached_start = record { text = tt; at = refl; legit = tt }
+
+next_row-blank : (row : Fields) → is_blank row ≡ true → next_row row ≡ blank
+next_row-blank row none = rw none refl
+
+-- one record without fault
+pub reached_next : (done : List Fields) (p : Position) (r : Fields) → Reached done p → AllText r → row_fault p (next_of (Some r)) ≡ None → Reached (done ++ r ∷ []) (advance p (next_of (Some r)))
+reached_next done p r so_far text none = go (is_blank (trimmed r)) refl
+  where
+    all_text : AllByRecursion AllText (done ++ r ∷ [])
+    all_text = AllByRecursion-append AllText done (r ∷ []) so_far.text (text, tt)
+    go : (no_field : Bool) → is_blank (trimmed r) ≡ no_field → Reached (done ++ r ∷ []) (advance p (next_row (trimmed r)))
+    go true e =
+        let rows : rows_of (done ++ r ∷ []) ≡ rows_of done = rows_of-append done (r ∷ []) ∙ ap (λ xs. rows_of done ++ xs) (rows_of-blank r [] e) ∙ append-nil (rows_of done) in
+        let stays : p ≡ advance p (next_row (trimmed r)) = sym (ap (advance p) (next_row-blank (trimmed r) e) ∙ advance-blank p) in
+        subst (λ q. Reached (done ++ r ∷ []) q) stays (record { text = all_text; at = subst (λ xs. IsAt xs p) (sym rows) so_far.at; legit = so_far.legit })
+    go false e =
+        let rows : rows_of (done ++ r ∷ []) ≡ rows_of done ++ trimmed r ∷ [] = rows_of-append done (r ∷ []) ∙ ap (λ xs. rows_of done ++ xs) (rows_of-full r [] e) in
+        let next = kept p (next_row (trimmed r)) (rows_of done) (trimmed r) (next_follows (trimmed r) e) (IsTidy-trimmed r text) none so_far.at so_far.legit in
+        record { text = all_text; at = subst (λ xs. IsAt xs (advance p (next_row (trimmed r)))) (sym rows) next.0; legit = next.1 }
+
+-- where a file has come without fault, some records complete it
+pub goes_on : (done : List Fields) (p : Position) → Reached done p → MayGoOn done
+goes_on done p so_far =
+    let q = completes p in
+    let more : List Fields = completion p in
+    let text : AllByRecursion AllText more = are_text more (completion_text p) in
+    let ran : run p (rows_of more) ≡ Ok (in_votes q.0 q.1) = ap (run p) (completion_rows p) ∙ q.2 in
+    let all = run_keeps p (in_votes q.0 q.1) (rows_of done) (rows_of more) (rows_of-are_full more) (rows_of-are_tidy more text) so_far.at so_far.legit ran in
+    record {
+      more = more;
+      election = q.1;
+      describes = record {
+        text = AllByRecursion-append AllText done more so_far.text text;
+        columns = q.0;
+        rows = subst (λ xs. IsVotes xs q.0 q.1) (sym (rows_of-append done more)) all.0;
+        is_election = all.1;
+      };
+    }
+
+-- behind a record that is no text nothing helps
+pub no_text_ends : (done : List Fields) (r : Fields) → ¬ AllText r → ¬ MayGoOn (done ++ r ∷ [])
+no_text_ends done r none way =
+    let all : AllByRecursion AllText (done ++ r ∷ []) = AllByRecursion-left AllText (done ++ r ∷ []) way.more way.describes.text in
+    none (AllByRecursion-right AllText done (r ∷ []) all).0
+
+run_from_start : (done : List Fields) (p : Position) → Reached done p → run start (rows_of done) ≡ Ok p
+run_from_start done p so_far = runs p (rows_of done) (rows_of-are_full done) so_far.at so_far.legit
+
+-- behind a record at fault nothing helps
+pub fault_ends : (done : List Fields) (p : Position) (r : Fields) (kind : ReadKind) → Reached done p → row_fault p (next_of (Some r)) ≡ Some kind → ¬ MayGoOn (done ++ r ∷ [])
+fault_ends done p r kind so_far fault way = go (is_blank (trimmed r)) refl
+  where
+    records : List Fields
+    records = (done ++ r ∷ []) ++ way.more
+    whole : run start (rows_of ((done ++ r ∷ []) ++ way.more)) ≡ Ok (in_votes way.describes.columns way.election)
+    whole = runs (in_votes way.describes.columns way.election) (rows_of ((done ++ r ∷ []) ++ way.more)) (rows_of-are_full ((done ++ r ∷ []) ++ way.more)) way.describes.rows way.describes.is_election
+    go : (no_field : Bool) → is_blank (trimmed r) ≡ no_field → ⊥
+    go true e = some≢none (sym fault ∙ ap (row_fault p) (next_row-blank (trimmed r) e) ∙ blank_passes p)
+    go false e =
+        let rows : rows_of ((done ++ r ∷ []) ++ way.more) ≡ rows_of done ++ trimmed r ∷ rows_of way.more =
+        ap rows_of (append_assoc done (r ∷ []) way.more) ∙ rows_of-append done (r ∷ way.more) ∙ ap (λ xs. rows_of done ++ xs) (rows_of-full r way.more e) in
+        ok≢err (sym whole ∙ ap (run start) rows ∙ run_onto start p (rows_of done) (trimmed r ∷ rows_of way.more) (run_from_start done p so_far) ∙ run_fault p (trimmed r) (rows_of way.more) kind fault)
+
+votes_end : (columns : VoteColumns) (e : ElectionView) → row_fault (in_votes columns e) the_end ≡ None
+unfolding row_fault
+votes_end columns e = refl
+
+-- where the file ends at fault, it stands for nothing
+pub end_ends : (done : List Fields) (p : Position) (kind : ReadKind) → Reached done p → row_fault p the_end ≡ Some kind → (e : ElectionView) → ¬ StandsFor done e
+end_ends done p kind so_far fault e stands =
+    let whole : run start (rows_of done) ≡ Ok (in_votes stands.describes.columns e) =
+    runs (in_votes stands.describes.columns e) (rows_of done) (rows_of-are_full done) stands.describes.rows stands.describes.is_election in
+    let same : p ≡ in_votes stands.describes.columns e = same_Ok (sym (run_from_start done p so_far) ∙ whole) in
+    some≢none (sym fault ∙ ap (λ x. row_fault x the_end) same ∙ votes_end stands.describes.columns e)
+
+-- where the file ends without fault, it stands for the election
+pub end_stands : (done : List Fields) (columns : VoteColumns) (e : ElectionView) → length done ≤ most_records → Reached done (in_votes columns e) → StandsFor done e
+end_stands done columns e few so_far = record {
+  few = few;
+  describes = record { text = so_far.text; columns = columns; rows = so_far.at; is_election = so_far.legit };
+}
+
+pub no_fault_so_far : (done : List Fields) (p : Position) → length done ≤ most_records → Reached done p → HasNoFault done
+no_fault_so_far done p few so_far = record { few = few; goes_on = goes_on done p so_far }
+
+-- the lowest kind that applies is the first fault
+pub first_fault : (done left : List Fields) (p : Position) (kind : ReadKind) → length done ≤ most_records → Reached done p → lowest_kind (length done) p (first_of left) ≡ Some kind → IsFirstFault (done ++ left) kind (length done + 1)
+first_fault done left p kind few so_far lowest = record {
+  done = done;
+  left = left;
+  cut = refl;
+  at_is = refl;
+  no_fault_before = no_fault_so_far done p few so_far;
+  at_fault = at_fault left lowest;
+  position = p;
+  so_far = so_far.at;
+  lowest = lowest;
+}
+  where
+    at_fault : (left : List Fields) → lowest_kind (length done) p (first_of left) ≡ Some kind → IsAtFault done left
+    at_fault [] e = end_ends done p kind so_far e
+    at_fault (r ∷ rest) e = by_text (list_all is_utf8 r) refl e
+      where
+        by_count : (all : Bool) → (length done == most_records) ≡ all → cond all (Some kinds.TooManyRecords) (row_fault p (next_of (Some r))) ≡ Some kind → (¬ MayGoOn (done ++ r ∷ [])) ⊎ (length done ≡ most_records)
+        by_count true n f = inr (eqb-true (length done) most_records n)
+        by_count false n f = inl (fault_ends done p r kind so_far f)
+        by_text : (text : Bool) → list_all is_utf8 r ≡ text →
+            cond (not text) (Some kinds.NotText) (cond (length done == most_records) (Some kinds.TooManyRecords) (row_fault p (next_of (Some r)))) ≡ Some kind →
+            (¬ MayGoOn (done ++ r ∷ [])) ⊎ (length done ≡ most_records)
+        by_text false t f = inl (no_text_ends done r (λ text. false≢true (sym t ∙ test-from_AllText r text)))
+        by_text true t f = by_count (length done == most_records) refl f

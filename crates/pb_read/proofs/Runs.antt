@@ -1,0 +1,242 @@
+-- What stands runs: rows that have come so far are read without fault, to that position.
+use Rattle.std.proofs.Common.{◌≡◌, ◌≢◌, ◌<◌, ◌≤◌, ◌+◌, ◌==◌, ℕ, Bool, true, false, cond, not, List, [], ◌∷◌, ◌++◌, length, map, All, Contains, Option, Some, None, Result, Ok, Err, refl, ap, sym, ◌∙◌, subst, arith, get_or, append_assoc, length-append}
+use Rattle.std.specs.Option.{option_map_or}
+use Rattle.std.specs.Prelude.{is_none}
+use Rattle.std.specs.List.{AllByRecursion, AllZip, slice_index_or}
+use Rattle.std.proofs.lemmas.Bool.{false_from_ne_true}
+use Rattle.std.proofs.lemmas.List.{append-nil, map-append, length-map, get_or_append_left}
+use Rattle.std.proofs.lemmas.List.Elements.{All-contains, Contains-append_right, Contains-get_or}
+use Rattle.std.proofs.Math.Seq.{get_or-append_seam}
+use Rattle.pb_core.specs.Ballot.{IsVoterId}
+use Rattle.pb_core.specs.Election.{ElectionView, ProjectView, VoterView, IsElection, IsProject, IsVoter, AreDistinct, project_ids, voter_ids, most_projects, most_voters}
+use Rattle.pb_core.specs.Money.{money_of}
+use Rattle.pb_rows.specs.Reading.{Fields}
+use Rattle.pb_read.proofs.ListFacts.{Contains-is_among, AllByRecursion-left, AllByRecursion-right}
+use Rattle.pb_read.proofs.MachineLaws.{run-append, meta_of-push, head_passes, project_passes, vote_passes, PassesProject, PassesVote}
+use Rattle.pb_read.specs.Columns.{project_columns, vote_columns}
+use Rattle.pb_read.specs.Faults.{Position, start, meta_head, in_meta, projects_head, in_projects, votes_head, in_votes, Next, the_end, blank, head, plain, next_row, row_fault, IsAt}
+use Rattle.pb_read.specs.Machine.{advance, IsLegit, budget_of, amount_of, project_of, voter_of, with_project, with_voter, with_row, run, bind, step, step_or}
+use Rattle.pb_read.specs.MetaRows.{meta_of}
+use Rattle.pb_read.specs.Rows.{field, head_of, is_blank, is_empty}
+use Rattle.pb_read.specs.StandsFor.{IsMeta, IsProjectsHead, IsProjects, IsVotesHead, IsVotes, IsPlain, IsHead, GivesProject, GivesVoter, opening}
+use Rattle.pb_read.specs.Voting.{is_among}
+use Rattle.pb_read.specs.declared.columns.ProjectColumns.{ProjectColumns}
+use Rattle.pb_read.specs.declared.columns.VoteColumns.{VoteColumns}
+use Rattle.pb_read.specs.declared.fault.ReadKind.{ReadKind}
+use Rattle.pb_read.specs.declared.fault.ReadKind.TheVariants as kind
+use Rattle.pb_read.specs.declared.meta.Meta.{Meta}
+use Rattle.pb_read.specs.declared.section.Section.{Section}
+use Rattle.pb_read.specs.declared.section.Section.TheVariants as section
+
+abbrev pub AreFull : List Fields → Type 0
+AreFull rows = AllByRecursion (λ row. is_blank row ≡ false) rows
+
+abbrev Runs : Position → List Fields → Position → Type 0
+Runs p rows q = run p rows ≡ Ok q
+
+-- one row without fault
+pub run_row : (p : Position) (row : Fields) (rest : List Fields) (n : Next) → next_row row ≡ n → row_fault p n ≡ None → run p (row ∷ rest) ≡ run (advance p n) rest
+unfolding step
+run_row p row rest n is none =
+    ap (λ m. bind (step p m) (λ q. run q rest)) is ∙ ap (λ r. bind (step_or r (advance p n)) (λ q. run q rest)) none
+
+-- one row at fault
+pub run_fault : (p : Position) (row : Fields) (rest : List Fields) (kind : ReadKind) → row_fault p (next_row row) ≡ Some kind → run p (row ∷ rest) ≡ Err kind
+unfolding step
+run_fault p row rest kind fault = ap (λ r. bind (step_or r (advance p (next_row row))) (λ q. run q rest)) fault
+
+-- rows behind others
+pub run_onto : (p q : Position) (front rest : List Fields) → run p front ≡ Ok q → run p (front ++ rest) ≡ run q rest
+run_onto p q front rest e = run-append p front rest ∙ ap (λ r. bind r (λ x. run x rest)) e
+
+next_plain : (row : Fields) → is_blank row ≡ false → IsPlain row → next_row row ≡ plain row
+next_plain row full is = rw (full, is) refl
+
+next_head : (row : Fields) (name : Section) → is_blank row ≡ false → IsHead name row → next_row row ≡ head name
+next_head row name full is = rw (full, is) refl
+
+meta_opens : row_fault start (head section.Meta) ≡ None
+unfolding row_fault
+meta_opens = refl
+
+header_passes : (r : Fields) → row_fault meta_head (plain r) ≡ None
+unfolding row_fault
+header_passes r = refl
+
+meta_row_passes : (meta : Meta) (r : Fields) → row_fault (in_meta meta) (plain r) ≡ None
+unfolding row_fault
+meta_row_passes meta r = refl
+
+project_header_passes : (e : ElectionView) (header : Fields) (columns : ProjectColumns) → project_columns header ≡ Some columns → row_fault (projects_head e) (plain header) ≡ None
+unfolding row_fault
+project_header_passes e header columns c = ap (λ o. cond (is_none o) (Some kind.MissingColumn) None) c
+
+vote_header_passes : (e : ElectionView) (header : Fields) (columns : VoteColumns) → vote_columns header ≡ Some columns → row_fault (votes_head e) (plain header) ≡ None
+unfolding row_fault
+vote_header_passes e header columns c = ap (λ o. cond (is_none o) (Some kind.MissingColumn) None) c
+
+votes_open : (columns : ProjectColumns) (e : ElectionView) → row_fault (in_projects columns e) (head section.Votes) ≡ None
+unfolding row_fault
+votes_open columns e = refl
+
+run_meta_body : (done body : List Fields) → AllByRecursion IsPlain body → AreFull body → Runs (in_meta (meta_of done)) body (in_meta (meta_of (done ++ body)))
+run_meta_body done [] plain_rows full = ap (λ rows. Ok (in_meta (meta_of rows))) (sym (append-nil done))
+run_meta_body done (row ∷ body) plain_rows full =
+    run_row (in_meta (meta_of done)) row body (plain row) (next_plain row full.0 plain_rows.0) (meta_row_passes (meta_of done) row)
+    ∙ ap (λ m. run (in_meta m) body) (sym (meta_of-push done row))
+    ∙ run_meta_body (done ++ row ∷ []) body plain_rows.1 full.1
+    ∙ ap (λ rows. Ok (in_meta (meta_of rows))) (append_assoc done (row ∷ []) body)
+
+run_meta : (rows : List Fields) (meta : Meta) → AreFull rows → IsMeta rows meta → Runs start rows (in_meta meta)
+run_meta rows meta full at =
+    let whole : AreFull (at.head ∷ at.header ∷ at.body) = subst AreFull at.cut full in
+    ap (run start) at.cut
+    ∙ run_row start at.head (at.header ∷ at.body) (head section.Meta) (next_head at.head section.Meta whole.0 at.opens) meta_opens
+    ∙ run_row meta_head at.header at.body (plain at.header) (next_plain at.header whole.1.0 at.plain_header) (header_passes at.header)
+    ∙ run_meta_body [] at.body at.plain whole.1.1
+    ∙ ap (λ m. Ok (in_meta m)) (sym at.says)
+
+run_projects_head : (rows : List Fields) (budget : ℕ) → AreFull rows → IsProjectsHead rows budget → Runs start rows (projects_head (opening budget))
+run_projects_head rows budget full at =
+    let whole : AreFull (at.front ++ at.head ∷ []) = subst AreFull at.cut full in
+    let front : AreFull at.front = AllByRecursion-left _ at.front (at.head ∷ []) whole in
+    let last : AreFull (at.head ∷ []) = AllByRecursion-right _ at.front (at.head ∷ []) whole in
+    ap (run start) at.cut
+    ∙ run_onto start (in_meta at.meta) at.front (at.head ∷ []) (run_meta at.front at.meta front at.before)
+    ∙ run_row (in_meta at.meta) at.head [] (head section.Projects) (next_head at.head section.Projects last.0 at.opens) (head_passes at.meta budget at.budget_is at.approval)
+    ∙ ap (λ b. Ok (projects_head (opening (budget_of b)))) at.budget_is
+
+-- what is true of an element in the middle
+middle : {X : Type 0} (P : X → Type 0) (xs : List X) (y : X) (ys : List X) → All P (xs ++ y ∷ ys) → P y
+middle P xs y ys all = All-contains P (xs ++ y ∷ ys) y all (Contains-append_right xs (y ∷ ys) y (0, omega arith, refl))
+
+-- an id in the middle of distinct ids is not among those before it
+new_in_middle : (xs : List (List ℕ)) (y : List ℕ) (ys : List (List ℕ)) → AreDistinct (xs ++ y ∷ ys) → is_among xs y ≡ false
+new_in_middle xs y ys distinct =
+    false_from_ne_true (is_among xs y) (λ there.
+      let c : Contains xs y = Contains-is_among xs y there in
+      let within : length xs < length (xs ++ y ∷ ys) = omega (arith, length-append xs (y ∷ ys)) in
+      distinct c.0 (length xs) y c.1 within (get_or_append_left xs (y ∷ ys) y c.0 c.1 ∙ c.2 ∙ sym (get_or-append_seam xs y ys y)))
+
+abbrev ids_of : List ProjectView → List (List ℕ)
+ids_of ps = map (λ p. p.id) ps
+
+abbrev voters_of : List VoterView → List (List ℕ)
+voters_of vs = map (λ v. v.id) vs
+
+full_text : (text id : List ℕ) → id ≡ text → id ≢ [] → is_empty text ≡ false
+full_text [] id same full = absurd (full same)
+full_text (x ∷ text) id same full = refl
+
+passes_at : (columns : ProjectColumns) (budget : ℕ) (qs ps : List ProjectView) (p : ProjectView) (row : Fields) → GivesProject columns row p → IsElection (record { budget = budget; projects = qs ++ p ∷ ps; voters = [] }) →
+    PassesProject columns row (record { budget = budget; projects = qs; voters = [] })
+passes_at columns budget qs ps p row given is =
+    let project : IsProject p = middle IsProject qs p ps is.are_projects in
+    let distinct : AreDistinct (ids_of qs ++ p.id ∷ ids_of ps) = subst AreDistinct (map-append (λ (x : ProjectView). x.id) qs (p ∷ ps)) is.projects_differ in
+    record {
+      cost = p.cost;
+      whole = given.whole;
+      reads = given.cost;
+      costs = project.costs;
+      has_id = full_text (field row columns.id) p.id given.id project.has_id;
+      new_id = subst (λ id. is_among (ids_of qs) id ≡ false) given.id (new_in_middle (ids_of qs) p.id (ids_of ps) distinct);
+      room = omega (arith, is.few_projects, length-append qs (p ∷ ps));
+    }
+
+run_projects_body : (columns : ProjectColumns) (budget : ℕ) (qs ps : List ProjectView) (body : List Fields) → AllZip (GivesProject columns) body ps → AreFull body →
+    IsElection (record { budget = budget; projects = qs ++ ps; voters = [] }) →
+    Runs (in_projects columns (record { budget = budget; projects = qs; voters = [] })) body (in_projects columns (record { budget = budget; projects = qs ++ ps; voters = [] }))
+run_projects_body columns budget qs [] [] zip full is = ap (λ ps. Ok (in_projects columns (record { budget = budget; projects = ps; voters = [] }))) (sym (append-nil qs))
+run_projects_body columns budget qs (p ∷ ps) [] zip full is = absurd zip
+run_projects_body columns budget qs [] (row ∷ body) zip full is = absurd zip
+run_projects_body columns budget qs (p ∷ ps) (row ∷ body) zip full is =
+    let e : ElectionView = record { budget = budget; projects = qs; voters = [] } in
+    let given : GivesProject columns row p = zip.0 in
+    let same : project_of columns row ≡ p = λ i. record { id = sym given.id i; name = sym given.name i; cost = ap amount_of given.cost i } in
+    run_row (in_projects columns e) row body (plain row) (next_plain row full.0 given.plain) (project_passes columns row e (passes_at columns budget qs ps p row given is))
+    ∙ ap (λ x. run (in_projects columns (record { budget = budget; projects = qs ++ x ∷ []; voters = [] })) body) same
+    ∙ run_projects_body columns budget (qs ++ p ∷ []) ps body zip.1 full.1 (subst (λ xs. IsElection (record { budget = budget; projects = xs; voters = [] })) (sym (append_assoc qs (p ∷ []) ps)) is)
+    ∙ ap (λ xs. Ok (in_projects columns (record { budget = budget; projects = xs; voters = [] }))) (append_assoc qs (p ∷ []) ps)
+
+run_projects : (rows : List Fields) (columns : ProjectColumns) (e : ElectionView) → AreFull rows → IsProjects rows columns e → IsElection e → Runs start rows (in_projects columns e)
+run_projects rows columns e full at is =
+    let whole : AreFull (at.front ++ at.header ∷ at.body) = subst AreFull at.cut full in
+    let front : AreFull at.front = AllByRecursion-left _ at.front (at.header ∷ at.body) whole in
+    let last : AreFull (at.header ∷ at.body) = AllByRecursion-right _ at.front (at.header ∷ at.body) whole in
+    ap (run start) at.cut
+    ∙ run_onto start (projects_head (opening e.budget)) at.front (at.header ∷ at.body) (run_projects_head at.front e.budget front at.before)
+    ∙ run_row (projects_head (opening e.budget)) at.header at.body (plain at.header) (next_plain at.header last.0 at.plain_header) (project_header_passes (opening e.budget) at.header columns at.columns_are)
+    ∙ ap (λ o. run (option_map_or (λ c. in_projects c (opening e.budget)) o start) at.body) at.columns_are
+    ∙ run_projects_body columns e.budget [] e.projects at.body at.projects last.1 (subst (λ vs. IsElection (record { budget = e.budget; projects = e.projects; voters = vs })) at.no_voter is)
+    ∙ ap (λ vs. Ok (in_projects columns (record { budget = e.budget; projects = e.projects; voters = vs }))) (sym at.no_voter)
+
+run_votes_head : (rows : List Fields) (e : ElectionView) → AreFull rows → IsVotesHead rows e → IsElection e → Runs start rows (votes_head e)
+run_votes_head rows e full at is =
+    let whole : AreFull (at.front ++ at.head ∷ []) = subst AreFull at.cut full in
+    let front : AreFull at.front = AllByRecursion-left _ at.front (at.head ∷ []) whole in
+    let last : AreFull (at.head ∷ []) = AllByRecursion-right _ at.front (at.head ∷ []) whole in
+    ap (run start) at.cut
+    ∙ run_onto start (in_projects at.columns e) at.front (at.head ∷ []) (run_projects at.front at.columns e front at.before is)
+    ∙ run_row (in_projects at.columns e) at.head [] (head section.Votes) (next_head at.head section.Votes last.0 at.opens) (votes_open at.columns e)
+
+vote_passes_at : (columns : VoteColumns) (e : ElectionView) (us vs : List VoterView) (v : VoterView) (row : Fields) → GivesVoter columns (project_ids e) row v → IsElection (record e { voters = us ++ v ∷ vs }) →
+    PassesVote columns row (record e { voters = us })
+vote_passes_at columns e us vs v row given is =
+    let voter : IsVoter (length e.projects) v = middle (IsVoter (length e.projects)) us v vs is.are_voters in
+    let distinct : AreDistinct (voters_of us ++ v.id ∷ voters_of vs) = subst AreDistinct (map-append (λ (x : VoterView). x.id) us (v ∷ vs)) is.voters_differ in
+    record {
+      whole = given.whole;
+      has_id = full_text (field row columns.voter) v.id given.id voter.has_id.not_empty;
+      new_id = subst (λ id. is_among (voters_of us) id ≡ false) given.id (new_in_middle (voters_of us) v.id (voters_of vs) distinct);
+      known = given.known;
+      room = omega (arith, is.few_voters, length-append us (v ∷ vs));
+    }
+
+run_votes_body : (columns : VoteColumns) (e : ElectionView) (us vs : List VoterView) (body : List Fields) → AllZip (GivesVoter columns (project_ids e)) body vs → AreFull body →
+    IsElection (record e { voters = us ++ vs }) →
+    Runs (in_votes columns (record e { voters = us })) body (in_votes columns (record e { voters = us ++ vs }))
+run_votes_body columns e us [] [] zip full is = ap (λ xs. Ok (in_votes columns (record e { voters = xs }))) (sym (append-nil us))
+run_votes_body columns e us (v ∷ vs) [] zip full is = absurd zip
+run_votes_body columns e us [] (row ∷ body) zip full is = absurd zip
+run_votes_body columns e us (v ∷ vs) (row ∷ body) zip full is =
+    let given : GivesVoter columns (project_ids e) row v = zip.0 in
+    let same : voter_of columns (project_ids e) row ≡ v = λ i. record { id = sym given.id i; ballot = sym given.ballot i } in
+    run_row (in_votes columns (record e { voters = us })) row body (plain row) (next_plain row full.0 given.plain) (vote_passes columns row (record e { voters = us }) (vote_passes_at columns e us vs v row given is))
+    ∙ ap (λ x. run (in_votes columns (record e { voters = us ++ x ∷ [] })) body) same
+    ∙ run_votes_body columns e (us ++ v ∷ []) vs body zip.1 full.1 (subst (λ xs. IsElection (record e { voters = xs })) (sym (append_assoc us (v ∷ []) vs)) is)
+    ∙ ap (λ xs. Ok (in_votes columns (record e { voters = xs }))) (append_assoc us (v ∷ []) vs)
+
+pub without_voters_is_election : (e : ElectionView) → IsElection e → IsElection (record e { voters = [] })
+without_voters_is_election e is = record {
+  budget_bounded = is.budget_bounded;
+  few_projects = is.few_projects;
+  few_voters = omega arith;
+  are_projects = is.are_projects;
+  are_voters = λ k d below. absurd (omega (arith, below));
+  projects_differ = is.projects_differ;
+  voters_differ = λ i j d above below. absurd (omega (arith, below));
+}
+
+run_votes : (rows : List Fields) (columns : VoteColumns) (e : ElectionView) → AreFull rows → IsVotes rows columns e → IsElection e → Runs start rows (in_votes columns e)
+run_votes rows columns e full at is =
+    let whole : AreFull (at.front ++ at.header ∷ at.body) = subst AreFull at.cut full in
+    let front : AreFull at.front = AllByRecursion-left _ at.front (at.header ∷ at.body) whole in
+    let last : AreFull (at.header ∷ at.body) = AllByRecursion-right _ at.front (at.header ∷ at.body) whole in
+    let before : ElectionView = record e { voters = [] } in
+    ap (run start) at.cut
+    ∙ run_onto start (votes_head before) at.front (at.header ∷ at.body) (run_votes_head at.front before front at.before (without_voters_is_election e is))
+    ∙ run_row (votes_head before) at.header at.body (plain at.header) (next_plain at.header last.0 at.plain_header) (vote_header_passes before at.header columns at.columns_are)
+    ∙ ap (λ o. run (option_map_or (λ c. in_votes c before) o start) at.body) at.columns_are
+    ∙ run_votes_body columns e [] e.voters at.body at.voters last.1 is
+
+-- what stands runs, wherever a file has come to
+pub runs : (p : Position) (rows : List Fields) → AreFull rows → IsAt rows p → IsLegit p → Runs start rows p
+runs start rows full at legit = ap (run start) at
+runs meta_head rows full at legit =
+    let whole : AreFull (at.head ∷ []) = subst AreFull at.cut full in
+    ap (run start) at.cut ∙ run_row start at.head [] (head section.Meta) (next_head at.head section.Meta whole.0 at.opens) meta_opens
+runs (in_meta meta) rows full at legit = run_meta rows meta full at
+runs (projects_head e) rows full at legit = run_projects_head rows e.budget full at.0 ∙ ap (λ x. Ok (projects_head x)) (sym at.1)
+runs (in_projects columns e) rows full at legit = run_projects rows columns e full at legit.0
+runs (votes_head e) rows full at legit = run_votes_head rows e full at legit.0
+runs (in_votes columns e) rows full at legit = run_votes rows columns e full at legit
