@@ -16,9 +16,9 @@ use Rattle.pb_rows.specs.Reading.{Fields}
 use Rattle.pb_read.proofs.Keeps.{IsTidy, IsTidy-trimmed, kept, next_follows}
 use Rattle.pb_read.proofs.ListFacts.{some≢none, ok≢err, same_Ok, AllByRecursion-append, AllByRecursion-left, AllByRecursion-right}
 use Rattle.pb_read.proofs.Runs.{AreFull, run_fault, run_onto, run_row, runs}
-use Rattle.pb_read.specs.Faults.{Position, start, meta_head, in_meta, projects_head, in_projects, votes_head, in_votes, Next, the_end, blank, head, plain, next_row, next_of, row_fault, IsAt, is_text, lowest_kind}
+use Rattle.pb_read.specs.Faults.{Position, start, meta_head, in_meta, projects_head, in_projects, votes_head, in_votes, Next, the_end, blank, head, plain, next_row, next_of, row_fault, IsAt, is_text, lowest_kind, IsSound}
 use Rattle.pb_read.specs.FirstFault.{MayGoOn, HasNoFault, IsAtFault, IsFirstFault, first_of}
-use Rattle.pb_read.specs.Machine.{advance, IsLegit, run, step, step_or, bind}
+use Rattle.pb_read.specs.Machine.{advance, run, step, step_or, bind}
 use Rattle.pb_read.specs.Rows.{head_of, is_blank, rows_of, trimmed}
 use Rattle.pb_read.specs.StandsFor.{Describes, StandsFor, IsVotes, most_records}
 use Rattle.pb_read.specs.declared.columns.VoteColumns.{VoteColumns}
@@ -132,17 +132,17 @@ completion_text (votes_head e) = refl
 completion_text (in_votes columns e) = refl
 
 -- rows without fault, one after another
-run_keeps : (p q : Position) (rows more : List Fields) → AreFull more → AllByRecursion IsTidy more → IsAt rows p → IsLegit p → run p more ≡ Ok q → IsAt (rows ++ more) q × IsLegit q
-run_keeps p q rows [] full tidy at legit e =
+run_keeps : (p q : Position) (rows more : List Fields) → AreFull more → AllByRecursion IsTidy more → IsAt rows p → IsSound p → run p more ≡ Ok q → IsAt (rows ++ more) q × IsSound q
+run_keeps p q rows [] full tidy at sound e =
     let same : p ≡ q = cc in
-    subst (λ x. IsAt (rows ++ []) x × IsLegit x) same (subst (λ xs. IsAt xs p) (sym (append-nil rows)) at, legit)
-run_keeps p q rows (row ∷ more) full tidy at legit e = go (run_keeps (advance p (next_row row)) q (rows ++ row ∷ []) more full.1 tidy.1) (row_fault p (next_row row)) refl
+    subst (λ x. IsAt (rows ++ []) x × IsSound x) same (subst (λ xs. IsAt xs p) (sym (append-nil rows)) at, sound)
+run_keeps p q rows (row ∷ more) full tidy at sound e = go (run_keeps (advance p (next_row row)) q (rows ++ row ∷ []) more full.1 tidy.1) (row_fault p (next_row row)) refl
   where
-    go : (IsAt (rows ++ row ∷ []) (advance p (next_row row)) → IsLegit (advance p (next_row row)) → run (advance p (next_row row)) more ≡ Ok q → IsAt ((rows ++ row ∷ []) ++ more) q × IsLegit q) →
-        (fault : Option ReadKind) → row_fault p (next_row row) ≡ fault → IsAt (rows ++ row ∷ more) q × IsLegit q
+    go : (IsAt (rows ++ row ∷ []) (advance p (next_row row)) → IsSound (advance p (next_row row)) → run (advance p (next_row row)) more ≡ Ok q → IsAt ((rows ++ row ∷ []) ++ more) q × IsSound q) →
+        (fault : Option ReadKind) → row_fault p (next_row row) ≡ fault → IsAt (rows ++ row ∷ more) q × IsSound q
     go later (Some kind) f = absurd (ok≢err (sym e ∙ run_fault p row more kind f))
     go later None f =
-        let next = kept p (next_row row) rows row (next_follows row full.0) tidy.0 f at legit in
+        let next = kept p (next_row row) rows row (next_follows row full.0) tidy.0 f at sound in
         let rest = later next.0 next.1 (sym (run_row p row more (next_row row) refl f) ∙ e) in
         (subst (λ xs. IsAt xs q) (append_assoc rows (row ∷ []) more) rest.0, rest.1)
 
@@ -169,10 +169,10 @@ advance-blank (in_votes columns e) = refl
 pub record Reached (done : List Fields) (p : Position) : Type 0 where
   pub text : AllByRecursion AllText done
   pub at : IsAt (rows_of done) p
-  pub legit : IsLegit p
+  pub sound : IsSound p
 
 pub reached_start : Reached [] start
-reached_start = record { text = tt; at = refl; legit = tt }
+reached_start = record { text = tt; at = refl; sound = tt }
 
 next_row-blank : (row : Fields) → is_blank row ≡ true → next_row row ≡ blank
 next_row-blank row none = rw none refl
@@ -183,15 +183,16 @@ reached_next done p r so_far text none = go (is_blank (trimmed r)) refl
   where
     all_text : AllByRecursion AllText (done ++ r ∷ [])
     all_text = AllByRecursion-append AllText done (r ∷ []) so_far.text (text, tt)
+
     go : (no_field : Bool) → is_blank (trimmed r) ≡ no_field → Reached (done ++ r ∷ []) (advance p (next_row (trimmed r)))
     go true e =
         let rows : rows_of (done ++ r ∷ []) ≡ rows_of done = rows_of-append done (r ∷ []) ∙ ap (λ xs. rows_of done ++ xs) (rows_of-blank r [] e) ∙ append-nil (rows_of done) in
         let stays : p ≡ advance p (next_row (trimmed r)) = sym (ap (advance p) (next_row-blank (trimmed r) e) ∙ advance-blank p) in
-        subst (λ q. Reached (done ++ r ∷ []) q) stays (record { text = all_text; at = subst (λ xs. IsAt xs p) (sym rows) so_far.at; legit = so_far.legit })
+        subst (λ q. Reached (done ++ r ∷ []) q) stays (record { text = all_text; at = subst (λ xs. IsAt xs p) (sym rows) so_far.at; sound = so_far.sound })
     go false e =
         let rows : rows_of (done ++ r ∷ []) ≡ rows_of done ++ trimmed r ∷ [] = rows_of-append done (r ∷ []) ∙ ap (λ xs. rows_of done ++ xs) (rows_of-full r [] e) in
-        let next = kept p (next_row (trimmed r)) (rows_of done) (trimmed r) (next_follows (trimmed r) e) (IsTidy-trimmed r text) none so_far.at so_far.legit in
-        record { text = all_text; at = subst (λ xs. IsAt xs (advance p (next_row (trimmed r)))) (sym rows) next.0; legit = next.1 }
+        let next = kept p (next_row (trimmed r)) (rows_of done) (trimmed r) (next_follows (trimmed r) e) (IsTidy-trimmed r text) none so_far.at so_far.sound in
+        record { text = all_text; at = subst (λ xs. IsAt xs (advance p (next_row (trimmed r)))) (sym rows) next.0; sound = next.1 }
 
 -- where a file has come without fault, some records complete it
 pub goes_on : (done : List Fields) (p : Position) → Reached done p → MayGoOn done
@@ -200,7 +201,7 @@ goes_on done p so_far =
     let more : List Fields = completion p in
     let text : AllByRecursion AllText more = are_text more (completion_text p) in
     let ran : run p (rows_of more) ≡ Ok (in_votes q.0 q.1) = ap (run p) (completion_rows p) ∙ q.2 in
-    let all = run_keeps p (in_votes q.0 q.1) (rows_of done) (rows_of more) (rows_of-are_full more) (rows_of-are_tidy more text) so_far.at so_far.legit ran in
+    let all = run_keeps p (in_votes q.0 q.1) (rows_of done) (rows_of more) (rows_of-are_full more) (rows_of-are_tidy more text) so_far.at so_far.sound ran in
     record {
       more = more;
       election = q.1;
@@ -219,7 +220,7 @@ no_text_ends done r none way =
     none (AllByRecursion-right AllText done (r ∷ []) all).0
 
 run_from_start : (done : List Fields) (p : Position) → Reached done p → run start (rows_of done) ≡ Ok p
-run_from_start done p so_far = runs p (rows_of done) (rows_of-are_full done) so_far.at so_far.legit
+run_from_start done p so_far = runs p (rows_of done) (rows_of-are_full done) so_far.at so_far.sound
 
 -- behind a record at fault nothing helps
 pub fault_ends : (done : List Fields) (p : Position) (r : Fields) (kind : ReadKind) → Reached done p → row_fault p (next_of (Some r)) ≡ Some kind → ¬ MayGoOn (done ++ r ∷ [])
@@ -227,8 +228,10 @@ fault_ends done p r kind so_far fault way = go (is_blank (trimmed r)) refl
   where
     records : List Fields
     records = (done ++ r ∷ []) ++ way.more
+
     whole : run start (rows_of ((done ++ r ∷ []) ++ way.more)) ≡ Ok (in_votes way.describes.columns way.election)
     whole = runs (in_votes way.describes.columns way.election) (rows_of ((done ++ r ∷ []) ++ way.more)) (rows_of-are_full ((done ++ r ∷ []) ++ way.more)) way.describes.rows way.describes.is_election
+
     go : (no_field : Bool) → is_blank (trimmed r) ≡ no_field → ⊥
     go true e = some≢none (sym fault ∙ ap (row_fault p) (next_row-blank (trimmed r) e) ∙ blank_passes p)
     go false e =
@@ -252,7 +255,7 @@ end_ends done p kind so_far fault e stands =
 pub end_stands : (done : List Fields) (columns : VoteColumns) (e : ElectionView) → length done ≤ most_records → Reached done (in_votes columns e) → StandsFor done e
 end_stands done columns e few so_far = record {
   few = few;
-  describes = record { text = so_far.text; columns = columns; rows = so_far.at; is_election = so_far.legit };
+  describes = record { text = so_far.text; columns = columns; rows = so_far.at; is_election = so_far.sound };
 }
 
 pub no_fault_so_far : (done : List Fields) (p : Position) → length done ≤ most_records → Reached done p → HasNoFault done
@@ -269,6 +272,7 @@ first_fault done left p kind few so_far lowest = record {
   at_fault = at_fault left lowest;
   position = p;
   so_far = so_far.at;
+  sound = so_far.sound;
   lowest = lowest;
 }
   where
@@ -279,6 +283,7 @@ first_fault done left p kind few so_far lowest = record {
         by_count : (all : Bool) → (length done == most_records) ≡ all → cond all (Some kinds.TooManyRecords) (row_fault p (next_of (Some r))) ≡ Some kind → (¬ MayGoOn (done ++ r ∷ [])) ⊎ (length done ≡ most_records)
         by_count true n f = inr (eqb-true (length done) most_records n)
         by_count false n f = inl (fault_ends done p r kind so_far f)
+
         by_text : (text : Bool) → list_all is_utf8 r ≡ text →
             cond (not text) (Some kinds.NotText) (cond (length done == most_records) (Some kinds.TooManyRecords) (row_fault p (next_of (Some r)))) ≡ Some kind →
             (¬ MayGoOn (done ++ r ∷ [])) ⊎ (length done ≡ most_records)

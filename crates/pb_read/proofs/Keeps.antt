@@ -25,8 +25,8 @@ use Rattle.pb_rows.specs.Reading.{Fields}
 use Rattle.pb_read.proofs.ListFacts.{some≢none, ok≢err, cond_none, AllZip-push, AllByRecursion-append, is_among-Contains}
 use Rattle.pb_read.proofs.MachineLaws.{meta_of-push, passes_project, passes_vote, passes_head, PassesProject, PassesVote}
 use Rattle.pb_read.specs.Columns.{project_columns, vote_columns}
-use Rattle.pb_read.specs.Faults.{Position, start, meta_head, in_meta, projects_head, in_projects, votes_head, in_votes, Next, the_end, blank, head, plain, next_row, row_fault, IsAt, IsMetaHead}
-use Rattle.pb_read.specs.Machine.{advance, IsLegit, budget_of, amount_of, project_of, voter_of, with_project, with_voter, with_row}
+use Rattle.pb_read.specs.Faults.{Position, start, meta_head, in_meta, projects_head, in_projects, votes_head, in_votes, Next, the_end, blank, head, plain, next_row, row_fault, IsAt, IsMetaHead, IsSound}
+use Rattle.pb_read.specs.Machine.{advance, budget_of, amount_of, project_of, voter_of, with_project, with_voter, with_row}
 use Rattle.pb_read.specs.MetaRows.{meta_of, value_of}
 use Rattle.pb_read.specs.Rows.{field, head_of, is_blank, is_empty, trimmed}
 use Rattle.pb_read.specs.StandsFor.{IsMeta, IsProjectsHead, IsProjects, IsVotesHead, IsVotes, IsPlain, GivesProject, GivesVoter, opening}
@@ -156,58 +156,64 @@ without_voters : (e : ElectionView) → e.voters ≡ [] → e ≡ record e { vot
 without_voters e none = λ i. record { budget = e.budget; projects = e.projects; voters = none i }
 
 -- one row without fault
-pub kept : (p : Position) (n : Next) (rows : List Fields) (row : Fields) → Follows n row → IsTidy row → row_fault p n ≡ None → IsAt rows p → IsLegit p →
-    IsAt (rows ++ row ∷ []) (advance p n) × IsLegit (advance p n)
+pub kept : (p : Position) (n : Next) (rows : List Fields) (row : Fields) → Follows n row → IsTidy row → row_fault p n ≡ None → IsAt rows p → IsSound p →
+    IsAt (rows ++ row ∷ []) (advance p n) × IsSound (advance p n)
 unfolding row_fault
-kept p the_end rows row follows tidy none at legit = absurd follows
-kept p blank rows row follows tidy none at legit = absurd follows
-kept start (head section.Meta) rows row follows tidy none at legit =
+kept p the_end rows row follows tidy none at sound = absurd follows
+kept p blank rows row follows tidy none at sound = absurd follows
+kept start (head section.Meta) rows row follows tidy none at sound =
     (record { head = row; cut = ap (λ xs. xs ++ row ∷ []) at; opens = follows }, tt)
-kept start (head section.Projects) rows row follows tidy none at legit = absurd (some≢none none)
-kept start (head section.Votes) rows row follows tidy none at legit = absurd (some≢none none)
-kept start (plain r) rows row follows tidy none at legit = absurd (some≢none none)
-kept meta_head (head name) rows row follows tidy none at legit = absurd (some≢none none)
-kept meta_head (plain r) rows row follows tidy none at legit =
+kept start (head section.Projects) rows row follows tidy none at sound = absurd (some≢none none)
+kept start (head section.Votes) rows row follows tidy none at sound = absurd (some≢none none)
+kept start (plain r) rows row follows tidy none at sound = absurd (some≢none none)
+kept meta_head (head name) rows row follows tidy none at sound = absurd (some≢none none)
+kept meta_head (plain r) rows row follows tidy none at sound =
     (record { head = at.head; header = row; body = []; cut = ap (λ xs. xs ++ row ∷ []) at.cut; opens = at.opens; plain_header = follows.1; plain = tt; says = refl }, tt)
-kept (in_meta meta) (head section.Meta) rows row follows tidy none at legit = absurd (some≢none none)
-kept (in_meta meta) (head section.Projects) rows row follows tidy none at legit =
+kept (in_meta meta) (head section.Meta) rows row follows tidy none at sound = absurd (some≢none none)
+kept (in_meta meta) (head section.Projects) rows row follows tidy none at sound =
     let passed = passes_head meta none in
     let same : passed.0 ≡ budget_of meta.budget = ap budget_of (sym passed.1) in
-    let few : passed.0 ≤ largest_money = budget_le at.body passed.0 (ap (λ (m : Meta). m.budget) (sym at.says) ∙ passed.1) in
-    ((record { front = rows; meta = meta; head = row; cut = refl; before = at; opens = follows; budget_is = passed.1 ∙ ap (λ b. Some (Ok b)) same; approval = passed.2 }, refl),
-     (opening_is_election (budget_of meta.budget) (subst (λ b. b ≤ largest_money) same few), refl))
-kept (in_meta meta) (head section.Votes) rows row follows tidy none at legit = absurd (some≢none none)
-kept (in_meta meta) (plain r) rows row follows tidy none at legit =
-    (record {
-      head = at.head;
-      header = at.header;
-      body = at.body ++ row ∷ [];
-      cut = ap (λ xs. xs ++ row ∷ []) at.cut;
-      opens = at.opens;
-      plain_header = at.plain_header;
-      plain = AllByRecursion-append IsPlain at.body (row ∷ []) at.plain (follows.1, tt);
-      says = ap (with_row meta) follows.0 ∙ ap (λ m. with_row m row) at.says ∙ sym (meta_of-push at.body row);
-    }, tt)
-kept (projects_head e) (head name) rows row follows tidy none at legit = absurd (some≢none none)
-kept (projects_head e) (plain header) rows row follows tidy none at legit =
+    let few : passed.0 ≤ largest_money = budget_le at.body passed.0 (ap (λ (m : Meta). m.budget) (sym at.says) ∙ passed.1) in (
+      (record { front = rows; meta = meta; head = row; cut = refl; before = at; opens = follows; budget_is = passed.1 ∙ ap (λ b. Some (Ok b)) same; approval = passed.2 }, refl),
+      (opening_is_election (budget_of meta.budget) (subst (λ b. b ≤ largest_money) same few), refl),
+    )
+kept (in_meta meta) (head section.Votes) rows row follows tidy none at sound = absurd (some≢none none)
+kept (in_meta meta) (plain r) rows row follows tidy none at sound = (
+  record {
+    head = at.head;
+    header = at.header;
+    body = at.body ++ row ∷ [];
+    cut = ap (λ xs. xs ++ row ∷ []) at.cut;
+    opens = at.opens;
+    plain_header = at.plain_header;
+    plain = AllByRecursion-append IsPlain at.body (row ∷ []) at.plain (follows.1, tt);
+    says = ap (with_row meta) follows.0 ∙ ap (λ m. with_row m row) at.says ∙ sym (meta_of-push at.body row);
+  },
+  tt,
+)
+kept (projects_head e) (head name) rows row follows tidy none at sound = absurd (some≢none none)
+kept (projects_head e) (plain header) rows row follows tidy none at sound =
     let found = project_columns_found e header none in
     let no_project : e.projects ≡ [] = ap (λ (x : ElectionView). x.projects) at.1 in
-    rw found.1 (record {
-      front = rows;
-      header = row;
-      body = [];
-      cut = refl;
-      before = at.0;
-      plain_header = follows.1;
-      columns_are = ap project_columns (sym follows.0) ∙ found.1;
-      projects = subst (λ ps. AllZip (GivesProject found.0) [] ps) (sym no_project) tt;
-      no_voter = legit.1;
-    }, legit)
-kept (in_projects columns e) (head section.Meta) rows row follows tidy none at legit = absurd (some≢none none)
-kept (in_projects columns e) (head section.Projects) rows row follows tidy none at legit = absurd (some≢none none)
-kept (in_projects columns e) (head section.Votes) rows row follows tidy none at legit =
-    (record { front = rows; columns = columns; head = row; cut = refl; before = at; opens = follows }, legit)
-kept (in_projects columns e) (plain r) rows row follows tidy none at legit =
+    rw found.1 (
+      record {
+        front = rows;
+        header = row;
+        body = [];
+        cut = refl;
+        before = at.0;
+        plain_header = follows.1;
+        columns_are = ap project_columns (sym follows.0) ∙ found.1;
+        projects = subst (λ ps. AllZip (GivesProject found.0) [] ps) (sym no_project) tt;
+        no_voter = sound.1;
+      },
+      sound,
+    )
+kept (in_projects columns e) (head section.Meta) rows row follows tidy none at sound = absurd (some≢none none)
+kept (in_projects columns e) (head section.Projects) rows row follows tidy none at sound = absurd (some≢none none)
+kept (in_projects columns e) (head section.Votes) rows row follows tidy none at sound =
+    (record { front = rows; columns = columns; head = row; cut = refl; before = at; opens = follows }, sound)
+kept (in_projects columns e) (plain r) rows row follows tidy none at sound =
     let passed : PassesProject columns row e = subst (λ x. PassesProject columns x e) follows.0 (passes_project columns r e none) in
     let gives : GivesProject columns row (project_of columns row) = record {
       plain = follows.1;
@@ -216,32 +222,38 @@ kept (in_projects columns e) (plain r) rows row follows tidy none at legit =
       name = refl;
       cost = passed.reads ∙ ap (λ x. Ok (amount_of x)) (sym passed.reads);
     } in
-    rw follows.0 (record {
-      front = at.front;
-      header = at.header;
-      body = at.body ++ row ∷ [];
-      cut = ap (λ xs. xs ++ row ∷ []) at.cut ∙ append_assoc at.front (at.header ∷ at.body) (row ∷ []);
-      before = at.before;
-      plain_header = at.plain_header;
-      columns_are = at.columns_are;
-      projects = AllZip-push (GivesProject columns) at.body e.projects row (project_of columns row) at.projects gives;
-      no_voter = at.no_voter;
-    }, (with_project_is_election columns row e legit.0 legit.1 passed, legit.1))
-kept (votes_head e) (head name) rows row follows tidy none at legit = absurd (some≢none none)
-kept (votes_head e) (plain header) rows row follows tidy none at legit =
+    rw follows.0 (
+      record {
+        front = at.front;
+        header = at.header;
+        body = at.body ++ row ∷ [];
+        cut = ap (λ xs. xs ++ row ∷ []) at.cut ∙ append_assoc at.front (at.header ∷ at.body) (row ∷ []);
+        before = at.before;
+        plain_header = at.plain_header;
+        columns_are = at.columns_are;
+        projects = AllZip-push (GivesProject columns) at.body e.projects row (project_of columns row) at.projects gives;
+        no_voter = at.no_voter;
+      },
+      (with_project_is_election columns row e sound.0 sound.1 passed, sound.1),
+    )
+kept (votes_head e) (head name) rows row follows tidy none at sound = absurd (some≢none none)
+kept (votes_head e) (plain header) rows row follows tidy none at sound =
     let found = vote_columns_found e header none in
-    rw found.1 (record {
-      front = rows;
-      header = row;
-      body = [];
-      cut = refl;
-      before = subst (IsVotesHead rows) (without_voters e legit.1) at;
-      plain_header = follows.1;
-      columns_are = ap vote_columns (sym follows.0) ∙ found.1;
-      voters = subst (λ vs. AllZip (GivesVoter found.0 (project_ids e)) [] vs) (sym legit.1) tt;
-    }, legit.0)
-kept (in_votes columns e) (head name) rows row follows tidy none at legit = absurd (some≢none none)
-kept (in_votes columns e) (plain r) rows row follows tidy none at legit =
+    rw found.1 (
+      record {
+        front = rows;
+        header = row;
+        body = [];
+        cut = refl;
+        before = subst (IsVotesHead rows) (without_voters e sound.1) at;
+        plain_header = follows.1;
+        columns_are = ap vote_columns (sym follows.0) ∙ found.1;
+        voters = subst (λ vs. AllZip (GivesVoter found.0 (project_ids e)) [] vs) (sym sound.1) tt;
+      },
+      sound.0,
+    )
+kept (in_votes columns e) (head name) rows row follows tidy none at sound = absurd (some≢none none)
+kept (in_votes columns e) (plain r) rows row follows tidy none at sound =
     let passed : PassesVote columns row e = subst (λ x. PassesVote columns x e) follows.0 (passes_vote columns r e none) in
     let gives : GivesVoter columns (project_ids e) row (voter_of columns (project_ids e) row) = record {
       plain = follows.1;
@@ -250,13 +262,16 @@ kept (in_votes columns e) (plain r) rows row follows tidy none at legit =
       known = passed.known;
       ballot = refl;
     } in
-    rw follows.0 (record {
-      front = at.front;
-      header = at.header;
-      body = at.body ++ row ∷ [];
-      cut = ap (λ xs. xs ++ row ∷ []) at.cut ∙ append_assoc at.front (at.header ∷ at.body) (row ∷ []);
-      before = at.before;
-      plain_header = at.plain_header;
-      columns_are = at.columns_are;
-      voters = AllZip-push (GivesVoter columns (project_ids e)) at.body e.voters row (voter_of columns (project_ids e) row) at.voters gives;
-    }, with_voter_is_election columns row e tidy legit passed)
+    rw follows.0 (
+      record {
+        front = at.front;
+        header = at.header;
+        body = at.body ++ row ∷ [];
+        cut = ap (λ xs. xs ++ row ∷ []) at.cut ∙ append_assoc at.front (at.header ∷ at.body) (row ∷ []);
+        before = at.before;
+        plain_header = at.plain_header;
+        columns_are = at.columns_are;
+        voters = AllZip-push (GivesVoter columns (project_ids e)) at.body e.voters row (voter_of columns (project_ids e) row) at.voters gives;
+      },
+      with_voter_is_election columns row e tidy sound passed,
+    )

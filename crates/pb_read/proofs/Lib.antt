@@ -3,3 +3,5 @@ pub mod MachineLaws
 pub mod Keeps
 pub mod Runs
 pub mod GoesOn
+pub mod IdFacts
+pub mod Uniqueness

@@ -56,6 +56,7 @@ meta_of-push rows row = λ i. record { budget = budget i; approval = approval i 
   where
     budget : option_map money_of (value_of (codes "budget") (rows ++ row ∷ [])) ≡ (with_row (meta_of rows) row).budget
     budget = ap (option_map money_of) (value_of-push (codes "budget") rows row) ∙ option_map_cond money_of (is_word (codes "budget") (field row 0)) (field row 1) (value_of (codes "budget") rows)
+
     approval : option_map (is_word (codes "approval")) (value_of (codes "vote_type") (rows ++ row ∷ [])) ≡ (with_row (meta_of rows) row).approval
     approval = ap (option_map (is_word (codes "approval"))) (value_of-push (codes "vote_type") rows row) ∙ option_map_cond (is_word (codes "approval")) (is_word (codes "vote_type") (field row 0)) (field row 1) (value_of (codes "vote_type") rows)
 
@@ -123,6 +124,7 @@ passes_project columns row e none =
   where
     room : Bool
     room = nat_le most_projects (length e.projects)
+
     go : (whole : Bool) → has_project_fields columns row ≡ whole → (cost : Result ℕ MoneyFault) → money_of (field row columns.cost) ≡ cost →
         project_checks whole cost (is_empty (field row columns.id)) (is_among (project_ids e) (field row columns.id)) (nat_le most_projects (length e.projects)) ≡ None →
         PassesProject columns row e

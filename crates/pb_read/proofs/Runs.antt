@@ -14,8 +14,8 @@ use Rattle.pb_rows.specs.Reading.{Fields}
 use Rattle.pb_read.proofs.ListFacts.{Contains-is_among, AllByRecursion-left, AllByRecursion-right}
 use Rattle.pb_read.proofs.MachineLaws.{run-append, meta_of-push, head_passes, project_passes, vote_passes, PassesProject, PassesVote}
 use Rattle.pb_read.specs.Columns.{project_columns, vote_columns}
-use Rattle.pb_read.specs.Faults.{Position, start, meta_head, in_meta, projects_head, in_projects, votes_head, in_votes, Next, the_end, blank, head, plain, next_row, row_fault, IsAt}
-use Rattle.pb_read.specs.Machine.{advance, IsLegit, budget_of, amount_of, project_of, voter_of, with_project, with_voter, with_row, run, bind, step, step_or}
+use Rattle.pb_read.specs.Faults.{Position, start, meta_head, in_meta, projects_head, in_projects, votes_head, in_votes, Next, the_end, blank, head, plain, next_row, row_fault, IsAt, IsSound}
+use Rattle.pb_read.specs.Machine.{advance, budget_of, amount_of, project_of, voter_of, with_project, with_voter, with_row, run, bind, step, step_or}
 use Rattle.pb_read.specs.MetaRows.{meta_of}
 use Rattle.pb_read.specs.Rows.{field, head_of, is_blank, is_empty}
 use Rattle.pb_read.specs.StandsFor.{IsMeta, IsProjectsHead, IsProjects, IsVotesHead, IsVotes, IsPlain, IsHead, GivesProject, GivesVoter, opening}
@@ -114,9 +114,9 @@ middle P xs y ys all = All-contains P (xs ++ y ∷ ys) y all (Contains-append_ri
 new_in_middle : (xs : List (List ℕ)) (y : List ℕ) (ys : List (List ℕ)) → AreDistinct (xs ++ y ∷ ys) → is_among xs y ≡ false
 new_in_middle xs y ys distinct =
     false_from_ne_true (is_among xs y) (λ there.
-      let c : Contains xs y = Contains-is_among xs y there in
-      let within : length xs < length (xs ++ y ∷ ys) = omega (arith, length-append xs (y ∷ ys)) in
-      distinct c.0 (length xs) y c.1 within (get_or_append_left xs (y ∷ ys) y c.0 c.1 ∙ c.2 ∙ sym (get_or-append_seam xs y ys y)))
+    let c : Contains xs y = Contains-is_among xs y there in
+    let within : length xs < length (xs ++ y ∷ ys) = omega (arith, length-append xs (y ∷ ys)) in
+    distinct c.0 (length xs) y c.1 within (get_or_append_left xs (y ∷ ys) y c.0 c.1 ∙ c.2 ∙ sym (get_or-append_seam xs y ys y)))
 
 abbrev ids_of : List ProjectView → List (List ℕ)
 ids_of ps = map (λ p. p.id) ps
@@ -230,13 +230,13 @@ run_votes rows columns e full at is =
     ∙ run_votes_body columns e [] e.voters at.body at.voters last.1 is
 
 -- what stands runs, wherever a file has come to
-pub runs : (p : Position) (rows : List Fields) → AreFull rows → IsAt rows p → IsLegit p → Runs start rows p
-runs start rows full at legit = ap (run start) at
-runs meta_head rows full at legit =
+pub runs : (p : Position) (rows : List Fields) → AreFull rows → IsAt rows p → IsSound p → Runs start rows p
+runs start rows full at sound = ap (run start) at
+runs meta_head rows full at sound =
     let whole : AreFull (at.head ∷ []) = subst AreFull at.cut full in
     ap (run start) at.cut ∙ run_row start at.head [] (head section.Meta) (next_head at.head section.Meta whole.0 at.opens) meta_opens
-runs (in_meta meta) rows full at legit = run_meta rows meta full at
-runs (projects_head e) rows full at legit = run_projects_head rows e.budget full at.0 ∙ ap (λ x. Ok (projects_head x)) (sym at.1)
-runs (in_projects columns e) rows full at legit = run_projects rows columns e full at legit.0
-runs (votes_head e) rows full at legit = run_votes_head rows e full at legit.0
-runs (in_votes columns e) rows full at legit = run_votes rows columns e full at legit
+runs (in_meta meta) rows full at sound = run_meta rows meta full at
+runs (projects_head e) rows full at sound = run_projects_head rows e.budget full at.0 ∙ ap (λ x. Ok (projects_head x)) (sym at.1)
+runs (in_projects columns e) rows full at sound = run_projects rows columns e full at sound.0
+runs (votes_head e) rows full at sound = run_votes_head rows e full at sound.0
+runs (in_votes columns e) rows full at sound = run_votes rows columns e full at sound

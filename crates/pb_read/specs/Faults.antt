@@ -3,7 +3,7 @@ use Rattle.std.specs.Prelude.{◌≡◌, ℕ, Bool, true, false, not, ◌&&◌, 
 use Rattle.std.specs.Option.{option_map_or}
 use Rattle.std.specs.List.{list_all}
 use Rattle.std.specs.Str.{is_utf8}
-use Rattle.pb_core.specs.Election.{ElectionView, most_projects, most_voters, project_ids, voter_ids}
+use Rattle.pb_core.specs.Election.{ElectionView, IsElection, most_projects, most_voters, project_ids, voter_ids}
 use Rattle.pb_core.specs.Money.{money_of}
 use Rattle.pb_core.specs.MoneyFault.{number_of as money_number}
 use Rattle.pb_core.specs.declared.money_fault.MoneyFault.{MoneyFault}
@@ -47,6 +47,14 @@ IsAt rows (projects_head e) = IsProjectsHead rows e.budget × (e ≡ opening e.b
 IsAt rows (in_projects columns e) = IsProjects rows columns e
 IsAt rows (votes_head e) = IsVotesHead rows e
 IsAt rows (in_votes columns e) = IsVotes rows columns e
+
+-- what was read so far is an election: its ids differ, its amounts are in range, and so on
+abbrev pub IsSound : Position → Type 0
+IsSound (projects_head e) = IsElection e × (e.voters ≡ [])
+IsSound (in_projects columns e) = IsElection e × (e.voters ≡ [])
+IsSound (votes_head e) = IsElection e × (e.voters ≡ [])
+IsSound (in_votes columns e) = IsElection e
+IsSound p = Unit {0}
 
 -- what comes next: the end of the file, a blank record, a section's head, or a plain row
 pub data Next : Type 0 where

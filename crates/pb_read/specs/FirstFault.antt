@@ -2,7 +2,7 @@
 use Rattle.std.specs.Prelude.{◌≡◌, ◌≤◌, ◌+◌, ◌⊎◌, ℕ, List, [], ◌∷◌, ◌++◌, length, Option, None, Some}
 use Rattle.pb_core.specs.Election.{ElectionView}
 use Rattle.pb_rows.specs.Reading.{Fields}
-use Rattle.pb_read.specs.Faults.{Position, IsAt, lowest_kind}
+use Rattle.pb_read.specs.Faults.{Position, IsAt, IsSound, lowest_kind}
 use Rattle.pb_read.specs.Rows.{rows_of}
 use Rattle.pb_read.specs.StandsFor.{Describes, StandsFor, most_records}
 use Rattle.pb_read.specs.declared.fault.ReadFault.{ReadFault}
@@ -40,6 +40,7 @@ pub record IsFirstFault (records : List Fields) (kind : ReadKind) (at : ℕ) : T
   pub at_fault : IsAtFault done left
   pub position : Position
   pub so_far : IsAt (rows_of done) position
+  pub sound : IsSound position
   pub lowest : lowest_kind (length done) position (first_of left) ≡ Some kind
 
 -- a refusal because the reader failed or memory was refused, at this record: the records before it have no fault

@@ -74,21 +74,15 @@ abbrev pub run : Position → List Fields → Result Position ReadKind
 run p [] = Ok p
 run p (row ∷ rows) = bind (step p (next_row row)) (λ q. run q rows)
 
--- what an election has at each position
-abbrev pub IsLegit : Position → Type 0
-IsLegit (projects_head e) = IsElection e × (e.voters ≡ [])
-IsLegit (in_projects columns e) = IsElection e × (e.voters ≡ [])
-IsLegit (votes_head e) = IsElection e × (e.voters ≡ [])
-IsLegit (in_votes columns e) = IsElection e
-IsLegit p = Unit {0}
-
-
 -- the checks of PROJECTS' head, of a project row and of a vote row, in their order
+abbrev pub kind_of_money : MoneyFault → ReadKind
+kind_of_money money.BadMoney = BadMoney
+kind_of_money money.MoneyTooFine = MoneyTooFine
+kind_of_money money.MoneyTooLarge = MoneyTooLarge
+
 abbrev pub money_checks : Result ℕ MoneyFault → Option ReadKind → Option ReadKind
 money_checks (Ok amount) more = more
-money_checks (Err money.BadMoney) more = Some BadMoney
-money_checks (Err money.MoneyTooFine) more = Some MoneyTooFine
-money_checks (Err money.MoneyTooLarge) more = Some MoneyTooLarge
+money_checks (Err fault) more = Some (kind_of_money fault)
 
 abbrev pub head_checks : Option (Result ℕ MoneyFault) → Option Bool → Option ReadKind
 head_checks None approval = Some MissingKey

@@ -1,5 +1,8 @@
 // Where the columns of PROJECTS and VOTES stand.
 
+use crate::row::{column, field};
+use csv::StringRecord;
+
 /// The places of the columns of PROJECTS, from 0.
 #[derive(Clone, Copy, Debug)]
 pub(crate) struct ProjectColumns {
@@ -13,4 +16,61 @@ pub(crate) struct ProjectColumns {
 pub(crate) struct VoteColumns {
     pub(crate) voter: usize,
     pub(crate) vote: usize,
+}
+
+impl ProjectColumns {
+    ghost use Rattle.std.specs.Prelude.{◌≡◌};
+    ghost use Rattle.csv.specs.Records.{fields_of};
+    ghost use Rattle.pb_read.specs.Columns.{has_project_fields, name_field, project_columns};
+    ghost use Rattle.pb_read.specs.Rows.{trimmed};
+
+    /// The columns that a header row of PROJECTS names: `project_id` and `cost` are needed.
+    pub(crate) fn of(header: &StringRecord) -> Option<ProjectColumns>
+        ensures { result ≡ project_columns (trimmed (fields_of header.now)) }
+    {
+        let id = column("project_id", header)?;
+        let cost = column("cost", header)?;
+        let name = column("name", header);
+        Some(ProjectColumns { id, cost, name })
+    }
+
+    /// Whether a row has a field in each needed column.
+    pub(crate) fn are_in(&self, row: &StringRecord) -> bool
+        ensures { result ≡ has_project_fields self.now (trimmed (fields_of row.now)) }
+    {
+        self.id < row.len() && self.cost < row.len()
+    }
+
+    /// The name in a row: empty where there is no such column, or the row ends before it.
+    pub(crate) fn name<'r>(&self, row: &'r StringRecord) -> &'r str
+        ensures { result.now ≡ name_field self.now (trimmed (fields_of row.now)) }
+    {
+        match self.name {
+            Some(place) => field(row, place),
+            None => "",
+        }
+    }
+}
+
+impl VoteColumns {
+    ghost use Rattle.std.specs.Prelude.{◌≡◌};
+    ghost use Rattle.csv.specs.Records.{fields_of};
+    ghost use Rattle.pb_read.specs.Columns.{has_vote_fields, vote_columns};
+    ghost use Rattle.pb_read.specs.Rows.{trimmed};
+
+    /// The columns that a header row of VOTES names: `voter_id` and `vote`, both needed.
+    pub(crate) fn of(header: &StringRecord) -> Option<VoteColumns>
+        ensures { result ≡ vote_columns (trimmed (fields_of header.now)) }
+    {
+        let voter = column("voter_id", header)?;
+        let vote = column("vote", header)?;
+        Some(VoteColumns { voter, vote })
+    }
+
+    /// Whether a row has a field in each needed column.
+    pub(crate) fn are_in(&self, row: &StringRecord) -> bool
+        ensures { result ≡ has_vote_fields self.now (trimmed (fields_of row.now)) }
+    {
+        self.voter < row.len() && self.vote < row.len()
+    }
 }

@@ -3,6 +3,9 @@
 ghost use Rattle.std.specs.Prelude.{◌≡◌};
 ghost use Rattle.pb_read.specs.Kinds.{name_of, number_of};
 
+use pb_core::money_fault::MoneyFault;
+use pb_core::no_memory::NoMemory;
+use std::alloc::AllocError;
 use thiserror::Error;
 
 /// Why a file is refused. Within one record the checks run in rising number.
@@ -131,6 +134,43 @@ impl ReadKind {
             ReadKind::TooManyVoters => "TooManyVoters",
             ReadKind::NoMemory => "NoMemory",
         }
+    }
+}
+
+impl From<MoneyFault> for ReadKind {
+    ghost use Rattle.std.specs.Prelude.{◌≡◌};
+    ghost use Rattle.pb_read.specs.Machine.{kind_of_money};
+
+    ghost from_gives = { λ fault kind. kind ≡ kind_of_money fault };
+
+    fn from(fault: MoneyFault) -> ReadKind {
+        match fault {
+            MoneyFault::BadMoney => ReadKind::BadMoney,
+            MoneyFault::MoneyTooFine => ReadKind::MoneyTooFine,
+            MoneyFault::MoneyTooLarge => ReadKind::MoneyTooLarge,
+        }
+    }
+}
+
+impl From<NoMemory> for ReadKind {
+    ghost use Rattle.std.specs.Prelude.{◌≡◌};
+    ghost use Rattle.pb_read.specs.declared.fault.ReadKind.TheVariants.{NoMemory};
+
+    ghost from_gives = { λ _ kind. kind ≡ NoMemory };
+
+    fn from(_refused: NoMemory) -> ReadKind {
+        ReadKind::NoMemory
+    }
+}
+
+impl From<AllocError> for ReadKind {
+    ghost use Rattle.std.specs.Prelude.{◌≡◌};
+    ghost use Rattle.pb_read.specs.declared.fault.ReadKind.TheVariants.{NoMemory};
+
+    ghost from_gives = { λ _ kind. kind ≡ NoMemory };
+
+    fn from(_refused: AllocError) -> ReadKind {
+        ReadKind::NoMemory
     }
 }
 

@@ -3,7 +3,9 @@
 
 mod columns;
 mod fault;
+mod ids;
 mod meta;
+mod row;
 mod section;
 
 pub use fault::{ReadFault, ReadKind};

@@ -1,9 +1,35 @@
 // The three sections of a file.
 
+use crate::row::{field, is_word};
+use csv::StringRecord;
+
 /// A section of a file, in the order in which sections come.
 #[derive(Clone, Copy, PartialEq, Eq, Debug)]
 pub(crate) enum Section {
     Meta,
     Projects,
     Votes,
+}
+
+impl Section {
+    ghost use Rattle.std.specs.Prelude.{◌≡◌};
+    ghost use Rattle.csv.specs.Records.{fields_of};
+    ghost use Rattle.pb_read.specs.Rows.{head_of, trimmed};
+
+    #[tactic(auto, unfolding(crate::specs::Rows::head_of))]
+    /// The section whose head a record is: its first field decides.
+    pub(crate) fn headed_by(row: &StringRecord) -> Option<Section>
+        ensures { result ≡ head_of (trimmed (fields_of row.now)) }
+    {
+        let word = field(row, 0);
+        if is_word("META", word) {
+            Some(Section::Meta)
+        } else if is_word("PROJECTS", word) {
+            Some(Section::Projects)
+        } else if is_word("VOTES", word) {
+            Some(Section::Votes)
+        } else {
+            None
+        }
+    }
 }
