@@ -7,4 +7,6 @@ pub mod price;
 pub mod price_by_trial;
 pub mod supporters;
 pub mod tally;
+#[cfg(test)]
+mod tests;
 mod voter_list;
