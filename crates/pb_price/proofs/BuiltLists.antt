@@ -1,16 +1,16 @@
 -- The lists of supporters while the ballots are put in one after the other.
-use Rattle.std.proofs.Common.{◌≡◌, ◌≢◌, ℕ, zero, suc, ◌+◌, ◌<◌, ◌≤◌, Bool, true, false, cond, ◌||◌, List, [], ◌∷◌, ◌++◌, length, map, get_or, set, take, replicate, refl, sym, ap, ◌∙◌, inl, inr, arith, eqb}
+use Rattle.std.proofs.Common.{◌≡◌, ℕ, ◌+◌, ◌<◌, Bool, true, false, cond, ◌||◌, List, [], ◌∷◌, ◌++◌, length, get_or, set, take, replicate, refl, sym, ap, ◌∙◌, inl, inr, arith, eqb}
 use Rattle.std.specs.Prelude.{All}
-use Rattle.std.specs.List.{range_with_len, filter, list_any}
+use Rattle.std.specs.List.{range_with_len, filter}
 use Rattle.std.specs.List.Sorted.{IsStrictlyIncreasing}
 use Rattle.std.proofs.lemmas.Bool.{eq-eqb, ne_eqb, cases_eq}
-use Rattle.std.proofs.lemmas.List.{same_lists, length-set, get_or-map, get_or-set_same, get_or-set_other, get_or-take, length-take, append-nil, map-id, length-replicate, get_or-replicate, ext_get_or, get_or_default}
+use Rattle.std.proofs.lemmas.List.{length-set, get_or-map, get_or-set_same, get_or-set_other, get_or-take, length-take, append-nil, map-id, length-replicate, get_or-replicate, ext_get_or, get_or_default}
 use Rattle.std.proofs.lemmas.List.FromFn.{map-range_with_len_more, length-map-range_with_len, get_or-map-range_with_len}
 use Rattle.std.proofs.lemmas.List.Elements.{filter-append}
 use Rattle.std.proofs.lemmas.List.Folds.{list_any_more, list_any_none}
 use Rattle.std.proofs.lemmas.List.Kept.{AllPairs-from_increasing}
 use Rattle.pb_core.specs.Ballot.{approves}
-use Rattle.pb_core.specs.Election.{ElectionView, VoterView, IsElection, IsVoter}
+use Rattle.pb_core.specs.Election.{ElectionView, VoterView, IsElection}
 use Rattle.pb_price.specs.Lists.{AddsVoter}
 use Rattle.pb_price.specs.Supporters.{ballot_at, supporters_of, support_of}
 

@@ -1,4 +1,4 @@
-use Rattle.std.proofs.Common.{◌≡◌, ◌+◌, ◌-◌, ◌*◌, ◌<◌, ◌≤◌, length, get_or, ap, sym, ◌∙◌, arith}
+use Rattle.std.proofs.Common.{◌-◌, ◌*◌, length, get_or, ap, ◌∙◌, arith}
 use Rattle.pb_price.proofs.WalkedRests.{least_at_end, HasWalked-more}
 use Rattle.pb_price.proofs.least_payment.least_payment.Goals as goal
 

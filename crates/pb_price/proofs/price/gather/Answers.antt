@@ -1,6 +1,5 @@
-use Rattle.std.proofs.Common.{◌≡◌, ◌≤◌, get_or, ap, sym, ◌∙◌, arith}
+use Rattle.std.proofs.Common.{get_or, ◌∙◌, arith}
 use Rattle.std.proofs.lemmas.List.{get_or_read}
-use Rattle.pb_price.specs.Price.{largest_share}
 use Rattle.pb_price.proofs.WalkedRests.{gathered_more}
 use Rattle.pb_price.proofs.price.gather.Goals as goal
 

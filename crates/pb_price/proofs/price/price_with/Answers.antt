@@ -1,6 +1,5 @@
-use Rattle.std.proofs.Common.{◌≡◌, ◌<◌, ◌≤◌, sym, ◌∙◌, arith}
+use Rattle.std.proofs.Common.{sym, arith}
 use Rattle.pb_price.specs.Supporters.{supporters_at, cost_at}
-use Rattle.pb_price.specs.Price.{IsLeastPayment}
 use Rattle.pb_price.proofs.Payments.{price_from_least, no_price_from_short}
 use Rattle.pb_price.proofs.WalkedRests.{ordered_rests, ordered_slice, sum-ordered, gathered_total, least_from_ordered}
 use Rattle.pb_price.proofs.price.price_with.Goals as goal

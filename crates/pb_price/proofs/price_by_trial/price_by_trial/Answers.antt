@@ -1,5 +1,5 @@
-use Rattle.std.proofs.Common.{◌≡◌, ◌<◌, ◌≤◌, ap, sym, ◌∙◌, arith}
-use Rattle.pb_price.specs.Price.{paid_at, largest_rest, largest_share}
+use Rattle.std.proofs.Common.{ap, sym, ◌∙◌, arith}
+use Rattle.pb_price.specs.Price.{paid_at, largest_share}
 use Rattle.pb_price.specs.Supporters.{supporters_at, cost_at}
 use Rattle.pb_price.proofs.Payments.{paid_at_largest, largest_rest-le, price_from_least, no_price_from_short}
 use Rattle.pb_price.proofs.SupporterLists.{supporters_at_known}

@@ -1,5 +1,5 @@
-use Rattle.std.proofs.Common.{◌≡◌, ◌<◌, length, ap, ◌∙◌, arith}
-use Rattle.pb_price.proofs.BuiltLists.{ListsSoFar, ballot_read, ballot_known, ListsSoFar-more, lists_from_all}
+use Rattle.std.proofs.Common.{◌≡◌, length, ap, ◌∙◌, arith}
+use Rattle.pb_price.proofs.BuiltLists.{ballot_read, ballot_known, ListsSoFar-more, lists_from_all}
 use Rattle.pb_price.proofs.supporters.lists_of.Goals as goal
 
 pub add_ballot-requires-clause-known : goal.add_ballot-requires-clause-known

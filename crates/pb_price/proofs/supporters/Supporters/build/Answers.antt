@@ -1,5 +1,4 @@
-use Rattle.std.proofs.Common.{◌≡◌, length, ap, sym}
-use Rattle.pb_price.specs.Supporters.{SupportView, support_of, IsSupport}
+use Rattle.std.proofs.Common.{length, ap}
 use Rattle.pb_price.proofs.SupporterLists.{IsSupport-support_of}
 use Rattle.pb_price.proofs.supporters.Supporters.build.Goals as goal
 
