@@ -1,11 +1,11 @@
 -- What each voter pays for an elected project, and the rests afterwards.
-use Rattle.std.proofs.Common.{◌≡◌, ℕ, ◌-◌, ◌≤◌, min, List, length, map, Bool, true, false, cond, refl, ◌∙◌, inl, inr, arith}
+use Rattle.std.proofs.Common.{sum_by, ◌≡◌, ℕ, ◌+◌, ◌-◌, ◌≤◌, min, List, [], ◌∷◌, length, map, Bool, true, false, cond, refl, ◌∙◌, ap, inl, inr, arith}
 use Rattle.std.specs.Prelude.{sum, slice_index, if◌then◌else◌}
 use Rattle.std.specs.List.{range_with_len}
 use Rattle.std.proofs.lemmas.Bool.{cases_lt}
 use Rattle.std.proofs.lemmas.List.{get_or_past}
-use Rattle.std.proofs.lemmas.List.FromFn.{length-map-range_with_len, get_or-map-range_with_len}
-use Rattle.std.proofs.lemmas.List.Sums.{sum-map}
+use Rattle.std.proofs.lemmas.List.FromFn.{length-map-range_with_len, get_or-map-range_with_len, fill_by_all}
+use Rattle.std.proofs.lemmas.List.Sums.{sum-map, sum_by-cons}
 use Rattle.pb_price.specs.Price.{paid_at}
 use Rattle.pb_rounds.specs.Run.{is_listed, charged}
 use Rattle.pb_rounds.proofs.Listed.{RisesWithin, sum_by-listed}
@@ -45,7 +45,7 @@ module _ (supporters : List ℕ) (price : ℕ) (rests : List ℕ) where
   payment_at v = elim (cases_lt v (length rests)) [
     | inl within ↦ get_or-map-range_with_len (payment_of supporters price rests) 0 (length rests) v v 0 within (omega arith)
     | inr past ↦
-        let gone : slice_index (payments_of supporters price rests) v ≡ 0 = get_or_past _ v 0 (rw length-payments_of past) in
+        let gone : slice_index (payments_of supporters price rests) v ≡ 0 = get_or_past (payments_of supporters price rests) v 0 (rw length-payments_of past) in
         let none : slice_index rests v ≡ 0 = get_or_past rests v 0 past in
         let small = paid-within_rest (is_listed supporters v) (slice_index rests v) price in
         omega (arith, gone, none, small)
@@ -57,7 +57,7 @@ module _ (supporters : List ℕ) (price : ℕ) (rests : List ℕ) where
   charged_at v = elim (cases_lt v (length rests)) [
     | inl within ↦ get_or-map-range_with_len _ 0 (length rests) v v 0 within (omega arith) ∙ less_paid (is_listed supporters v) (slice_index rests v) price
     | inr past ↦
-        let gone : slice_index (charged supporters price rests) v ≡ 0 = get_or_past _ v 0 (rw length-charged past) in
+        let gone : slice_index (charged supporters price rests) v ≡ 0 = get_or_past (charged supporters price rests) v 0 (rw length-charged past) in
         let none : slice_index rests v ≡ 0 = get_or_past rests v 0 past in
         omega (arith, gone, none)
   ]
@@ -73,3 +73,29 @@ module _ (supporters : List ℕ) (price : ℕ) (rests : List ℕ) where
   unfolding payments_of
   sum-payments_of h = sum-map (payment_of supporters price rests) (range_with_len 0 (length rests))
       ∙ sum_by-listed (λ v. min (slice_index rests v) price) supporters 0 (length rests) (length rests) (omega arith) h
+
+  -- what is paid and what is left are what was there
+  pub paid_and_left : (v : ℕ) → slice_index (payments_of supporters price rests) v + slice_index (charged supporters price rests) v ≡ slice_index rests v
+  paid_and_left v =
+      omega (arith, payment_at v, charged_at v, payment-within_rest v)
+
+-- a sum over a list by places
+sum_by_place : (xs : List ℕ) (n : ℕ) → length xs ≡ n → sum xs ≡ sum_by (λ k. slice_index xs k) (range_with_len 0 n)
+sum_by_place xs n e =
+    ap sum (fill_by_all (λ k. slice_index xs k) xs n 0 e (λ k below. refl)) ∙ sum-map (λ k. slice_index xs k) (range_with_len 0 n)
+
+sum_by-add : (f g h : ℕ → ℕ) → ((k : ℕ) → f k + g k ≡ h k) → (xs : List ℕ) → sum_by f xs + sum_by g xs ≡ sum_by h xs
+sum_by-add f g h e [] = refl
+sum_by-add f g h e (x ∷ xs) =
+    let others = sum_by-add f g h e xs in
+    omega (arith, sum_by-cons f x xs, sum_by-cons g x xs, sum_by-cons h x xs, e x, others)
+
+pub sum-charged : (supporters : List ℕ) (price : ℕ) (rests : List ℕ)
+    → sum (payments_of supporters price rests) + sum (charged supporters price rests) ≡ sum rests
+sum-charged supporters price rests =
+    let all = sum_by-add (λ k. slice_index (payments_of supporters price rests) k) (λ k. slice_index (charged supporters price rests) k) (λ k. slice_index rests k)
+    (paid_and_left supporters price rests) (range_with_len 0 (length rests)) in
+    let paid = sum_by_place (payments_of supporters price rests) (length rests) (length-payments_of supporters price rests) in
+    let left = sum_by_place (charged supporters price rests) (length rests) (length-charged supporters price rests) in
+    let before = sum_by_place rests (length rests) refl in
+    omega (arith, all, paid, left, before)

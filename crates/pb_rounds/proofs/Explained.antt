@@ -1,7 +1,10 @@
 -- Every run has a price system.
 use Rattle.std.proofs.Common.{◌≡◌, ◌≢◌, ℕ, zero, suc, ◌+◌, ◌<◌, ◌≤◌, min, List, [], ◌∷◌, length, Option, Some, None, true, refl, sym, ◌∙◌, arith}
-use Rattle.std.specs.Prelude.{All, sum_by, slice_index}
-use Rattle.std.specs.List.{AllZip}
+use Rattle.std.specs.Prelude.{All, sum, sum_by, ◌*◌, replicate, slice_index}
+use Rattle.std.specs.List.{AllZip, range_with_len}
+use Rattle.std.proofs.lemmas.List.{length-replicate, get_or-replicate}
+use Rattle.std.proofs.lemmas.List.FromFn.{length-range_with_len}
+use Rattle.std.proofs.lemmas.List.Folds.{sum_by-replicate}
 use Rattle.std.specs.Option.{option_map_or}
 use Rattle.std.proofs.lemmas.Bool.{false_from_ne_true, cond-true, cond-false, true≢false}
 use Rattle.std.proofs.lemmas.List.Elements.{All-head, All-tail}
@@ -10,10 +13,11 @@ use Rattle.pb_price.specs.Supporters.{SupportView, IsSupport, supporters_at, cos
 use Rattle.pb_price.specs.Price.{total_rest, price_at}
 use Rattle.pb_price.proofs.Payments.{least_from_price, short_from_no_price, collected_below}
 use Rattle.pb_rounds.specs.Bid.{Bid}
-use Rattle.pb_rounds.specs.Run.{RunView, best_of, charged, elected_by, then_run, run_from, without, is_listed}
-use Rattle.pb_rounds.specs.PriceSystem.{PaysFor}
-use Rattle.pb_rounds.proofs.Charged.{payments_of, payment_of, payment_at, charged_at, length-payments_of, length-charged, payment-within_price, payment-within_rest, sum-payments_of}
-use Rattle.pb_rounds.proofs.Listed.{RisesWithin, rises_within, contains_from_listed, listed_from_contains, is_listed-without, length-without, listed_from_without}
+use Rattle.pb_rounds.specs.Run.{run_of, RunView, best_of, charged, elected_by, then_run, run_from, without, is_listed}
+use Rattle.pb_rounds.specs.Count.{spent_on}
+use Rattle.pb_rounds.specs.PriceSystem.{PaysFor, HasPriceSystem}
+use Rattle.pb_rounds.proofs.Charged.{payments_of, payment_of, payment_at, charged_at, length-payments_of, length-charged, payment-within_price, payment-within_rest, sum-payments_of, sum-charged}
+use Rattle.pb_rounds.proofs.Listed.{RisesWithin, rises_within, contains_from_listed, listed_from_contains, is_listed-without, length-without, listed_from_without, listed-below, RisesWithin-below, range_rises, is_listed-range}
 use Rattle.pb_rounds.proofs.BestBid.{IsBid, best_is_bid, no_price_without_best}
 
 -- payments that explain the election of these from these rests to those, with these projects left at first
@@ -23,6 +27,8 @@ pub record Explains (s : SupportView) (before left : List ℕ) (run : RunView) (
   pub endowed : (v : ℕ) → sum_by (λ row. slice_index row v) payments + slice_index run.rests v ≡ slice_index before v
   pub too_dear : (place : ℕ) → is_listed left place ≡ true → All (λ w. w.place ≢ place) run.elected
       → total_rest (supporters_at s place) run.rests < cost_at s place
+  -- what is spent and what is left is no more than what was there
+  pub within : spent_on s run.elected + sum run.rests ≤ sum before
 
 abbrev pub IsExplained : SupportView → List ℕ → List ℕ → RunView → Type 0
 IsExplained s before left run = (payments : List (List ℕ)) × Explains s before left run payments
@@ -69,6 +75,7 @@ explained_none s rests left round none = (
     paid = tt;
     endowed = λ v. omega arith;
     too_dear = λ place among _. short_from_no_price (supporters_at s place) rests (cost_at s place) (none place among);
+    within = omega arith;
   },
 )
 
@@ -78,11 +85,12 @@ explained_some : (s : SupportView) → IsSupport s → (rests left : List ℕ) �
     → IsExplained s rests left (then_run (elected_by s rests b) run)
 explained_some s h rests left round b bid run (payments, later) =
     let supporters = supporters_at s b.place in
-    let row = payments_of supporters b.price rests in (
+    let row = payments_of supporters b.price rests in
+    let winner = winner_paid s h rests left round b bid run.rests (λ v. let e = later.endowed v in omega arith) in (
       row ∷ payments,
       record {
         one_each = later.one_each;
-        paid = (winner_paid s h rests left round b bid run.rests (λ v. let e = later.endowed v in omega arith), later.paid);
+        paid = (winner, later.paid);
         endowed = λ v.
             omega (
               arith,
@@ -96,6 +104,14 @@ explained_some s h rests left round b bid run (payments, later) =
             let other : place ≢ b.place = λ e. All-head (λ w. w.place ≢ place) (elected_by s rests b) run.elected others (sym e) in
             later.too_dear place (is_listed-without left b.place place other ∙ among)
             (All-tail (λ w. w.place ≢ place) (elected_by s rests b) run.elected others);
+        within = omega (
+          arith,
+          sum_by-cons (λ w. cost_at s w.place) (elected_by s rests b) run.elected,
+          later.within,
+          sum-charged supporters b.price rests,
+          winner.collected,
+          winner.covered,
+        );
       },
     )
 
@@ -128,3 +144,35 @@ run_is_explained s h zero rests [] round short = explained_none s rests [] round
 run_is_explained s h zero rests (place ∷ left) round short = absurd (omega arith)
 run_is_explained s h (suc n) rests left round short =
     explained_step s h rests left round n short (run_is_explained s h n) (best_of s rests left) refl
+
+opening_round : (s : SupportView) (share : ℕ) → IsRound s (replicate s.voters share) (range_with_len 0 (length s.costs))
+opening_round s share = record {
+  one_each = length-replicate s.voters share;
+  known = λ place among. listed-below (range_with_len 0 (length s.costs)) (length s.costs) place
+      (RisesWithin-below _ 0 (length s.costs) (range_rises 0 (length s.costs) (length s.costs) (omega arith))) among;
+}
+
+opening_explained : (s : SupportView) → IsSupport s → (share : ℕ)
+    → IsExplained s (replicate s.voters share) (range_with_len 0 (length s.costs)) (run_of s share)
+unfolding run_of
+opening_explained s h share =
+    run_is_explained s h (length s.costs) (replicate s.voters share) (range_with_len 0 (length s.costs)) (opening_round s share)
+    (rw (length-range_with_len 0 (length s.costs)) (omega arith))
+
+-- every run has a price system
+pub run_has_price_system : (s : SupportView) → IsSupport s → (share : ℕ) → HasPriceSystem s share (run_of s share).elected (run_of s share).rests
+run_has_price_system s h share =
+    let found = opening_explained s h share in (
+      found.0,
+      record {
+        paid = found.1.paid;
+        endowed = λ v below. found.1.endowed v ∙ get_or-replicate s.voters v share 0 below;
+        too_dear = λ place below others. found.1.too_dear place (is_listed-range 0 (length s.costs) place (omega arith) (omega arith)) others;
+      },
+    )
+
+-- no run spends more than everybody's share
+pub run_within_shares : (s : SupportView) → IsSupport s → (share : ℕ) → spent_on s (run_of s share).elected ≤ s.voters * share
+run_within_shares s h share =
+    let found = opening_explained s h share in
+    omega (arith, found.1.within, sum_by-replicate (λ x. x) s.voters share)

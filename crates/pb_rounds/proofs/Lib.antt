@@ -1,4 +1,6 @@
 pub mod Progress
+pub mod Settled
+pub mod Exhausted
 mod ThreeVoters
 pub mod Best
 pub mod Charge

@@ -1,7 +1,10 @@
-use Rattle.std.specs.Prelude.{ℕ, Bool, Option, Some, List, ◌+◌, ◌-◌, ◌*◌, ◌/◌, ◌&&◌, ◌||◌, ◌==◌, not, nat_lt, nat_le, find, length, option_map, sum_by, if◌then◌else◌}
+use Rattle.std.specs.Prelude.{◌≡◌, None, ℕ, Bool, Option, Some, List, ◌+◌, ◌-◌, ◌*◌, ◌/◌, ◌&&◌, ◌||◌, ◌==◌, not, nat_lt, nat_le, find, length, option_map, sum_by, if◌then◌else◌}
 use Rattle.std.specs.List.{list_any, range_with_len}
 use Rattle.pb_core.specs.Election.{ElectionView}
 use Rattle.pb_price.specs.Supporters.{SupportView, support_of, supporters_at, cost_at}
+use Rattle.pb_rounds.specs.CountFault.{refusal_of}
+use Rattle.pb_rounds.specs.declared.count_fault.CountFault.{CountFault}
+use Rattle.pb_rounds.specs.declared.count_fault.CountFault.TheVariants.{WorkerCount, StepRange, RaisesRange, RaisesSpent, NoMemory}
 use Rattle.pb_rounds.specs.Outcome.{Settled, settled_by}
 use Rattle.pb_rounds.specs.Run.{ElectedView, is_elected, outcome_of}
 use Rattle.pb_rounds.specs.declared.options.Completion.{Completion}
@@ -60,3 +63,11 @@ raises_of Add1 e step limit = add1_of e step limit
 abbrev pub count_of : ElectionView → CountOptions → Option Settled
 count_of e options =
     option_map (λ raises. settled_by (share_after e options.step raises) raises (outcome_of e (share_after e options.step raises))) (raises_of options.completion e options.step options.max_raises)
+
+-- when each fault of a count comes; want of memory aside, a count that is not refused ends in its outcome or, where there is none, in spent raises
+abbrev pub IsCountFault : ElectionView → CountOptions → CountFault → Type 0
+IsCountFault e options WorkerCount = refusal_of options ≡ Some WorkerCount
+IsCountFault e options StepRange = refusal_of options ≡ Some StepRange
+IsCountFault e options RaisesRange = refusal_of options ≡ Some RaisesRange
+IsCountFault e options RaisesSpent = (refusal_of options ≡ None) × (count_of e options ≡ None)
+IsCountFault e options NoMemory = refusal_of options ≡ None

@@ -1,6 +1,7 @@
 pub mod Bid
 pub mod BidOrder
 pub mod Count
+pub mod CountFault
 pub mod Outcome
 pub mod PriceSystem
 pub mod Run

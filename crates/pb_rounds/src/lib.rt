@@ -1,8 +1,11 @@
 //! The Method of Equal Shares in rounds (Peters, Pierczynski and Skowron 2021), and its completion by raising everyone's share.
 #![tactic(auto)]
 
+pub mod count;
+pub mod count_fault;
 pub mod key;
 pub mod options;
 pub mod outcome;
 mod round;
 mod rounds;
+mod standing;

@@ -45,3 +45,19 @@ impl<A: Allocator> Model for Outcome<A> {
 
     ghost view = { λ o. record { share = o.share; raised = o.raised; elected = o.elected.items; rests = o.rests.items; priced = o.priced.items } };
 }
+
+impl<A: Allocator> Outcome<A> {
+    /// An outcome that no run has filled yet.
+    pub(crate) fn unfilled(alloc: A) -> Outcome<A>
+    where
+        A: Copy,
+    {
+        Outcome {
+            share: Money(0),
+            raised: 0,
+            elected: Vec::new(alloc),
+            rests: Vec::new(alloc),
+            priced: Vec::new(alloc),
+        }
+    }
+}

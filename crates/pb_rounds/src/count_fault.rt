@@ -1,0 +1,62 @@
+ghost use Rattle.std.specs.Prelude.{◌≡◌};
+ghost use Rattle.pb_rounds.specs.CountFault.{number_of, name_of};
+ghost use Rattle.pb_rounds.specs.declared.count_fault.CountFault.TheVariants as fault;
+
+use pb_core::no_memory::NoMemory;
+use thiserror::Error;
+
+/// Why a count gives no outcome. The first of these faults that applies is the one that is given.
+#[derive(Clone, Copy, Debug, PartialEq, Eq, Error)]
+pub enum CountFault {
+    /// The number of workers is not 1 to 64.
+    #[error("the number of workers is not 1 to 64")]
+    WorkerCount,
+    /// The step is not 1 to 1,000,000,000 hundredths.
+    #[error("the step is not 1 to 1,000,000,000 hundredths")]
+    StepRange,
+    /// The limit of raises is above 1,000,000.
+    #[error("the limit of raises is above 1,000,000")]
+    RaisesRange,
+    /// No outcome up to the limit of raises was over the budget or exhausted.
+    #[error("the raises are spent")]
+    RaisesSpent,
+    /// An allocation was refused.
+    #[error("out of memory")]
+    NoMemory,
+}
+
+impl CountFault {
+    /// The fault's number, from 1.
+    pub fn number(&self) -> u32
+        ensures { result ≡ number_of self.now }
+    {
+        match self {
+            CountFault::WorkerCount => 1,
+            CountFault::StepRange => 2,
+            CountFault::RaisesRange => 3,
+            CountFault::RaisesSpent => 4,
+            CountFault::NoMemory => 5,
+        }
+    }
+
+    /// The fault's name.
+    pub fn name(&self) -> &'static str
+        ensures { result.now ≡ name_of self.now }
+    {
+        match self {
+            CountFault::WorkerCount => "WorkerCount",
+            CountFault::StepRange => "StepRange",
+            CountFault::RaisesRange => "RaisesRange",
+            CountFault::RaisesSpent => "RaisesSpent",
+            CountFault::NoMemory => "NoMemory",
+        }
+    }
+}
+
+impl From<NoMemory> for CountFault {
+    ghost from_gives = { λ _ given. given ≡ fault.NoMemory };
+
+    fn from(_refused: NoMemory) -> CountFault {
+        CountFault::NoMemory
+    }
+}
