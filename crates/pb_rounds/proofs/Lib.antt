@@ -6,6 +6,7 @@ pub mod Best
 pub mod Charge
 pub mod Charged
 pub mod Collected
+pub mod Completion
 pub mod Explained
 pub mod Listed
 pub mod BestBid

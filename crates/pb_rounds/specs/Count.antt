@@ -46,9 +46,12 @@ is_over_after e step raises = is_over (support_of e) e.budget (elected_after e s
 abbrev pub is_exhausted_after : ElectionView → ℕ → ℕ → Bool
 is_exhausted_after e step raises = is_exhausted (support_of e) e.budget (elected_after e step raises)
 
+abbrev pub is_end : ElectionView → ℕ → ℕ → Bool
+is_end e step raises = is_over_after e step raises || is_exhausted_after e step raises
+
 -- the first number of raises, up to a limit, whose outcome is over or exhausted
 unfoldable pub first_end : ElectionView → ℕ → ℕ → Option ℕ
-first_end e step limit = find (λ raises. is_over_after e step raises || is_exhausted_after e step raises) (range_with_len 0 (limit + 1))
+first_end e step limit = find (is_end e step) (range_with_len 0 (limit + 1))
 
 -- completion by raises: the first outcome that is exhausted, or the last one before the first that is over
 abbrev pub add1_of : ElectionView → ℕ → ℕ → Option ℕ
@@ -59,10 +62,13 @@ abbrev pub raises_of : Completion → ElectionView → ℕ → ℕ → Option �
 raises_of Plain e step limit = Some 0
 raises_of Add1 e step limit = add1_of e step limit
 
--- the count: the outcome at the share that the completion decides on; none where it does not decide within the limit
+-- the outcome after so many raises
+abbrev pub settled_after : ElectionView → ℕ → ℕ → Settled
+settled_after e step raises = settled_by (share_after e step raises) raises (outcome_of e (share_after e step raises))
+
+-- the count: the outcome after as many raises as the completion decides on; none where it does not decide within the limit
 abbrev pub count_of : ElectionView → CountOptions → Option Settled
-count_of e options =
-    option_map (λ raises. settled_by (share_after e options.step raises) raises (outcome_of e (share_after e options.step raises))) (raises_of options.completion e options.step options.max_raises)
+count_of e options = option_map (settled_after e options.step) (raises_of options.completion e options.step options.max_raises)
 
 -- when each fault of a count comes; want of memory aside, a count that is not refused ends in its outcome or, where there is none, in spent raises
 abbrev pub IsCountFault : ElectionView → CountOptions → CountFault → Type 0
@@ -71,3 +77,11 @@ IsCountFault e options StepRange = refusal_of options ≡ Some StepRange
 IsCountFault e options RaisesRange = refusal_of options ≡ Some RaisesRange
 IsCountFault e options RaisesSpent = (refusal_of options ≡ None) × (count_of e options ≡ None)
 IsCountFault e options NoMemory = refusal_of options ≡ None
+
+-- when each fault of a completion by raises comes
+abbrev pub IsCompletionFault : ElectionView → CountOptions → CountFault → Type 0
+IsCompletionFault e options WorkerCount = ⊥
+IsCompletionFault e options StepRange = ⊥
+IsCompletionFault e options RaisesRange = ⊥
+IsCompletionFault e options RaisesSpent = add1_of e options.step options.max_raises ≡ None
+IsCompletionFault e options NoMemory = Unit {0}

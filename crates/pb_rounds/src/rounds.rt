@@ -2,11 +2,13 @@ ghost use Rattle.std.specs.Prelude.{◌≡◌, ◌+◌, ◌≤◌, [], length, r
 ghost use Rattle.std.specs.List.{range_with_len};
 ghost use Rattle.pb_price.specs.Price.{largest_share};
 ghost use Rattle.pb_price.specs.Supporters.{IsSupport, support_of};
+ghost use Rattle.pb_rounds.specs.Count.{is_over, is_exhausted};
 ghost use Rattle.pb_rounds.specs.Outcome.{settled, settled_by, all_priced};
 ghost use Rattle.pb_rounds.specs.Run.{run_of, IsLeft};
 
 use crate::outcome::Outcome;
 use crate::round::{elect, price_left};
+use crate::standing::{is_exhausted, is_over};
 use pb_core::election::Election;
 use pb_core::money::Money;
 use pb_core::no_memory::NoMemory;
@@ -62,6 +64,27 @@ impl<A: Allocator> Rounds<A> {
             elect(&self.supporters, best, &mut self.left, outcome)?;
         }
         Ok(())
+    }
+
+    /// Whether the elected of the last run cost more than the budget.
+    pub(crate) fn is_over(&self, budget: Money, outcome: &Outcome<A>) -> bool
+        requires { IsLeft self.now.supporters outcome.now.elected self.now.left.items }
+        ensures { result ≡ is_over self.now.supporters budget outcome.now.elected }
+    {
+        is_over(&self.supporters, budget, outcome.elected.as_slice())
+    }
+
+    /// Whether the elected of the last run are within the budget, and no other project could be added to them.
+    pub(crate) fn is_exhausted(&self, budget: Money, outcome: &Outcome<A>) -> bool
+        requires { IsLeft self.now.supporters outcome.now.elected self.now.left.items }
+        ensures { result ≡ is_exhausted self.now.supporters budget outcome.now.elected }
+    {
+        is_exhausted(
+            &self.supporters,
+            budget,
+            outcome.elected.as_slice(),
+            self.left.as_slice(),
+        )
     }
 }
 

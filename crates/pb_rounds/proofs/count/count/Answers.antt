@@ -1,0 +1,22 @@
+use Rattle.pb_rounds.proofs.Completion.{first_within, first_priced, all_within, all_priced_well}
+use Rattle.pb_rounds.proofs.count.count.Goals as goal
+
+pub returns-in-Plain-clause-within_budget : goal.returns-in-Plain-clause-within_budget
+returns-in-Plain-clause-within_budget g c =
+    first_within c.args.election.now c.args.options.now.step c.in_ok-rounds.rounds.supporters c.in_ok-rounds.ensures c.in_ok-run.ensures.is_support
+    c.opening_share.result c.opening_share.ensures.share c.run.new.outcome c.in_ok-run.ensures.settled
+
+pub returns-in-Plain-clause-price_system : goal.returns-in-Plain-clause-price_system
+returns-in-Plain-clause-price_system g c =
+    first_priced c.args.election.now c.args.options.now.step c.in_ok-rounds.rounds.supporters c.in_ok-rounds.ensures c.in_ok-run.ensures.is_support
+    c.opening_share.result c.opening_share.ensures.share c.run.new.outcome c.in_ok-run.ensures.settled
+
+pub returns-clause-within_budget : goal.returns-clause-within_budget
+returns-clause-within_budget g c =
+    all_within c.args.election.now (rw c.in_ok-rounds.ensures at c.in_ok-run.ensures.is_support) c.args.options.now.step c.args.options.now.max_raises
+    c.complete.result c.complete.ensures.decided c.complete.ensures.settled
+
+pub returns-clause-price_system : goal.returns-clause-price_system
+returns-clause-price_system g c =
+    all_priced_well c.args.election.now (rw c.in_ok-rounds.ensures at c.in_ok-run.ensures.is_support) c.args.options.now.step c.args.options.now.max_raises
+    c.complete.result c.complete.ensures.settled
