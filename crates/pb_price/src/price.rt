@@ -33,7 +33,8 @@ pub fn price<A: Allocator, B: Allocator>(
     price_with(&mut buffer, supporters, rests, place, tally)
 }
 
-/// As `price`, with a buffer that is used again from one price to the next. What it holds before does not matter.
+/// As `price`, with a buffer that is used again from one price to the next. What it holds before does not matter, and
+/// nothing is said of what it holds afterwards.
 pub fn price_with<A: Allocator, B: Allocator>(
     buffer: &mut Vec<u64, A>,
     supporters: &Supporters<B>,
@@ -55,7 +56,8 @@ pub fn price_with<A: Allocator, B: Allocator>(
         return Ok(None);
     }
     buffer.sort_unstable();
-    Ok(Some(Money(least_payment(buffer.as_slice(), cost.0))))
+    let payment = least_payment(buffer.as_slice(), cost.0);
+    Ok(Some(Money(payment)))
 }
 
 /// Puts what is left to these supporters into the buffer, in place of what it held, and adds it up.

@@ -12,12 +12,12 @@ returns-then-total-from-clause-price g c =
     let total = gathered_total supporters c.of.result.now rests c.gather.new.buffer.items c.in_ok-total.total c.in_ok-total.ensures.gathered c.of.ensures.supporters c.in_ok-total.ensures.total in
     sym (no_price_from_short supporters rests cost (omega (arith, total, c.cost.view_is, c.cost-cost.ensures.cost)))
 
-pub least_payment-requires-clause-ordered : goal.least_payment-requires-clause-ordered
-least_payment-requires-clause-ordered g c =
+pub least_payment-payment-requires-clause-ordered : goal.least_payment-payment-requires-clause-ordered
+least_payment-payment-requires-clause-ordered g c =
     ordered_slice c.sort_unstable.new.self.items c.as_slice.result.now c.sort_unstable.ensures.sorted c.as_slice.ensures.value
 
-pub least_payment-requires-clause-covered : goal.least_payment-requires-clause-covered
-least_payment-requires-clause-covered g c =
+pub least_payment-payment-requires-clause-covered : goal.least_payment-payment-requires-clause-covered
+least_payment-payment-requires-clause-covered g c =
     let supporters = supporters_at c.args.supporters.now c.args.place in
     let rests = c.args.rests.now in
     let total = gathered_total supporters c.of.result.now rests c.gather.new.buffer.items c.in_ok-total.total c.in_ok-total.ensures.gathered c.of.ensures.supporters c.in_ok-total.ensures.total in
@@ -30,8 +30,8 @@ returns-clause-least g c =
     let rests = c.args.rests.now in
     let order = ordered_rests supporters c.of.result.now rests c.gather.new.buffer.items c.sort_unstable.new.self.items c.as_slice.result.now c.in_ok-total.ensures.gathered c.of.ensures.supporters c.sort_unstable.ensures.permutation c.as_slice.ensures.value in
     rw (← c.cost-cost.ensures.cost, ← c.cost.view_is)
-    (least_from_ordered supporters rests c.as_slice.result.now c.cost.inside.0 c.least_payment.result order c.least_payment.ensures)
+    (least_from_ordered supporters rests c.as_slice.result.now c.cost.inside.0 c.least_payment-payment.result order c.least_payment-payment.ensures)
 
 pub returns-clause-price : goal.returns-clause-price
 returns-clause-price g c =
-    sym (price_from_least (supporters_at c.args.supporters.now c.args.place) c.args.rests.now (cost_at c.args.supporters.now c.args.place) c.least_payment.result (returns-clause-least g c))
+    sym (price_from_least (supporters_at c.args.supporters.now c.args.place) c.args.rests.now (cost_at c.args.supporters.now c.args.place) c.least_payment-payment.result (returns-clause-least g c))
