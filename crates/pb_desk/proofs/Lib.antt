@@ -4,3 +4,7 @@ pub mod Replays
 pub mod Steps
 pub mod Pushes
 pub mod RowLists
+pub mod RowFields
+pub mod RowForms
+pub mod RowTexts
+pub mod Audits

@@ -5,3 +5,7 @@ pub mod Rows
 pub mod Standing
 pub mod Step
 pub mod WriteFault
+pub mod RowReading
+pub mod Audit
+pub mod AuditFault
+pub mod AuditSteps
