@@ -146,7 +146,7 @@ run_keeps p q rows (row ∷ more) full tidy at sound e = go (run_keeps (advance 
         let rest = later next.0 next.1 (sym (run_row p row more (next_row row) refl f) ∙ e) in
         (subst (λ xs. IsAt xs q) (append_assoc rows (row ∷ []) more) rest.0, rest.1)
 
-blank_passes : (p : Position) → row_fault p blank ≡ None
+pub blank_passes : (p : Position) → row_fault p blank ≡ None
 unfolding row_fault
 blank_passes start = refl
 blank_passes meta_head = refl
@@ -156,7 +156,7 @@ blank_passes (in_projects columns e) = refl
 blank_passes (votes_head e) = refl
 blank_passes (in_votes columns e) = refl
 
-advance-blank : (p : Position) → advance p blank ≡ p
+pub advance-blank : (p : Position) → advance p blank ≡ p
 advance-blank start = refl
 advance-blank meta_head = refl
 advance-blank (in_meta meta) = refl
@@ -174,7 +174,7 @@ pub record Reached (done : List Fields) (p : Position) : Type 0 where
 pub reached_start : Reached [] start
 reached_start = record { text = tt; at = refl; sound = tt }
 
-next_row-blank : (row : Fields) → is_blank row ≡ true → next_row row ≡ blank
+pub next_row-blank : (row : Fields) → is_blank row ≡ true → next_row row ≡ blank
 next_row-blank row none = rw none refl
 
 -- one record without fault

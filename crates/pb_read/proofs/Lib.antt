@@ -5,3 +5,7 @@ pub mod Runs
 pub mod GoesOn
 pub mod IdFacts
 pub mod Uniqueness
+pub mod Pieces
+pub mod Ballots
+pub mod DraftFacts
+pub mod ProgressFacts

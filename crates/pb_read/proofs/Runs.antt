@@ -63,7 +63,7 @@ header_passes : (r : Fields) → row_fault meta_head (plain r) ≡ None
 unfolding row_fault
 header_passes r = refl
 
-meta_row_passes : (meta : Meta) (r : Fields) → row_fault (in_meta meta) (plain r) ≡ None
+pub meta_row_passes : (meta : Meta) (r : Fields) → row_fault (in_meta meta) (plain r) ≡ None
 unfolding row_fault
 meta_row_passes meta r = refl
 

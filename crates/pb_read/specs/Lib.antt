@@ -1,9 +1,11 @@
 pub mod Columns
+pub mod Drafts
 pub mod Faults
 pub mod FirstFault
 pub mod Kinds
 pub mod Machine
 pub mod MetaRows
+pub mod Progresses
 pub mod Rows
 pub mod StandsFor
 pub mod Voting

@@ -1,21 +1,24 @@
 -- The reading of rows one by one. Private contracts and proofs speak of it; what a file stands for does not rest on it.
 use Rattle.std.specs.Prelude.{◌≡◌, ℕ, Bool, not, if◌then◌else◌, List, [], ◌∷◌, ◌++◌, Option, Some, None, Result, Ok, Err, codes}
 use Rattle.std.specs.Option.{option_map_or}
-use Rattle.pb_core.specs.Election.{ElectionView, ProjectView, VoterView, IsElection, project_ids}
+use Rattle.std.specs.Prelude.{length, map, nat_le}
+use Rattle.std.specs.List.{position_or_len}
+use Rattle.std.specs.Str.{bytes_eq}
+use Rattle.pb_core.specs.Election.{ElectionView, ProjectView, VoterView, most_projects, most_voters, project_ids, voter_ids}
 use Rattle.pb_core.specs.Money.{money_of}
 use Rattle.pb_core.specs.declared.money_fault.MoneyFault.{MoneyFault}
 use Rattle.pb_core.specs.declared.money_fault.MoneyFault.TheVariants as money
 use Rattle.pb_rows.specs.Reading.{Fields}
-use Rattle.pb_read.specs.Columns.{project_columns, vote_columns, name_field}
+use Rattle.pb_read.specs.Columns.{project_columns, vote_columns, has_project_fields, has_vote_fields, name_field}
 use Rattle.pb_read.specs.Faults.{fails_by, is_nothing, Position, start, meta_head, in_meta, projects_head, in_projects, votes_head, in_votes, Next, the_end, blank, head, plain, next_row, row_fault}
 use Rattle.pb_read.specs.MetaRows.{meta_of}
-use Rattle.pb_read.specs.Rows.{field, is_word}
+use Rattle.pb_read.specs.Rows.{field, is_empty, is_word}
 use Rattle.pb_read.specs.StandsFor.{opening}
-use Rattle.pb_read.specs.Voting.{ballot_of}
+use Rattle.pb_read.specs.Voting.{ballot_of, is_among, names_only}
 use Rattle.pb_read.specs.declared.columns.ProjectColumns.{ProjectColumns}
 use Rattle.pb_read.specs.declared.columns.VoteColumns.{VoteColumns}
 use Rattle.pb_read.specs.declared.fault.ReadKind.{ReadKind}
-use Rattle.pb_read.specs.declared.fault.ReadKind.TheVariants.{MissingField, MissingKey, VoteType, BadMoney, MoneyTooFine, MoneyTooLarge, ZeroCost, EmptyId, RepeatedProject, RepeatedVoter, UnknownProject, TooManyProjects, TooManyVoters}
+use Rattle.pb_read.specs.declared.fault.ReadKind.TheVariants.{MissingField, MissingKey, VoteType, BadMoney, MoneyTooFine, MoneyTooLarge, ZeroCost, EmptyId, RepeatedProject, RepeatedVoter, UnknownProject, TooManyProjects, TooManyVoters, NoMemory}
 use Rattle.pb_read.specs.declared.meta.Meta.{Meta}
 
 -- what META says with one more row
@@ -107,3 +110,21 @@ vote_checks whole no_id repeated known full =
     else if not known then Some UnknownProject
     else if full then Some TooManyVoters
     else None
+
+-- the same of a row
+unfoldable pub project_row_checks : ProjectColumns → Fields → ElectionView → Option ReadKind
+project_row_checks columns row e =
+    project_checks (has_project_fields columns row) (money_of (field row columns.cost)) (is_empty (field row columns.id)) (is_among (project_ids e) (field row columns.id)) (nat_le most_projects (length e.projects))
+
+unfoldable pub vote_row_checks : VoteColumns → Fields → ElectionView → Option ReadKind
+vote_row_checks columns row e =
+    vote_checks (has_vote_fields columns row) (is_empty (field row columns.voter)) (is_among (voter_ids e) (field row columns.voter)) (names_only (project_ids e) (field row columns.vote)) (nat_le most_voters (length e.voters))
+
+-- a kind is what the checks found, unless memory was refused
+abbrev pub Explains : ReadKind → Option ReadKind → Type 0
+Explains NoMemory found = Unit {0}
+Explains kind found = found ≡ Some kind
+
+-- the first places of these texts among the ids
+abbrev pub places_in : List (List ℕ) → List (List ℕ) → List ℕ
+places_in ids pieces = map (λ piece. position_or_len (bytes_eq piece) ids) pieces

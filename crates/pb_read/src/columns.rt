@@ -1,7 +1,9 @@
 // Where the columns of PROJECTS and VOTES stand.
 
+use crate::fault::ReadKind;
 use crate::row::{column, field};
 use csv::StringRecord;
+use pb_core::money::Money;
 
 /// The places of the columns of PROJECTS, from 0.
 #[derive(Clone, Copy, Debug)]
@@ -19,10 +21,12 @@ pub(crate) struct VoteColumns {
 }
 
 impl ProjectColumns {
-    ghost use Rattle.std.specs.Prelude.{◌≡◌};
+    ghost use Rattle.std.specs.Prelude.{◌≡◌, Ok, IsErrAnd, MatchResult};
+    ghost use Rattle.pb_core.specs.Money.{money_of};
+    ghost use Rattle.pb_read.specs.Machine.{kind_of_money};
     ghost use Rattle.csv.specs.Records.{fields_of};
     ghost use Rattle.pb_read.specs.Columns.{has_project_fields, name_field, project_columns};
-    ghost use Rattle.pb_read.specs.Rows.{trimmed};
+    ghost use Rattle.pb_read.specs.Rows.{field, trimmed};
 
     /// The columns that a header row of PROJECTS names: `project_id` and `cost` are needed.
     pub(crate) fn of(header: &StringRecord) -> Option<ProjectColumns>
@@ -39,6 +43,14 @@ impl ProjectColumns {
         ensures { result ≡ has_project_fields self.now (trimmed (fields_of row.now)) }
     {
         self.id < row.len() && self.cost < row.len()
+    }
+
+    /// The cost in a row.
+    pub(crate) fn cost(&self, row: &StringRecord) -> Result<Money, ReadKind>
+        ensures { MatchResult result (λ cost. money_of (field (trimmed (fields_of row.now)) self.now.cost) ≡ Ok cost)
+            (λ kind. IsErrAnd (money_of (field (trimmed (fields_of row.now)) self.now.cost)) (λ fault. kind ≡ kind_of_money fault)) }
+    {
+        Money::read(field(row, self.cost)).map_err(ReadKind::from)
     }
 
     /// The name in a row: empty where there is no such column, or the row ends before it.

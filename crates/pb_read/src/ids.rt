@@ -1,8 +1,9 @@
 // Ids with their places.
 
-ghost use Rattle.std.specs.Prelude.{◌≡◌, [], ◌∷◌, ◌++◌, IfOk, OnErr, if◌then◌else◌, not, position};
+ghost use Rattle.std.specs.Prelude.{◌≡◌, [], ◌∷◌, ◌++◌, IfOk, OnErr, if◌then◌else◌, not, position, is_some, length, true, ◌<◌, ◌^◌};
 ghost use Rattle.std.specs.Str.{bytes_eq};
-ghost use Rattle.pb_read.specs.Voting.{is_among};
+ghost use Rattle.pb_read.specs.Machine.{places_in};
+ghost use Rattle.pb_read.specs.Voting.{is_among, names_only, pieces_of};
 
 use indexmap::IndexSet;
 use pb_core::no_memory::NoMemory;
@@ -36,7 +37,8 @@ impl Ids {
 
     /// The place of an id, from 0, where it is among these.
     pub(crate) fn place_of(&self, id: &str) -> Option<usize>
-        ensures { result ≡ position (bytes_eq id.now) self.now }
+        ensures place { result ≡ position (bytes_eq id.now) self.now }
+        ensures found { is_some result ≡ is_among self.now id.now }
     {
         self.texts.get_index_of(id)
     }
@@ -48,5 +50,26 @@ impl Ids {
         ensures err { OnErr result (self.new ≡ self.old) }
     {
         Ok(self.texts.insert(String::from_str(alloc, id)?)?)
+    }
+
+    /// Puts the places of the ids that a vote names into `places`, in the order in which it names
+    /// them, and answers whether it names no others.
+    pub(crate) fn places(&self, vote: &str, places: &mut Vec<u32>) -> Result<bool, NoMemory>
+        requires { length self.now < 2 ^ 32 }
+        ensures known { IfOk result (λ known. known ≡ names_only self.now vote.now) }
+        ensures places { IfOk result (λ known. known ≡ true → places.new.items ≡ places_in self.now (pieces_of vote.now)) }
+    {
+        places.clear();
+        for piece in vote.split(',') {
+            let id = piece.trim();
+            if id.is_empty() {
+                continue;
+            }
+            let Some(place) = self.place_of(id) else {
+                return Ok(false);
+            };
+            places.push(place as u32)?;
+        }
+        Ok(true)
     }
 }

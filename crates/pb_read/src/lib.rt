@@ -2,9 +2,11 @@
 #![tactic(auto)]
 
 mod columns;
+mod draft;
 mod fault;
 mod ids;
 mod meta;
+mod progress;
 mod row;
 mod section;
 

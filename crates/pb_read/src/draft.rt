@@ -1,0 +1,123 @@
+// The election as far as its rows were read.
+
+ghost use Rattle.std.specs.Prelude.{◌≡◌, ◌≤◌, [], IfErr, OnOk, None};
+ghost use Rattle.csv.specs.Records.{fields_of};
+ghost use Rattle.pb_core.specs.Money.{largest_money};
+ghost use Rattle.pb_read.specs.Drafts.{IsTied};
+ghost use Rattle.pb_read.specs.Machine.{Explains, project_row_checks, vote_row_checks, with_project, with_voter};
+ghost use Rattle.pb_read.specs.Rows.{trimmed};
+ghost use Rattle.pb_read.specs.StandsFor.{opening};
+
+use crate::columns::{ProjectColumns, VoteColumns};
+use crate::fault::ReadKind;
+use crate::ids::Ids;
+use crate::row::field;
+use csv::StringRecord;
+use pb_core::ballot::Ballot;
+use pb_core::election::{Election, MOST_PROJECTS, MOST_VOTERS};
+use pb_core::money::Money;
+use pb_core::project::Project;
+use pb_core::voter::Voter;
+use pb_core::voter_id::VoterId;
+use std::alloc::Global;
+
+/// An election as far as its rows were read, with its ids by hash.
+#[derive(Drop)]
+pub(crate) struct Draft {
+    pub(crate) election: Election,
+    pub(crate) project_ids: Ids,
+    pub(crate) voter_ids: Ids,
+    /// The places that the vote in work names; used again for each row.
+    pub(crate) places: Vec<u32>,
+    pub(crate) alloc: Global,
+}
+
+impl Draft {
+    /// An election of this budget, without projects and voters yet.
+    pub(crate) fn new(alloc: Global, budget: Money) -> Draft
+        requires { budget ≤ largest_money }
+        ensures election { result.election ≡ opening budget }
+        ensures tied { IsTied result }
+    {
+        Draft {
+            election: Election::start(alloc, budget),
+            project_ids: Ids::new(alloc),
+            voter_ids: Ids::new(alloc),
+            places: Vec::new(alloc),
+            alloc,
+        }
+    }
+
+    /// Adds the project of a row of PROJECTS, or answers why it gives none.
+    pub(crate) fn add_project(
+        &mut self,
+        columns: ProjectColumns,
+        row: &StringRecord,
+    ) -> Result<(), ReadKind>
+        requires tied { IsTied self.old }
+        requires no_voter { self.old.election.voters ≡ [] }
+        ensures ok { OnOk result ((project_row_checks columns (trimmed (fields_of row.now)) self.old.election ≡ None)
+            × (self.new.election ≡ with_project columns (trimmed (fields_of row.now)) self.old.election) × IsTied self.new) }
+        ensures err { IfErr result (λ kind. Explains kind (project_row_checks columns (trimmed (fields_of row.now)) self.old.election)) }
+    {
+        if !columns.are_in(row) {
+            return Err(ReadKind::MissingField);
+        }
+        let cost = match columns.cost(row) {
+            Ok(cost) => cost,
+            Err(kind) => return Err(kind),
+        };
+        if cost.0 == 0 {
+            return Err(ReadKind::ZeroCost);
+        }
+        let id = field(row, columns.id);
+        if id.is_empty() {
+            return Err(ReadKind::EmptyId);
+        }
+        if !self.project_ids.add(self.alloc, id)? {
+            return Err(ReadKind::RepeatedProject);
+        }
+        if self.election.projects().len() >= MOST_PROJECTS {
+            return Err(ReadKind::TooManyProjects);
+        }
+        let name = String::from_str(self.alloc, columns.name(row))?;
+        let id = String::from_str(self.alloc, id)?;
+        self.election.add_project(Project::new(id, name, cost))?;
+        Ok(())
+    }
+
+    /// Adds the voter of a row of VOTES, or answers why it gives none.
+    pub(crate) fn add_voter(
+        &mut self,
+        columns: VoteColumns,
+        row: &StringRecord,
+    ) -> Result<(), ReadKind>
+        requires { IsTied self.old }
+        ensures ok { OnOk result ((vote_row_checks columns (trimmed (fields_of row.now)) self.old.election ≡ None)
+            × (self.new.election ≡ with_voter columns (trimmed (fields_of row.now)) self.old.election) × IsTied self.new) }
+        ensures err { IfErr result (λ kind. Explains kind (vote_row_checks columns (trimmed (fields_of row.now)) self.old.election)) }
+    {
+        if !columns.are_in(row) {
+            return Err(ReadKind::MissingField);
+        }
+        let Some(id) = VoterId::new(self.alloc, field(row, columns.voter))? else {
+            return Err(ReadKind::EmptyId);
+        };
+        if !self.voter_ids.add(self.alloc, id.text())? {
+            return Err(ReadKind::RepeatedVoter);
+        }
+        let is_full = self.election.voters().len() >= MOST_VOTERS;
+        let vote = field(row, columns.vote);
+        if !self.project_ids.places(vote, &mut self.places)? {
+            return Err(ReadKind::UnknownProject);
+        }
+        if is_full {
+            return Err(ReadKind::TooManyVoters);
+        }
+        let ballot = Ballot::of(self.alloc, &self.places)?;
+        // The clause of `places` tells the proof that the ballot rises.
+        let _places = ballot.places();
+        self.election.add_voter(Voter { id, ballot })?;
+        Ok(())
+    }
+}

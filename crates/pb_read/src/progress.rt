@@ -1,0 +1,163 @@
+// How far a file was read.
+
+ghost use Rattle.std.specs.Prelude.{◌≡◌, None, Some, IfErr, OnOk, MatchResult};
+ghost use Rattle.csv.specs.Records.{fields_of};
+ghost use Rattle.pb_core.specs.Election.{ElectionView};
+ghost use Rattle.pb_read.specs.Faults.{head, next_row, plain, projects_head, row_fault, start, the_end};
+ghost use Rattle.pb_read.specs.Machine.{Explains, advance, budget_of, head_checks};
+ghost use Rattle.pb_read.specs.Progresses.{EndsWith, IsRead, IsReady, position_of};
+ghost use Rattle.pb_read.specs.Rows.{trimmed};
+ghost use Rattle.pb_read.specs.StandsFor.{opening};
+
+use crate::columns::{ProjectColumns, VoteColumns};
+use crate::draft::Draft;
+use crate::fault::ReadKind;
+use crate::meta::Meta;
+use crate::row::is_blank;
+use crate::section::Section;
+use csv::StringRecord;
+use pb_core::election::Election;
+use pb_core::money::Money;
+use std::alloc::Global;
+
+/// What the next record may be.
+#[derive(Clone, Copy)]
+pub(crate) enum Stage {
+    /// META's head.
+    Start,
+    /// META's header row.
+    MetaHead,
+    /// A row of META, or PROJECTS' head.
+    InMeta(Meta),
+    /// PROJECTS' header row.
+    ProjectsHead,
+    /// A row of PROJECTS, or VOTES' head.
+    InProjects(ProjectColumns),
+    /// VOTES' header row.
+    VotesHead,
+    /// A row of VOTES, or the end of the file.
+    InVotes(VoteColumns),
+}
+
+/// How far a file was read, and what it gave so far.
+#[derive(Drop)]
+pub(crate) struct Progress {
+    pub(crate) stage: Stage,
+    pub(crate) draft: Draft,
+}
+
+impl Progress {
+    /// Nothing was read yet.
+    pub(crate) fn new(alloc: Global) -> Progress
+        ensures start { position_of result.stage result.draft.election ≡ start }
+        ensures ready { IsReady result }
+    {
+        Progress {
+            stage: Stage::Start,
+            draft: Draft::new(alloc, Money(0)),
+        }
+    }
+
+    /// Reads a record, or answers the lowest fault that applies to it.
+    pub(crate) fn read(&mut self, row: &StringRecord) -> Result<(), ReadKind>
+        requires { IsReady self.old }
+        ensures ok { OnOk result ((row_fault (position_of self.old.stage self.old.draft.election) (next_row (trimmed (fields_of row.now))) ≡ None)
+            × (position_of self.new.stage self.new.draft.election ≡ advance (position_of self.old.stage self.old.draft.election) (next_row (trimmed (fields_of row.now)))) × IsReady self.new) }
+        ensures err { IfErr result (λ kind. Explains kind (row_fault (position_of self.old.stage self.old.draft.election) (next_row (trimmed (fields_of row.now))))) }
+    {
+        if is_blank(row) {
+            return Ok(());
+        }
+        match Section::headed_by(row) {
+            Some(section) => self.open(section),
+            None => self.read_plain(row),
+        }
+    }
+
+    /// Reads a section's head.
+    #[tactic(auto, unfolding(crate::specs::Faults::row_fault))]
+    fn open(&mut self, section: Section) -> Result<(), ReadKind>
+        requires { IsReady self.old }
+        ensures ok { OnOk result ((row_fault (position_of self.old.stage self.old.draft.election) (head section) ≡ None)
+            × (position_of self.new.stage self.new.draft.election ≡ advance (position_of self.old.stage self.old.draft.election) (head section)) × IsReady self.new) }
+        ensures err { IfErr result (λ kind. Explains kind (row_fault (position_of self.old.stage self.old.draft.election) (head section))) }
+    {
+        match self.stage {
+            Stage::Start => match section {
+                Section::Meta => self.stage = Stage::MetaHead,
+                Section::Projects | Section::Votes => return Err(ReadKind::SectionOrder),
+            },
+            Stage::InMeta(meta) => match section {
+                Section::Projects => return self.open_projects(meta),
+                Section::Meta | Section::Votes => return Err(ReadKind::SectionOrder),
+            },
+            Stage::InProjects(_) => match section {
+                Section::Votes => self.stage = Stage::VotesHead,
+                Section::Meta | Section::Projects => return Err(ReadKind::SectionOrder),
+            },
+            Stage::InVotes(_) => return Err(ReadKind::SectionOrder),
+            Stage::MetaHead | Stage::ProjectsHead | Stage::VotesHead => {
+                return Err(ReadKind::NoHeader);
+            }
+        }
+        Ok(())
+    }
+
+    /// Reads PROJECTS' head behind META.
+    fn open_projects(&mut self, meta: Meta) -> Result<(), ReadKind>
+        requires { IsRead meta }
+        ensures ok { OnOk result ((head_checks meta.budget meta.approval ≡ None)
+            × (position_of self.new.stage self.new.draft.election ≡ projects_head (opening (budget_of meta.budget))) × IsReady self.new) }
+        ensures err { IfErr result (λ kind. head_checks meta.budget meta.approval ≡ Some kind) }
+    {
+        let budget = match meta.budget() {
+            Ok(budget) => budget,
+            Err(kind) => return Err(kind),
+        };
+        self.draft = Draft::new(self.draft.alloc, budget);
+        self.stage = Stage::ProjectsHead;
+        Ok(())
+    }
+
+    /// Reads a row that is no section's head.
+    #[tactic(auto, unfolding(crate::specs::Faults::row_fault))]
+    fn read_plain(&mut self, row: &StringRecord) -> Result<(), ReadKind>
+        requires { IsReady self.old }
+        ensures ok { OnOk result ((row_fault (position_of self.old.stage self.old.draft.election) (plain (trimmed (fields_of row.now))) ≡ None)
+            × (position_of self.new.stage self.new.draft.election ≡ advance (position_of self.old.stage self.old.draft.election) (plain (trimmed (fields_of row.now)))) × IsReady self.new) }
+        ensures err { IfErr result (λ kind. Explains kind (row_fault (position_of self.old.stage self.old.draft.election) (plain (trimmed (fields_of row.now))))) }
+    {
+        match self.stage {
+            Stage::Start => return Err(ReadKind::NoSection),
+            Stage::MetaHead => self.stage = Stage::InMeta(Meta::new()),
+            Stage::InMeta(mut meta) => {
+                meta.note(row);
+                self.stage = Stage::InMeta(meta);
+            }
+            Stage::ProjectsHead => match ProjectColumns::of(row) {
+                Some(columns) => self.stage = Stage::InProjects(columns),
+                None => return Err(ReadKind::MissingColumn),
+            },
+            Stage::InProjects(columns) => return self.draft.add_project(columns, row),
+            Stage::VotesHead => match VoteColumns::of(row) {
+                Some(columns) => self.stage = Stage::InVotes(columns),
+                None => return Err(ReadKind::MissingColumn),
+            },
+            Stage::InVotes(columns) => return self.draft.add_voter(columns, row),
+        }
+        Ok(())
+    }
+
+    /// The election, where the file may end here.
+    #[tactic(auto, unfolding(crate::specs::Faults::row_fault))]
+    pub(crate) fn finish(self) -> Result<Election, ReadKind>
+        ensures { MatchResult result (λ election. EndsWith (position_of self.stage self.draft.election) election)
+            (λ kind. Explains kind (row_fault (position_of self.stage self.draft.election) the_end)) }
+    {
+        match self.stage {
+            Stage::InVotes(_) => Ok(self.draft.election),
+            Stage::MetaHead | Stage::ProjectsHead | Stage::VotesHead => Err(ReadKind::NoHeader),
+            Stage::Start | Stage::InMeta(_) | Stage::InProjects(_) => Err(ReadKind::NoSection),
+        }
+    }
+}
