@@ -9,3 +9,5 @@ pub mod outcome;
 mod round;
 mod rounds;
 mod standing;
+#[cfg(test)]
+mod tests;

@@ -1,0 +1,297 @@
+use crate::count::{count, equal_shares};
+use crate::count_fault::CountFault;
+use crate::key::Key;
+use crate::options::{Completion, CountOptions};
+use crate::outcome::Elected;
+use pb_core::ballot::Ballot;
+use pb_core::election::Election;
+use pb_core::money::Money;
+use pb_core::project::Project;
+use pb_core::voter::Voter;
+use pb_core::voter_id::VoterId;
+use pb_price::gate::NoGate;
+use std::alloc::Global;
+use std::process::Abort;
+use std::test::Fail;
+use std::thread::Threads;
+
+fn add_project(
+    rt: &impl Abort,
+    alloc: Global,
+    election: &mut Election,
+    cost: u64,
+) -> Result<(), Fail> {
+    let place = election.projects().len();
+    let id = format!(in alloc; "p{place}")?;
+    let name = String::new(alloc);
+    assert!(rt; !id.is_empty() && 0 < cost && cost <= 1_000_000_000_000_000);
+    let project = Project::new(id, name, Money(cost));
+    assert!(rt; election.voters().is_empty() && place < 10_000);
+    assert!(rt; !election.has_project(project.id()));
+    election.add_project(project)?;
+    Ok(())
+}
+
+fn add_voter(
+    rt: &impl Abort,
+    alloc: Global,
+    election: &mut Election,
+    places: &[u32],
+) -> Result<(), Fail> {
+    let position = election.voters().len();
+    let text = format!(in alloc; "v{position}")?;
+    let id = VoterId::new(alloc, text.as_str())?.expect(rt, "an id");
+    let ballot = Ballot::of(alloc, places)?;
+    assert!(rt; position < 1_000_000 && !election.has_voter(&id) && election.knows(&ballot));
+    election.add_voter(Voter { id, ballot })?;
+    Ok(())
+}
+
+/// An election of these costs and ballots, in hundredths and by place.
+fn election(
+    rt: &impl Abort,
+    alloc: Global,
+    budget: u64,
+    costs: &[u64],
+    ballots: &[&[u32]],
+) -> Result<Election, Fail> {
+    assert!(rt; budget <= 1_000_000_000_000_000);
+    let mut election = Election::start(alloc, Money(budget));
+    for cost in costs {
+        add_project(rt, alloc, &mut election, *cost)?;
+    }
+    for ballot in ballots {
+        add_voter(rt, alloc, &mut election, ballot)?;
+    }
+    Ok(election)
+}
+
+/// The three voters: a costs 30.00, b costs 60.00; the voters approve a; a and b; b.
+fn three_voters(rt: &impl Abort, alloc: Global) -> Result<Election, Fail> {
+    election(rt, alloc, 10_000, &[3000, 6000], &[&[0], &[0, 1], &[1]])
+}
+
+fn elected(place: u32, price: u64, collected: u64) -> Elected {
+    Elected {
+        place,
+        price: Money(price),
+        collected: Money(collected),
+    }
+}
+
+fn plain() -> CountOptions {
+    CountOptions {
+        completion: Completion::Plain,
+        ..CountOptions::standard()
+    }
+}
+
+/// Counts the election, and compares the outcome.
+fn counts_as(
+    rt: &(impl Abort + Threads),
+    alloc: Global,
+    election: &Election,
+    options: &CountOptions,
+    share: u64,
+    raised: u32,
+    elected: &[Elected],
+) -> Result<(), Fail> {
+    let outcome = count(rt, alloc, election, options)?;
+    assert_eq!(rt; outcome.share, Money(share));
+    assert_eq!(rt; outcome.raised, raised);
+    assert_eq!(rt; outcome.elected.as_slice(), elected);
+    Ok(())
+}
+
+/// The fault that a count gives, if it gives one.
+fn fault_of(
+    rt: &impl Threads,
+    alloc: Global,
+    election: &Election,
+    options: &CountOptions,
+) -> Option<CountFault> {
+    match count(rt, alloc, election, options) {
+        Ok(_) => None,
+        Err(fault) => Some(fault),
+    }
+}
+
+#[test]
+fn counts_three_voters(rt: HostRuntime) -> Result<(), Fail> {
+    let alloc = rt.alloc();
+    let standard = CountOptions::standard();
+    let just_enough = CountOptions {
+        max_raises: 5,
+        ..standard
+    };
+    let larger_steps = CountOptions {
+        step: Money(250),
+        ..standard
+    };
+    let both = [elected(0, 1500, 3000), elected(1, 3667, 6000)];
+    let three = three_voters(&rt, alloc)?;
+    counts_as(&rt, alloc, &three, &standard, 3833, 5, &both)?;
+    counts_as(&rt, alloc, &three, &just_enough, 3833, 5, &both)?;
+    counts_as(&rt, alloc, &three, &larger_steps, 3833, 2, &both)?;
+    counts_as(&rt, alloc, &three, &plain(), 3333, 0, &both[..1])?;
+    let nobody = election(&rt, alloc, 10_000, &[3000, 6000], &[])?;
+    counts_as(&rt, alloc, &nobody, &standard, 0, 0, &[])
+}
+
+#[test]
+fn counts(rt: HostRuntime) -> Result<(), Fail> {
+    let alloc = rt.alloc();
+    let standard = CountOptions::standard();
+    let no_raise = CountOptions {
+        max_raises: 0,
+        ..standard
+    };
+    // A tie is decided by file order.
+    let tie = election(&rt, alloc, 2000, &[1000, 1000], &[&[0, 1], &[0, 1]])?;
+    let both = [elected(0, 500, 1000), elected(1, 500, 1000)];
+    counts_as(&rt, alloc, &tie, &no_raise, 1000, 0, &both)?;
+    // Rounding up collects more than the cost.
+    let thirds = election(&rt, alloc, 100, &[100], &[&[0], &[0], &[0]])?;
+    counts_as(
+        &rt,
+        alloc,
+        &thirds,
+        &standard,
+        133,
+        1,
+        &[elected(0, 34, 102)],
+    )?;
+    // The outcome before the one that is over.
+    let rivals = election(&rt, alloc, 1000, &[1000, 1000], &[&[0], &[1]])?;
+    counts_as(&rt, alloc, &rivals, &standard, 900, 4, &[])?;
+    // Nobody supports the first project, and it does not keep the raises going.
+    let lone = election(&rt, alloc, 1000, &[500, 400], &[&[1]])?;
+    counts_as(
+        &rt,
+        alloc,
+        &lone,
+        &standard,
+        1000,
+        0,
+        &[elected(1, 400, 400)],
+    )
+}
+
+/// One project of this cost, and a thousand voters of whom the first alone approves it; the budget would pay for it.
+fn one_of_a_thousand(rt: &impl Abort, alloc: Global, cost: u64) -> Result<Election, Fail> {
+    let mut election = election(rt, alloc, cost, &[cost], &[&[0]])?;
+    for _ in 1..1000 {
+        add_voter(rt, alloc, &mut election, &[])?;
+    }
+    Ok(election)
+}
+
+#[test]
+fn spends_the_raises(rt: HostRuntime) -> Result<(), Fail> {
+    let alloc = rt.alloc();
+    let standard = CountOptions::standard();
+    let none = CountOptions {
+        max_raises: 0,
+        ..standard
+    };
+    let one_too_few = CountOptions {
+        max_raises: 4,
+        ..standard
+    };
+    let ten = CountOptions {
+        max_raises: 10,
+        ..standard
+    };
+    let spent = Some(CountFault::RaisesSpent);
+    let three = three_voters(&rt, alloc)?;
+    assert_eq!(rt; fault_of(&rt, alloc, &three, &none), spent);
+    assert_eq!(rt; fault_of(&rt, alloc, &three, &one_too_few), spent);
+    let large = one_of_a_thousand(&rt, alloc, 1_000_000_000_000_000)?;
+    assert_eq!(rt; fault_of(&rt, alloc, &large, &ten), spent);
+    Ok(())
+}
+
+#[test]
+fn runs_at_a_share(rt: HostRuntime) -> Result<(), Fail> {
+    let three = three_voters(&rt, rt.alloc())?;
+    let outcome = count(&rt, rt.alloc(), &three, &plain())?;
+    assert_eq!(rt;
+        outcome.rests.as_slice(),
+        [Money(1833), Money(1833), Money(3333)].as_slice()
+    );
+    assert_eq!(rt; outcome.priced.as_slice(), [2, 1].as_slice());
+    let four = election(
+        &rt,
+        rt.alloc(),
+        4000,
+        &[1200, 1900, 650, 990],
+        &[&[0, 1], &[0, 1], &[0], &[1, 2, 3]],
+    )?;
+    let outcome = equal_shares(&rt, rt.alloc(), &four, Money(1000), 1, &NoGate)?;
+    assert_eq!(rt; outcome.share, Money(1000));
+    assert_eq!(rt; outcome.raised, 0);
+    assert_eq!(rt;
+        outcome.elected.as_slice(),
+        [elected(0, 400, 1200), elected(2, 650, 650)].as_slice()
+    );
+    assert_eq!(rt; outcome.priced.as_slice(), [4, 3, 2].as_slice());
+    let same = count(&rt, rt.alloc(), &four, &plain())?;
+    assert_eq!(rt; same.elected.as_slice(), outcome.elected.as_slice());
+    assert_eq!(rt; same.priced.as_slice(), outcome.priced.as_slice());
+    Ok(())
+}
+
+#[test]
+fn refuses_options(rt: HostRuntime) -> Result<(), Fail> {
+    let plain = plain();
+    let election = three_voters(&rt, rt.alloc())?;
+    let cases = [
+        (0, 100, 0, CountFault::WorkerCount),
+        (65, 100, 0, CountFault::WorkerCount),
+        (0, 0, 0, CountFault::WorkerCount),
+        (1, 0, 0, CountFault::StepRange),
+        (1, 1_000_000_001, 0, CountFault::StepRange),
+        (1, 100, 1_000_001, CountFault::RaisesRange),
+    ];
+    for (workers, step, max_raises, fault) in cases {
+        let options = CountOptions {
+            workers,
+            step: Money(step),
+            max_raises,
+            ..plain
+        };
+        let given = fault_of(&rt, rt.alloc(), &election, &options);
+        assert_eq!(rt; given, Some(fault));
+    }
+    let refused = equal_shares(&rt, rt.alloc(), &election, Money(100), 65, &NoGate);
+    assert!(rt; matches!(refused, Err(CountFault::WorkerCount)));
+    let most = CountOptions {
+        workers: 64,
+        ..plain
+    };
+    assert_eq!(rt; fault_of(&rt, rt.alloc(), &election, &most), None);
+    Ok(())
+}
+
+#[test]
+fn orders_keys(rt: HostRuntime) {
+    let key = Key::new(Money(400), 2);
+    assert_eq!(rt; key.price(), Money(400));
+    assert_eq!(rt; key.place(), 2);
+    assert!(rt; Key::new(Money(399), 3) < key && key < Key::new(Money(400), 3));
+}
+
+#[test]
+fn numbers_faults(rt: HostRuntime) {
+    let faults = [
+        (CountFault::WorkerCount, "WorkerCount"),
+        (CountFault::StepRange, "StepRange"),
+        (CountFault::RaisesRange, "RaisesRange"),
+        (CountFault::RaisesSpent, "RaisesSpent"),
+        (CountFault::NoMemory, "NoMemory"),
+    ];
+    for (i, (fault, name)) in faults.iter().enumerate() {
+        assert_eq!(rt; fault.number() as usize, i + 1);
+        assert_eq!(rt; fault.name(), *name);
+    }
+}
