@@ -8,3 +8,4 @@ pub mod RowFields
 pub mod RowForms
 pub mod RowTexts
 pub mod Audits
+pub mod Closings

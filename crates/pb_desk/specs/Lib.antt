@@ -9,3 +9,4 @@ pub mod RowReading
 pub mod Audit
 pub mod AuditFault
 pub mod AuditSteps
+pub mod IntoFault

@@ -6,6 +6,7 @@ pub mod audit_fault;
 mod ballot_box;
 pub mod desk;
 pub mod desk_fault;
+pub mod into_fault;
 pub mod laws;
 mod row_reader;
 mod row_writer;

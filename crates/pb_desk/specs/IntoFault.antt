@@ -1,0 +1,18 @@
+-- Why a desk is not made into an election.
+use Rattle.std.specs.Prelude.{◌≡◌, ℕ, List, true, false, codes}
+use Rattle.pb_desk.specs.Desk.{DeskView, standing_of}
+use Rattle.pb_desk.specs.declared.into_fault.IntoFault.{IntoFault}
+use Rattle.pb_desk.specs.declared.into_fault.IntoFault.TheVariants.{NotShut, NoMemory}
+
+abbrev pub number_of : {A : Type 0} → IntoFault A → ℕ
+number_of (NotShut desk) = 1
+number_of (NoMemory desk) = 2
+
+abbrev pub name_of : {A : Type 0} → IntoFault A → List ℕ
+name_of (NotShut desk) = codes "NotShut"
+name_of (NoMemory desk) = codes "NoMemory"
+
+-- the fault hands this desk back; it is `NotShut` exactly where the desk is not shut
+abbrev pub HandsBack : {A : Type 0} → DeskView → IntoFault A → Type 0
+HandsBack d (NotShut desk) = (desk ≡ d) × ((standing_of d).is_shut ≡ false)
+HandsBack d (NoMemory desk) = (desk ≡ d) × ((standing_of d).is_shut ≡ true)

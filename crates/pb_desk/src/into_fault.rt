@@ -1,0 +1,47 @@
+ghost use Rattle.std.specs.Prelude.{◌≡◌, codes};
+
+use crate::desk::Desk;
+use std::alloc::{Allocator, Global};
+use std::fmt;
+use thiserror::Error;
+
+/// Why a desk was not made into an election. It carries the desk back, unchanged.
+#[derive(Drop, Error)]
+pub enum IntoFault<A: Allocator = Global> {
+    /// The desk is not shut.
+    #[error("the desk is not shut")]
+    NotShut(Desk<A>),
+    /// Memory was refused.
+    #[error("out of memory")]
+    NoMemory(Desk<A>),
+}
+
+impl<A: Allocator> fmt::Debug for IntoFault<A> {
+    fn fmt<W: fmt::Write>(&self, f: &mut fmt::Formatter<W>) -> fmt::Result {
+        f.write_str(self.name())
+    }
+}
+
+impl<A: Allocator> IntoFault<A> {
+    ghost use Rattle.pb_desk.specs.IntoFault.{number_of, name_of};
+
+    /// The fault's number, from 1.
+    pub fn number(&self) -> u32
+        ensures { result ≡ number_of self.now }
+    {
+        match self {
+            IntoFault::NotShut(_) => 1,
+            IntoFault::NoMemory(_) => 2,
+        }
+    }
+
+    /// The fault's name.
+    pub fn name(&self) -> &'static str
+        ensures { result.now ≡ name_of self.now }
+    {
+        match self {
+            IntoFault::NotShut(_) => "NotShut",
+            IntoFault::NoMemory(_) => "NoMemory",
+        }
+    }
+}
