@@ -19,6 +19,7 @@ use Rattle.pb_read.proofs.Runs.{AreFull, run_fault, run_onto, run_row, runs}
 use Rattle.pb_read.specs.Faults.{Position, start, meta_head, in_meta, projects_head, in_projects, votes_head, in_votes, Next, the_end, blank, head, plain, next_row, next_of, row_fault, IsAt, is_text, lowest_kind, IsSound}
 use Rattle.pb_read.specs.FirstFault.{MayGoOn, HasNoFault, IsAtFault, IsFirstFault, first_of}
 use Rattle.pb_read.specs.Machine.{advance, run, step, step_or, bind}
+use Rattle.pb_read.specs.Tracking.{Reached}
 use Rattle.pb_read.specs.Rows.{head_of, is_blank, rows_of, trimmed}
 use Rattle.pb_read.specs.StandsFor.{Describes, StandsFor, IsVotes, most_records}
 use Rattle.pb_read.specs.declared.columns.VoteColumns.{VoteColumns}
@@ -164,12 +165,6 @@ advance-blank (projects_head e) = refl
 advance-blank (in_projects columns e) = refl
 advance-blank (votes_head e) = refl
 advance-blank (in_votes columns e) = refl
-
--- the records are text, and were read to this position without fault
-pub record Reached (done : List Fields) (p : Position) : Type 0 where
-  pub text : AllByRecursion AllText done
-  pub at : IsAt (rows_of done) p
-  pub sound : IsSound p
 
 pub reached_start : Reached [] start
 reached_start = record { text = tt; at = refl; sound = tt }

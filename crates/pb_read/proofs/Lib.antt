@@ -9,3 +9,4 @@ pub mod Pieces
 pub mod Ballots
 pub mod DraftFacts
 pub mod ProgressFacts
+pub mod Tracking

@@ -5,7 +5,6 @@ use Rattle.pb_rows.specs.Reading.{Fields}
 use Rattle.pb_read.specs.Faults.{Position, IsAt, IsSound, lowest_kind}
 use Rattle.pb_read.specs.Rows.{rows_of}
 use Rattle.pb_read.specs.StandsFor.{Describes, StandsFor, most_records}
-use Rattle.pb_read.specs.declared.fault.ReadFault.{ReadFault}
 use Rattle.pb_read.specs.declared.fault.ReadKind.{ReadKind}
 use Rattle.pb_read.specs.declared.fault.ReadKind.TheVariants.{ReadFailed, NoMemory}
 
@@ -52,10 +51,13 @@ pub record IsCutShort (records : List Fields) (at : ℕ) : Type 0 where
   pub no_fault_before : HasNoFault done
 
 -- a fault is the first one, unless reading was cut short
-abbrev pub IsFaultOf : List Fields → ReadFault → Type 0
-IsFaultOf records fault = by_kind fault.kind
-  where
-    by_kind : ReadKind → Type 0
-    by_kind ReadFailed = IsCutShort records fault.at
-    by_kind NoMemory = IsCutShort records fault.at
-    by_kind kind = IsFirstFault records kind fault.at
+abbrev pub IsFaultAt : List Fields → ReadKind → ℕ → Type 0
+IsFaultAt records ReadFailed at = IsCutShort records at
+IsFaultAt records NoMemory at = IsCutShort records at
+IsFaultAt records kind at = IsFirstFault records kind at
+
+-- a refusal that no file can rule out
+abbrev pub IsFromOutside : ReadKind → Type 0
+IsFromOutside ReadFailed = Unit {0}
+IsFromOutside NoMemory = Unit {0}
+IsFromOutside kind = ⊥

@@ -8,4 +8,5 @@ pub mod MetaRows
 pub mod Progresses
 pub mod Rows
 pub mod StandsFor
+pub mod Tracking
 pub mod Voting

@@ -1,8 +1,13 @@
 -- How far the reader has come, as a position; private contracts speak of it.
-use Rattle.std.specs.Prelude.{◌≡◌, ◌≤◌, ℕ, [], Option, Some, Result, Ok}
+use Rattle.std.specs.Prelude.{◌≡◌, ◌≤◌, ℕ, List, [], Option, Some, Result, Ok}
 use Rattle.pb_core.specs.Election.{ElectionView}
 use Rattle.pb_core.specs.Money.{largest_money}
 use Rattle.pb_read.specs.declared.meta.Meta.{Meta}
+use Rattle.pb_rows.specs.Reading.{Fields, NextIsNoText}
+use Rattle.pb_rows.specs.declared.fault.RecordsFault.{RecordsFault}
+use Rattle.pb_rows.specs.declared.fault.RecordsFault.TheVariants as records
+use Rattle.pb_read.specs.declared.fault.ReadKind.{ReadKind}
+use Rattle.pb_read.specs.declared.fault.ReadKind.TheVariants.{ReadFailed, NotText, NoMemory}
 use Rattle.pb_read.specs.Drafts.{IsTied}
 use Rattle.pb_read.specs.Faults.{Position, start, meta_head, in_meta, projects_head, in_projects, votes_head, in_votes}
 use Rattle.pb_read.specs.declared.columns.VoteColumns.{VoteColumns}
@@ -37,3 +42,15 @@ pub record IsReady (progress : Progress) : Type 0 where
 -- a file may end here, with this election
 abbrev pub EndsWith : Position → ElectionView → Type 0
 EndsWith p election = (columns : VoteColumns) × (p ≡ in_votes columns election)
+
+-- the next record could not be read: the reader failed, memory was refused, or a field is no text
+abbrev pub StopsReading : ReadKind → Option (List Fields) → Type 0
+StopsReading ReadFailed left = Unit {0}
+StopsReading NoMemory left = Unit {0}
+StopsReading NotText left = NextIsNoText left
+StopsReading kind left = ⊥
+
+abbrev pub kind_of_records : RecordsFault → ReadKind
+kind_of_records records.ReadFailed = ReadFailed
+kind_of_records records.NotText = NotText
+kind_of_records records.NoMemory = NoMemory

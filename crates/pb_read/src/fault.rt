@@ -5,6 +5,7 @@ ghost use Rattle.pb_read.specs.Kinds.{name_of, number_of};
 
 use pb_core::money_fault::MoneyFault;
 use pb_core::no_memory::NoMemory;
+use pb_rows::RecordsFault;
 use std::alloc::AllocError;
 use thiserror::Error;
 
@@ -148,6 +149,21 @@ impl From<MoneyFault> for ReadKind {
             MoneyFault::BadMoney => ReadKind::BadMoney,
             MoneyFault::MoneyTooFine => ReadKind::MoneyTooFine,
             MoneyFault::MoneyTooLarge => ReadKind::MoneyTooLarge,
+        }
+    }
+}
+
+impl From<RecordsFault> for ReadKind {
+    ghost use Rattle.std.specs.Prelude.{◌≡◌};
+    ghost use Rattle.pb_read.specs.Progresses.{kind_of_records};
+
+    ghost from_gives = { λ fault kind. kind ≡ kind_of_records fault };
+
+    fn from(fault: RecordsFault) -> ReadKind {
+        match fault {
+            RecordsFault::ReadFailed => ReadKind::ReadFailed,
+            RecordsFault::NotText => ReadKind::NotText,
+            RecordsFault::NoMemory => ReadKind::NoMemory,
         }
     }
 }

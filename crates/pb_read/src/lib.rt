@@ -7,7 +7,9 @@ mod fault;
 mod ids;
 mod meta;
 mod progress;
+mod read;
 mod row;
 mod section;
 
 pub use fault::{ReadFault, ReadKind};
+pub use read::{MOST_RECORDS, read_pb};

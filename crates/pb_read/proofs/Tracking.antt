@@ -1,0 +1,151 @@
+-- A file is read record by record: where it has come, and what each end of the reading means.
+use Rattle.std.proofs.Common.{◌≡◌, ◌≢◌, ◌<◌, ◌≤◌, ◌+◌, ◌==◌, ◌⊎◌, ℕ, Bool, true, false, cond, not, ◌&&◌, List, [], ◌∷◌, ◌++◌, length, Option, Some, None, Result, Ok, Err, refl, ap, sym, ◌∙◌, subst, arith, append_assoc, append-nil, length-append}
+use Rattle.std.specs.Prelude.{IfErr, IfOk, IfSome, MatchResult, is_some, option_map}
+use Rattle.std.proofs.lemmas.Bool.{false≢true, true≢false, ne_eqb, eq-eqb, false_from_ne_true}
+use Rattle.std.proofs.lemmas.Option.{same_Some}
+use Rattle.std.specs.List.{list_all}
+use Rattle.std.specs.Str.{is_utf8}
+use Rattle.csv.specs.Records.{AllText}
+use Rattle.pb_core.specs.Election.{ElectionView}
+use Rattle.pb_rows.specs.Reading.{Fields, IsNext, NextIsNoText, records_of}
+use Rattle.pb_read.specs.Tracking.{HasCome, HasEnded, Reached, Tracks}
+use Rattle.pb_read.proofs.GoesOn.{AllText-from_test, end_stands, first_fault, no_fault_so_far, reached_next, reached_start, test-from_AllText}
+use Rattle.pb_read.proofs.Uniqueness.{no_first_fault, one_election}
+use Rattle.pb_read.specs.Faults.{Position, start, in_votes, lowest_kind, next_of, next_row, row_fault, the_end}
+use Rattle.pb_read.specs.FirstFault.{HasNoFault, IsCutShort, IsFaultAt, IsFirstFault, IsFromOutside, first_of}
+use Rattle.pb_read.specs.Machine.{Explains, advance}
+use Rattle.pb_read.specs.Progresses.{EndsWith, StopsReading}
+use Rattle.pb_read.specs.Rows.{trimmed}
+use Rattle.pb_read.specs.StandsFor.{StandsFor, most_records}
+use Rattle.pb_read.specs.declared.fault.ReadFault.{ReadFault}
+use Rattle.pb_read.specs.declared.fault.ReadKind.{ReadKind}
+use Rattle.pb_read.specs.declared.fault.ReadKind.TheVariants as kinds
+
+pub tracks_start : (all : Option (List Fields)) → Tracks all all 0 start
+tracks_start None = tt
+tracks_start (Some all) = record { done = []; cut = refl; count_is = refl; reached = reached_start }
+
+-- one record more
+pub tracks_more : (all left after : Option (List Fields)) (count : ℕ) (p q : Position) (fields : Fields) → Tracks all left count p → IsNext left after true fields → AllText fields → row_fault p (next_row (trimmed fields)) ≡ None → q ≡ advance p (next_row (trimmed fields)) →
+    Tracks all after (count + 1) q
+tracks_more None left after count p q fields tracks next text none goes = tt
+tracks_more (Some all) None after count p q fields tracks next text none goes = absurd tracks
+tracks_more (Some all) (Some []) after count p q fields tracks next text none goes = absurd (true≢false next)
+tracks_more (Some all) (Some (r ∷ rest)) after count p q fields tracks next text none goes =
+    subst (λ left. Tracks (Some all) left (count + 1) q) (sym next.2) (record {
+      done = tracks.done ++ fields ∷ [];
+      cut = tracks.cut ∙ ap (λ x. tracks.done ++ x ∷ rest) (sym next.1) ∙ sym (append_assoc tracks.done (fields ∷ []) rest);
+      count_is = length-append tracks.done (fields ∷ []) ∙ ap (λ n. n + 1) tracks.count_is;
+      reached = subst (Reached (tracks.done ++ fields ∷ [])) (sym goes) (reached_next tracks.done p fields tracks.reached text none);
+    })
+
+cut_short : (all left : List Fields) (count : ℕ) (p : Position) → HasCome all left count p → count ≤ most_records → (at : ℕ) → at ≡ count + 1 → IsCutShort all at
+cut_short all left count p come few at is = record {
+  done = come.done;
+  left = left;
+  cut = come.cut;
+  at_is = is ∙ ap (λ n. n + 1) (sym come.count_is);
+  no_fault_before = no_fault_so_far come.done p (omega (arith, come.count_is, few)) come.reached;
+}
+
+first_at : (all left : List Fields) (count : ℕ) (p : Position) → HasCome all left count p → count ≤ most_records → (at : ℕ) → at ≡ count + 1 → (kind : ReadKind) → lowest_kind count p (first_of left) ≡ Some kind → IsFirstFault all kind at
+first_at all left count p come few at is kind lowest =
+    let here : IsFirstFault (come.done ++ left) kind (length come.done + 1) =
+    first_fault come.done left p kind (omega (arith, come.count_is, few)) come.reached (ap (λ n. lowest_kind n p (first_of left)) come.count_is ∙ lowest) in
+    subst (λ n. IsFirstFault all kind n) (ap (λ n. n + 1) come.count_is ∙ sym is) (subst (λ xs. IsFirstFault xs kind (length come.done + 1)) (sym come.cut) here)
+
+-- a kind that the checks found
+explained : (all : List Fields) (kind : ReadKind) (at : ℕ) (found : Option ReadKind) → IsCutShort all at → Explains kind found → ((k : ReadKind) → found ≡ Some k → IsFirstFault all k at) → IsFaultAt all kind at
+explained all kinds.ReadFailed at found cut said first = cut
+explained all kinds.NoMemory at found cut said first = cut
+explained all kind at found cut said first = first _ said
+
+-- the next record could not be read
+pub stopped : (all left : Option (List Fields)) (count : ℕ) (p : Position) (kind : ReadKind) (at : ℕ) → Tracks all left count p → count ≤ most_records → at ≡ count + 1 → StopsReading kind left → IfSome all (λ records. IsFaultAt records kind at)
+stopped None left count p kind at tracks few is stops = tt
+stopped (Some all) None count p kind at tracks few is stops = absurd tracks
+stopped (Some all) (Some left) count p kind at tracks few is stops = go kind stops
+  where
+    no_text : (left : List Fields) → HasCome all left count p → NextIsNoText (Some left) → IsFirstFault all kinds.NotText at
+    no_text [] come none = absurd none
+    no_text (r ∷ rest) come none =
+        let test : list_all is_utf8 r ≡ false = false_from_ne_true (list_all is_utf8 r) (λ e. none (AllText-from_test r e)) in
+        first_at all (r ∷ rest) count p come few at is kinds.NotText (ap (λ t. cond (not t) (Some kinds.NotText) (cond (count == most_records) (Some kinds.TooManyRecords) (row_fault p (next_of (Some r))))) test)
+
+    go : (k : ReadKind) → StopsReading k (Some left) → IsFaultAt all k at
+    go kinds.ReadFailed s = cut_short all left count p tracks few at is
+    go kinds.NoMemory s = cut_short all left count p tracks few at is
+    go kinds.NotText s = no_text left tracks s
+    go _ s = absurd s
+
+-- the next record is at fault
+pub refused : (all left after : Option (List Fields)) (count : ℕ) (p : Position) (fields : Fields) (kind : ReadKind) (at : ℕ) → Tracks all left count p → count < most_records → at ≡ count + 1 → IsNext left after true fields → AllText fields → Explains kind (row_fault p (next_row (trimmed fields))) →
+    IfSome all (λ records. IsFaultAt records kind at)
+refused None left after count p fields kind at tracks few is next text said = tt
+refused (Some all) None after count p fields kind at tracks few is next text said = absurd tracks
+refused (Some all) (Some []) after count p fields kind at tracks few is next text said = absurd (true≢false next)
+refused (Some all) (Some (r ∷ rest)) after count p fields kind at tracks few is next text said =
+    explained all kind at _ (cut_short all (r ∷ rest) count p tracks (omega (arith, few)) at is) (subst (λ x. Explains kind (row_fault p (next_row (trimmed x)))) next.1 said)
+    (λ k found.
+    first_at all (r ∷ rest) count p tracks (omega (arith, few)) at is k
+    (ap (λ t. cond (not t) (Some kinds.NotText) (cond (count == most_records) (Some kinds.TooManyRecords) (row_fault p (next_of (Some r))))) (test-from_AllText r (subst AllText next.1 text))
+    ∙ ap (λ t. cond t (Some kinds.TooManyRecords) (row_fault p (next_of (Some r)))) (ne_eqb count most_records (λ e. absurd (omega (arith, e, few)))) ∙ found))
+
+-- one record too many
+pub too_many : (all left after : Option (List Fields)) (p : Position) (fields : Fields) → Tracks all left most_records p → IsNext left after true fields → AllText fields → IfSome all (λ records. IsFaultAt records kinds.TooManyRecords (most_records + 1))
+too_many None left after p fields tracks next text = tt
+too_many (Some all) None after p fields tracks next text = absurd tracks
+too_many (Some all) (Some []) after p fields tracks next text = absurd (true≢false next)
+too_many (Some all) (Some (r ∷ rest)) after p fields tracks next text =
+    first_at all (r ∷ rest) most_records p tracks (omega arith) (most_records + 1) refl kinds.TooManyRecords
+    (ap (λ t. cond (not t) (Some kinds.NotText) (cond (most_records == most_records) (Some kinds.TooManyRecords) (row_fault p (next_of (Some r))))) (test-from_AllText r (subst AllText next.1 text)))
+
+-- no record is left
+pub has_ended : (all left after : Option (List Fields)) (count : ℕ) (p : Position) (fields : Fields) (at : ℕ) → Tracks all left count p → count ≤ most_records → at ≡ count + 1 → IsNext left after false fields → HasEnded all at p
+has_ended None left after count p fields at tracks few is next = tt
+has_ended (Some all) None after count p fields at tracks few is next = absurd tracks
+has_ended (Some all) (Some (r ∷ rest)) after count p fields at tracks few is next = absurd (false≢true next.0)
+has_ended (Some all) (Some []) after count p fields at tracks few is next = record { count = count; at_is = is; few = few; come = tracks }
+
+-- the file stands for the election that was read
+pub ended : (all : Option (List Fields)) (at : ℕ) (p : Position) (e : ElectionView) → HasEnded all at p → EndsWith p e → IfSome all (λ records. StandsFor records e)
+ended None at p e end ends = tt
+ended (Some all) at p e end ends =
+    subst (λ xs. StandsFor xs e) (sym (end.come.cut ∙ append-nil end.come.done))
+    (end_stands end.come.done ends.0 e (omega (arith, end.come.count_is, end.few)) (subst (Reached end.come.done) ends.1 end.come.reached))
+
+-- the file ends at fault
+pub ended_at_fault : (all : Option (List Fields)) (at : ℕ) (p : Position) (kind : ReadKind) (number : ℕ) → HasEnded all at p → number ≡ at → Explains kind (row_fault p the_end) → IfSome all (λ records. IsFaultAt records kind number)
+ended_at_fault None at p kind number end same said = tt
+ended_at_fault (Some all) at p kind number end same said =
+    explained all kind number _ (cut_short all [] end.count p end.come end.few number (same ∙ end.at_is)) said (λ k found. first_at all [] end.count p end.come end.few number (same ∙ end.at_is) k found)
+
+-- what stands for an election is refused only from outside
+pub refused_from_outside : (all : List Fields) (e : ElectionView) (kind : ReadKind) (at : ℕ) → StandsFor all e → IsFaultAt all kind at → IsFromOutside kind
+refused_from_outside all e kinds.ReadFailed at stands fault = tt
+refused_from_outside all e kinds.NoMemory at stands fault = tt
+refused_from_outside all e kind at stands fault = no_first_fault all e _ at stands fault
+
+-- a refusal as the result
+pub as_result : {T : Type 0} (all : Option (List Fields)) (r : Result T ReadFault) (fault : ReadFault) → r ≡ Err fault → IfSome all (λ records. IsFaultAt records fault.kind fault.at) → IfSome all (λ records. IfErr r (λ f. IsFaultAt records f.kind f.at))
+as_result None r fault e said = tt
+as_result (Some all) r fault e said = rw e said
+
+-- what ends the reading of a file that ended
+pub finished : (all : Option (List Fields)) (at : ℕ) (p : Position) (r : Result ElectionView ReadFault) → HasEnded all at p → MatchResult r (λ e. EndsWith p e) (λ fault. (fault.at ≡ at) × Explains fault.kind (row_fault p the_end)) →
+    IfSome all (λ records. IfErr r (λ fault. IsFaultAt records fault.kind fault.at))
+finished None at p r end said = tt
+finished (Some all) at p (Ok e) end said = tt
+finished (Some all) at p (Err fault) end said = ended_at_fault (Some all) at p fault.kind fault.at end said.0 said.1
+
+-- what a reader's records stand for, its bytes' records do
+pub answers : (bytes : Option (List ℕ)) (left : Option (List Fields)) (r : Result ElectionView ReadFault) → left ≡ option_map records_of bytes → IfSome left (λ all. IfErr r (λ fault. IsFaultAt all fault.kind fault.at)) →
+    IfSome bytes (λ b. IfErr r (λ fault. IsFaultAt (records_of b) fault.kind fault.at))
+answers None left r e said = tt
+answers (Some b) left r e said = subst (λ l. IfSome l (λ all. IfErr r (λ fault. IsFaultAt all fault.kind fault.at))) e said
+
+pub accepts : (bytes : Option (List ℕ)) (left : Option (List Fields)) (r : Result ElectionView ReadFault) → left ≡ option_map records_of bytes → IfSome left (λ all. IfOk r (λ e. StandsFor all e)) → IfSome left (λ all. IfErr r (λ fault. IsFaultAt all fault.kind fault.at)) →
+    IfSome bytes (λ b. (e : ElectionView) → StandsFor (records_of b) e → MatchResult r (λ read. read ≡ e) (λ fault. IsFromOutside fault.kind))
+accepts None left r is ok err = tt
+accepts (Some b) left (Ok read) is ok err = λ e stands. one_election (records_of b) read e (subst (λ l. IfSome l (λ all. StandsFor all read)) is ok) stands
+accepts (Some b) left (Err fault) is ok err = λ e stands. refused_from_outside (records_of b) e fault.kind fault.at stands (subst (λ l. IfSome l (λ all. IsFaultAt all fault.kind fault.at)) is err)

@@ -1,0 +1,127 @@
+// The reader of a whole file.
+
+ghost use Rattle.std.specs.Prelude.{◌≡◌, ◌+◌, ◌≤◌, None, IfOk, IfErr, IfSome, OnOk, MatchResult};
+ghost use Rattle.csv.specs.Records.{AllText, fields_of};
+ghost use Rattle.pb_core.specs.Election.{ElectionView};
+ghost use Rattle.pb_rows.specs.Reading.{IsNext, records_of};
+ghost use Rattle.pb_read.specs.Faults.{next_row, row_fault, start, the_end};
+ghost use Rattle.pb_read.specs.FirstFault.{IsFaultAt, IsFromOutside};
+ghost use Rattle.pb_read.specs.Machine.{Explains, advance};
+ghost use Rattle.pb_read.specs.Progresses.{EndsWith, IsReady, StopsReading, position_of};
+ghost use Rattle.pb_read.specs.Rows.{trimmed};
+ghost use Rattle.pb_read.specs.StandsFor.{StandsFor};
+ghost use Rattle.pb_read.specs.Tracking.{HasEnded};
+
+use crate::fault::{ReadFault, ReadKind};
+use crate::progress::Progress;
+use csv::StringRecord;
+use pb_core::election::Election;
+use pb_rows::Records;
+use std::alloc::Global;
+use std::io::Read;
+
+/// The most records that a file has.
+pub const MOST_RECORDS: u32 = 2_000_000;
+
+/// Reads a .pb file, Pabulib's format, with approval votes: the records, numbered from 1, have `;`
+/// between fields, and give the sections META, PROJECTS and VOTES one after another.
+///
+/// Answers the election exactly where the records stand for one, and otherwise the first fault
+/// with the number of its record; the end of the file counts as a record. A reader that fails is
+/// `ReadFailed` and want of memory `NoMemory`; then the records before that one have no fault. At
+/// most 2,000,001 records are read, and the memory in use grows with the election and the longest
+/// record, not with the file. Ids are found by hash with a fixed seed.
+pub fn read_pb<R: Read + Drop>(alloc: Global, reader: R) -> Result<Election, ReadFault>
+    // What is answered is what the records stand for, and a refusal is their first fault.
+    ensures ok { IfSome (R.remaining reader) (λ bytes. IfOk result (λ e. StandsFor (records_of bytes) e)) }
+    ensures fault { IfSome (R.remaining reader) (λ bytes. IfErr result (λ fault. IsFaultAt (records_of bytes) fault.kind fault.at)) }
+
+    // A file that stands for an election is refused only where memory or the reader failed.
+    ensures accepts { IfSome (R.remaining reader) (λ bytes. (e : ElectionView) → StandsFor (records_of bytes) e →
+        MatchResult result (λ read. read ≡ e) (λ fault. IsFromOutside fault.kind)) }
+{
+    let mut records = Records::new(alloc, reader);
+    read_records(alloc, &mut records)
+}
+
+/// Reads all records into an election.
+fn read_records<R: Read>(alloc: Global, records: &mut Records<R>) -> Result<Election, ReadFault>
+    ensures ok { IfSome records.old.left (λ all. IfOk result (λ e. StandsFor all e)) }
+    ensures fault { IfSome records.old.left (λ all. IfErr result (λ fault. IsFaultAt all fault.kind fault.at)) }
+{
+    let mut row = StringRecord::new(alloc);
+    let mut progress = Progress::new(alloc);
+    match read_rows(records, &mut row, &mut progress) {
+        Ok(end) => finish(progress, end),
+        Err(fault) => Err(fault),
+    }
+}
+
+/// Reads all records, one after another, and answers the number one past the last.
+fn read_rows<R: Read>(
+    records: &mut Records<R>,
+    row: &mut StringRecord,
+    progress: &mut Progress,
+) -> Result<u32, ReadFault>
+    requires at_start { position_of progress.old.stage progress.old.draft.election ≡ start }
+    requires ready { IsReady progress.old }
+    ensures ok { IfOk result (λ end. HasEnded records.old.left end (position_of progress.new.stage progress.new.draft.election)) }
+    ensures fault { IfSome records.old.left (λ all. IfErr result (λ fault. IsFaultAt all fault.kind fault.at)) }
+{
+    for done in 0..MOST_RECORDS {
+        let at = done + 1;
+        if !read_row(records, row, at)? {
+            return Ok(at);
+        }
+        take_row(progress, row, at)?;
+    }
+    let at = MOST_RECORDS + 1;
+    if read_row(records, row, at)? {
+        let kind = ReadKind::TooManyRecords;
+        return Err(ReadFault { kind, at });
+    }
+    Ok(at)
+}
+
+/// Reads the next record, number `at`, and answers whether there was one.
+fn read_row<R: Read>(
+    records: &mut Records<R>,
+    row: &mut StringRecord,
+    at: u32,
+) -> Result<bool, ReadFault>
+    ensures next { IfOk result (λ found. IsNext records.old.left records.new.left found (fields_of row.new)) }
+    ensures text { OnOk result (AllText (fields_of row.new)) }
+    ensures fault { IfErr result (λ fault. (fault.at ≡ at) × StopsReading fault.kind records.old.left) }
+{
+    match records.read(row) {
+        Ok(found) => Ok(found),
+        Err(fault) => {
+            let kind = ReadKind::from(fault);
+            Err(ReadFault { kind, at })
+        }
+    }
+}
+
+/// Takes the record that was read, number `at`.
+fn take_row(progress: &mut Progress, row: &StringRecord, at: u32) -> Result<(), ReadFault>
+    requires { IsReady progress.old }
+    ensures ok { OnOk result ((row_fault (position_of progress.old.stage progress.old.draft.election) (next_row (trimmed (fields_of row.now))) ≡ None)
+        × (position_of progress.new.stage progress.new.draft.election ≡ advance (position_of progress.old.stage progress.old.draft.election) (next_row (trimmed (fields_of row.now)))) × IsReady progress.new) }
+    ensures fault { IfErr result (λ fault. (fault.at ≡ at) × Explains fault.kind (row_fault (position_of progress.old.stage progress.old.draft.election) (next_row (trimmed (fields_of row.now))))) }
+{
+    match progress.read(row) {
+        Ok(()) => Ok(()),
+        Err(kind) => Err(ReadFault { kind, at }),
+    }
+}
+
+/// Ends the reading, where record `at` would stand.
+fn finish(progress: Progress, at: u32) -> Result<Election, ReadFault>
+    ensures { MatchResult result (λ election. EndsWith (position_of progress.stage progress.draft.election) election)
+        (λ fault. (fault.at ≡ at) × Explains fault.kind (row_fault (position_of progress.stage progress.draft.election) the_end)) }
+{
+    match progress.finish() {
+        Ok(election) => Ok(election),
+        Err(kind) => Err(ReadFault { kind, at }),
+    }
+}
