@@ -59,9 +59,8 @@ impl Ord for Key {
     ghost matches_eq = { Prim.search (comparing, rules) };
 
     fn cmp(&self, other: &Key) -> Ordering {
-        self.price
-            .cmp(&other.price)
-            .then(self.place.cmp(&other.place))
+        let by_price = self.price.cmp(&other.price);
+        by_price.then(self.place.cmp(&other.place))
     }
 }
 
