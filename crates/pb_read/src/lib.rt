@@ -5,6 +5,7 @@ mod columns;
 mod draft;
 mod fault;
 mod ids;
+mod laws;
 mod meta;
 mod progress;
 mod read;
@@ -12,4 +13,8 @@ mod row;
 mod section;
 
 pub use fault::{ReadFault, ReadKind};
+pub use laws::one_answer;
 pub use read::{MOST_RECORDS, read_pb};
+
+#[cfg(test)]
+mod tests;
