@@ -1,0 +1,6 @@
+pub mod RowsGrown
+pub mod ReportSums
+pub mod FaultLines
+pub mod ElectedPlaces
+pub mod Printables
+pub mod AuditWritten

@@ -1,0 +1,49 @@
+-- What a run of `count` writes, and why it refuses.
+use Rattle.std.specs.Prelude.{◌≡◌, ℕ, ◌≤◌, ⊤, List, Some}
+use Rattle.pb_core.specs.Election.{ElectionView}
+use Rattle.pb_price.specs.Supporters.{support_of}
+use Rattle.pb_read.specs.FirstFault.{IsFaultAt}
+use Rattle.pb_read.specs.StandsFor.{StandsFor}
+use Rattle.pb_rounds.specs.Count.{IsCountFault, count_of, spent_on}
+use Rattle.pb_rounds.specs.Outcome.{Settled}
+use Rattle.pb_rounds.specs.PriceSystem.{HasPriceSystem}
+use Rattle.pb_rounds.specs.declared.options.CountOptions.{CountOptions}
+use Rattle.pb_rows.specs.Reading.{records_of}
+use Rattle.pb_app.specs.Report.{report_of}
+use Rattle.pb_app.specs.declared.fault.AppFault.{AppFault}
+use Rattle.pb_app.specs.declared.fault.AppFault.TheVariants.{Read, Audit, Count, Open, Write, Memory}
+
+-- the text is the report of the election, counted with these options; what is elected is within the budget, and a price system explains it
+pub record IsReportOf (e : ElectionView) (options : CountOptions) (text : List ℕ) : Type 0 where
+  pub outcome : Settled
+  pub counted : count_of e options ≡ Some outcome
+  pub text_is : text ≡ report_of e outcome
+  pub within_budget : spent_on (support_of e) outcome.elected ≤ e.budget
+  pub price_system : HasPriceSystem (support_of e) outcome.share outcome.elected outcome.rests
+
+-- what these bytes, read as a file, make a run of `count` write
+pub record CountWrites (bytes : List ℕ) (options : CountOptions) (text : List ℕ) : Type 0 where
+  pub election : ElectionView
+  pub stands : StandsFor (records_of bytes) election
+  pub report : IsReportOf election options text
+
+-- the count of an election is refused
+abbrev pub IsRefusedCount : ElectionView → CountOptions → AppFault → Type 0
+IsRefusedCount e options (Count fault) = IsCountFault e options fault
+IsRefusedCount e options Memory = ⊤
+IsRefusedCount e options fault = ⊥
+
+-- the file stands for an election, and its count is refused
+pub record FileIsNotCounted (bytes : List ℕ) (options : CountOptions) (fault : AppFault) : Type 0 where
+  pub election : ElectionView
+  pub stands : StandsFor (records_of bytes) election
+  pub refused : IsRefusedCount election options fault
+
+-- why a run of `count` on these bytes ends: the file's first fault; or the count's fault; or the writer failed, which is tried last
+abbrev pub CountFails : List ℕ → CountOptions → AppFault → Type 0
+CountFails bytes options (Read fault) = IsFaultAt (records_of bytes) fault.kind fault.at
+CountFails bytes options (Audit fault) = ⊥
+CountFails bytes options (Count fault) = FileIsNotCounted bytes options (Count fault)
+CountFails bytes options (Open place) = ⊥
+CountFails bytes options Write = (text : List ℕ) × CountWrites bytes options text
+CountFails bytes options Memory = ⊤

@@ -1,0 +1,5 @@
+pub mod Report
+pub mod Printable
+pub mod Fault
+pub mod Counted
+pub mod Audited

@@ -1,0 +1,42 @@
+-- The report of a count.
+use Rattle.std.specs.Prelude.{ℕ, ◌-◌, List, [], ◌∷◌, ◌++◌, codes, decimal, length, map, sum_by, slice_index_or}
+use Rattle.pb_core.specs.Election.{ElectionView, project_ids}
+use Rattle.pb_core.specs.MoneyText.{money_text}
+use Rattle.pb_price.specs.Supporters.{cost_at, support_of}
+use Rattle.pb_rounds.specs.Count.{spent_on}
+use Rattle.pb_rounds.specs.Outcome.{Settled}
+use Rattle.pb_rounds.specs.Run.{ElectedView}
+use Rattle.pb_rows.specs.Reading.{Fields}
+use Rattle.pb_rows.specs.Writing.{text_of_rows}
+
+-- the rows above the elected projects: the budget, the number of voters, the share, and how often it was raised
+abbrev pub opening_rows : ElectionView → Settled → List Fields
+opening_rows e o =
+    (codes "budget" ∷ money_text e.budget ∷ []) ∷ (codes "voters" ∷ decimal (length e.voters) ∷ [])
+    ∷ (codes "share" ∷ money_text o.share ∷ []) ∷ (codes "raises" ∷ decimal o.raised ∷ []) ∷ []
+
+-- the id of the project at this place
+abbrev pub id_at : ElectionView → ℕ → List ℕ
+id_at e place = slice_index_or (project_ids e) place []
+
+-- the row of an elected project: its id, its cost, and what each supporter paid at most
+abbrev pub elected_row : ElectionView → ElectedView → Fields
+elected_row e w = codes "elected" ∷ id_at e w.place ∷ money_text (cost_at (support_of e) w.place) ∷ money_text w.price ∷ []
+
+-- what was paid for the elected together
+abbrev pub collected_for : List ElectedView → ℕ
+collected_for elected = sum_by (λ w. w.collected) elected
+
+-- the rows below: what the elected cost together, and what was paid beyond that
+abbrev pub closing_rows : ElectionView → List ElectedView → List Fields
+closing_rows e elected =
+    (codes "spent" ∷ money_text (spent_on (support_of e) elected) ∷ [])
+    ∷ (codes "surplus" ∷ money_text (collected_for elected - spent_on (support_of e) elected) ∷ []) ∷ []
+
+-- the rows of the report: the elected stand in order of election
+abbrev pub report_rows : ElectionView → Settled → List Fields
+report_rows e o = opening_rows e o ++ (map (elected_row e) o.elected ++ closing_rows e o.elected)
+
+-- the report of a count
+unfoldable pub report_of : ElectionView → Settled → List ℕ
+report_of e o = text_of_rows (report_rows e o)
