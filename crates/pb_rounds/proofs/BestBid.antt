@@ -9,7 +9,7 @@ use Rattle.std.proofs.lemmas.Bool.{true≢false, or_left, or_right, or_cases, eq
 use Rattle.pb_price.specs.Supporters.{SupportView}
 use Rattle.pb_price.specs.Price.{price_at}
 use Rattle.pb_rounds.specs.Bid.{is_before, first_least, better_of, Bid}
-use Rattle.pb_rounds.specs.Run.{bid_at, bids_at, best_of, is_listed}
+use Rattle.pb_rounds.specs.Run.{bid, bid_at, bids_at, best_of, is_listed}
 use Rattle.pb_rounds.proofs.Best.{no_bid, first_least-push}
 
 -- a bid is made for a project that is left, at its price
@@ -20,26 +20,26 @@ pub record IsBid (s : SupportView) (rests left : List ℕ) (b : Bid) : Type 0 wh
 found_first : (s : SupportView) (rests : List ℕ) (place : ℕ) (left : List ℕ) (test : Bid → Bool) (b : Bid)
     → (find test (bids_at s rests left) ≡ Some b → IsBid s rests left b)
     → (o : Option ℕ) → price_at s rests place ≡ o
-    → find test (cons_option (option_map (λ price. record { price = price; place = place }) o) (bids_at s rests left)) ≡ Some b
+    → find test (cons_option (option_map (bid s place) o) (bids_at s rests left)) ≡ Some b
     → IsBid s rests (place ∷ left) b
 found_first s rests place left test b others None e f =
-    let bid = others f in
-    record { is_left = or_right (place == b.place) _ bid.is_left; is_price = bid.is_price }
+    let found = others f in
+    record { is_left = or_right (place == b.place) _ found.is_left; is_price = found.is_price }
 found_first s rests place left test b others (Some price) e f =
-    found_or_later s rests place left test b others price e (test (record { price = price; place = place })) f
+    found_or_later s rests place left test b others price e (test (bid s place price)) f
   where
     found_or_later : (s : SupportView) (rests : List ℕ) (place : ℕ) (left : List ℕ) (test : Bid → Bool) (b : Bid)
         → (find test (bids_at s rests left) ≡ Some b → IsBid s rests left b)
         → (price : ℕ) → price_at s rests place ≡ Some price → (passes : Bool)
-        → cond passes (Some (record { price = price; place = place })) (find test (bids_at s rests left)) ≡ Some b
+        → cond passes (Some (bid s place price)) (find test (bids_at s rests left)) ≡ Some b
         → IsBid s rests (place ∷ left) b
     found_or_later s rests place left test b others price e true f =
         let at : b.place ≡ place = ap (λ (c : Bid). c.place) (sym (same_Some _ b f)) in
         let for : b.price ≡ price = ap (λ (c : Bid). c.price) (sym (same_Some _ b f)) in
         record { is_left = or_left (place == b.place) _ (eq-eqb place b.place (sym at)); is_price = rw (at, for) e }
     found_or_later s rests place left test b others price e false f =
-        let bid = others f in
-        record { is_left = or_right (place == b.place) _ bid.is_left; is_price = bid.is_price }
+        let found = others f in
+        record { is_left = or_right (place == b.place) _ found.is_left; is_price = found.is_price }
 
 found_among : (s : SupportView) (rests left : List ℕ) (test : Bid → Bool) (b : Bid)
     → find test (bids_at s rests left) ≡ Some b → IsBid s rests left b
@@ -53,7 +53,7 @@ best_is_bid s rests left b e = found_among s rests left _ b e
 no_bid_first : (s : SupportView) (rests : List ℕ) (first : ℕ) (left : List ℕ)
     → (bids_at s rests left ≡ [] → (place : ℕ) → is_listed left place ≡ true → price_at s rests place ≡ None)
     → (o : Option ℕ) → price_at s rests first ≡ o
-    → cons_option (option_map (λ price. record { price = price; place = first }) o) (bids_at s rests left) ≡ []
+    → cons_option (option_map (bid s first) o) (bids_at s rests left) ≡ []
     → (place : ℕ) → is_listed (first ∷ left) place ≡ true → price_at s rests place ≡ None
 no_bid_first s rests first left others None e f place h = elim (or_cases (first == place) _ h) [
   | inl here ↦ rw (sym (eqb-true first place here)) e
@@ -79,24 +79,24 @@ unfolding best_of
 best_of-nil s rests = refl
 
 best_of-push_some : (s : SupportView) (rests left : List ℕ) (place price : ℕ) → price_at s rests place ≡ Some price
-    → best_of s rests (left ++ place ∷ []) ≡ Some (better_of (best_of s rests left) (record { price = price; place = place }))
+    → best_of s rests (left ++ place ∷ []) ≡ Some (better_of (best_of s rests left) (bid s place price))
 unfolding best_of
 best_of-push_some s rests left place price e =
     ap (first_least is_before) (filter_map-append (bid_at s rests) left (place ∷ [])
-    ∙ ap (λ o. bids_at s rests left ++ cons_option (option_map (λ price. record { price = price; place = place }) o) []) e)
-    ∙ first_least-push (bids_at s rests left) (record { price = price; place = place })
+    ∙ ap (λ o. bids_at s rests left ++ cons_option (option_map (bid s place) o) []) e)
+    ∙ first_least-push (bids_at s rests left) (bid s place price)
 
 best_of-push_none : (s : SupportView) (rests left : List ℕ) (place : ℕ) → price_at s rests place ≡ None
     → best_of s rests (left ++ place ∷ []) ≡ best_of s rests left
 unfolding best_of
 best_of-push_none s rests left place e =
     ap (first_least is_before) (filter_map-append (bid_at s rests) left (place ∷ [])
-    ∙ ap (λ o. bids_at s rests left ++ cons_option (option_map (λ price. record { price = price; place = place }) o) []) e
+    ∙ ap (λ o. bids_at s rests left ++ cons_option (option_map (bid s place) o) []) e
     ∙ append-nil (bids_at s rests left))
 
 module _ (s : SupportView) (rests left : List ℕ) (i : ℕ) (below : i < length left) (best : Option Bid) (best_is : best ≡ best_of s rests (take i left)) where
   pub best_more_some : (price : ℕ) → Some price ≡ price_at s rests (get_or left i 0)
-      → Some (better_of best (record { price = price; place = get_or left i 0 })) ≡ best_of s rests (take (i + 1) left)
+      → Some (better_of best (bid s (get_or left i 0) price)) ≡ best_of s rests (take (i + 1) left)
   best_more_some price e =
       rw (take_more left i 0 below, best_is) (sym (best_of-push_some s rests (take i left) (get_or left i 0) price (sym e)))
 
@@ -109,10 +109,10 @@ module _ (s : SupportView) (rests left : List ℕ) (i : ℕ) (below : i < length
   answered : answer ≡ price_at s rests (get_or left i 0)
   answered = answer_is ∙ ap (λ rs. price_at s rs (get_or left i 0)) seen_is
 
-  pub best_step_some : (price : ℕ) → answer ≡ Some price → (bid chosen : Bid) → bid ≡ record { price = price; place = get_or left i 0 }
-      → chosen ≡ better_of best bid → after ≡ Some chosen → after ≡ best_of s rests (take (i + 1) left)
-  best_step_some price priced bid chosen bid_is chosen_is after_is =
-      after_is ∙ ap (λ b. Some b) (chosen_is ∙ ap (better_of best) bid_is)
+  pub best_step_some : (price : ℕ) → answer ≡ Some price → (offer chosen : Bid) → offer ≡ bid s (get_or left i 0) price
+      → chosen ≡ better_of best offer → after ≡ Some chosen → after ≡ best_of s rests (take (i + 1) left)
+  best_step_some price priced offer chosen offer_is chosen_is after_is =
+      after_is ∙ ap (λ b. Some b) (chosen_is ∙ ap (better_of best) offer_is)
       ∙ best_more_some s rests left i below best best_is price (sym priced ∙ answered)
 
   pub best_step_none : answer ≡ None → after ≡ best → after ≡ best_of s rests (take (i + 1) left)

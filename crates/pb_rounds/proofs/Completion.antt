@@ -135,7 +135,7 @@ unfolding first_end
 add1_not_over e h step limit raises is =
     decided_not_over e h step (limit + 1) _ (find-range_with_len (is_end e step) (limit + 1) 0 (limit + 1) (omega arith)) raises is
 
-within_from_not_over : (s : SupportView) (budget : ℕ) (elected : List ElectedView) → is_over s budget elected ≡ false → spent_on s elected ≤ budget
+pub within_from_not_over : (s : SupportView) (budget : ℕ) (elected : List ElectedView) → is_over s budget elected ≡ false → spent_on s elected ≤ budget
 unfolding is_over
 within_from_not_over s budget elected e = ltb-false budget (spent_on s elected) e
 
@@ -177,3 +177,17 @@ module _ (e : ElectionView) (step : ℕ) (s : SupportView) (same : s ≡ support
 
   pub first_priced : HasPriceSystem (support_of e) o.share o.elected o.rests
   first_priced = settled_priced e support_is step 0 o first_settled
+
+-- the outcome at the opening share as the code has it: exhausted is what the test answered of it
+module _ (e : ElectionView) (step limit : ℕ) (s : SupportView) (same : s ≡ support_of e) (h : IsSupport s) (budget : ℕ) (budget_is : budget ≡ e.budget)
+    (first : OutcomeView) (first_is : settled first ≡ settled_after e step 0) (exhausted : Bool) (exhausted_says : exhausted ≡ is_exhausted s budget first.elected) where
+  found_exhausted : exhausted ≡ is_exhausted_after e step 0
+  found_exhausted = exhausted_says ∙ exhausted_is e step 0 s same budget budget_is first first_is
+
+  pub first_decides : exhausted ≡ true → add1_of e step limit ≡ Some first.raised
+  first_decides yes_exhausted =
+      decided_here e step limit 0 (omega arith) (λ j below. absurd (omega arith)) (opening_not_over e (rw same at h) step) (sym found_exhausted ∙ yes_exhausted)
+      ∙ ap (λ n. Some n) (sym (raised_is e step 0 s same budget budget_is first first_is))
+
+  pub first_goes_on : exhausted ≡ false → (raises : ℕ) → raises < 1 → is_end e step raises ≡ false
+  first_goes_on not_exhausted = opening_no_end e (rw same at h) step (sym found_exhausted ∙ not_exhausted)

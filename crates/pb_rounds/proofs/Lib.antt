@@ -3,9 +3,10 @@ pub mod Settled
 pub mod Exhausted
 mod ThreeVoters
 pub mod Best
-pub mod Charge
+pub mod ChargeStep
 pub mod Charged
 pub mod Collected
+pub mod RaisesEnd
 pub mod Completion
 pub mod Explained
 pub mod Listed

@@ -17,9 +17,13 @@ pub record RunView : Type 0 where
   pub elected : List ElectedView
   pub rests : List ℕ
 
+-- the bid of the project at this place
+abbrev pub bid : SupportView → ℕ → ℕ → Bid
+bid s place price = record { price = price; place = place }
+
 -- the project with its price at these rests, where it has one
 abbrev pub bid_at : SupportView → List ℕ → ℕ → Option Bid
-bid_at s rests place = option_map (λ price. record { price = price; place = place }) (price_at s rests place)
+bid_at s rests place = option_map (bid s place) (price_at s rests place)
 
 -- the bids of the projects left, in file order
 abbrev pub bids_at : SupportView → List ℕ → List ℕ → List Bid

@@ -1,7 +1,8 @@
-ghost use Rattle.std.specs.Prelude.{◌≡◌, ◌+◌, ◌*◌, ◌≤◌, length, None, Some, IsTrue, IfOk, IfErr, OnOk, MatchBool, MatchOption, IsOkUnless, ⊤};
+ghost use Rattle.std.specs.Prelude.{◌≡◌, ◌+◌, ◌*◌, ◌≤◌, length, Some, IfOk, IfErr, MatchBool, MatchOption, IsOkUnless, ⊤};
 ghost use Rattle.pb_core.specs.Money.{largest_money};
 ghost use Rattle.pb_price.specs.Price.{largest_share};
 ghost use Rattle.pb_price.specs.Supporters.{IsSupport, support_of};
+ghost use Rattle.pb_rounds.specs.Completed.{IsCompleted};
 ghost use Rattle.pb_rounds.specs.Count.{add1_of, count_of, opening_share, settled_after, spent_on, IsCountFault, IsCompletionFault};
 ghost use Rattle.pb_rounds.specs.CountFault.{is_worker_count, refusal_of};
 ghost use Rattle.pb_rounds.specs.Outcome.{all_priced, settled, settled_by};
@@ -112,6 +113,7 @@ where
     ensures counted { IfOk result (λ o. count_of election.now options.now ≡ Some (settled o)) }
     ensures priced { IfOk result (λ o. o.priced ≡ all_priced (length election.now.projects) (length o.elected + 1)) }
     ensures within_budget { IfOk result (λ o. spent_on (support_of election.now) o.elected ≤ election.now.budget) }
+    ensures completed { IfOk result (λ o. options.now.completion ≡ Completion.Add1 → IsCompleted election.now options.now.step o.raised) }
     ensures price_system { IfOk result (λ o. HasPriceSystem (support_of election.now) o.share o.elected o.rests) }
 {
     if let Some(fault) = refusal_of(options) {

@@ -1,6 +1,4 @@
-ghost use Rattle.std.specs.Prelude.{◌≡◌, ◌*◌, ◌<◌, All, length, nat_le, nat_lt, ◌&&◌};
-ghost use Rattle.pb_core.specs.Election.{ElectionView};
-ghost use Rattle.pb_core.specs.Money.{largest_money};
+ghost use Rattle.std.specs.Prelude.{◌≡◌, ◌<◌, All, length, nat_le, nat_lt, ◌&&◌};
 ghost use Rattle.pb_price.specs.Supporters.{supporters_at, cost_at};
 ghost use Rattle.pb_rounds.specs.Count.{spent_on, is_over, is_exhausted};
 ghost use Rattle.pb_rounds.specs.Run.{IsLeft};

@@ -1,24 +1,17 @@
-use Rattle.std.proofs.Common.{Some, sym, ◌∙◌, ap, arith}
-use Rattle.pb_price.specs.Supporters.{IsSupport, support_of}
-use Rattle.pb_rounds.proofs.Completion.{opening_not_over, opening_no_end, raises_spent, decided_here, exhausted_is, raised_is, raised_over, raised_exhausted}
+use Rattle.std.proofs.Common.{arith}
+use Rattle.pb_rounds.proofs.Completion.{first_decides, first_goes_on, raises_spent, raised_over, raised_exhausted}
 use Rattle.pb_rounds.proofs.count.complete.Goals as goal
 
 pub returns-then-is_exhausted-clause-decided : goal.returns-then-is_exhausted-clause-decided
 returns-then-is_exhausted-clause-decided g c =
-    let support : IsSupport (support_of c.args.election.now) = rw c.requires.supporters at c.requires.is_support in
-    decided_here c.args.election.now c.args.options.now.step c.args.options.now.max_raises 0 (omega arith) (λ j below. absurd (omega arith))
-    (opening_not_over c.args.election.now support c.args.options.now.step)
-    (sym (exhausted_is c.args.election.now c.args.options.now.step 0 c.args.rounds.now.supporters c.requires.supporters
-    c.budget-budget.result c.budget-budget.ensures.budget c.args.first c.requires.settled) ∙ sym c.is_exhausted.ensures ∙ c.if-is_exhausted.true)
-    ∙ ap (λ n. Some n) (sym (raised_is c.args.election.now c.args.options.now.step 0 c.args.rounds.now.supporters c.requires.supporters
-    c.budget-budget.result c.budget-budget.ensures.budget c.args.first c.requires.settled))
+    first_decides c.args.election.now c.args.options.now.step c.args.options.now.max_raises c.args.rounds.now.supporters c.requires.supporters c.requires.is_support
+    c.budget-budget.result c.budget-budget.ensures.budget c.args.first c.requires.settled c.is_exhausted.result c.is_exhausted.ensures c.if-is_exhausted.true
 
 pub loop-raised-init : goal.loop-raised-init
 loop-raised-init g c = record {
   supporters = c.requires.supporters;
-  tried = opening_no_end c.args.election.now (rw c.requires.supporters at c.requires.is_support) c.args.options.now.step
-      (sym (exhausted_is c.args.election.now c.args.options.now.step 0 c.args.rounds.now.supporters c.requires.supporters
-      c.budget-budget.result c.budget-budget.ensures.budget c.args.first c.requires.settled) ∙ sym c.is_exhausted.ensures ∙ c.if-is_exhausted.false);
+  tried = first_goes_on c.args.election.now c.args.options.now.step c.args.options.now.max_raises c.args.rounds.now.supporters c.requires.supporters c.requires.is_support
+      c.budget-budget.result c.budget-budget.ensures.budget c.args.first c.requires.settled c.is_exhausted.result c.is_exhausted.ensures c.if-is_exhausted.false;
   last = c.requires.settled;
   priced = c.requires.priced;
 }

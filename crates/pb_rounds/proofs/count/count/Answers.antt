@@ -1,4 +1,5 @@
 use Rattle.pb_rounds.proofs.Completion.{first_within, first_priced, all_within, all_priced_well}
+use Rattle.pb_rounds.proofs.RaisesEnd.{all_completed}
 use Rattle.pb_rounds.proofs.count.count.Goals as goal
 
 pub returns-in-Plain-clause-within_budget : goal.returns-in-Plain-clause-within_budget
@@ -20,3 +21,8 @@ pub returns-clause-price_system : goal.returns-clause-price_system
 returns-clause-price_system g c =
     all_priced_well c.args.election.now (rw c.in_ok-rounds.ensures at c.in_ok-run.ensures.is_support) c.args.options.now.step c.args.options.now.max_raises
     c.complete.result c.complete.ensures.settled
+
+pub returns-clause-completed : goal.returns-clause-completed
+returns-clause-completed g c =
+    all_completed c.args.election.now (rw c.in_ok-rounds.ensures at c.in_ok-run.ensures.is_support) c.args.options.now.step c.args.options.now.max_raises
+    c.args.options.now.completion c.complete.result c.complete.ensures.decided

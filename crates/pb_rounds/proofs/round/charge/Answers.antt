@@ -1,5 +1,5 @@
 use Rattle.std.proofs.Common.{rules, sym, arith}
-use Rattle.pb_rounds.proofs.Charge.{charged-none, charge_step-collected, charge_step-rests, charge_step-fits}
+use Rattle.pb_rounds.proofs.ChargeStep.{charged-none, charge_step-collected, charge_step-rests, charge_step-fits}
 use Rattle.pb_rounds.proofs.round.charge.Goals as goal
 
 pub loop-voter-init : goal.loop-voter-init

@@ -1,0 +1,122 @@
+-- The completion in the words of its rule.
+use Rattle.std.proofs.Common.{◌≡◌, ◌≢◌, ℕ, ◌+◌, ◌-◌, ◌<◌, List, length, get_or, Option, Some, None, true, false, sym, ◌∙◌, ap, inl, inr, arith}
+use Rattle.std.specs.Prelude.{All, ◌==◌, MatchOption, option_map, IfOk, Result, Ok, Err, if◌then◌else◌}
+use Rattle.std.specs.List.{range_with_len}
+use Rattle.std.proofs.lemmas.Bool.{true≢false, not-true, not_from_false, and_parts, and_from, and_cases, or_parts, or_cases, cases_Bool, cases_eq, cond-true, cond-false, false_from_ne_true, lt-ltb, ltb-true, leb-true, leb-false, eq-eqb, ne_eqb}
+use Rattle.std.proofs.lemmas.List.Folds.{list_any_at, list_any_none}
+use Rattle.std.proofs.lemmas.List.FromFn.{get_or-range_with_len, length-range_with_len}
+use Rattle.std.proofs.lemmas.Option.{none-some, same_Some}
+use Rattle.pb_core.specs.Election.{ElectionView}
+use Rattle.pb_price.proofs.FirstInRange.{IsFirstInRange, NoneInRange, find-range_with_len}
+use Rattle.pb_price.specs.Supporters.{SupportView, IsSupport, support_of, supporters_at, cost_at}
+use Rattle.pb_rounds.specs.Completed.{IsOver, IsExhausted, IsCompleted}
+use Rattle.pb_rounds.specs.Count.{spent_on, is_over, is_exhausted, could_be_added, is_over_after, is_exhausted_after, is_end, first_end, add1_of, elected_after}
+use Rattle.pb_rounds.specs.declared.options.Completion.{Completion}
+use Rattle.pb_rounds.specs.declared.options.Completion.TheVariants.{Add1}
+use Rattle.pb_rounds.specs.Outcome.{OutcomeView}
+use Rattle.pb_rounds.specs.Run.{ElectedView, is_elected}
+use Rattle.pb_rounds.proofs.Completion.{opening_not_over, within_from_not_over}
+use Rattle.pb_rounds.proofs.Exhausted.{over_from_more, over_from_within}
+
+not_elected_from : (elected : List ElectedView) (place : ℕ) → All (λ w. w.place ≢ place) elected → is_elected elected place ≡ false
+not_elected_from elected place h = list_any_none (λ w. w.place == place) elected (λ k d below. ne_eqb _ _ (h k d below))
+
+others_from : (elected : List ElectedView) (place : ℕ) → is_elected elected place ≡ false → All (λ w. w.place ≢ place) elected
+others_from elected place e k d below same =
+    true≢false (sym (list_any_at (λ w. w.place == place) elected k d below (eq-eqb _ _ same)) ∙ e)
+
+module _ (s : SupportView) (budget : ℕ) (elected : List ElectedView) where
+  -- a project that could be added
+  could_from : (place : ℕ) → All (λ w. w.place ≢ place) elected → 0 < length (supporters_at s place) → could_be_added s budget elected place ≡ false
+      → budget - spent_on s elected < cost_at s place
+  could_from place others supported e = elim (and_cases _ _ e) [
+    | inl first ↦ absurd (true≢false (sym (and_from _ _ (not_from_false _ (not_elected_from elected place others)) (lt-ltb 0 (length (supporters_at s place)) supported)) ∙ first))
+    | inr dear ↦ leb-false (cost_at s place) (budget - spent_on s elected) dear
+  ]
+
+  exhausted_from_test : is_exhausted s budget elected ≡ true → IsExhausted s budget elected
+  unfolding is_exhausted
+  exhausted_from_test e =
+      let parts = and_parts _ _ e in
+      let within = within_from_not_over s budget elected (not-true _ parts.0) in
+      let none = not-true _ parts.1 in
+      record {
+        within = within;
+        no_room = λ place known others supported.
+            let alone : could_be_added s budget elected place ≡ false = false_from_ne_true _ (λ yes_could.
+            true≢false (sym (list_any_at (could_be_added s budget elected) (range_with_len 0 (length s.costs)) place 0 (rw (length-range_with_len 0 (length s.costs)) known)
+            (ap (could_be_added s budget elected) (get_or-range_with_len 0 (length s.costs) place 0 known ∙ omega arith) ∙ yes_could)) ∙ none)) in
+            let dear = could_from place others supported alone in
+            omega arith;
+      }
+
+  could_none : IsExhausted s budget elected → (place : ℕ) → place < length s.costs → could_be_added s budget elected place ≡ true → ⊥
+  could_none h place known yes_could =
+      let parts = and_parts _ _ yes_could in
+      let first = and_parts _ _ parts.0 in
+      let room = h.no_room place known (others_from elected place (not-true _ first.0)) (ltb-true 0 (length (supporters_at s place)) first.1) in
+      let cheap = leb-true (cost_at s place) (budget - spent_on s elected) parts.1 in
+      omega (arith, room, cheap, h.within)
+
+  test_from_exhausted : IsExhausted s budget elected → is_exhausted s budget elected ≡ true
+  unfolding is_exhausted
+  test_from_exhausted h =
+      and_from _ _ (not_from_false _ (over_from_within s budget elected h.within))
+      (not_from_false _ (list_any_none (could_be_added s budget elected) (range_with_len 0 (length s.costs)) (λ k d below.
+      let within : k < length s.costs = rw (sym (length-range_with_len 0 (length s.costs))) below in
+      let at : get_or (range_with_len 0 (length s.costs)) k d ≡ k = get_or-range_with_len 0 (length s.costs) k d within ∙ omega arith in
+      ap (could_be_added s budget elected) at ∙ false_from_ne_true _ (could_none h k within))))
+
+no_end : (e : ElectionView) (step raises : ℕ) → is_end e step raises ≡ false
+    → (¬ IsOver (support_of e) e.budget (elected_after e step raises)) × (¬ IsExhausted (support_of e) e.budget (elected_after e step raises))
+no_end e step raises h =
+    let parts = or_parts _ _ h in (
+      (λ over. true≢false (sym (over_from_more (support_of e) e.budget (elected_after e step raises) over) ∙ parts.0)),
+      (λ exhausted. true≢false (sym (test_from_exhausted (support_of e) e.budget (elected_after e step raises) exhausted) ∙ parts.1)),
+    )
+
+more_from_over : (s : SupportView) (budget : ℕ) (elected : List ElectedView) → is_over s budget elected ≡ true → IsOver s budget elected
+unfolding is_over
+more_from_over s budget elected e = ltb-true budget (spent_on s elected) e
+
+decided_completed : (e : ElectionView) → IsSupport (support_of e) → (step high : ℕ) → (o : Option ℕ)
+    → MatchOption o (NoneInRange (is_end e step) 0 high) (IsFirstInRange (is_end e step) 0 high) → (raises : ℕ)
+    → option_map (λ n. if is_over_after e step n then n - 1 else n) o ≡ Some raises → IsCompleted e step raises
+decided_completed e h step high None found raises is = absurd (none-some raises is)
+decided_completed e h step high (Some n) found raises is = elim (cases_Bool (is_over_after e step n)) [
+  | inl over ↦
+      let before : raises ≡ n - 1 = same_Some _ _ (sym is ∙ ap (λ k. Some k) (cond-true _ _ _ over)) in
+      elim (cases_eq n 0) [
+        | inl none ↦ absurd (true≢false (sym over ∙ rw none (opening_not_over e h step)))
+        | inr some ↦
+            let next : raises + 1 ≡ n = omega arith in
+            record {
+              fewer_go_on = λ fewer below. no_end e step fewer (found.first fewer (omega arith) (omega arith));
+              ends = inr (more_from_over (support_of e) e.budget (elected_after e step (raises + 1)) (ap (is_over_after e step) next ∙ over));
+            }
+      ]
+  | inr not_over ↦
+      let here : raises ≡ n = same_Some _ _ (sym is ∙ ap (λ k. Some k) (cond-false _ _ _ not_over)) in
+      record {
+        fewer_go_on = λ fewer below. no_end e step fewer (found.first fewer (omega arith) (omega arith));
+        ends = inl (exhausted_from_test (support_of e) e.budget (elected_after e step raises)
+            (ap (is_exhausted_after e step) here ∙ exhausted_at e step n not_over found.passes));
+      }
+]
+  where
+    exhausted_at : (e : ElectionView) (step n : ℕ) → is_over_after e step n ≡ false → is_end e step n ≡ true → is_exhausted_after e step n ≡ true
+    exhausted_at e step n not_over ends = elim (or_cases _ _ ends) [
+      | inl over ↦ absurd (true≢false (sym over ∙ not_over))
+      | inr exhausted ↦ exhausted
+    ]
+
+-- what the completion decides on
+pub add1_completed : (e : ElectionView) → IsSupport (support_of e) → (step limit raises : ℕ) → add1_of e step limit ≡ Some raises → IsCompleted e step raises
+unfolding first_end
+add1_completed e h step limit raises is =
+    decided_completed e h step (limit + 1) _ (find-range_with_len (is_end e step) (limit + 1) 0 (limit + 1) (omega arith)) raises is
+
+pub all_completed : (e : ElectionView) → IsSupport (support_of e) → (step limit : ℕ) → (completion : Completion) → {F : Type 0} → (r : Result OutcomeView F)
+    → IfOk r (λ o. add1_of e step limit ≡ Some o.raised) → IfOk r (λ o. completion ≡ Add1 → IsCompleted e step o.raised)
+all_completed e h step limit completion (Ok o) decided = λ _. add1_completed e h step limit o.raised decided
+all_completed e h step limit completion (Err fault) decided = tt
