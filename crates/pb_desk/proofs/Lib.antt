@@ -9,3 +9,4 @@ pub mod RowForms
 pub mod RowTexts
 pub mod Audits
 pub mod Closings
+pub mod RowLaws
