@@ -10,3 +10,4 @@ pub mod RowTexts
 pub mod Audits
 pub mod Closings
 pub mod RowLaws
+pub mod AuditLaws

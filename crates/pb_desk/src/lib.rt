@@ -1,4 +1,23 @@
 //! The desk of one clerk: its ballots, its journal, and the audit of a journal.
+//!
+//! A desk opens with an election, whose voters have their ballots from the opening on. Each request gets
+//! the first answer of its line that applies, and only `Done` changes anything.
+//!
+//! | Request | Answers, in this order | What `Done` changes |
+//! |---|---|---|
+//! | Cast(voter, ballot) | DeskShut; UnknownPlace(the first place at which there is no project); AlreadyCast; VoterLimit, where 1,000,000 ballots stand; Done | the ballot goes last |
+//! | Replace(voter, ballot) | DeskShut; UnknownPlace; NoBallot; Done | the voter's ballot changes in its place |
+//! | Withdraw(voter) | DeskShut; NoBallot; Done | the ballot goes, and the later ones close up |
+//! | Shut | DeskShut; Done | the desk is shut |
+//!
+//! Every answer stands in the journal. Its text has a row for each entry, with six fields and `;` between
+//! two: the number, from 1; the clerk, 0 to 63; `cast`, `replace`, `withdraw` or `shut`; the voter's id;
+//! the places of the ballot, rising, with `,` between two; and the answer, as `done` or
+//! `unknown-place 2`. A field is quoted only where it has to be.
+//!
+//! Who has the election and the journal replays it, and must come to the same ballots: an audit accepts
+//! exactly the rows of a legal journal that fits the room. It can't tell a journal that was cut at a
+//! row's end, which is a shorter legal one, nor whether a clerk wrote down what a voter wanted.
 #![tactic(auto)]
 
 pub mod audit;
@@ -11,4 +30,6 @@ pub mod laws;
 mod row_reader;
 mod row_writer;
 pub mod start_fault;
+#[cfg(test)]
+mod tests;
 pub mod write_fault;
