@@ -3,7 +3,7 @@
 
 make_pb.py VOTERS PROJECTS LEAST_APPROVALS MOST_APPROVALS BUDGET_PERCENT [SEED]
 
-Costs are between 100.00 and 10,000.00. The budget is that percentage of the costs together.
+Costs are between 10,000.00 and 1,000,000.00. The budget is that percentage of the costs together.
 Some projects are approved more often than others, as in cities' files.
 """
 import random
@@ -13,7 +13,7 @@ import sys
 def main():
     voters, projects, least, most, percent = (int(word) for word in sys.argv[1:6])
     chance = random.Random(int(sys.argv[6]) if len(sys.argv) > 6 else 1)
-    costs = [chance.randrange(10_000, 1_000_000) for _ in range(projects)]
+    costs = [chance.randrange(1_000_000, 100_000_000) for _ in range(projects)]
     budget = sum(costs) * percent // 100
     out = sys.stdout
     out.write("META\nkey;value\ndescription;made up\n")
