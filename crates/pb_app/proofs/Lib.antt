@@ -4,3 +4,4 @@ pub mod FaultLines
 pub mod ElectedPlaces
 pub mod Printables
 pub mod AuditWritten
+pub mod Accepted

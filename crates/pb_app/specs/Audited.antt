@@ -6,13 +6,12 @@ use Rattle.pb_desk.specs.Audit.{IsFaultOfJournal, IsSound}
 use Rattle.pb_desk.specs.Desk.{DeskView, closed_election, standing_of}
 use Rattle.pb_desk.specs.Rows.{rows_of}
 use Rattle.pb_desk.specs.declared.audit_fault.AuditFault.{AuditFault}
-use Rattle.pb_read.specs.FirstFault.{IsFaultAt}
+use Rattle.pb_desk.specs.declared.audit_fault.AuditFault.TheVariants as audit
 use Rattle.pb_read.specs.StandsFor.{StandsFor}
-use Rattle.pb_rounds.specs.Count.{IsCountFault}
 use Rattle.pb_rounds.specs.declared.options.CountOptions.{CountOptions}
 use Rattle.pb_rows.specs.Reading.{Fields, records_of}
 use Rattle.pb_rows.specs.Writing.{text_of_row}
-use Rattle.pb_app.specs.Counted.{IsReportOf}
+use Rattle.pb_app.specs.Counted.{IsFaultOfCount, IsFileFault, IsReportOf}
 use Rattle.pb_app.specs.declared.fault.AppFault.{AppFault}
 use Rattle.pb_app.specs.declared.fault.AppFault.TheVariants.{Read, Audit, Count, Open, Write, Memory}
 
@@ -44,15 +43,20 @@ pub record AuditWrites (bytes journal : List ℕ) (options : CountOptions) (text
   pub audited : IsDeskOf bytes journal desk
   pub written : IsTextOf desk options text
 
+-- the journal's first fault; want of memory is no fault of a journal
+abbrev pub IsJournalFault : ElectionView → List Fields → AuditFault → Type 0
+IsJournalFault e records audit.NoMemory = ⊥
+IsJournalFault e records fault = IsFaultOfJournal e program_room records fault
+
 -- the file stands for an election, and the journal has a fault on its desk
 pub record JournalFails (bytes journal : List ℕ) (fault : AuditFault) : Type 0 where
   pub election : ElectionView
   pub stands : StandsFor (records_of bytes) election
-  pub refused : IsFaultOfJournal election program_room (records_of journal) fault
+  pub refused : IsJournalFault election (records_of journal) fault
 
 -- the desk is shut, and the count of the ballots that its journal leaves is refused
 abbrev pub IsRefusedDesk : DeskView → CountOptions → AppFault → Type 0
-IsRefusedDesk d options (Count fault) = ((standing_of d).is_shut ≡ true) × IsCountFault (closed_election d) options fault
+IsRefusedDesk d options (Count fault) = ((standing_of d).is_shut ≡ true) × IsFaultOfCount (closed_election d) options fault
 IsRefusedDesk d options Memory = ⊤
 IsRefusedDesk d options fault = ⊥
 
@@ -64,7 +68,7 @@ pub record DeskIsNotCounted (bytes journal : List ℕ) (options : CountOptions) 
 
 -- why a run of `audit` on these bytes ends: the file's first fault; or the journal's; or the count's; or the writer failed, which is tried last
 abbrev pub AuditFails : List ℕ → List ℕ → CountOptions → AppFault → Type 0
-AuditFails bytes journal options (Read fault) = IsFaultAt (records_of bytes) fault.kind fault.at
+AuditFails bytes journal options (Read fault) = IsFileFault (records_of bytes) fault.kind fault.at
 AuditFails bytes journal options (Audit fault) = JournalFails bytes journal fault
 AuditFails bytes journal options (Count fault) = DeskIsNotCounted bytes journal options (Count fault)
 AuditFails bytes journal options (Open place) = ⊥

@@ -4,10 +4,13 @@
 
 mod commands;
 mod fault;
+mod laws;
 mod options;
 mod report;
 mod run_audit;
 mod run_count;
+#[cfg(test)]
+mod tests;
 
 use crate::fault::AppFault;
 use clap::error::ErrorKind;

@@ -2,7 +2,7 @@
 
 ghost use Rattle.std.specs.Prelude.{◌≡◌, ◌≢◌, ◌++◌, ℕ, List, [], IfErr, IfSome, OnErr, OnOk};
 ghost use Rattle.std.specs.Io.KnownBytes.{Appends};
-ghost use Rattle.pb_app.specs.Counted.{CountFails, CountWrites, IsRefusedCount, IsReportOf};
+ghost use Rattle.pb_app.specs.Counted.{CountFails, CountWrites, IsFromOutside, IsRefusedCount, IsReportOf};
 
 use crate::fault::AppFault;
 use crate::report::put_report;
@@ -29,6 +29,7 @@ pub fn run_count<T: Threads, R: Read + Drop, W: Write>(
     ensures ok { OnOk result (IfSome (R.remaining reader) (λ bytes. (text : List ℕ)
         × CountWrites bytes options.now text × Appends (W.contents writer.old) (W.contents writer.new) text)) }
     ensures fault { IfErr result (λ fault. IfSome (R.remaining reader) (λ bytes. CountFails bytes options.now fault)) }
+    ensures accepts { IfSome (R.remaining reader) (λ bytes. (text : List ℕ) → CountWrites bytes options.now text → IfErr result IsFromOutside) }
     ensures unchanged { IfErr result (λ fault. fault ≢ AppFault.Write → writer.new ≡ writer.old) }
 {
     let election = read_pb(alloc, reader)?;

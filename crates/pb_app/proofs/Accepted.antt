@@ -1,0 +1,76 @@
+-- A file that has a report gets it, unless a device fails or memory is refused.
+use Rattle.std.proofs.Common.{◌≡◌, ◌≢◌, ℕ, List, Option, Some, None, Ok, Err, refl, sym, ◌∙◌, ap, subst}
+use Rattle.std.specs.Prelude.{IfErr, IfSome, IsErrAnd, Result}
+use Rattle.std.proofs.lemmas.Option.{none-some, same_Some}
+use Rattle.pb_core.specs.Election.{ElectionView}
+use Rattle.pb_read.proofs.Uniqueness.{one_election}
+use Rattle.pb_read.specs.FirstFault.{IsFromOutside as IsReadFromOutside}
+use Rattle.pb_read.specs.StandsFor.{StandsFor}
+use Rattle.pb_read.specs.declared.fault.ReadFault.{ReadFault}
+use Rattle.pb_read.specs.declared.fault.ReadKind.{ReadKind}
+use Rattle.pb_read.specs.declared.fault.ReadKind.TheVariants.{ReadFailed, NoMemory}
+use Rattle.pb_rounds.specs.Count.{count_of}
+use Rattle.pb_rounds.specs.CountFault.{refusal_of}
+use Rattle.pb_rounds.specs.declared.count_fault.CountFault.{CountFault}
+use Rattle.pb_rounds.specs.declared.count_fault.CountFault.TheVariants as count
+use Rattle.pb_rounds.specs.declared.options.CountOptions.{CountOptions}
+use Rattle.pb_rows.specs.Reading.{records_of}
+use Rattle.pb_app.specs.Counted.{CountWrites, IsFaultOfCount, IsFromOutside, IsRefusedCount, IsReportOf}
+use Rattle.pb_app.specs.Fault.{of_read}
+use Rattle.pb_app.specs.Report.{report_of}
+use Rattle.pb_app.specs.declared.fault.AppFault.{AppFault}
+use Rattle.pb_app.specs.declared.fault.AppFault.TheVariants.{Read, Audit, Count, Open, Write, Memory}
+
+read_from_outside : (kind : ReadKind) (at : ℕ) → IsReadFromOutside kind → IsFromOutside (of_read (record { kind = kind; at = at }))
+read_from_outside ReadFailed at outside = refl
+read_from_outside NoMemory at outside = tt
+read_from_outside kind at outside = absurd outside
+
+-- an error that is a given fault
+given_fault : (r : Result (Unit {0}) AppFault) (fault : AppFault) → IsErrAnd r (λ app. app ≡ fault) → IsFromOutside fault → IfErr r IsFromOutside
+given_fault (Ok done) fault is outside = tt
+given_fault (Err app) fault is outside = subst IsFromOutside (sym is) outside
+
+pub accepted_by_reader : (files : Option (List ℕ)) (options : CountOptions) (fault : ReadFault) (r : Result (Unit {0}) AppFault)
+    → IsErrAnd r (λ app. app ≡ of_read fault)
+    → IfSome files (λ bytes. (e : ElectionView) → StandsFor (records_of bytes) e → IsReadFromOutside fault.kind)
+    → IfSome files (λ bytes. (text : List ℕ) → CountWrites bytes options text → IfErr r IsFromOutside)
+accepted_by_reader None options fault r is accepts = tt
+accepted_by_reader (Some bytes) options fault r is accepts = λ text writes.
+    given_fault r (of_read fault) is (read_from_outside fault.kind fault.at (accepts writes.election writes.stands))
+
+-- an election that has a report is not refused
+no_refusal : (e : ElectionView) (options : CountOptions) (text : List ℕ) → IsReportOf e options text → (fault : CountFault) → ¬ IsFaultOfCount e options fault
+no_refusal e options text report count.WorkerCount refused = none-some _ (sym report.in_range ∙ refused)
+no_refusal e options text report count.StepRange refused = none-some _ (sym report.in_range ∙ refused)
+no_refusal e options text report count.RaisesRange refused = none-some _ (sym report.in_range ∙ refused)
+no_refusal e options text report count.RaisesSpent refused = none-some _ (sym refused.1 ∙ report.counted)
+no_refusal e options text report count.NoMemory refused = refused
+
+pub count_from_outside : (e : ElectionView) (options : CountOptions) (text : List ℕ) → IsReportOf e options text
+    → (fault : AppFault) → IsRefusedCount e options fault → IsFromOutside fault
+count_from_outside e options text report (Count fault) refused = absurd (no_refusal e options text report fault refused)
+count_from_outside e options text report Memory refused = tt
+count_from_outside e options text report (Read fault) refused = absurd refused
+count_from_outside e options text report (Audit fault) refused = absurd refused
+count_from_outside e options text report (Open place) refused = absurd refused
+count_from_outside e options text report Write refused = absurd refused
+
+pub accepted_by_count : (files : Option (List ℕ)) (options : CountOptions) (e : ElectionView) (fault : AppFault) (r : Result (Unit {0}) AppFault)
+    → IsErrAnd r (λ app. app ≡ fault) → IfSome files (λ bytes. StandsFor (records_of bytes) e) → IsRefusedCount e options fault
+    → IfSome files (λ bytes. (text : List ℕ) → CountWrites bytes options text → IfErr r IsFromOutside)
+accepted_by_count None options e fault r is stands refused = tt
+accepted_by_count (Some bytes) options e fault r is stands refused = λ text writes.
+    let report = rw (one_election (records_of bytes) writes.election e writes.stands stands) at writes.report in
+    given_fault r fault is (count_from_outside e options text report fault refused)
+
+-- an election and options have one report
+one_report : (e : ElectionView) (options : CountOptions) (a b : List ℕ) → IsReportOf e options a → IsReportOf e options b → a ≡ b
+one_report e options a b first second =
+    let outcome = same_Some _ _ (sym first.counted ∙ second.counted) in
+    first.text_is ∙ ap (report_of e) outcome ∙ sym second.text_is
+
+pub one_text : (bytes : List ℕ) (options : CountOptions) (a b : List ℕ) → CountWrites bytes options a → CountWrites bytes options b → a ≡ b
+one_text bytes options a b first second =
+    let report = rw (one_election (records_of bytes) second.election first.election second.stands first.stands) at second.report in
+    one_report first.election options a b first.report report
