@@ -59,6 +59,13 @@ same_front (x ∷ xs) (y ∷ ys) us vs e l =
     let rest : xs ≡ ys = same_front xs ys us vs tails (omega (arith, l)) in
     cc
 
+regrouped : (done other : List Fields) (next x : Fields) (more tail : List Fields) → other ≡ done ++ x ∷ more → next ≡ x → other ++ tail ≡ (done ++ next ∷ []) ++ (more ++ tail)
+regrouped done other next x more tail e same =
+    ap (λ xs. xs ++ tail) e
+    ∙ append_assoc done (x ∷ more) tail
+    ∙ ap (λ y. done ++ y ∷ (more ++ tail)) (sym same)
+    ∙ sym (append_assoc done (next ∷ []) (more ++ tail))
+
 -- a fault is not behind another
 not_behind : (records : List Fields) (k l : ReadKind) (a b : ℕ) (f : IsFirstFault records k a) (g : IsFirstFault records l b) → length f.done < length g.done → ⊥
 not_behind records k l a b f g shorter = go f.left f.cut f.at_fault
@@ -87,9 +94,7 @@ not_behind records k l a b f g shorter = go f.left f.cut f.at_fault
         none (record {
           more = found.1 ++ way.more;
           election = way.election;
-          describes = subst (λ xs. Describes xs way.election)
-              (ap (λ xs. xs ++ way.more) found.2 ∙ append_assoc f.done (found.0 ∷ found.1) way.more ∙ ap (λ x. f.done ++ x ∷ (found.1 ++ way.more)) (sym same) ∙ sym (append_assoc f.done (next ∷ []) (found.1 ++ way.more)))
-              way.describes;
+          describes = subst (λ xs. Describes xs way.election) (regrouped f.done g.done next found.0 found.1 way.more found.2 same) way.describes;
         })
 
 -- the first fault is one

@@ -65,6 +65,7 @@ fn accepts_what_says_the_same(rt: HostRuntime) -> Result<(), Fail> {
     let alloc = rt.alloc();
     let same = [
         (1, " meta ;x;y"),
+        (1, "\u{feff}META"),
         (3, "BUDGET;100.00"),
         (3, "budget;7\nBudget; 100 "),
         (3, "budget;100;7"),
@@ -134,6 +135,7 @@ fn names_the_first_fault(rt: HostRuntime) -> Result<(), Fail> {
     let alloc = rt.alloc();
     let faults = [
         (1, "budget;100", "4 1"),
+        (1, "\u{feff}\u{feff}META", "4 1"),
         (1, "PROJECTS", "5 1"),
         (3, "META", "5 3"),
         (5, "VOTES", "5 5"),
