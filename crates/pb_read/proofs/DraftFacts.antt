@@ -1,6 +1,6 @@
 -- What the checks of a row find, from the tests of its parts.
-use Rattle.std.proofs.Common.{◌≡◌, ◌≢◌, ◌==◌, ◌≤◌, ◌<◌, ◌+◌, ℕ, Bool, true, false, cond, not, List, [], ◌∷◌, ◌++◌, length, map, Option, Some, None, Result, Ok, Err, refl, ap, sym, ◌∙◌, subst, Contains, All}
-use Rattle.std.specs.Prelude.{nat_le, if◌then◌else◌, IsErrAnd}
+use Rattle.std.proofs.Common.{◌≡◌, ◌≢◌, ◌==◌, ℕ, Bool, true, false, cond, not, List, [], ◌∷◌, ◌++◌, length, map, Option, Some, None, Result, Ok, Err, refl, ap, sym, ◌∙◌}
+use Rattle.std.specs.Prelude.{nat_le, IsErrAnd}
 use Rattle.std.specs.Str.{trim}
 use Rattle.std.proofs.lemmas.Bool.{not-false, not-true}
 use Rattle.std.proofs.lemmas.List.{map_push}
@@ -8,9 +8,8 @@ use Rattle.pb_core.specs.Election.{ElectionView, ProjectView, VoterView, most_pr
 use Rattle.pb_core.specs.Money.{money_of}
 use Rattle.pb_core.specs.declared.money_fault.MoneyFault.{MoneyFault}
 use Rattle.pb_rows.specs.Reading.{Fields}
-use Rattle.pb_read.proofs.Keeps.{not_among}
 use Rattle.pb_read.specs.Columns.{has_project_fields, has_vote_fields}
-use Rattle.pb_read.specs.Machine.{amount_of, Explains, kind_of_money, project_checks, project_of, project_row_checks, vote_checks, vote_row_checks, with_project}
+use Rattle.pb_read.specs.Machine.{Explains, kind_of_money, project_checks, project_row_checks, vote_checks, vote_row_checks}
 use Rattle.pb_read.specs.Rows.{field, is_empty}
 use Rattle.pb_read.specs.Voting.{is_among, names_only}
 use Rattle.pb_read.specs.declared.columns.ProjectColumns.{ProjectColumns}

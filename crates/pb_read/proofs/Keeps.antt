@@ -1,19 +1,19 @@
 -- What runs stands: behind each row without fault, the rows have come as far as the machine says.
-use Rattle.std.proofs.Common.{◌≡◌, ◌≢◌, ◌<◌, ◌≤◌, ◌+◌, ◌==◌, ℕ, zero, suc, Bool, true, false, cond, not, List, [], ◌∷◌, ◌++◌, length, map, All, Contains, Option, Some, None, Result, Ok, Err, refl, ap, sym, ◌∙◌, subst, arith, filter, get_or, append_assoc}
+use Rattle.std.proofs.Common.{◌≡◌, ◌≢◌, ◌<◌, ◌≤◌, ◌+◌, ℕ, zero, suc, Bool, true, false, cond, not, List, [], ◌∷◌, ◌++◌, length, All, Contains, Option, Some, None, Result, Ok, Err, refl, ap, sym, ◌∙◌, subst, arith, get_or, append_assoc}
 use Rattle.std.specs.Option.{option_map_or}
 use Rattle.std.specs.Prelude.{is_none, option_map, codes, nat_le}
 use Rattle.std.proofs.lemmas.Option.{same_Some}
-use Rattle.std.specs.List.{AllByRecursion, AllZip, range_with_len, slice_index_or}
+use Rattle.std.specs.List.{AllZip, range_with_len}
 use Rattle.std.specs.List.Sorted.{IsStrictlyIncreasing}
-use Rattle.std.specs.Str.{trim, IsUtf8, trim_start, trim_end, chars}
-use Rattle.std.proofs.lemmas.Bool.{false≢true, leb-true, not-false}
+use Rattle.std.specs.Str.{trim, trim_start, trim_end, chars}
+use Rattle.std.proofs.lemmas.Bool.{false≢true, leb-true}
 use Rattle.std.proofs.lemmas.List.{length-map}
 use Rattle.std.proofs.lemmas.List.Elements.{All-filter}
 use Rattle.std.proofs.lemmas.List.FromFn.{length-range_with_len, get_or-range_with_len}
 use Rattle.std.proofs.lemmas.List.Kept.{IsStrictlyIncreasing-filter}
 use Rattle.csv.specs.Records.{AllText}
-use Rattle.pb_core.specs.Ballot.{IsVoterId, IsBallot}
-use Rattle.pb_core.specs.Election.{ElectionView, ProjectView, VoterView, IsElection, IsProject, IsVoter, project_ids, voter_ids}
+use Rattle.pb_core.specs.Ballot.{IsBallot}
+use Rattle.pb_core.specs.Election.{ElectionView, ProjectView, IsElection, project_ids}
 use Rattle.pb_core.specs.Money.{money_of, largest_money}
 use Rattle.pb_core.specs.MoneyText.{hundredths, has_money_form, is_in_hundredths}
 use Rattle.pb_core.specs.declared.money_fault.MoneyFault.{MoneyFault}
@@ -22,15 +22,15 @@ use Rattle.pb_read.specs.declared.fault.ReadKind.TheVariants as kind
 use Rattle.pb_core.proofs.Elections.{IsElection-push_project, IsElection-push_voter}
 use Rattle.pb_core.proofs.Trim.{trim-trim}
 use Rattle.pb_rows.specs.Reading.{Fields}
-use Rattle.pb_read.proofs.ListFacts.{some≢none, ok≢err, cond_none, AllZip-push, AllByRecursion-append, is_among-Contains}
+use Rattle.pb_read.proofs.ListFacts.{some≢none, ok≢err, AllZip-push, AllByRecursion-append, is_among-Contains}
 use Rattle.pb_read.proofs.MachineLaws.{meta_of-push, passes_project, passes_vote, passes_head, PassesProject, PassesVote}
 use Rattle.pb_read.specs.Columns.{project_columns, vote_columns}
-use Rattle.pb_read.specs.Faults.{Position, start, meta_head, in_meta, projects_head, in_projects, votes_head, in_votes, Next, the_end, blank, head, plain, next_row, row_fault, IsAt, IsMetaHead, IsSound}
+use Rattle.pb_read.specs.Faults.{Position, start, meta_head, in_meta, projects_head, in_projects, votes_head, in_votes, Next, the_end, blank, head, plain, next_row, row_fault, IsAt, IsSound}
 use Rattle.pb_read.specs.Machine.{advance, budget_of, amount_of, project_of, voter_of, with_project, with_voter, with_row}
 use Rattle.pb_read.specs.MetaRows.{meta_of, value_of}
 use Rattle.pb_read.specs.Rows.{field, head_of, is_blank, is_empty, trimmed}
-use Rattle.pb_read.specs.StandsFor.{IsMeta, IsProjectsHead, IsProjects, IsVotesHead, IsVotes, IsPlain, GivesProject, GivesVoter, opening}
-use Rattle.pb_read.specs.Voting.{ballot_of, is_among, pieces_of}
+use Rattle.pb_read.specs.StandsFor.{IsVotesHead, IsPlain, GivesProject, GivesVoter, opening}
+use Rattle.pb_read.specs.Voting.{ballot_of, is_among}
 use Rattle.pb_read.specs.declared.columns.ProjectColumns.{ProjectColumns}
 use Rattle.pb_read.specs.declared.columns.VoteColumns.{VoteColumns}
 use Rattle.pb_read.specs.declared.meta.Meta.{Meta}

@@ -1,19 +1,17 @@
 -- Facts about lists, texts and tests that several proofs share.
-use Rattle.std.proofs.Common.{◌≡◌, ◌≢◌, ℕ, zero, suc, ◌+◌, ◌<◌, ◌≤◌, ◌==◌, Bool, true, false, cond, not, ◌&&◌, ◌||◌, List, [], ◌∷◌, ◌++◌, length, map, All, Contains, Option, Some, None, Result, Ok, Err, refl, sym, ◌∙◌, ap, subst, get_or, arith, inl, inr, length-append, append_assoc}
-use Rattle.std.specs.List.{AllByRecursion, AllZip, AllPairs, list_any, slice_index_or}
+use Rattle.std.proofs.Common.{◌≡◌, ℕ, zero, suc, ◌<◌, ◌≤◌, ◌==◌, Bool, true, false, cond, ◌&&◌, ◌||◌, List, [], ◌∷◌, ◌++◌, length, Contains, Option, Some, None, Result, Ok, Err, refl, sym, ◌∙◌, ap, get_or, arith}
+use Rattle.std.specs.List.{AllByRecursion, AllZip}
 use Rattle.std.specs.Prelude.{unwrap_or}
 use Rattle.std.specs.Str.{bytes_eq, trim, trim_start, trim_end, chars}
-use Rattle.std.proofs.lemmas.Bool.{false≢true, true≢false, false_from_ne_true, ne_eqb, and_from, cond-true, cond-false, lt-ltb, le-ltb}
+use Rattle.std.proofs.lemmas.Bool.{false≢true, true≢false, ne_eqb, and_from, cond-true, cond-false, lt-ltb, le-ltb}
 use Rattle.std.proofs.lemmas.List.Sums.{position_or_len_is}
 use Rattle.std.specs.List.{position, position_or_len}
-use Rattle.std.proofs.lemmas.List.{map-append}
-use Rattle.std.proofs.lemmas.List.Elements.{Contains-append_right, Contains-append_left, Contains-get_or, All-get_or}
+use Rattle.std.proofs.lemmas.List.Elements.{Contains-append_right}
 use Rattle.std.proofs.lemmas.Map.Views.{Contains-from_any}
 use Rattle.std.proofs.lemmas.Slice.Eq.{bytes_eq-Decides}
 use Rattle.csv.specs.Records.{field_at}
-use Rattle.pb_core.specs.Election.{AreDistinct}
 use Rattle.pb_rows.specs.Reading.{Fields}
-use Rattle.pb_read.specs.Rows.{field, is_blank, is_empty, is_word, trimmed}
+use Rattle.pb_read.specs.Rows.{field, is_blank, is_empty, trimmed}
 use Rattle.pb_read.specs.Voting.{is_among}
 
 pub some≢none : {A : Type 0} {x : A} → Some x ≡ None → ⊥

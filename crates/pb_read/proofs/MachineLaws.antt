@@ -1,17 +1,17 @@
 -- Laws of the reading of rows one by one.
-use Rattle.std.proofs.Common.{◌≡◌, ◌≢◌, ◌<◌, ◌≤◌, ◌==◌, ℕ, Bool, cond, not, List, [], ◌∷◌, ◌++◌, length, Option, Some, None, Result, Ok, Err, refl, ap, sym, ◌∙◌, true, false, arith}
+use Rattle.std.proofs.Common.{◌≡◌, ◌<◌, ◌==◌, ℕ, Bool, cond, not, List, [], ◌∷◌, ◌++◌, length, Option, Some, None, Result, Ok, Err, refl, ap, sym, ◌∙◌, true, false, arith}
 use Rattle.std.specs.Prelude.{codes, option_map, nat_le}
-use Rattle.std.specs.Option.{option_map_or, option_or}
+use Rattle.std.specs.Option.{option_or}
 use Rattle.std.proofs.lemmas.Bool.{eqb-false, leb-false, lt-leb, ne_eqb, not-false}
-use Rattle.pb_core.specs.Election.{ElectionView, ProjectView, VoterView, IsElection, project_ids, voter_ids, most_projects, most_voters}
+use Rattle.pb_core.specs.Election.{ElectionView, project_ids, voter_ids, most_projects, most_voters}
 use Rattle.pb_core.specs.Money.{money_of}
 use Rattle.pb_core.specs.declared.money_fault.MoneyFault.{MoneyFault}
 use Rattle.pb_core.specs.declared.money_fault.MoneyFault.TheVariants as money
 use Rattle.pb_rows.specs.Reading.{Fields}
 use Rattle.pb_read.proofs.ListFacts.{cond_none, some≢none}
 use Rattle.pb_read.specs.Columns.{has_project_fields, has_vote_fields}
-use Rattle.pb_read.specs.Faults.{Position, start, meta_head, in_meta, projects_head, in_projects, votes_head, in_votes, Next, the_end, blank, head, plain, next_row, row_fault, is_nothing, fails_by}
-use Rattle.pb_read.specs.Machine.{with_row, step, bind, run, head_checks, project_checks, vote_checks, money_checks}
+use Rattle.pb_read.specs.Faults.{Position, in_meta, in_projects, in_votes, head, plain, next_row, row_fault, is_nothing, fails_by}
+use Rattle.pb_read.specs.Machine.{with_row, step, bind, run, head_checks, project_checks, vote_checks}
 use Rattle.pb_read.specs.MetaRows.{meta_of, value_of}
 use Rattle.pb_read.specs.Rows.{field, is_empty, is_word}
 use Rattle.pb_read.specs.Voting.{is_among, names_only}

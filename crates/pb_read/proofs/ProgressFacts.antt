@@ -1,18 +1,17 @@
 -- What the reading of one row comes to, from what its parts ensure.
-use Rattle.std.proofs.Common.{◌≡◌, ◌≤◌, ℕ, Bool, true, false, cond, List, [], Option, Some, None, Result, Ok, Err, refl, ap, sym, ◌∙◌, subst}
+use Rattle.std.proofs.Common.{◌≡◌, ◌≤◌, Bool, true, false, cond, Some, None, Result, Ok, ap, sym, ◌∙◌, subst}
 use Rattle.std.specs.Prelude.{codes, OnOk, IfErr}
 use Rattle.std.proofs.lemmas.Option.{same_Some}
 use Rattle.std.proofs.lemmas.Result.{on_ok_weaker, IfErr-weaker}
 use Rattle.pb_core.specs.Election.{ElectionView}
 use Rattle.pb_core.specs.Money.{largest_money, money_of}
-use Rattle.pb_core.specs.declared.money_fault.MoneyFault.{MoneyFault}
 use Rattle.pb_rows.specs.Reading.{Fields}
 use Rattle.pb_read.proofs.GoesOn.{advance-blank, blank_passes, next_row-blank}
 use Rattle.pb_read.proofs.Keeps.{money_of-le}
 use Rattle.pb_read.proofs.MachineLaws.{project_fault, vote_fault}
 use Rattle.pb_read.proofs.Runs.{meta_row_passes}
 use Rattle.pb_read.specs.Drafts.{IsTied}
-use Rattle.pb_read.specs.Faults.{Position, in_meta, in_projects, in_votes, Next, blank, next_row, plain, row_fault}
+use Rattle.pb_read.specs.Faults.{Position, in_meta, in_projects, in_votes, Next, next_row, plain, row_fault}
 use Rattle.pb_read.specs.Machine.{Explains, advance, project_row_checks, vote_row_checks, with_project, with_row, with_voter}
 use Rattle.pb_read.specs.Progresses.{IsKept, IsRead, IsReady, position_of}
 use Rattle.pb_read.specs.Rows.{field, is_blank, is_word}

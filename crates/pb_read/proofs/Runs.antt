@@ -1,23 +1,21 @@
 -- What stands runs: rows that have come so far are read without fault, to that position.
-use Rattle.std.proofs.Common.{◌≡◌, ◌≢◌, ◌<◌, ◌≤◌, ◌+◌, ◌==◌, ℕ, Bool, true, false, cond, not, List, [], ◌∷◌, ◌++◌, length, map, All, Contains, Option, Some, None, Result, Ok, Err, refl, ap, sym, ◌∙◌, subst, arith, get_or, append_assoc, length-append}
+use Rattle.std.proofs.Common.{◌≡◌, ◌≢◌, ◌<◌, ℕ, false, cond, List, [], ◌∷◌, ◌++◌, length, map, All, Contains, Some, None, Ok, Err, refl, ap, sym, ◌∙◌, subst, arith, append_assoc, length-append}
 use Rattle.std.specs.Option.{option_map_or}
 use Rattle.std.specs.Prelude.{is_none}
-use Rattle.std.specs.List.{AllByRecursion, AllZip, slice_index_or}
+use Rattle.std.specs.List.{AllByRecursion, AllZip}
 use Rattle.std.proofs.lemmas.Bool.{false_from_ne_true}
-use Rattle.std.proofs.lemmas.List.{append-nil, map-append, length-map, get_or_append_left}
-use Rattle.std.proofs.lemmas.List.Elements.{All-contains, Contains-append_right, Contains-get_or}
+use Rattle.std.proofs.lemmas.List.{append-nil, map-append, get_or_append_left}
+use Rattle.std.proofs.lemmas.List.Elements.{All-contains, Contains-append_right}
 use Rattle.std.proofs.Math.Seq.{get_or-append_seam}
-use Rattle.pb_core.specs.Ballot.{IsVoterId}
-use Rattle.pb_core.specs.Election.{ElectionView, ProjectView, VoterView, IsElection, IsProject, IsVoter, AreDistinct, project_ids, voter_ids, most_projects, most_voters}
-use Rattle.pb_core.specs.Money.{money_of}
+use Rattle.pb_core.specs.Election.{ElectionView, ProjectView, VoterView, IsElection, IsProject, IsVoter, AreDistinct, project_ids}
 use Rattle.pb_rows.specs.Reading.{Fields}
 use Rattle.pb_read.proofs.ListFacts.{Contains-is_among, AllByRecursion-left, AllByRecursion-right}
 use Rattle.pb_read.proofs.MachineLaws.{run-append, meta_of-push, head_passes, project_passes, vote_passes, PassesProject, PassesVote}
 use Rattle.pb_read.specs.Columns.{project_columns, vote_columns}
-use Rattle.pb_read.specs.Faults.{Position, start, meta_head, in_meta, projects_head, in_projects, votes_head, in_votes, Next, the_end, blank, head, plain, next_row, row_fault, IsAt, IsSound}
-use Rattle.pb_read.specs.Machine.{advance, budget_of, amount_of, project_of, voter_of, with_project, with_voter, with_row, run, bind, step, step_or}
+use Rattle.pb_read.specs.Faults.{Position, start, meta_head, in_meta, projects_head, in_projects, votes_head, in_votes, Next, head, plain, next_row, row_fault, IsAt, IsSound}
+use Rattle.pb_read.specs.Machine.{advance, budget_of, amount_of, project_of, voter_of, run, bind, step, step_or}
 use Rattle.pb_read.specs.MetaRows.{meta_of}
-use Rattle.pb_read.specs.Rows.{field, head_of, is_blank, is_empty}
+use Rattle.pb_read.specs.Rows.{field, is_blank, is_empty}
 use Rattle.pb_read.specs.StandsFor.{IsMeta, IsProjectsHead, IsProjects, IsVotesHead, IsVotes, IsPlain, IsHead, GivesProject, GivesVoter, opening}
 use Rattle.pb_read.specs.Voting.{is_among}
 use Rattle.pb_read.specs.declared.columns.ProjectColumns.{ProjectColumns}

@@ -1,8 +1,7 @@
 -- A file is read record by record: where it has come, and what each end of the reading means.
-use Rattle.std.proofs.Common.{◌≡◌, ◌≢◌, ◌<◌, ◌≤◌, ◌+◌, ◌==◌, ◌⊎◌, ℕ, Bool, true, false, cond, not, ◌&&◌, List, [], ◌∷◌, ◌++◌, length, Option, Some, None, Result, Ok, Err, refl, ap, sym, ◌∙◌, subst, arith, append_assoc, append-nil, length-append}
-use Rattle.std.specs.Prelude.{IfErr, IfOk, IfSome, MatchResult, is_some, option_map}
-use Rattle.std.proofs.lemmas.Bool.{false≢true, true≢false, ne_eqb, eq-eqb, false_from_ne_true}
-use Rattle.std.proofs.lemmas.Option.{same_Some}
+use Rattle.std.proofs.Common.{◌≡◌, ◌<◌, ◌≤◌, ◌+◌, ◌==◌, ℕ, true, false, cond, not, List, [], ◌∷◌, ◌++◌, length, Option, Some, None, Result, Ok, Err, refl, ap, sym, ◌∙◌, subst, arith, append_assoc, append-nil, length-append}
+use Rattle.std.specs.Prelude.{IfErr, IfOk, IfSome, MatchResult, option_map}
+use Rattle.std.proofs.lemmas.Bool.{false≢true, true≢false, ne_eqb, false_from_ne_true}
 use Rattle.std.specs.List.{list_all}
 use Rattle.std.specs.Str.{is_utf8}
 use Rattle.csv.specs.Records.{AllText}
@@ -11,8 +10,8 @@ use Rattle.pb_rows.specs.Reading.{Fields, IsNext, NextIsNoText, records_of}
 use Rattle.pb_read.specs.Tracking.{HasCome, HasEnded, Reached, Tracks}
 use Rattle.pb_read.proofs.GoesOn.{AllText-from_test, end_stands, first_fault, no_fault_so_far, reached_next, reached_start, test-from_AllText}
 use Rattle.pb_read.proofs.Uniqueness.{no_first_fault, one_election}
-use Rattle.pb_read.specs.Faults.{Position, start, in_votes, lowest_kind, next_of, next_row, row_fault, the_end}
-use Rattle.pb_read.specs.FirstFault.{HasNoFault, IsCutShort, IsFaultAt, IsFirstFault, IsFromOutside, first_of}
+use Rattle.pb_read.specs.Faults.{Position, start, lowest_kind, next_of, next_row, row_fault, the_end}
+use Rattle.pb_read.specs.FirstFault.{IsCutShort, IsFaultAt, IsFirstFault, IsFromOutside, first_of}
 use Rattle.pb_read.specs.Machine.{Explains, advance}
 use Rattle.pb_read.specs.Progresses.{EndsWith, StopsReading}
 use Rattle.pb_read.specs.Rows.{trimmed}

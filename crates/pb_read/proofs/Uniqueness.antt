@@ -1,5 +1,5 @@
 -- Records stand for one election at most, or have one first fault.
-use Rattle.std.proofs.Common.{◌≡◌, ◌<◌, ◌≤◌, ◌+◌, ◌⊎◌, ℕ, zero, suc, List, [], ◌∷◌, ◌++◌, length, Option, Some, None, Result, Ok, Err, refl, ap, sym, ◌∙◌, subst, arith, inl, inr, append_assoc, length-append}
+use Rattle.std.proofs.Common.{◌≡◌, ◌<◌, ◌+◌, ◌⊎◌, ℕ, List, [], ◌∷◌, ◌++◌, length, Some, refl, ap, sym, ◌∙◌, subst, arith, inl, inr, append_assoc, length-append}
 use Rattle.std.proofs.lemmas.Bool.{cases_order}
 use Rattle.std.proofs.lemmas.List.{append-nil}
 use Rattle.std.proofs.lemmas.Option.{same_Some}
@@ -9,10 +9,10 @@ use Rattle.pb_read.proofs.GoesOn.{rows_of-are_full}
 use Rattle.pb_read.proofs.ListFacts.{same_Ok}
 use Rattle.pb_read.proofs.Runs.{runs}
 use Rattle.pb_read.specs.Faults.{Position, start, in_votes, lowest_kind}
-use Rattle.pb_read.specs.FirstFault.{MayGoOn, IsAtFault, IsFirstFault, first_of}
+use Rattle.pb_read.specs.FirstFault.{IsAtFault, IsFirstFault, first_of}
 use Rattle.pb_read.specs.Machine.{run}
 use Rattle.pb_read.specs.Rows.{rows_of}
-use Rattle.pb_read.specs.StandsFor.{Describes, StandsFor, most_records}
+use Rattle.pb_read.specs.StandsFor.{Describes, StandsFor}
 use Rattle.pb_read.specs.declared.fault.ReadKind.{ReadKind}
 
 election_at : Position → ElectionView → ElectionView

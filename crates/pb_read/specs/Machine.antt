@@ -10,7 +10,7 @@ use Rattle.pb_core.specs.declared.money_fault.MoneyFault.{MoneyFault}
 use Rattle.pb_core.specs.declared.money_fault.MoneyFault.TheVariants as money
 use Rattle.pb_rows.specs.Reading.{Fields}
 use Rattle.pb_read.specs.Columns.{project_columns, vote_columns, has_project_fields, has_vote_fields, name_field}
-use Rattle.pb_read.specs.Faults.{fails_by, is_nothing, Position, start, meta_head, in_meta, projects_head, in_projects, votes_head, in_votes, Next, the_end, blank, head, plain, next_row, row_fault}
+use Rattle.pb_read.specs.Faults.{is_nothing, Position, start, meta_head, in_meta, projects_head, in_projects, votes_head, in_votes, Next, head, plain, next_row, row_fault}
 use Rattle.pb_read.specs.MetaRows.{meta_of}
 use Rattle.pb_read.specs.Rows.{field, is_empty, is_word}
 use Rattle.pb_read.specs.StandsFor.{opening}

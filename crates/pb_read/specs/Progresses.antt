@@ -1,5 +1,5 @@
 -- How far the reader has come, as a position; private contracts speak of it.
-use Rattle.std.specs.Prelude.{◌≡◌, ◌≤◌, ℕ, List, [], Option, Some, Result, Ok}
+use Rattle.std.specs.Prelude.{◌≡◌, ◌≤◌, ℕ, List, [], Option, Some, Ok}
 use Rattle.pb_core.specs.Election.{ElectionView}
 use Rattle.pb_core.specs.Money.{largest_money}
 use Rattle.pb_read.specs.declared.meta.Meta.{Meta}

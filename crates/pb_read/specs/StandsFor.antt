@@ -1,5 +1,5 @@
 -- The election that a list of records stands for.
-use Rattle.std.specs.Prelude.{◌≡◌, ◌≤◌, ℕ, true, List, [], ◌∷◌, ◌++◌, length, Option, None, Some, Ok}
+use Rattle.std.specs.Prelude.{◌≡◌, ◌≤◌, ℕ, true, List, [], ◌∷◌, ◌++◌, length, None, Some, Ok}
 use Rattle.std.specs.List.{AllByRecursion, AllZip}
 use Rattle.csv.specs.Records.{AllText}
 use Rattle.pb_core.specs.Election.{ElectionView, IsElection, ProjectView, VoterView, project_ids}

@@ -1,8 +1,7 @@
-use Rattle.std.proofs.Common.{◌≡◌, ◌∷◌, [], ◌++◌, refl, ap, sym, ◌∙◌, arith, true, false, length, ℕ, Bool, List, Ok, subst}
+use Rattle.std.proofs.Common.{◌∷◌, [], ◌++◌, refl, ap, sym, ◌∙◌, arith, length}
 use Rattle.std.proofs.lemmas.Bool.{ne_eqb, eq-eqb, le-leb, lt-leb}
 use Rattle.csv.specs.Records.{fields_of}
 use Rattle.pb_core.specs.Election.{most_projects, project_ids, voter_ids}
-use Rattle.pb_core.specs.Money.{money_of}
 use Rattle.pb_read.proofs.DraftFacts.{explains, ids_behind, project_found, project_ids-push, project_lacks, project_unread, same_project, was_new, was_there}
 use Rattle.pb_read.proofs.Keeps.{money_of-le, not_among}
 use Rattle.pb_read.proofs.ListFacts.{length-is_empty}

@@ -1,4 +1,4 @@
-use Rattle.std.proofs.Common.{ℕ, ◌≡◌, ◌<◌, Bool, List, length, map, get_or, ap, sym, ◌∙◌, lit<, arith, subst}
+use Rattle.std.proofs.Common.{length, ap, sym, ◌∙◌, lit<, subst}
 use Rattle.std.specs.List.{slice_split}
 use Rattle.std.specs.Prelude.{◌==◌, position}
 use Rattle.std.specs.Str.{bytes_eq}
@@ -8,8 +8,7 @@ use Rattle.std.proofs.lemmas.List.{map_push}
 use Rattle.pb_read.proofs.ListFacts.{length-is_empty}
 use Rattle.pb_read.proofs.Pieces.{IsWalked, walked_more, unknown_part}
 use Rattle.pb_read.specs.Rows.{is_empty}
-use Rattle.pb_read.specs.Voting.{is_among, names_only, pieces_of}
-use Rattle.pb_read.specs.Machine.{places_in}
+use Rattle.pb_read.specs.Voting.{is_among}
 use Rattle.pb_read.proofs.ids.Ids.places.Goals as goal
 
 pub returns-in_default-clause-known : goal.returns-in_default-clause-known
