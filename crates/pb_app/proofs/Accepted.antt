@@ -21,13 +21,13 @@ use Rattle.pb_app.specs.Report.{report_of}
 use Rattle.pb_app.specs.declared.fault.AppFault.{AppFault}
 use Rattle.pb_app.specs.declared.fault.AppFault.TheVariants.{Read, Audit, Count, Open, Write, Memory}
 
-read_from_outside : (kind : ReadKind) (at : ℕ) → IsReadFromOutside kind → IsFromOutside (of_read (record { kind = kind; at = at }))
+pub read_from_outside : (kind : ReadKind) (at : ℕ) → IsReadFromOutside kind → IsFromOutside (of_read (record { kind = kind; at = at }))
 read_from_outside ReadFailed at outside = refl
 read_from_outside NoMemory at outside = tt
 read_from_outside kind at outside = absurd outside
 
 -- an error that is a given fault
-given_fault : (r : Result (Unit {0}) AppFault) (fault : AppFault) → IsErrAnd r (λ app. app ≡ fault) → IsFromOutside fault → IfErr r IsFromOutside
+pub given_fault : (r : Result (Unit {0}) AppFault) (fault : AppFault) → IsErrAnd r (λ app. app ≡ fault) → IsFromOutside fault → IfErr r IsFromOutside
 given_fault (Ok done) fault is outside = tt
 given_fault (Err app) fault is outside = subst IsFromOutside (sym is) outside
 
@@ -40,7 +40,7 @@ accepted_by_reader (Some bytes) options fault r is accepts = λ text writes.
     given_fault r (of_read fault) is (read_from_outside fault.kind fault.at (accepts writes.election writes.stands))
 
 -- an election that has a report is not refused
-no_refusal : (e : ElectionView) (options : CountOptions) (text : List ℕ) → IsReportOf e options text → (fault : CountFault) → ¬ IsFaultOfCount e options fault
+pub no_refusal : (e : ElectionView) (options : CountOptions) (text : List ℕ) → IsReportOf e options text → (fault : CountFault) → ¬ IsFaultOfCount e options fault
 no_refusal e options text report count.WorkerCount refused = none-some _ (sym report.in_range ∙ refused)
 no_refusal e options text report count.StepRange refused = none-some _ (sym report.in_range ∙ refused)
 no_refusal e options text report count.RaisesRange refused = none-some _ (sym report.in_range ∙ refused)
@@ -65,7 +65,7 @@ accepted_by_count (Some bytes) options e fault r is stands refused = λ text wri
     given_fault r fault is (count_from_outside e options text report fault refused)
 
 -- an election and options have one report
-one_report : (e : ElectionView) (options : CountOptions) (a b : List ℕ) → IsReportOf e options a → IsReportOf e options b → a ≡ b
+pub one_report : (e : ElectionView) (options : CountOptions) (a b : List ℕ) → IsReportOf e options a → IsReportOf e options b → a ≡ b
 one_report e options a b first second =
     let outcome = same_Some _ _ (sym first.counted ∙ second.counted) in
     first.text_is ∙ ap (report_of e) outcome ∙ sym second.text_is

@@ -5,3 +5,4 @@ pub mod ElectedPlaces
 pub mod Printables
 pub mod AuditWritten
 pub mod Accepted
+pub mod AuditAccepted

@@ -3,6 +3,7 @@
 ghost use Rattle.std.specs.Prelude.{◌≡◌, ◌≢◌, ◌++◌, ℕ, List, IfErr, IfSome, OnOk, codes, if◌then◌else◌};
 ghost use Rattle.std.specs.Io.KnownBytes.{Appends};
 ghost use Rattle.pb_rows.specs.Writing.{text_of_row};
+ghost use Rattle.pb_app.specs.Counted.{IsFromOutside};
 ghost use Rattle.pb_app.specs.Audited.{AuditFails, AuditWrites, IsRefusedDesk, IsTextOf, entries_row};
 
 use crate::fault::AppFault;
@@ -40,6 +41,8 @@ pub fn run_audit<T: Threads, P: Read + Drop, J: Read + Drop, W: Write>(
         × AuditWrites bytes journal options.now text × Appends (W.contents writer.old) (W.contents writer.new) text))) }
     ensures fault { IfErr result (λ fault. IfSome (P.remaining pb_reader) (λ bytes. IfSome (J.remaining journal_reader) (λ journal.
         AuditFails bytes journal options.now fault))) }
+    ensures accepts { IfSome (P.remaining pb_reader) (λ bytes. IfSome (J.remaining journal_reader) (λ journal. (text : List ℕ)
+        → AuditWrites bytes journal options.now text → IfErr result IsFromOutside)) }
     ensures unchanged { IfErr result (λ fault. fault ≢ AppFault.Write → writer.new ≡ writer.old) }
 {
     let election = read_pb(alloc, pb_reader)?;

@@ -1,0 +1,120 @@
+-- A file and a journal that have a text get it, unless a device fails or memory is refused; and they have one at most.
+use Rattle.std.proofs.Common.{◌≡◌, ◌<◌, ◌^◌, ℕ, ◌++◌, List, [], Option, Some, None, Bool, true, false, refl, sym, ◌∙◌, ap, arith}
+use Rattle.std.specs.Prelude.{All, IfErr, IfSome, IsErrAnd, MatchBool, Result}
+use Rattle.std.proofs.lemmas.List.Elements.{All-nil}
+use Rattle.pb_core.specs.Election.{ElectionView}
+use Rattle.pb_core.specs.Request.{EntryView, RequestView, Cast, Replace, Withdraw, Shut}
+use Rattle.pb_desk.proofs.AuditLaws.{no_fault}
+use Rattle.pb_desk.proofs.RowLaws.{rows_from-injective}
+use Rattle.pb_desk.specs.Audit.{IsFaultOfJournal, IsSound}
+use Rattle.pb_desk.specs.Desk.{DeskView, closed_election, standing_of}
+use Rattle.pb_desk.specs.Rows.{HasSmallNumbers, IsEntry, IsRequest, places_of, rows_of}
+use Rattle.pb_desk.specs.declared.audit_fault.AuditFault.{AuditFault}
+use Rattle.pb_desk.specs.declared.audit_fault.AuditFault.TheVariants as audit
+use Rattle.pb_read.proofs.Uniqueness.{one_election}
+use Rattle.pb_read.specs.FirstFault.{IsFromOutside as IsReadFromOutside}
+use Rattle.pb_read.specs.StandsFor.{StandsFor}
+use Rattle.pb_read.specs.declared.fault.ReadFault.{ReadFault}
+use Rattle.pb_rounds.specs.declared.options.CountOptions.{CountOptions}
+use Rattle.pb_rows.specs.Numbers.{AreNumbers}
+use Rattle.pb_rows.specs.Reading.{records_of}
+use Rattle.pb_rows.specs.Writing.{text_of_row}
+use Rattle.pb_app.specs.Audited.{AuditWrites, IsDeskOf, IsRefusedDesk, IsTextOf, entries_row, program_room}
+use Rattle.pb_app.specs.Counted.{IsFromOutside, IsReportOf}
+use Rattle.pb_app.specs.Fault.{of_audit, of_read}
+use Rattle.pb_app.specs.declared.fault.AppFault.{AppFault}
+use Rattle.pb_app.specs.declared.fault.AppFault.TheVariants.{Read, Audit, Count, Open, Write, Memory}
+use Rattle.pb_app.proofs.Accepted.{given_fault, no_refusal, one_report, read_from_outside}
+
+request_places : (r : RequestView) → IsRequest r → AreNumbers (places_of r)
+request_places (Cast voter ballot) is = is.1.are_numbers
+request_places (Replace voter ballot) is = is.1.are_numbers
+request_places (Withdraw voter) is = All-nil (λ place. place < 2 ^ 32)
+request_places Shut is = All-nil (λ place. place < 2 ^ 32)
+
+small_numbers : (journal : List EntryView) → All IsEntry journal → All HasSmallNumbers journal
+small_numbers journal entries = λ k d below.
+    let is = entries k d below in
+    record { clerk = is.by_clerk; places = request_places _ is.request; answer = is.answer }
+
+-- these bytes are those of one desk at most
+one_desk : (bytes journal : List ℕ) (d other : DeskView) → IsDeskOf bytes journal d → IsDeskOf bytes journal other → d ≡ other
+one_desk bytes journal d other first second =
+    let opening = one_election (records_of bytes) d.opening other.opening first.stands second.stands in
+    let room : d.room ≡ other.room = first.room ∙ sym second.room in
+    let few : d.room ≡ 4294967295 = first.room in
+    let few' : other.room ≡ 4294967295 = second.room in
+    let fits = first.sound.fits in
+    let fits' = second.sound.fits in
+    let same = rows_from-injective 1 d.journal other.journal (omega arith) (omega arith) (small_numbers _ first.sound.entries) (small_numbers _ second.sound.entries) (sym first.rows ∙ second.rows) in
+    λ i. record { opening = opening i; room = room i; journal = same i }
+
+pub audited_by_reader : (files journals : Option (List ℕ)) (options : CountOptions) (fault : ReadFault) (r : Result (Unit {0}) AppFault)
+    → IsErrAnd r (λ app. app ≡ of_read fault)
+    → IfSome files (λ bytes. (e : ElectionView) → StandsFor (records_of bytes) e → IsReadFromOutside fault.kind)
+    → IfSome files (λ bytes. IfSome journals (λ journal. (text : List ℕ) → AuditWrites bytes journal options text → IfErr r IsFromOutside))
+audited_by_reader None journals options fault r is accepts = tt
+audited_by_reader (Some bytes) None options fault r is accepts = tt
+audited_by_reader (Some bytes) (Some journal) options fault r is accepts = λ text writes.
+    given_fault r (of_read fault) is (read_from_outside fault.kind fault.at (accepts writes.desk.opening writes.audited.stands))
+
+-- the rows of a sound journal have no fault, so that the fault is none of theirs
+journal_from_outside : (e : ElectionView) (journal : List EntryView) → IsSound e program_room journal
+    → (fault : AuditFault) → IsFaultOfJournal e program_room (rows_of journal) fault → IsFromOutside (of_audit fault)
+journal_from_outside e journal sound (audit.ReadFailed row) fails = tt
+journal_from_outside e journal sound (audit.BadRow row) fails = absurd (no_fault e program_room journal (audit.BadRow row) (omega arith) sound fails tt)
+journal_from_outside e journal sound (audit.WrongNumber row) fails = absurd (no_fault e program_room journal (audit.WrongNumber row) (omega arith) sound fails tt)
+journal_from_outside e journal sound (audit.JournalFull row) fails = absurd (no_fault e program_room journal (audit.JournalFull row) (omega arith) sound fails tt)
+journal_from_outside e journal sound (audit.WrongAnswer row) fails = absurd (no_fault e program_room journal (audit.WrongAnswer row) (omega arith) sound fails tt)
+journal_from_outside e journal sound audit.NoMemory fails = tt
+
+pub audited_by_journal : (files journals : Option (List ℕ)) (options : CountOptions) (e : ElectionView) (fault : AuditFault) (r : Result (Unit {0}) AppFault)
+    → IsErrAnd r (λ app. app ≡ of_audit fault)
+    → IfSome files (λ bytes. StandsFor (records_of bytes) e) → IfSome journals (λ journal. IsFaultOfJournal e program_room (records_of journal) fault)
+    → IfSome files (λ bytes. IfSome journals (λ journal. (text : List ℕ) → AuditWrites bytes journal options text → IfErr r IsFromOutside))
+audited_by_journal None journals options e fault r is stands fails = tt
+audited_by_journal (Some bytes) None options e fault r is stands fails = tt
+audited_by_journal (Some bytes) (Some journal) options e fault r is stands fails = λ text writes.
+    let d = writes.desk in
+    let opening = one_election (records_of bytes) d.opening e writes.audited.stands stands in
+    let sound = rw (opening, writes.audited.room) at writes.audited.sound in
+    given_fault r (of_audit fault) is (journal_from_outside e d.journal sound fault (rw writes.audited.rows at fails))
+
+-- a desk that has a text is not refused
+desk_from_outside : (d : DeskView) (options : CountOptions) (text : List ℕ) → IsTextOf d options text
+    → (fault : AppFault) → IsRefusedDesk d options fault → IsFromOutside fault
+desk_from_outside d options text written (Count fault) refused =
+    let report = rw refused.0 at written in
+    absurd (no_refusal (closed_election d) options report.0 report.1 fault refused.1)
+desk_from_outside d options text written Memory refused = tt
+desk_from_outside d options text written (Read fault) refused = absurd refused
+desk_from_outside d options text written (Audit fault) refused = absurd refused
+desk_from_outside d options text written (Open place) refused = absurd refused
+desk_from_outside d options text written Write refused = absurd refused
+
+pub audited_by_desk : (files journals : Option (List ℕ)) (options : CountOptions) (e : ElectionView) (d : DeskView) (fault : AppFault) (r : Result (Unit {0}) AppFault)
+    → IsErrAnd r (λ app. app ≡ fault)
+    → IfSome files (λ bytes. StandsFor (records_of bytes) e) → d.opening ≡ e → d.room ≡ program_room → IsSound e program_room d.journal
+    → IfSome journals (λ journal. records_of journal ≡ rows_of d.journal) → IsRefusedDesk d options fault
+    → IfSome files (λ bytes. IfSome journals (λ journal. (text : List ℕ) → AuditWrites bytes journal options text → IfErr r IsFromOutside))
+audited_by_desk None journals options e d fault r is stands opening room sound rows refused = tt
+audited_by_desk (Some bytes) None options e d fault r is stands opening room sound rows refused = tt
+audited_by_desk (Some bytes) (Some journal) options e d fault r is stands opening room sound rows refused = λ text writes.
+    let audited : IsDeskOf bytes journal d = record { stands = rw opening stands; room = room; rows = rows; sound = rw (opening, room) sound } in
+    let written = rw (one_desk bytes journal writes.desk d writes.audited audited) at writes.written in
+    given_fault r fault is (desk_from_outside d options text written fault refused)
+
+-- a desk has one text
+one_desk_text : (shut : Bool) (e : ElectionView) (options : CountOptions) (row a b : List ℕ)
+    → MatchBool shut ((report : List ℕ) × IsReportOf e options report × (a ≡ row ++ report)) (a ≡ row)
+    → MatchBool shut ((report : List ℕ) × IsReportOf e options report × (b ≡ row ++ report)) (b ≡ row) → a ≡ b
+one_desk_text true e options row a b first second =
+    first.2 ∙ ap (λ (t : List ℕ). row ++ t) (one_report e options first.0 second.0 first.1 second.1) ∙ sym second.2
+one_desk_text false e options row a b first second = first ∙ sym second
+
+pub one_audit : (bytes journal : List ℕ) (options : CountOptions) (a b : List ℕ)
+    → AuditWrites bytes journal options a → AuditWrites bytes journal options b → a ≡ b
+one_audit bytes journal options a b first second =
+    let d = first.desk in
+    let written = rw (one_desk bytes journal second.desk d second.audited first.audited) at second.written in
+    one_desk_text (standing_of d).is_shut (closed_election d) options (text_of_row (entries_row d)) a b first.written written
