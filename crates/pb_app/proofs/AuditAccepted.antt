@@ -1,5 +1,5 @@
 -- A file and a journal that have a text get it, unless a device fails or memory is refused; and they have one at most.
-use Rattle.std.proofs.Common.{◌≡◌, ◌<◌, ◌^◌, ℕ, ◌++◌, List, [], Option, Some, None, Bool, true, false, refl, sym, ◌∙◌, ap, arith}
+use Rattle.std.proofs.Common.{◌≡◌, ◌<◌, ◌^◌, ℕ, ◌++◌, List, Option, Some, None, Bool, true, false, sym, ◌∙◌, ap, arith}
 use Rattle.std.specs.Prelude.{All, IfErr, IfSome, IsErrAnd, MatchBool, Result}
 use Rattle.std.proofs.lemmas.List.Elements.{All-nil}
 use Rattle.pb_core.specs.Election.{ElectionView}

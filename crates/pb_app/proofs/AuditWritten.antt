@@ -1,5 +1,5 @@
 -- Runs of `audit` whose bytes may be known.
-use Rattle.std.proofs.Common.{◌≡◌, ℕ, List, Option, Some, None, Ok, Err, refl, sym, subst}
+use Rattle.std.proofs.Common.{◌≡◌, ℕ, List, Option, Some, None, Ok, Err, sym, subst}
 use Rattle.std.specs.Prelude.{IfErr, IfSome, Result}
 use Rattle.pb_core.specs.Election.{ElectionView}
 use Rattle.pb_desk.specs.Audit.{IsSound}

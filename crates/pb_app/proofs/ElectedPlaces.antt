@@ -1,5 +1,5 @@
 -- The outcome of a count elects projects of the election, at most as many as there are.
-use Rattle.std.proofs.Common.{◌≡◌, ℕ, zero, suc, ◌+◌, ◌<◌, ◌≤◌, List, [], ◌∷◌, length, map, true, Option, Some, None, refl, sym, ◌∙◌, ap, arith}
+use Rattle.std.proofs.Common.{◌≡◌, ℕ, zero, suc, ◌<◌, ◌≤◌, List, [], length, true, Option, Some, None, refl, ap, arith}
 use Rattle.std.specs.Prelude.{All, option_map, replicate}
 use Rattle.std.specs.List.{range_with_len}
 use Rattle.std.specs.Option.{option_map_or}
@@ -13,7 +13,7 @@ use Rattle.pb_rounds.proofs.Listed.{RisesWithin-below, listed-below, listed_from
 use Rattle.pb_rounds.specs.Bid.{Bid}
 use Rattle.pb_rounds.specs.Count.{count_of, raises_of, share_after}
 use Rattle.pb_rounds.specs.Outcome.{Settled, settled_by}
-use Rattle.pb_rounds.specs.Run.{ElectedView, RunView, best_of, charged, elected_by, is_listed, outcome_of, run_from, run_of, then_run, without}
+use Rattle.pb_rounds.specs.Run.{ElectedView, best_of, charged, elected_by, is_listed, outcome_of, run_from, run_of, then_run, without}
 use Rattle.pb_rounds.specs.declared.options.CountOptions.{CountOptions}
 
 -- at most so many are elected, all from those that were left

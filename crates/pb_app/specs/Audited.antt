@@ -1,7 +1,6 @@
 -- What a run of `audit` writes, and why it refuses.
 use Rattle.std.specs.Prelude.{◌≡◌, ℕ, ◌++◌, ⊤, MatchBool, List, [], ◌∷◌, true, codes, decimal, length, if◌then◌else◌}
 use Rattle.pb_core.specs.Election.{ElectionView}
-use Rattle.pb_core.specs.Request.{EntryView}
 use Rattle.pb_desk.specs.Audit.{IsFaultOfJournal, IsSound}
 use Rattle.pb_desk.specs.Desk.{DeskView, closed_election, standing_of}
 use Rattle.pb_desk.specs.Rows.{rows_of}

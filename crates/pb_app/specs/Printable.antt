@@ -1,5 +1,5 @@
 -- The outcomes that a report can print.
-use Rattle.std.specs.Prelude.{ℕ, ◌<◌, ◌^◌, List, All, length}
+use Rattle.std.specs.Prelude.{◌<◌, ◌^◌, List, All, length}
 use Rattle.pb_core.specs.Election.{ElectionView}
 use Rattle.pb_price.specs.Supporters.{support_of}
 use Rattle.pb_rounds.specs.Count.{spent_on}

@@ -1,4 +1,4 @@
-use Rattle.std.proofs.Common.{ap, arith}
+use Rattle.std.proofs.Common.{ap}
 use Rattle.pb_rounds.specs.Run.{ElectedView}
 use Rattle.pb_app.proofs.RowsGrown.{none_grown}
 use Rattle.pb_app.proofs.ReportSums.{elected_grown, the_winner}
