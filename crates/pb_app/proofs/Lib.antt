@@ -6,3 +6,4 @@ pub mod Printables
 pub mod AuditWritten
 pub mod Accepted
 pub mod AuditAccepted
+mod ThreeVoters
