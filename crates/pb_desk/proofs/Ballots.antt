@@ -4,7 +4,6 @@ use Rattle.std.specs.Map.{lookup, set_value}
 use Rattle.std.specs.Str.{bytes_eq}
 use Rattle.indexmap.specs.IndexMap.{insert_entry}
 use Rattle.indexmap.proofs.MapLemmas.{absent_from_lookup, insert_entry-absent}
-use Rattle.pb_desk.specs.Standing.{Standing}
 
 -- where no key passes the test, no value is set
 pub set_value-absent : {K X : Type 0} (test : K → Bool) (es : List (K × X)) (w : X) → lookup test es ≡ None → set_value test es w ≡ es
@@ -25,8 +24,3 @@ none_from_false (Some x) f = absurd (true≢false f)
 pub cast_last : (ballots inserted : List (List ℕ × List ℕ)) (voter ballot : List ℕ) → is_some (lookup (bytes_eq voter) ballots) ≡ false →
     inserted ≡ insert_entry bytes_eq ballots voter ballot → inserted ≡ ballots ++ (voter, ballot) ∷ []
 cast_last ballots inserted voter ballot new is = is ∙ insert_entry-absent bytes_eq voter ballot ballots (absent_from_lookup (bytes_eq voter) ballots (none_from_false _ new))
-
--- a voter's ballot that is replaced, where the voter has one or not
-pub replaced : (before after : Standing) (voter ballot : List ℕ) → after.is_shut ≡ before.is_shut → after.ballots ≡ set_value (bytes_eq voter) before.ballots ballot →
-    after ≡ record before { ballots = set_value (bytes_eq voter) before.ballots ballot }
-replaced before after voter ballot shut ballots = λ i. record { ballots = ballots i; is_shut = shut i }
