@@ -1,5 +1,5 @@
 use crate::fault::AppFault;
-use crate::laws::one_text;
+use crate::laws::one_report;
 use crate::run_audit::run_audit;
 use crate::run_count::run_count;
 use pb_core::money::Money;
@@ -101,7 +101,7 @@ fn count_fails<R: Threads + Abort>(
 #[test]
 fn counts_files(rt: HostRuntime) -> Result<(), Fail> {
     let alloc = rt.alloc();
-    one_text();
+    one_report();
     let three = three_voters(alloc)?;
     let report =
         "budget;100.00\nvoters;3\nshare;38.33\nraises;5\nelected;a;30.00;15.00\nelected;b;60.00;36.67\nspent;90.00\nsurplus;0.00\n";
