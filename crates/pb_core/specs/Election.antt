@@ -1,4 +1,4 @@
-use Rattle.std.specs.Prelude.{◌≢◌, ℕ, ◌<◌, ◌≤◌, List, [], length, All, map}
+use Rattle.std.specs.Prelude.{◌≢◌, ℕ, ◌<◌, ◌≤◌, List, [], length, All, Option, map}
 use Rattle.std.specs.List.{AllPairs}
 use Rattle.pb_core.specs.Ballot.{IsVoterId, IsBallot}
 use Rattle.pb_core.specs.Money.{largest_money}
@@ -14,9 +14,10 @@ pub record VoterView : Type 0 where
   pub id : List ℕ
   pub ballot : List ℕ
 
--- what contracts see of an election: projects and voters stand in file order
+-- what contracts see of an election: projects and voters stand in file order; a limit is on the places of a ballot that a clerk asks for
 pub record ElectionView : Type 0 where
   pub budget : ℕ
+  pub max_length : Option ℕ
   pub projects : List ProjectView
   pub voters : List VoterView
 

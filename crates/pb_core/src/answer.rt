@@ -14,4 +14,6 @@ pub enum Answer {
     NoBallot,
     /// As many ballots stand as an election may have voters.
     VoterLimit,
+    /// The ballot has more places than the election allows.
+    TooLong,
 }

@@ -1,4 +1,4 @@
-ghost use Rattle.std.specs.Prelude.{◌≡◌, ◌≢◌, ◌<◌, ◌≤◌, ◌↔◌, ◌++◌, ◌∷◌, [], length, All, IsTrue, Contains, OnOk, OnErr, map};
+ghost use Rattle.std.specs.Prelude.{◌≡◌, ◌≢◌, ◌<◌, ◌≤◌, ◌↔◌, ◌++◌, ◌∷◌, [], length, All, IsTrue, Contains, OnOk, OnErr, None, map};
 ghost use Rattle.pb_core.specs.Money.{largest_money};
 
 use crate::ballot::Ballot;
@@ -16,10 +16,12 @@ pub const MOST_PROJECTS: usize = 10_000;
 /// The most voters that an election has.
 pub const MOST_VOTERS: usize = 1_000_000;
 
-/// A budget, the projects in file order, and the voters in file order with their ballots.
+/// A budget, the projects in file order, and the voters in file order with their ballots; perhaps with a limit on how
+/// many projects a ballot may approve, which the desk keeps for clerks' requests. The ballots here may be longer.
 #[derive(Drop)]
 pub struct Election<A: Allocator = Global> {
     budget: Money,
+    max_length: Option<u32>,
     projects: Vec<Project<A>, A>,
     voters: Vec<Voter<A>, A>,
 }
@@ -29,23 +31,24 @@ impl<A: Allocator> Model for Election<A> {
 
     ghost Value = { ElectionView };
 
-    ghost view = { λ e. record { budget = e.budget; projects = e.projects.items; voters = e.voters.items } };
+    ghost view = { λ e. record { budget = e.budget; max_length = e.max_length; projects = e.projects.items; voters = e.voters.items } };
 
-    ghost invariant = { λ e. IsElection (record { budget = e.budget; projects = e.projects.items; voters = e.voters.items }) };
+    ghost invariant = { λ e. IsElection (record { budget = e.budget; max_length = e.max_length; projects = e.projects.items; voters = e.voters.items }) };
 }
 
 impl<A: Allocator> Election<A> {
     ghost use Rattle.pb_core.specs.Election.{IsElection, IsVoter, project_ids, voter_ids, most_projects, most_voters};
 
-    /// An election with this budget, and neither projects nor voters yet.
+    /// An election with this budget, without a limit, and with neither projects nor voters yet.
     pub fn start(alloc: A, budget: Money) -> Election<A>
     where
         A: Copy,
         requires { budget ≤ largest_money }
-        ensures { result ≡ record { budget = budget; projects = []; voters = [] } }
+        ensures { result ≡ record { budget = budget; max_length = None; projects = []; voters = [] } }
     {
         Election {
             budget,
+            max_length: None,
             projects: Vec::new(alloc),
             voters: Vec::new(alloc),
         }
@@ -57,6 +60,20 @@ impl<A: Allocator> Election<A> {
         ensures is_election { IsElection self.now }
     {
         self.budget
+    }
+
+    /// The most projects that a ballot may approve where a clerk asks for it; none where there is no limit.
+    pub fn max_length(&self) -> Option<u32>
+        ensures { result ≡ self.now.max_length }
+    {
+        self.max_length
+    }
+
+    /// Sets the limit on how many projects a ballot may approve, or takes it away. The ballots here stay as they are.
+    pub fn set_max_length(&mut self, max_length: Option<u32>)
+        ensures { self.new ≡ record self.old { max_length = max_length } }
+    {
+        self.max_length = max_length;
     }
 
     /// The projects, in file order: a project's place is its index here, from 0.
