@@ -1,4 +1,5 @@
 pub mod Lists
 pub mod Payment
 pub mod Price
+pub mod PriceFault
 pub mod Supporters

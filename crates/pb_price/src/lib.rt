@@ -1,12 +1,20 @@
 //! Who supports each project, and the price of a project at what is left to its supporters.
 #![tactic(auto)]
 
+mod all_prices;
 pub mod gate;
 mod least_payment;
 pub mod price;
 pub mod price_by_trial;
+mod price_fault;
 pub mod supporters;
 pub mod tally;
 #[cfg(test)]
 mod tests;
 mod voter_list;
+
+pub use all_prices::price_all;
+pub use gate::{Gate, NoGate};
+pub use price_fault::PriceFault;
+pub use supporters::Supporters;
+pub use tally::Tally;

@@ -36,4 +36,11 @@ impl Tally {
     {
         self.count = self.count.saturating_add(1);
     }
+
+    /// This many more prices were computed.
+    pub(crate) fn add(&mut self, prices: u64)
+        ensures { self.new ≡ min (self.old + prices) largest_count }
+    {
+        self.count = self.count.saturating_add(prices);
+    }
 }

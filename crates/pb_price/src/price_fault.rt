@@ -1,0 +1,64 @@
+ghost use Rattle.std.specs.Prelude.{◌≡◌};
+ghost use Rattle.pb_price.specs.PriceFault.{number_of, name_of};
+ghost use Rattle.pb_price.specs.declared.price_fault.PriceFault.TheVariants as fault;
+
+use pb_core::no_memory::NoMemory;
+use std::alloc::{AllocError, AllocFailed};
+use thiserror::Error;
+
+/// Why `price_all` gives no prices. The first of these faults that applies is the one that is given.
+#[derive(Clone, Copy, Debug, PartialEq, Eq, Error)]
+pub enum PriceFault {
+    /// The number of workers is not 1 to 64.
+    #[error("the number of workers is not 1 to 64")]
+    WorkerCount,
+    /// An allocation was refused.
+    #[error("out of memory")]
+    NoMemory,
+}
+
+impl PriceFault {
+    /// The fault's number, from 1.
+    pub fn number(&self) -> u32
+        ensures { result ≡ number_of self.now }
+    {
+        match self {
+            PriceFault::WorkerCount => 1,
+            PriceFault::NoMemory => 2,
+        }
+    }
+
+    /// The fault's name.
+    pub fn name(&self) -> &'static str
+        ensures { result.now ≡ name_of self.now }
+    {
+        match self {
+            PriceFault::WorkerCount => "WorkerCount",
+            PriceFault::NoMemory => "NoMemory",
+        }
+    }
+}
+
+impl From<NoMemory> for PriceFault {
+    ghost from_gives = { λ _ given. given ≡ fault.NoMemory };
+
+    fn from(_refused: NoMemory) -> PriceFault {
+        PriceFault::NoMemory
+    }
+}
+
+impl From<AllocError> for PriceFault {
+    ghost from_gives = { λ _ given. given ≡ fault.NoMemory };
+
+    fn from(_refused: AllocError) -> PriceFault {
+        PriceFault::NoMemory
+    }
+}
+
+impl<T: Drop> From<AllocFailed<T>> for PriceFault {
+    ghost from_gives = { λ _ given. given ≡ fault.NoMemory };
+
+    fn from(_refused: AllocFailed<T>) -> PriceFault {
+        PriceFault::NoMemory
+    }
+}
