@@ -86,7 +86,7 @@ abbrev project_header : List Fields
 project_header = (codes "project_id" ∷ codes "cost" ∷ []) ∷ votes
 
 abbrev meta_rows : List Fields
-meta_rows = (codes "budget" ∷ codes "0" ∷ []) ∷ (codes "vote_type" ∷ codes "approval" ∷ []) ∷ (codes "PROJECTS" ∷ []) ∷ project_header
+meta_rows = (codes "budget" ∷ codes "0" ∷ []) ∷ (codes "vote_type" ∷ codes "approval" ∷ []) ∷ (codes "max_length" ∷ []) ∷ (codes "PROJECTS" ∷ []) ∷ project_header
 
 abbrev meta_header : List Fields
 meta_header = (codes "key" ∷ codes "value" ∷ []) ∷ meta_rows

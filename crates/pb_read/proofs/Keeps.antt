@@ -26,7 +26,7 @@ use Rattle.pb_read.proofs.ListFacts.{some≢none, ok≢err, AllZip-push, AllByRe
 use Rattle.pb_read.proofs.MachineLaws.{meta_of-push, passes_project, passes_vote, passes_head, PassesProject, PassesVote}
 use Rattle.pb_read.specs.Columns.{project_columns, vote_columns}
 use Rattle.pb_read.specs.Faults.{Position, start, meta_head, in_meta, projects_head, in_projects, votes_head, in_votes, Next, the_end, blank, head, plain, next_row, row_fault, IsAt, IsSound}
-use Rattle.pb_read.specs.Machine.{advance, budget_of, amount_of, project_of, voter_of, with_project, with_voter, with_row}
+use Rattle.pb_read.specs.Machine.{advance, budget_of, limit_of, amount_of, project_of, voter_of, with_project, with_voter, with_row}
 use Rattle.pb_read.specs.MetaRows.{meta_of, value_of}
 use Rattle.pb_read.specs.Rows.{field, head_of, is_blank, is_empty, trimmed}
 use Rattle.pb_read.specs.StandsFor.{IsVotesHead, IsPlain, GivesProject, GivesVoter, opening}
@@ -80,8 +80,8 @@ le_of true true read amount e = go (nat_le read largest_money) refl e
 pub money_of-le : (text : List ℕ) (amount : ℕ) → money_of text ≡ Ok amount → amount ≤ largest_money
 money_of-le text amount e = le_of (has_money_form text) (is_in_hundredths text) (hundredths text) amount e
 
-pub opening_is_election : (budget : ℕ) → budget ≤ largest_money → IsElection (opening budget)
-opening_is_election budget few = record {
+pub opening_is_election : (budget : ℕ) (max_length : Option ℕ) → budget ≤ largest_money → IsElection (opening budget max_length)
+opening_is_election budget max_length few = record {
   budget_bounded = few;
   few_projects = omega arith;
   few_voters = omega arith;
@@ -153,7 +153,7 @@ with_voter_is_election columns row e tidy is p =
     }) p.room (not_among _ _ p.new_id)
 
 without_voters : (e : ElectionView) → e.voters ≡ [] → e ≡ record e { voters = [] }
-without_voters e none = λ i. record { budget = e.budget; projects = e.projects; voters = none i }
+without_voters e none = λ i. record { budget = e.budget; max_length = e.max_length; projects = e.projects; voters = none i }
 
 -- one row without fault
 pub kept : (p : Position) (n : Next) (rows : List Fields) (row : Fields) → Follows n row → IsTidy row → row_fault p n ≡ None → IsAt rows p → IsSound p →
@@ -172,10 +172,24 @@ kept meta_head (plain r) rows row follows tidy none at sound =
 kept (in_meta meta) (head section.Meta) rows row follows tidy none at sound = absurd (some≢none none)
 kept (in_meta meta) (head section.Projects) rows row follows tidy none at sound =
     let passed = passes_head meta none in
-    let same : passed.0 ≡ budget_of meta.budget = ap budget_of (sym passed.1) in
-    let few : passed.0 ≤ largest_money = budget_le at.body passed.0 (ap (λ (m : Meta). m.budget) (sym at.says) ∙ passed.1) in (
-      (record { front = rows; meta = meta; head = row; cut = refl; before = at; opens = follows; budget_is = passed.1 ∙ ap (λ b. Some (Ok b)) same; approval = passed.2 }, refl),
-      (opening_is_election (budget_of meta.budget) (subst (λ b. b ≤ largest_money) same few), refl),
+    let same : passed.budget ≡ budget_of meta.budget = ap budget_of (sym passed.budget_is) in
+    let limit : passed.max_length ≡ limit_of meta.max_length = ap limit_of (sym passed.limit) in
+    let few : passed.budget ≤ largest_money = budget_le at.body passed.budget (ap (λ (m : Meta). m.budget) (sym at.says) ∙ passed.budget_is) in (
+      (
+        record {
+          front = rows;
+          meta = meta;
+          head = row;
+          cut = refl;
+          before = at;
+          opens = follows;
+          budget_is = passed.budget_is ∙ ap (λ b. Some (Ok b)) same;
+          approval = passed.approval;
+          limit = passed.limit ∙ ap (λ l. Ok l) limit;
+        },
+        refl,
+      ),
+      (opening_is_election (budget_of meta.budget) (limit_of meta.max_length) (subst (λ b. b ≤ largest_money) same few), refl),
     )
 kept (in_meta meta) (head section.Votes) rows row follows tidy none at sound = absurd (some≢none none)
 kept (in_meta meta) (plain r) rows row follows tidy none at sound = (

@@ -1,7 +1,7 @@
 -- Laws of the reading of rows one by one.
 use Rattle.std.proofs.Common.{◌≡◌, ◌<◌, ◌==◌, ℕ, Bool, cond, not, List, [], ◌∷◌, ◌++◌, length, Option, Some, None, Result, Ok, Err, refl, ap, sym, ◌∙◌, true, false, arith}
 use Rattle.std.specs.Prelude.{codes, option_map, nat_le}
-use Rattle.std.specs.Option.{option_or}
+use Rattle.std.specs.Option.{option_map_or, option_or}
 use Rattle.std.proofs.lemmas.Bool.{eqb-false, leb-false, lt-leb, ne_eqb, not-false}
 use Rattle.pb_core.specs.Election.{ElectionView, project_ids, voter_ids, most_projects, most_voters}
 use Rattle.pb_core.specs.Money.{money_of}
@@ -12,6 +12,7 @@ use Rattle.pb_read.proofs.ListFacts.{cond_none, some≢none}
 use Rattle.pb_read.specs.Columns.{has_project_fields, has_vote_fields}
 use Rattle.pb_read.specs.Faults.{Position, in_meta, in_projects, in_votes, head, plain, next_row, row_fault, is_nothing, fails_by}
 use Rattle.pb_read.specs.Machine.{with_row, step, bind, run, head_checks, project_checks, vote_checks}
+use Rattle.pb_read.specs.Lengths.{max_length_of}
 use Rattle.pb_read.specs.MetaRows.{meta_of, value_of}
 use Rattle.pb_read.specs.Rows.{field, is_empty, is_word}
 use Rattle.pb_read.specs.Voting.{is_among, names_only}
@@ -39,6 +40,10 @@ option_map_cond : {A B : Type 0} (f : A → B) (t : Bool) (x : A) (o : Option A)
 option_map_cond f true x o = refl
 option_map_cond f false x o = refl
 
+option_map_or_cond : {A B : Type 0} (f : A → B) (t : Bool) (x : A) (o : Option A) (d : B) → option_map_or f (cond t (Some x) o) d ≡ cond t (f x) (option_map_or f o d)
+option_map_or_cond f true x o d = refl
+option_map_or_cond f false x o d = refl
+
 value_of-push : (key : List ℕ) (rows : List Fields) (row : Fields) → value_of key (rows ++ row ∷ []) ≡ cond (is_word key (field row 0)) (Some (field row 1)) (value_of key rows)
 value_of-push key [] row = refl
 value_of-push key (x ∷ rows) row =
@@ -52,7 +57,7 @@ value_of-push key (x ∷ rows) row =
 
 -- META's rows with one more
 pub meta_of-push : (rows : List Fields) (row : Fields) → meta_of (rows ++ row ∷ []) ≡ with_row (meta_of rows) row
-meta_of-push rows row = λ i. record { budget = budget i; approval = approval i }
+meta_of-push rows row = λ i. record { budget = budget i; approval = approval i; max_length = max_length i }
   where
     budget : option_map money_of (value_of (codes "budget") (rows ++ row ∷ [])) ≡ (with_row (meta_of rows) row).budget
     budget = ap (option_map money_of) (value_of-push (codes "budget") rows row) ∙ option_map_cond money_of (is_word (codes "budget") (field row 0)) (field row 1) (value_of (codes "budget") rows)
@@ -60,21 +65,28 @@ meta_of-push rows row = λ i. record { budget = budget i; approval = approval i 
     approval : option_map (is_word (codes "approval")) (value_of (codes "vote_type") (rows ++ row ∷ [])) ≡ (with_row (meta_of rows) row).approval
     approval = ap (option_map (is_word (codes "approval"))) (value_of-push (codes "vote_type") rows row) ∙ option_map_cond (is_word (codes "approval")) (is_word (codes "vote_type") (field row 0)) (field row 1) (value_of (codes "vote_type") rows)
 
-pub head_fault : (meta : Meta) → row_fault (in_meta meta) (head section.Projects) ≡ head_checks meta.budget meta.approval
+    max_length : option_map_or max_length_of (value_of (codes "max_length") (rows ++ row ∷ [])) (Ok None) ≡ (with_row (meta_of rows) row).max_length
+    max_length =
+        ap (λ o. option_map_or max_length_of o (Ok None)) (value_of-push (codes "max_length") rows row)
+        ∙ option_map_or_cond max_length_of (is_word (codes "max_length") (field row 0)) (field row 1) (value_of (codes "max_length") rows) (Ok None)
+
+pub head_fault : (meta : Meta) → row_fault (in_meta meta) (head section.Projects) ≡ head_checks meta.budget meta.approval meta.max_length
 unfolding row_fault
-head_fault meta = go meta.budget meta.approval
+head_fault meta = go meta.budget meta.approval meta.max_length
   where
-    go : (budget : Option (Result ℕ MoneyFault)) (approval : Option Bool) → row_fault (in_meta (record { budget = budget; approval = approval })) (head section.Projects) ≡ head_checks budget approval
-    go None approval = refl
-    go (Some budget) None = refl
-    go (Some (Ok amount)) (Some true) = refl
-    go (Some (Ok amount)) (Some false) = refl
-    go (Some (Err money.BadMoney)) (Some true) = refl
-    go (Some (Err money.BadMoney)) (Some false) = refl
-    go (Some (Err money.MoneyTooFine)) (Some true) = refl
-    go (Some (Err money.MoneyTooFine)) (Some false) = refl
-    go (Some (Err money.MoneyTooLarge)) (Some true) = refl
-    go (Some (Err money.MoneyTooLarge)) (Some false) = refl
+    go : (budget : Option (Result ℕ MoneyFault)) (approval : Option Bool) (max_length : Result (Option ℕ) ReadKind) →
+        row_fault (in_meta (record { budget = budget; approval = approval; max_length = max_length })) (head section.Projects) ≡ head_checks budget approval max_length
+    go None approval max_length = refl
+    go (Some budget) None max_length = refl
+    go (Some (Ok amount)) (Some true) (Ok max_length) = refl
+    go (Some (Ok amount)) (Some true) (Err fault) = refl
+    go (Some (Ok amount)) (Some false) max_length = refl
+    go (Some (Err money.BadMoney)) (Some true) max_length = refl
+    go (Some (Err money.BadMoney)) (Some false) max_length = refl
+    go (Some (Err money.MoneyTooFine)) (Some true) max_length = refl
+    go (Some (Err money.MoneyTooFine)) (Some false) max_length = refl
+    go (Some (Err money.MoneyTooLarge)) (Some true) max_length = refl
+    go (Some (Err money.MoneyTooLarge)) (Some false) max_length = refl
 
 -- the checks of a project row, with the reading of its cost as a variable
 abbrev found_for : Bool → Result ℕ MoneyFault → Bool → Bool → Bool → Option ReadKind
@@ -176,18 +188,27 @@ vote_passes columns row e p =
     go whole no_id repeated known full w n r k f = rw (w, n, r, k, f) refl
 
 -- what META has where its values pass
-pub passes_head : (meta : Meta) → row_fault (in_meta meta) (head section.Projects) ≡ None → (budget : ℕ) × (meta.budget ≡ Some (Ok budget)) × (meta.approval ≡ Some true)
-passes_head meta none = go meta.budget meta.approval refl refl (sym (head_fault meta) ∙ none)
-  where
-    go : (budget : Option (Result ℕ MoneyFault)) (approval : Option Bool) → meta.budget ≡ budget → meta.approval ≡ approval → head_checks budget approval ≡ None →
-        (b : ℕ) × (meta.budget ≡ Some (Ok b)) × (meta.approval ≡ Some true)
-    go None approval b a f = absurd (some≢none f)
-    go (Some budget) None b a f = absurd (some≢none f)
-    go (Some budget) (Some false) b a f = absurd (some≢none f)
-    go (Some (Ok budget)) (Some true) b a f = (budget, b, a)
-    go (Some (Err money.BadMoney)) (Some true) b a f = absurd (some≢none f)
-    go (Some (Err money.MoneyTooFine)) (Some true) b a f = absurd (some≢none f)
-    go (Some (Err money.MoneyTooLarge)) (Some true) b a f = absurd (some≢none f)
+pub record PassesHead (meta : Meta) : Type 0 where
+  pub budget : ℕ
+  pub max_length : Option ℕ
+  pub budget_is : meta.budget ≡ Some (Ok budget)
+  pub approval : meta.approval ≡ Some true
+  pub limit : meta.max_length ≡ Ok max_length
 
-pub head_passes : (meta : Meta) (budget : ℕ) → meta.budget ≡ Some (Ok budget) → meta.approval ≡ Some true → row_fault (in_meta meta) (head section.Projects) ≡ None
-head_passes meta budget b a = head_fault meta ∙ rw (b, a) refl
+pub passes_head : (meta : Meta) → row_fault (in_meta meta) (head section.Projects) ≡ None → PassesHead meta
+passes_head meta none = go meta.budget meta.approval meta.max_length refl refl refl (sym (head_fault meta) ∙ none)
+  where
+    go : (budget : Option (Result ℕ MoneyFault)) (approval : Option Bool) (max_length : Result (Option ℕ) ReadKind) → meta.budget ≡ budget → meta.approval ≡ approval → meta.max_length ≡ max_length →
+        head_checks budget approval max_length ≡ None → PassesHead meta
+    go None approval max_length b a l f = absurd (some≢none f)
+    go (Some budget) None max_length b a l f = absurd (some≢none f)
+    go (Some budget) (Some false) max_length b a l f = absurd (some≢none f)
+    go (Some (Ok budget)) (Some true) (Ok max_length) b a l f = record { budget = budget; max_length = max_length; budget_is = b; approval = a; limit = l }
+    go (Some (Ok budget)) (Some true) (Err fault) b a l f = absurd (some≢none f)
+    go (Some (Err money.BadMoney)) (Some true) max_length b a l f = absurd (some≢none f)
+    go (Some (Err money.MoneyTooFine)) (Some true) max_length b a l f = absurd (some≢none f)
+    go (Some (Err money.MoneyTooLarge)) (Some true) max_length b a l f = absurd (some≢none f)
+
+pub head_passes : (meta : Meta) (budget : ℕ) (max_length : Option ℕ) → meta.budget ≡ Some (Ok budget) → meta.approval ≡ Some true → meta.max_length ≡ Ok max_length →
+    row_fault (in_meta meta) (head section.Projects) ≡ None
+head_passes meta budget max_length b a l = head_fault meta ∙ rw (b, a, l) refl

@@ -1,5 +1,5 @@
 -- What stands runs: rows that have come so far are read without fault, to that position.
-use Rattle.std.proofs.Common.{◌≡◌, ◌≢◌, ◌<◌, ℕ, false, cond, List, [], ◌∷◌, ◌++◌, length, map, All, Contains, Some, None, Ok, Err, refl, ap, sym, ◌∙◌, subst, arith, append_assoc, length-append}
+use Rattle.std.proofs.Common.{◌≡◌, ◌≢◌, ◌<◌, ℕ, false, cond, List, [], ◌∷◌, ◌++◌, length, map, All, Contains, Option, Some, None, Ok, Err, refl, ap, sym, ◌∙◌, subst, arith, append_assoc, length-append}
 use Rattle.std.specs.Option.{option_map_or}
 use Rattle.std.specs.Prelude.{is_none}
 use Rattle.std.specs.List.{AllByRecursion, AllZip}
@@ -13,7 +13,7 @@ use Rattle.pb_read.proofs.ListFacts.{Contains-is_among, AllByRecursion-left, All
 use Rattle.pb_read.proofs.MachineLaws.{run-append, meta_of-push, head_passes, project_passes, vote_passes, PassesProject, PassesVote}
 use Rattle.pb_read.specs.Columns.{project_columns, vote_columns}
 use Rattle.pb_read.specs.Faults.{Position, start, meta_head, in_meta, projects_head, in_projects, votes_head, in_votes, Next, head, plain, next_row, row_fault, IsAt, IsSound}
-use Rattle.pb_read.specs.Machine.{advance, budget_of, amount_of, project_of, voter_of, run, bind, step, step_or}
+use Rattle.pb_read.specs.Machine.{advance, budget_of, limit_of, amount_of, project_of, voter_of, run, bind, step, step_or}
 use Rattle.pb_read.specs.MetaRows.{meta_of}
 use Rattle.pb_read.specs.Rows.{field, is_blank, is_empty}
 use Rattle.pb_read.specs.StandsFor.{IsMeta, IsProjectsHead, IsProjects, IsVotesHead, IsVotes, IsPlain, IsHead, GivesProject, GivesVoter, opening}
@@ -94,15 +94,15 @@ run_meta rows meta full at =
     ∙ run_meta_body [] at.body at.plain whole.1.1
     ∙ ap (λ m. Ok (in_meta m)) (sym at.says)
 
-run_projects_head : (rows : List Fields) (budget : ℕ) → AreFull rows → IsProjectsHead rows budget → Runs start rows (projects_head (opening budget))
-run_projects_head rows budget full at =
+run_projects_head : (rows : List Fields) (budget : ℕ) (max_length : Option ℕ) → AreFull rows → IsProjectsHead rows budget max_length → Runs start rows (projects_head (opening budget max_length))
+run_projects_head rows budget max_length full at =
     let whole : AreFull (at.front ++ at.head ∷ []) = subst AreFull at.cut full in
     let front : AreFull at.front = AllByRecursion-left _ at.front (at.head ∷ []) whole in
     let last : AreFull (at.head ∷ []) = AllByRecursion-right _ at.front (at.head ∷ []) whole in
     ap (run start) at.cut
     ∙ run_onto start (in_meta at.meta) at.front (at.head ∷ []) (run_meta at.front at.meta front at.before)
-    ∙ run_row (in_meta at.meta) at.head [] (head section.Projects) (next_head at.head section.Projects last.0 at.opens) (head_passes at.meta budget at.budget_is at.approval)
-    ∙ ap (λ b. Ok (projects_head (opening (budget_of b)))) at.budget_is
+    ∙ run_row (in_meta at.meta) at.head [] (head section.Projects) (next_head at.head section.Projects last.0 at.opens) (head_passes at.meta budget max_length at.budget_is at.approval at.limit)
+    ∙ (λ i. Ok (projects_head (opening (budget_of (at.budget_is i)) (limit_of (at.limit i)))))
 
 -- what is true of an element in the middle
 middle : {X : Type 0} (P : X → Type 0) (xs : List X) (y : X) (ys : List X) → All P (xs ++ y ∷ ys) → P y
@@ -126,9 +126,9 @@ full_text : (text id : List ℕ) → id ≡ text → id ≢ [] → is_empty text
 full_text [] id same full = absurd (full same)
 full_text (x ∷ text) id same full = refl
 
-passes_at : (columns : ProjectColumns) (budget : ℕ) (qs ps : List ProjectView) (p : ProjectView) (row : Fields) → GivesProject columns row p → IsElection (record { budget = budget; projects = qs ++ p ∷ ps; voters = [] }) →
-    PassesProject columns row (record { budget = budget; projects = qs; voters = [] })
-passes_at columns budget qs ps p row given is =
+passes_at : (columns : ProjectColumns) (e : ElectionView) (qs ps : List ProjectView) (p : ProjectView) (row : Fields) → GivesProject columns row p → IsElection (record e { projects = qs ++ p ∷ ps; voters = [] }) →
+    PassesProject columns row (record e { projects = qs; voters = [] })
+passes_at columns e qs ps p row given is =
     let project : IsProject p = middle IsProject qs p ps is.are_projects in
     let distinct : AreDistinct (ids_of qs ++ p.id ∷ ids_of ps) = subst AreDistinct (map-append (λ (x : ProjectView). x.id) qs (p ∷ ps)) is.projects_differ in
     record {
@@ -141,20 +141,19 @@ passes_at columns budget qs ps p row given is =
       room = omega (arith, is.few_projects, length-append qs (p ∷ ps));
     }
 
-run_projects_body : (columns : ProjectColumns) (budget : ℕ) (qs ps : List ProjectView) (body : List Fields) → AllZip (GivesProject columns) body ps → AreFull body →
-    IsElection (record { budget = budget; projects = qs ++ ps; voters = [] }) →
-    Runs (in_projects columns (record { budget = budget; projects = qs; voters = [] })) body (in_projects columns (record { budget = budget; projects = qs ++ ps; voters = [] }))
-run_projects_body columns budget qs [] [] zip full is = ap (λ ps. Ok (in_projects columns (record { budget = budget; projects = ps; voters = [] }))) (sym (append-nil qs))
-run_projects_body columns budget qs (p ∷ ps) [] zip full is = absurd zip
-run_projects_body columns budget qs [] (row ∷ body) zip full is = absurd zip
-run_projects_body columns budget qs (p ∷ ps) (row ∷ body) zip full is =
-    let e : ElectionView = record { budget = budget; projects = qs; voters = [] } in
+run_projects_body : (columns : ProjectColumns) (e : ElectionView) (qs ps : List ProjectView) (body : List Fields) → AllZip (GivesProject columns) body ps → AreFull body →
+    IsElection (record e { projects = qs ++ ps; voters = [] }) →
+    Runs (in_projects columns (record e { projects = qs; voters = [] })) body (in_projects columns (record e { projects = qs ++ ps; voters = [] }))
+run_projects_body columns e qs [] [] zip full is = ap (λ ps. Ok (in_projects columns (record e { projects = ps; voters = [] }))) (sym (append-nil qs))
+run_projects_body columns e qs (p ∷ ps) [] zip full is = absurd zip
+run_projects_body columns e qs [] (row ∷ body) zip full is = absurd zip
+run_projects_body columns e qs (p ∷ ps) (row ∷ body) zip full is =
     let given : GivesProject columns row p = zip.0 in
     let same : project_of columns row ≡ p = λ i. record { id = sym given.id i; name = sym given.name i; cost = ap amount_of given.cost i } in
-    run_row (in_projects columns e) row body (plain row) (next_plain row full.0 given.plain) (project_passes columns row e (passes_at columns budget qs ps p row given is))
-    ∙ ap (λ x. run (in_projects columns (record { budget = budget; projects = qs ++ x ∷ []; voters = [] })) body) same
-    ∙ run_projects_body columns budget (qs ++ p ∷ []) ps body zip.1 full.1 (subst (λ xs. IsElection (record { budget = budget; projects = xs; voters = [] })) (sym (append_assoc qs (p ∷ []) ps)) is)
-    ∙ ap (λ xs. Ok (in_projects columns (record { budget = budget; projects = xs; voters = [] }))) (append_assoc qs (p ∷ []) ps)
+    run_row (in_projects columns (record e { projects = qs; voters = [] })) row body (plain row) (next_plain row full.0 given.plain) (project_passes columns row (record e { projects = qs; voters = [] }) (passes_at columns e qs ps p row given is))
+    ∙ ap (λ x. run (in_projects columns (record e { projects = qs ++ x ∷ []; voters = [] })) body) same
+    ∙ run_projects_body columns e (qs ++ p ∷ []) ps body zip.1 full.1 (subst (λ xs. IsElection (record e { projects = xs; voters = [] })) (sym (append_assoc qs (p ∷ []) ps)) is)
+    ∙ ap (λ xs. Ok (in_projects columns (record e { projects = xs; voters = [] }))) (append_assoc qs (p ∷ []) ps)
 
 run_projects : (rows : List Fields) (columns : ProjectColumns) (e : ElectionView) → AreFull rows → IsProjects rows columns e → IsElection e → Runs start rows (in_projects columns e)
 run_projects rows columns e full at is =
@@ -162,11 +161,11 @@ run_projects rows columns e full at is =
     let front : AreFull at.front = AllByRecursion-left _ at.front (at.header ∷ at.body) whole in
     let last : AreFull (at.header ∷ at.body) = AllByRecursion-right _ at.front (at.header ∷ at.body) whole in
     ap (run start) at.cut
-    ∙ run_onto start (projects_head (opening e.budget)) at.front (at.header ∷ at.body) (run_projects_head at.front e.budget front at.before)
-    ∙ run_row (projects_head (opening e.budget)) at.header at.body (plain at.header) (next_plain at.header last.0 at.plain_header) (project_header_passes (opening e.budget) at.header columns at.columns_are)
-    ∙ ap (λ o. run (option_map_or (λ c. in_projects c (opening e.budget)) o start) at.body) at.columns_are
-    ∙ run_projects_body columns e.budget [] e.projects at.body at.projects last.1 (subst (λ vs. IsElection (record { budget = e.budget; projects = e.projects; voters = vs })) at.no_voter is)
-    ∙ ap (λ vs. Ok (in_projects columns (record { budget = e.budget; projects = e.projects; voters = vs }))) (sym at.no_voter)
+    ∙ run_onto start (projects_head (opening e.budget e.max_length)) at.front (at.header ∷ at.body) (run_projects_head at.front e.budget e.max_length front at.before)
+    ∙ run_row (projects_head (opening e.budget e.max_length)) at.header at.body (plain at.header) (next_plain at.header last.0 at.plain_header) (project_header_passes (opening e.budget e.max_length) at.header columns at.columns_are)
+    ∙ ap (λ o. run (option_map_or (λ c. in_projects c (opening e.budget e.max_length)) o start) at.body) at.columns_are
+    ∙ run_projects_body columns e [] e.projects at.body at.projects last.1 (subst (λ vs. IsElection (record e { voters = vs })) at.no_voter is)
+    ∙ ap (λ vs. Ok (in_projects columns (record e { voters = vs }))) (sym at.no_voter)
 
 run_votes_head : (rows : List Fields) (e : ElectionView) → AreFull rows → IsVotesHead rows e → IsElection e → Runs start rows (votes_head e)
 run_votes_head rows e full at is =
@@ -234,7 +233,7 @@ runs meta_head rows full at sound =
     let whole : AreFull (at.head ∷ []) = subst AreFull at.cut full in
     ap (run start) at.cut ∙ run_row start at.head [] (head section.Meta) (next_head at.head section.Meta whole.0 at.opens) meta_opens
 runs (in_meta meta) rows full at sound = run_meta rows meta full at
-runs (projects_head e) rows full at sound = run_projects_head rows e.budget full at.0 ∙ ap (λ x. Ok (projects_head x)) (sym at.1)
+runs (projects_head e) rows full at sound = run_projects_head rows e.budget e.max_length full at.0 ∙ ap (λ x. Ok (projects_head x)) (sym at.1)
 runs (in_projects columns e) rows full at sound = run_projects rows columns e full at sound.0
 runs (votes_head e) rows full at sound = run_votes_head rows e full at sound.0
 runs (in_votes columns e) rows full at sound = run_votes rows columns e full at sound

@@ -2,6 +2,7 @@
 use Rattle.std.specs.Prelude.{◌≡◌, ℕ, Bool, true, false, not, ◌&&◌, ◌||◌, ◌==◌, nat_le, List, [], ◌∷◌, length, Option, None, Some, Result, Ok, Err, is_none, is_some, find, if◌then◌else◌}
 use Rattle.std.specs.Option.{option_map_or}
 use Rattle.std.specs.List.{list_all}
+use Rattle.std.specs.Result.{is_err}
 use Rattle.std.specs.Str.{is_utf8}
 use Rattle.pb_core.specs.Election.{ElectionView, IsElection, most_projects, most_voters, project_ids, voter_ids}
 use Rattle.pb_core.specs.Money.{money_of}
@@ -17,7 +18,7 @@ use Rattle.pb_read.specs.Voting.{is_among, names_only}
 use Rattle.pb_read.specs.declared.columns.ProjectColumns.{ProjectColumns}
 use Rattle.pb_read.specs.declared.columns.VoteColumns.{VoteColumns}
 use Rattle.pb_read.specs.declared.fault.ReadKind.{ReadKind}
-use Rattle.pb_read.specs.declared.fault.ReadKind.TheVariants.{NotText, TooManyRecords, NoSection, SectionOrder, NoHeader, MissingColumn, MissingField, MissingKey, VoteType, BadMoney, MoneyTooFine, MoneyTooLarge, ZeroCost, EmptyId, RepeatedProject, RepeatedVoter, UnknownProject, TooManyProjects, TooManyVoters}
+use Rattle.pb_read.specs.declared.fault.ReadKind.TheVariants.{NotText, TooManyRecords, NoSection, SectionOrder, NoHeader, MissingColumn, MissingField, MissingKey, VoteType, BadMoney, MoneyTooFine, MoneyTooLarge, ZeroCost, EmptyId, RepeatedProject, RepeatedVoter, UnknownProject, TooManyProjects, TooManyVoters, BadLength}
 use Rattle.pb_read.specs.declared.meta.Meta.{Meta}
 use Rattle.pb_read.specs.declared.section.Section.{Section}
 use Rattle.pb_read.specs.declared.section.Section.TheVariants as section
@@ -43,7 +44,7 @@ abbrev pub IsAt : List Fields → Position → Type 0
 IsAt rows start = rows ≡ []
 IsAt rows meta_head = IsMetaHead rows
 IsAt rows (in_meta meta) = IsMeta rows meta
-IsAt rows (projects_head e) = IsProjectsHead rows e.budget × (e ≡ opening e.budget)
+IsAt rows (projects_head e) = IsProjectsHead rows e.budget e.max_length × (e ≡ opening e.budget e.max_length)
 IsAt rows (in_projects columns e) = IsProjects rows columns e
 IsAt rows (votes_head e) = IsVotesHead rows e
 IsAt rows (in_votes columns e) = IsVotes rows columns e
@@ -171,6 +172,11 @@ abbrev pub has_full_voters : Position → Next → Bool
 has_full_voters (in_votes columns e) (plain row) = nat_le most_voters (length e.voters)
 has_full_voters _ _ = false
 
+-- PROJECTS' head, where META's limit on a ballot's length has not its form
+abbrev pub has_bad_length : Position → Next → Bool
+has_bad_length (in_meta meta) (head section.Projects) = is_err meta.max_length
+has_bad_length _ _ = false
+
 -- which kinds apply, those aside that need no position
 abbrev pub applies : Position → Next → ReadKind → Bool
 applies p n NoSection = lacks_section p n
@@ -190,6 +196,7 @@ applies p n RepeatedVoter = repeats_voter p n
 applies p n UnknownProject = names_unknown p n
 applies p n TooManyProjects = has_full_projects p n
 applies p n TooManyVoters = has_full_voters p n
+applies p n BadLength = has_bad_length p n
 applies p n _ = false
 
 -- the lowest of them

@@ -1,7 +1,7 @@
 -- The numbers and names of the kinds of fault.
 use Rattle.std.specs.Prelude.{ℕ, List, [], ◌∷◌, codes}
 use Rattle.pb_read.specs.declared.fault.ReadKind.{ReadKind}
-use Rattle.pb_read.specs.declared.fault.ReadKind.TheVariants.{ReadFailed, NotText, TooManyRecords, NoSection, SectionOrder, NoHeader, MissingColumn, MissingField, MissingKey, VoteType, BadMoney, MoneyTooFine, MoneyTooLarge, ZeroCost, EmptyId, RepeatedProject, RepeatedVoter, UnknownProject, TooManyProjects, TooManyVoters, NoMemory}
+use Rattle.pb_read.specs.declared.fault.ReadKind.TheVariants.{ReadFailed, NotText, TooManyRecords, NoSection, SectionOrder, NoHeader, MissingColumn, MissingField, MissingKey, VoteType, BadMoney, MoneyTooFine, MoneyTooLarge, ZeroCost, EmptyId, RepeatedProject, RepeatedVoter, UnknownProject, TooManyProjects, TooManyVoters, NoMemory, BadLength}
 
 abbrev pub number_of : ReadKind → ℕ
 number_of ReadFailed = 1
@@ -25,6 +25,7 @@ number_of UnknownProject = 18
 number_of TooManyProjects = 19
 number_of TooManyVoters = 20
 number_of NoMemory = 21
+number_of BadLength = 22
 
 abbrev pub name_of : ReadKind → List ℕ
 name_of ReadFailed = codes "ReadFailed"
@@ -48,8 +49,9 @@ name_of UnknownProject = codes "UnknownProject"
 name_of TooManyProjects = codes "TooManyProjects"
 name_of TooManyVoters = codes "TooManyVoters"
 name_of NoMemory = codes "NoMemory"
+name_of BadLength = codes "BadLength"
 
 -- the kinds that depend on how far the file has come, in rising number
 abbrev pub row_kinds : List ReadKind
 row_kinds =
-    NoSection ∷ SectionOrder ∷ NoHeader ∷ MissingColumn ∷ MissingField ∷ MissingKey ∷ VoteType ∷ BadMoney ∷ MoneyTooFine ∷ MoneyTooLarge ∷ ZeroCost ∷ EmptyId ∷ RepeatedProject ∷ RepeatedVoter ∷ UnknownProject ∷ TooManyProjects ∷ TooManyVoters ∷ []
+    NoSection ∷ SectionOrder ∷ NoHeader ∷ MissingColumn ∷ MissingField ∷ MissingKey ∷ VoteType ∷ BadMoney ∷ MoneyTooFine ∷ MoneyTooLarge ∷ ZeroCost ∷ EmptyId ∷ RepeatedProject ∷ RepeatedVoter ∷ UnknownProject ∷ TooManyProjects ∷ TooManyVoters ∷ BadLength ∷ []

@@ -3,6 +3,7 @@ pub mod Drafts
 pub mod Faults
 pub mod FirstFault
 pub mod Kinds
+pub mod Lengths
 pub mod Machine
 pub mod MetaRows
 pub mod Progresses

@@ -11,6 +11,7 @@ use Rattle.pb_core.specs.declared.money_fault.MoneyFault.TheVariants as money
 use Rattle.pb_rows.specs.Reading.{Fields}
 use Rattle.pb_read.specs.Columns.{project_columns, vote_columns, has_project_fields, has_vote_fields, name_field}
 use Rattle.pb_read.specs.Faults.{is_nothing, Position, start, meta_head, in_meta, projects_head, in_projects, votes_head, in_votes, Next, head, plain, next_row, row_fault}
+use Rattle.pb_read.specs.Lengths.{max_length_of}
 use Rattle.pb_read.specs.MetaRows.{meta_of}
 use Rattle.pb_read.specs.Rows.{field, is_empty, is_word}
 use Rattle.pb_read.specs.StandsFor.{opening}
@@ -18,7 +19,7 @@ use Rattle.pb_read.specs.Voting.{ballot_of, is_among, names_only}
 use Rattle.pb_read.specs.declared.columns.ProjectColumns.{ProjectColumns}
 use Rattle.pb_read.specs.declared.columns.VoteColumns.{VoteColumns}
 use Rattle.pb_read.specs.declared.fault.ReadKind.{ReadKind}
-use Rattle.pb_read.specs.declared.fault.ReadKind.TheVariants.{MissingField, MissingKey, VoteType, BadMoney, MoneyTooFine, MoneyTooLarge, ZeroCost, EmptyId, RepeatedProject, RepeatedVoter, UnknownProject, TooManyProjects, TooManyVoters, NoMemory}
+use Rattle.pb_read.specs.declared.fault.ReadKind.TheVariants.{MissingField, MissingKey, VoteType, BadMoney, MoneyTooFine, MoneyTooLarge, ZeroCost, EmptyId, RepeatedProject, RepeatedVoter, UnknownProject, TooManyProjects, TooManyVoters, NoMemory, BadLength}
 use Rattle.pb_read.specs.declared.meta.Meta.{Meta}
 
 -- what META says with one more row
@@ -26,6 +27,7 @@ abbrev pub with_row : Meta → Fields → Meta
 with_row meta row = record {
   budget = if is_word (codes "budget") (field row 0) then Some (money_of (field row 1)) else meta.budget;
   approval = if is_word (codes "vote_type") (field row 0) then Some (is_word (codes "approval") (field row 1)) else meta.approval;
+  max_length = if is_word (codes "max_length") (field row 0) then max_length_of (field row 1) else meta.max_length;
 }
 
 abbrev pub amount_of : Result ℕ MoneyFault → ℕ
@@ -35,6 +37,10 @@ amount_of (Err fault) = 0
 abbrev pub budget_of : Option (Result ℕ MoneyFault) → ℕ
 budget_of None = 0
 budget_of (Some read) = amount_of read
+
+abbrev pub limit_of : Result (Option ℕ) ReadKind → Option ℕ
+limit_of (Ok max_length) = max_length
+limit_of (Err kind) = None
 
 abbrev pub project_of : ProjectColumns → Fields → ProjectView
 project_of columns row = record { id = field row columns.id; name = name_field columns row; cost = amount_of (money_of (field row columns.cost)) }
@@ -52,7 +58,7 @@ with_voter columns row e = record e { voters = e.voters ++ voter_of columns (pro
 abbrev pub advance : Position → Next → Position
 advance start (head name) = meta_head
 advance meta_head (plain row) = in_meta (meta_of [])
-advance (in_meta meta) (head name) = projects_head (opening (budget_of meta.budget))
+advance (in_meta meta) (head name) = projects_head (opening (budget_of meta.budget) (limit_of meta.max_length))
 advance (in_meta meta) (plain row) = in_meta (with_row meta row)
 advance (projects_head e) (plain header) = option_map_or (λ columns. in_projects columns e) (project_columns header) start
 advance (in_projects columns e) (head name) = votes_head e
@@ -87,10 +93,15 @@ abbrev pub money_checks : Result ℕ MoneyFault → Option ReadKind → Option R
 money_checks (Ok amount) more = more
 money_checks (Err fault) more = Some (kind_of_money fault)
 
-abbrev pub head_checks : Option (Result ℕ MoneyFault) → Option Bool → Option ReadKind
-head_checks None approval = Some MissingKey
-head_checks (Some budget) None = Some MissingKey
-head_checks (Some budget) (Some approval) = if not approval then Some VoteType else money_checks budget None
+abbrev pub length_checks : Result (Option ℕ) ReadKind → Option ReadKind
+length_checks (Ok max_length) = None
+length_checks (Err kind) = Some BadLength
+
+abbrev pub head_checks : Option (Result ℕ MoneyFault) → Option Bool → Result (Option ℕ) ReadKind → Option ReadKind
+head_checks None approval max_length = Some MissingKey
+head_checks (Some budget) None max_length = Some MissingKey
+head_checks (Some budget) (Some approval) max_length =
+    if not approval then Some VoteType else money_checks budget (length_checks max_length)
 
 abbrev pub project_checks : Bool → Result ℕ MoneyFault → Bool → Bool → Bool → Option ReadKind
 project_checks whole cost no_id repeated full =

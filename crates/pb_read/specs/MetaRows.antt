@@ -1,8 +1,9 @@
 -- What the rows of META say.
-use Rattle.std.specs.Prelude.{ℕ, List, [], ◌∷◌, Option, None, Some, option_map, codes, if◌then◌else◌}
-use Rattle.std.specs.Option.{option_or}
+use Rattle.std.specs.Prelude.{ℕ, List, [], ◌∷◌, Option, None, Some, Ok, option_map, codes, if◌then◌else◌}
+use Rattle.std.specs.Option.{option_map_or, option_or}
 use Rattle.pb_core.specs.Money.{money_of}
 use Rattle.pb_rows.specs.Reading.{Fields}
+use Rattle.pb_read.specs.Lengths.{max_length_of}
 use Rattle.pb_read.specs.Rows.{field, is_word}
 use Rattle.pb_read.specs.declared.meta.Meta.{Meta}
 
@@ -12,9 +13,10 @@ value_of key [] = None
 value_of key (row ∷ rows) =
     option_or (value_of key rows) (if is_word key (field row 0) then Some (field row 1) else None)
 
--- `budget` as money, and whether `vote_type` is `approval`
+-- `budget` as money, whether `vote_type` is `approval`, and the limit of `max_length`
 abbrev pub meta_of : List Fields → Meta
 meta_of rows = record {
   budget = option_map money_of (value_of (codes "budget") rows);
   approval = option_map (is_word (codes "approval")) (value_of (codes "vote_type") rows);
+  max_length = option_map_or max_length_of (value_of (codes "max_length") rows) (Ok None);
 }

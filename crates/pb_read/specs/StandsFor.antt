@@ -1,5 +1,5 @@
 -- The election that a list of records stands for.
-use Rattle.std.specs.Prelude.{◌≡◌, ◌≤◌, ℕ, true, List, [], ◌∷◌, ◌++◌, length, None, Some, Ok}
+use Rattle.std.specs.Prelude.{◌≡◌, ◌≤◌, ℕ, true, List, [], ◌∷◌, ◌++◌, length, Option, None, Some, Ok}
 use Rattle.std.specs.List.{AllByRecursion, AllZip}
 use Rattle.csv.specs.Records.{AllText}
 use Rattle.pb_core.specs.Election.{ElectionView, IsElection, ProjectView, VoterView, project_ids}
@@ -22,9 +22,9 @@ IsHead name row = head_of row ≡ Some name
 abbrev pub IsPlain : Fields → Type 0
 IsPlain row = head_of row ≡ None
 
--- an election of this budget, with neither projects nor voters yet
-abbrev pub opening : ℕ → ElectionView
-opening budget = record { budget = budget; projects = []; voters = [] }
+-- an election of this budget and this limit on a ballot's length, with neither projects nor voters yet
+abbrev pub opening : ℕ → Option ℕ → ElectionView
+opening budget max_length = record { budget = budget; max_length = max_length; projects = []; voters = [] }
 
 -- a row of PROJECTS gives a project
 pub record GivesProject (columns : ProjectColumns) (row : Fields) (project : ProjectView) : Type 0 where
@@ -53,8 +53,8 @@ pub record IsMeta (rows : List Fields) (meta : Meta) : Type 0 where
   pub plain : AllByRecursion IsPlain body
   pub says : meta ≡ meta_of body
 
--- META, and PROJECTS' head behind it; META gives the budget, and approval as the vote type
-pub record IsProjectsHead (rows : List Fields) (budget : ℕ) : Type 0 where
+-- META, and PROJECTS' head behind it; META gives the budget, approval as the vote type, and the limit
+pub record IsProjectsHead (rows : List Fields) (budget : ℕ) (max_length : Option ℕ) : Type 0 where
   pub front : List Fields
   pub meta : Meta
   pub head : Fields
@@ -63,6 +63,7 @@ pub record IsProjectsHead (rows : List Fields) (budget : ℕ) : Type 0 where
   pub opens : IsHead section.Projects head
   pub budget_is : meta.budget ≡ Some (Ok budget)
   pub approval : meta.approval ≡ Some true
+  pub limit : meta.max_length ≡ Ok max_length
 
 -- PROJECTS with its header row, and one row for each project of the election, which has no voter yet
 pub record IsProjects (rows : List Fields) (columns : ProjectColumns) (e : ElectionView) : Type 0 where
@@ -70,7 +71,7 @@ pub record IsProjects (rows : List Fields) (columns : ProjectColumns) (e : Elect
   pub header : Fields
   pub body : List Fields
   pub cut : rows ≡ front ++ header ∷ body
-  pub before : IsProjectsHead front e.budget
+  pub before : IsProjectsHead front e.budget e.max_length
   pub plain_header : IsPlain header
   pub columns_are : project_columns header ≡ Some columns
   pub projects : AllZip (GivesProject columns) body e.projects

@@ -33,14 +33,16 @@ pub(crate) struct Draft {
 }
 
 impl Draft {
-    /// An election of this budget, without projects and voters yet.
-    pub(crate) fn new(alloc: Global, budget: Money) -> Draft
+    /// An election of this budget and this limit on a ballot's length, without projects and voters yet.
+    pub(crate) fn new(alloc: Global, budget: Money, max_length: Option<u32>) -> Draft
         requires { budget ≤ largest_money }
-        ensures election { result.election ≡ opening budget }
+        ensures election { result.election ≡ opening budget max_length }
         ensures tied { IsTied result }
     {
+        let mut election = Election::start(alloc, budget);
+        election.set_max_length(max_length);
         Draft {
-            election: Election::start(alloc, budget),
+            election,
             project_ids: Ids::new(alloc),
             voter_ids: Ids::new(alloc),
             places: Vec::new(alloc),

@@ -76,6 +76,9 @@ pub enum ReadKind {
     /// Memory was refused while this record was in work.
     #[error("out of memory")]
     NoMemory,
+    /// At PROJECTS' head: META's `max_length` is no number, perhaps with zeros as decimals, nor empty.
+    #[error("the limit on a ballot's length is malformed")]
+    BadLength,
 }
 
 impl ReadKind {
@@ -105,6 +108,7 @@ impl ReadKind {
             ReadKind::TooManyProjects => 19,
             ReadKind::TooManyVoters => 20,
             ReadKind::NoMemory => 21,
+            ReadKind::BadLength => 22,
         }
     }
 
@@ -134,6 +138,7 @@ impl ReadKind {
             ReadKind::TooManyProjects => "TooManyProjects",
             ReadKind::TooManyVoters => "TooManyVoters",
             ReadKind::NoMemory => "NoMemory",
+            ReadKind::BadLength => "BadLength",
         }
     }
 }

@@ -6,6 +6,7 @@ mod draft;
 mod fault;
 mod ids;
 mod laws;
+mod length;
 mod meta;
 mod progress;
 mod read;

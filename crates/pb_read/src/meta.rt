@@ -1,6 +1,7 @@
 // What the rows of META say.
 
 use crate::fault::ReadKind;
+use crate::length::read_max_length;
 use crate::row::{field, is_word};
 use csv::StringRecord;
 use pb_core::money::Money;
@@ -13,6 +14,8 @@ pub(crate) struct Meta {
     pub(crate) budget: Option<Result<Money, MoneyFault>>,
     /// Whether the value of `vote_type` is `approval`.
     pub(crate) approval: Option<bool>,
+    /// The limit that `max_length` names; none where the key is missing.
+    pub(crate) max_length: Result<Option<u32>, ReadKind>,
 }
 
 impl Meta {
@@ -29,6 +32,7 @@ impl Meta {
         Meta {
             budget: None,
             approval: None,
+            max_length: Ok(None),
         }
     }
 
@@ -44,12 +48,17 @@ impl Meta {
         if is_word("vote_type", key) {
             self.approval = Some(is_word("approval", value));
         }
+        if is_word("max_length", key) {
+            self.max_length = read_max_length(value);
+        }
     }
 
-    /// The budget, where the values are as they must be.
-    pub(crate) fn budget(&self) -> Result<Money, ReadKind>
-        ensures { MatchResult result (λ budget. (head_checks self.now.budget self.now.approval ≡ None) × (self.now.budget ≡ Some (Ok budget)))
-            (λ kind. head_checks self.now.budget self.now.approval ≡ Some kind) }
+    /// The budget and the limit on a ballot's length, where the values are as they must be.
+    pub(crate) fn terms(&self) -> Result<(Money, Option<u32>), ReadKind>
+        ensures { MatchResult result
+            (λ terms. (head_checks self.now.budget self.now.approval self.now.max_length ≡ None)
+            × (self.now.budget ≡ Some (Ok terms.0)) × (self.now.max_length ≡ Ok terms.1))
+            (λ kind. head_checks self.now.budget self.now.approval self.now.max_length ≡ Some kind) }
     {
         let (Some(budget), Some(approval)) = (self.budget, self.approval) else {
             return Err(ReadKind::MissingKey);
@@ -57,6 +66,13 @@ impl Meta {
         if !approval {
             return Err(ReadKind::VoteType);
         }
-        budget.map_err(ReadKind::from)
+        let budget = match budget {
+            Ok(budget) => budget,
+            Err(fault) => return Err(ReadKind::from(fault)),
+        };
+        match self.max_length {
+            Ok(max_length) => Ok((budget, max_length)),
+            Err(_) => Err(ReadKind::BadLength),
+        }
     }
 }

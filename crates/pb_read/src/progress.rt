@@ -4,7 +4,7 @@ ghost use Rattle.std.specs.Prelude.{◌≡◌, None, Some, IfErr, OnOk, MatchRes
 ghost use Rattle.csv.specs.Records.{fields_of};
 ghost use Rattle.pb_core.specs.Election.{ElectionView};
 ghost use Rattle.pb_read.specs.Faults.{head, next_row, plain, projects_head, row_fault, start, the_end};
-ghost use Rattle.pb_read.specs.Machine.{Explains, advance, budget_of, head_checks};
+ghost use Rattle.pb_read.specs.Machine.{Explains, advance, budget_of, head_checks, limit_of};
 ghost use Rattle.pb_read.specs.Progresses.{EndsWith, IsRead, IsReady, position_of};
 ghost use Rattle.pb_read.specs.Rows.{trimmed};
 ghost use Rattle.pb_read.specs.StandsFor.{opening};
@@ -54,7 +54,7 @@ impl Progress {
     {
         Progress {
             stage: Stage::Start,
-            draft: Draft::new(alloc, Money(0)),
+            draft: Draft::new(alloc, Money(0), None),
         }
     }
 
@@ -106,15 +106,16 @@ impl Progress {
     /// Reads PROJECTS' head behind META.
     fn open_projects(&mut self, meta: Meta) -> Result<(), ReadKind>
         requires { IsRead meta }
-        ensures ok { OnOk result ((head_checks meta.budget meta.approval ≡ None)
-            × (position_of self.new.stage self.new.draft.election ≡ projects_head (opening (budget_of meta.budget))) × IsReady self.new) }
-        ensures err { IfErr result (λ kind. head_checks meta.budget meta.approval ≡ Some kind) }
+        ensures ok { OnOk result ((head_checks meta.budget meta.approval meta.max_length ≡ None)
+            × (position_of self.new.stage self.new.draft.election
+            ≡ projects_head (opening (budget_of meta.budget) (limit_of meta.max_length))) × IsReady self.new) }
+        ensures err { IfErr result (λ kind. head_checks meta.budget meta.approval meta.max_length ≡ Some kind) }
     {
-        let budget = match meta.budget() {
-            Ok(budget) => budget,
+        let (budget, max_length) = match meta.terms() {
+            Ok(terms) => terms,
             Err(kind) => return Err(kind),
         };
-        self.draft = Draft::new(self.draft.alloc, budget);
+        self.draft = Draft::new(self.draft.alloc, budget, max_length);
         self.stage = Stage::ProjectsHead;
         Ok(())
     }

@@ -138,6 +138,60 @@ fn reads_what_is_rare(rt: HostRuntime) -> Result<(), Fail> {
 }
 
 #[test]
+fn reads_the_limit_on_a_ballot(rt: HostRuntime) -> Result<(), Fail> {
+    let alloc = rt.alloc();
+    let limits = [
+        ("2", Some(2)),
+        ("2.0", Some(2)),
+        ("2,00", Some(2)),
+        ("007.0", Some(7)),
+        ("0", Some(0)),
+        (" 1 ", Some(1)),
+        ("10000", Some(10_000)),
+        ("10000,000", Some(10_000)),
+        ("", None),
+        ("10001", None),
+        ("99999999999999999999", None),
+        ("99999999999999999999.0", None),
+        ("two\nmax_length;3", Some(3)),
+        ("3\nMAX_Length", None),
+        ("3\nmax_lengths;1", Some(3)),
+    ];
+    for (value, want) in limits {
+        let text = format!(in alloc; "vote_type;approval\nmax_length;{value}")?;
+        let file = with_line(alloc, 4, text.as_str())?;
+        let election = read_pb(alloc, file.as_bytes()).ok().ok_or("refused")?;
+        assert_eq!(rt; election.max_length(), want, "{value:?}");
+        // The file's own ballots are not held to it.
+        assert_eq!(rt; shown(alloc, &election)?.as_str(), SHOWN, "{value:?}");
+    }
+    let malformed = [
+        "2.5",
+        "-1",
+        "+1",
+        "two",
+        ".",
+        ".0",
+        "2.",
+        "2.0.0",
+        "2.01",
+        "1 000",
+        "1e3",
+        "2\nmax_length;x",
+        "99999999999999999999.5",
+    ];
+    for value in malformed {
+        let text = format!(in alloc; "max_length;{value}\nPROJECTS")?;
+        let file = with_line(alloc, 5, text.as_str())?;
+        let fault = read_pb(alloc, file.as_bytes())
+            .err()
+            .map(|fault| fault.number());
+        assert_eq!(rt; fault, Some(22), "{value:?}");
+    }
+    Ok(())
+}
+
+#[test]
 fn names_the_first_fault(rt: HostRuntime) -> Result<(), Fail> {
     let alloc = rt.alloc();
     let faults = [
@@ -184,6 +238,9 @@ fn names_the_first_fault(rt: HostRuntime) -> Result<(), Fail> {
         (12, "v2;A", "18 12"),
         // Two faults in one record: the lower number is answered.
         (3, "budget;x\nvote_type;ordinal\nPROJECTS", "10 5"),
+        (4, "vote_type;approval\nmax_length;two", "22 6"),
+        (3, "budget;x\nmax_length;two", "11 6"),
+        (3, "max_length;two", "9 5"),
         (8, "a", "8 8"),
         (8, "a;0", "14 8"),
         (8, ";x", "11 8"),
