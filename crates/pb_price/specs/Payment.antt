@@ -1,4 +1,4 @@
-use Rattle.std.specs.Prelude.{ℕ, ◌<◌, ◌≤◌, min, List, sum_by}
+use Rattle.std.specs.Prelude.{ℕ, ◌<◌, ◌≤◌, min, List, sum_by, count_by, nat_lt, slice_index}
 
 -- what people with these rests pay together where each pays p, or all that is left where that is less
 abbrev pub paid_from : List ℕ → ℕ → ℕ
@@ -8,3 +8,7 @@ paid_from rests p = sum_by (λ rest. min rest p) rests
 pub record IsLeastFrom (rests : List ℕ) (cost p : ℕ) : Type 0 where
   pub covers : cost ≤ paid_from rests p
   pub least : (q : ℕ) → q < p → paid_from rests q < cost
+
+-- how many of the supporters have more left than p
+abbrev pub payers_above : List ℕ → List ℕ → ℕ → ℕ
+payers_above supporters rests p = count_by (λ voter. nat_lt p (slice_index rests voter)) supporters

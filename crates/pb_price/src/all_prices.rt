@@ -4,8 +4,8 @@ ghost use Rattle.pb_price.specs.Price.{price_at, AreRests, largest_count};
 ghost use Rattle.pb_price.specs.PriceFault.{is_worker_count};
 
 use crate::gate::Gate;
-use crate::price::price_with;
 use crate::price_fault::PriceFault;
+use crate::steps::price_in_steps;
 use crate::supporters::Supporters;
 use crate::tally::Tally;
 use pb_core::money::Money;
@@ -56,13 +56,10 @@ pub fn price_all<
     if !is_worker_count(workers) {
         return Err(PriceFault::WorkerCount);
     }
-    let mut buffer = Vec::new(alloc);
     let mut answers = Vec::with_capacity(alloc, projects.len())?;
-    let mut each = Tally::new();
     for (piece, place) in projects.iter().enumerate() {
         gate.at(0, piece as u32);
-        let answer = price_with(&mut buffer, supporters, rests, *place, &mut each)?;
-        answers.push(answer)?;
+        answers.push(price_in_steps(supporters, rests, *place))?;
     }
     tally.add(projects.len() as u64);
     Ok(answers)

@@ -3,10 +3,12 @@
 
 mod all_prices;
 pub mod gate;
+pub mod laws;
 mod least_payment;
 pub mod price;
 pub mod price_by_trial;
 mod price_fault;
+mod steps;
 pub mod supporters;
 pub mod tally;
 #[cfg(test)]
@@ -16,5 +18,6 @@ mod voter_list;
 pub use all_prices::price_all;
 pub use gate::{Gate, NoGate};
 pub use price_fault::PriceFault;
+pub use steps::price_in_steps;
 pub use supporters::Supporters;
 pub use tally::Tally;
