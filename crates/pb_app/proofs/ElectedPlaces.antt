@@ -14,6 +14,7 @@ use Rattle.pb_rounds.specs.Bid.{Bid}
 use Rattle.pb_rounds.specs.Count.{count_of, raises_of, share_after}
 use Rattle.pb_rounds.specs.Outcome.{Settled, settled_by}
 use Rattle.pb_rounds.specs.Run.{ElectedView, best_of, charged, elected_by, is_listed, outcome_of, run_from, run_of, then_run, without}
+use Rattle.pb_rounds.specs.declared.measure.Measure.{Measure}
 use Rattle.pb_rounds.specs.declared.options.CountOptions.{CountOptions}
 
 -- at most so many are elected, all from those that were left
@@ -24,20 +25,20 @@ pub record IsDrawn (rounds : ℕ) (left : List ℕ) (elected : List ElectedView)
 none_drawn : (rounds : ℕ) (left : List ℕ) → IsDrawn rounds left []
 none_drawn rounds left = record { few = omega arith; listed = All-nil (λ w. is_listed left w.place ≡ true) }
 
-run_is_drawn : (s : SupportView) (rounds : ℕ) (rests left : List ℕ) → IsDrawn rounds left (run_from s rounds rests left).elected
+run_is_drawn : (m : Measure) (s : SupportView) (rounds : ℕ) (rests left : List ℕ) → IsDrawn rounds left (run_from m s rounds rests left).elected
 unfolding run_from
-run_is_drawn s zero rests left = none_drawn zero left
-run_is_drawn s (suc rounds) rests left = by_best (best_of s rests left) refl (run_is_drawn s rounds)
+run_is_drawn m s zero rests left = none_drawn zero left
+run_is_drawn m s (suc rounds) rests left = by_best (best_of m s rests left) refl (run_is_drawn m s rounds)
   where
-    by_best : (best : Option Bid) → best_of s rests left ≡ best
-        → ((rests left : List ℕ) → IsDrawn rounds left (run_from s rounds rests left).elected)
-        → IsDrawn (suc rounds) left (option_map_or (λ b. then_run (elected_by s rests b) (run_from s rounds (charged (supporters_at s b.place) b.price rests) (without b.place left))) best (record { elected = []; rests = rests })).elected
+    by_best : (best : Option Bid) → best_of m s rests left ≡ best
+        → ((rests left : List ℕ) → IsDrawn rounds left (run_from m s rounds rests left).elected)
+        → IsDrawn (suc rounds) left (option_map_or (λ b. then_run (elected_by s rests b) (run_from m s rounds (charged (supporters_at s b.place) b.price rests) (without b.place left))) best (record { elected = []; rests = rests })).elected
     by_best None e later = none_drawn (suc rounds) left
     by_best (Some b) e later =
         let drawn = later (charged (supporters_at s b.place) b.price rests) (without b.place left) in
         record {
           few = omega (arith, drawn.few);
-          listed = All-cons (λ w. is_listed left w.place ≡ true) _ _ (best_is_bid s rests left b e).is_left
+          listed = All-cons (λ w. is_listed left w.place ≡ true) _ _ (best_is_bid m s rests left b e).is_left
               (λ k d below. listed_from_without left b.place _ (drawn.listed k d below));
         }
 
@@ -46,23 +47,23 @@ pub record AreProjects (e : ElectionView) (elected : List ElectedView) : Type 0 
   pub known : All (λ w. w.place < length e.projects) elected
   pub few : length elected ≤ length e.projects
 
-run_elects_projects : (e : ElectionView) (share : ℕ) → AreProjects e (outcome_of e share).elected
+run_elects_projects : (m : Measure) (e : ElectionView) (share : ℕ) → AreProjects e (outcome_of m e share).elected
 unfolding run_of
-run_elects_projects e share =
+run_elects_projects m e share =
     let s = support_of e in
     let n = length s.costs in
     let count : n ≡ length e.projects = simp length-map in
-    let drawn = run_is_drawn s n (replicate s.voters share) (range_with_len 0 n) in
+    let drawn = run_is_drawn m s n (replicate s.voters share) (range_with_len 0 n) in
     record {
       known = λ k d below. omega (arith, listed-below (range_with_len 0 n) n _ (RisesWithin-below _ 0 n (range_rises 0 n n (omega arith))) (drawn.listed k d below));
       few = omega (arith, drawn.few);
     }
 
-settled_elects_projects : (e : ElectionView) (shares : ℕ → ℕ) (raises : Option ℕ) (o : Settled)
-    → option_map (λ r. settled_by (shares r) r (outcome_of e (shares r))) raises ≡ Some o → AreProjects e o.elected
-settled_elects_projects e shares None o same = absurd (none-some _ same)
-settled_elects_projects e shares (Some raises) o same =
-    rw (← ap (λ (o : Settled). o.elected) (same_Some _ _ same)) (run_elects_projects e (shares raises))
+settled_elects_projects : (m : Measure) (e : ElectionView) (shares : ℕ → ℕ) (raises : Option ℕ) (o : Settled)
+    → option_map (λ r. settled_by (shares r) r (outcome_of m e (shares r))) raises ≡ Some o → AreProjects e o.elected
+settled_elects_projects m e shares None o same = absurd (none-some _ same)
+settled_elects_projects m e shares (Some raises) o same =
+    rw (← ap (λ (o : Settled). o.elected) (same_Some _ _ same)) (run_elects_projects m e (shares raises))
 
 pub count_elects_projects : (e : ElectionView) (options : CountOptions) (o : Settled) → count_of e options ≡ Some o → AreProjects e o.elected
-count_elects_projects e options o counted = settled_elects_projects e (share_after e options.step) (raises_of options.completion e options.step options.max_raises) o counted
+count_elects_projects e options o counted = settled_elects_projects options.measure e (share_after e options.step) (raises_of options.completion options.measure e options.step options.max_raises) o counted

@@ -108,6 +108,7 @@ fn options_of(words: &ArgMatches<'_>) -> CountOptions {
         },
         max_raises: words.get_one("raises").unwrap_or(standard.max_raises),
         workers: words.get_one("workers").unwrap_or(standard.workers),
+        measure: standard.measure,
         completion: if words.get_flag("plain") {
             Completion::Plain
         } else {

@@ -204,6 +204,7 @@ fn refuses_counts(rt: HostRuntime) -> Result<(), Fail> {
             step: Money(step),
             max_raises,
             completion: Completion::Add1,
+            measure: standard().measure,
         };
         count_fails(&rt, alloc, file.as_str(), options, wanted)?;
     }

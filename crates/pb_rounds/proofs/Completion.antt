@@ -6,10 +6,13 @@ use Rattle.std.proofs.lemmas.Bool.{cases_Bool, true≢false, or_left, or_right, 
 use Rattle.pb_core.specs.Election.{ElectionView}
 use Rattle.pb_price.proofs.FirstInRange.{IsFirstInRange, NoneInRange, find-range_with_len, find_from_first}
 use Rattle.pb_price.specs.Supporters.{SupportView, IsSupport, support_of}
-use Rattle.pb_rounds.specs.Count.{spent_on, is_over, is_exhausted, is_over_after, is_exhausted_after, is_end, first_end, add1_of, opening_share, share_after, elected_after, settled_after}
+use Rattle.pb_rounds.specs.declared.measure.Measure.{Measure}
+use Rattle.pb_rounds.specs.Count.{spent_on, is_over, is_exhausted, is_over_after, is_exhausted_after, is_decisive, first_decisive, add1_of, opening_share, share_after, elected_after, settled_after}
 use Rattle.pb_rounds.specs.Outcome.{OutcomeView, Settled, settled, settled_by}
 use Rattle.pb_rounds.specs.Run.{run_of, ElectedView}
 use Rattle.pb_rounds.specs.PriceSystem.{HasPriceSystem}
+use Rattle.pb_rounds.specs.Cheapest.{EachWasCheapest}
+use Rattle.pb_rounds.proofs.CheapestRounds.{settled_was_cheapest}
 use Rattle.pb_rounds.proofs.Exhausted.{over_from_within}
 use Rattle.pb_rounds.proofs.Explained.{run_within_shares, run_has_price_system}
 
@@ -21,11 +24,11 @@ shares_within voters budget = elim (cases_eq voters 0) [
 ]
 
 -- the outcome at the opening share is never over
-pub opening_not_over : (e : ElectionView) → IsSupport (support_of e) → (step : ℕ) → is_over_after e step 0 ≡ false
-opening_not_over e h step =
+pub opening_not_over : (m : Measure) (e : ElectionView) → IsSupport (support_of e) → (step : ℕ) → is_over_after m e step 0 ≡ false
+opening_not_over m e h step =
     let same : share_after e step 0 ≡ opening_share e = omega arith in
-    over_from_within (support_of e) e.budget (elected_after e step 0)
-    (let within = run_within_shares (support_of e) h (opening_share e) in
+    over_from_within (support_of e) e.budget (elected_after m e step 0)
+    (let within = run_within_shares m (support_of e) h (opening_share e) in
     let small = shares_within (length e.voters) e.budget in
     rw (same, elected_after) (omega (arith, within, small)))
 
@@ -33,96 +36,96 @@ none_found : (test : ℕ → Bool) (high : ℕ) → NoneInRange test 0 high → 
 none_found test high none None found = refl
 none_found test high none (Some k) found = absurd (true≢false (sym found.passes ∙ none k (omega arith) found.below))
 
-module _ (e : ElectionView) (step limit : ℕ) where
-  end_found : (raises : ℕ) → raises ≤ limit → ((j : ℕ) → j < raises → is_end e step j ≡ false) → is_end e step raises ≡ true → first_end e step limit ≡ Some raises
-  unfolding first_end
+module _ (m : Measure) (e : ElectionView) (step limit : ℕ) where
+  end_found : (raises : ℕ) → raises ≤ limit → ((j : ℕ) → j < raises → is_decisive m e step j ≡ false) → is_decisive m e step raises ≡ true → first_decisive m e step limit ≡ Some raises
+  unfolding first_decisive
   end_found raises within tried ends =
-      find_from_first (is_end e step) (limit + 1) 0 (limit + 1) raises (omega arith) (record {
+      find_from_first (is_decisive m e step) (limit + 1) 0 (limit + 1) raises (omega arith) (record {
         from = omega arith;
         below = omega arith;
         passes = ends;
         first = λ j _ below. tried j below;
       })
 
-  pub raises_spent : (tried_below : ℕ) → limit < tried_below → ((j : ℕ) → j < tried_below → is_end e step j ≡ false) → add1_of e step limit ≡ None
-  unfolding first_end
+  pub raises_spent : (tried_below : ℕ) → limit < tried_below → ((j : ℕ) → j < tried_below → is_decisive m e step j ≡ false) → add1_of m e step limit ≡ None
+  unfolding first_decisive
   raises_spent tried_below all tried =
-      ap (option_map (λ raises. if is_over_after e step raises then raises - 1 else raises))
-      (none_found (is_end e step) (limit + 1) (λ j _ below. tried j (omega arith)) _ (find-range_with_len (is_end e step) (limit + 1) 0 (limit + 1) (omega arith)))
+      ap (option_map (λ raises. if is_over_after m e step raises then raises - 1 else raises))
+      (none_found (is_decisive m e step) (limit + 1) (λ j _ below. tried j (omega arith)) _ (find-range_with_len (is_decisive m e step) (limit + 1) 0 (limit + 1) (omega arith)))
 
-  pub decided_before : (raises : ℕ) → raises ≤ limit → ((j : ℕ) → j < raises → is_end e step j ≡ false) → is_over_after e step raises ≡ true
-      → add1_of e step limit ≡ Some (raises - 1)
+  pub decided_before : (raises : ℕ) → raises ≤ limit → ((j : ℕ) → j < raises → is_decisive m e step j ≡ false) → is_over_after m e step raises ≡ true
+      → add1_of m e step limit ≡ Some (raises - 1)
   decided_before raises within tried over =
-      ap (option_map (λ n. if is_over_after e step n then n - 1 else n)) (end_found raises within tried (or_left _ _ over))
+      ap (option_map (λ n. if is_over_after m e step n then n - 1 else n)) (end_found raises within tried (or_left _ _ over))
       ∙ ap (λ n. Some n) (cond-true _ _ _ over)
 
-  pub decided_here : (raises : ℕ) → raises ≤ limit → ((j : ℕ) → j < raises → is_end e step j ≡ false) → is_over_after e step raises ≡ false
-      → is_exhausted_after e step raises ≡ true → add1_of e step limit ≡ Some raises
+  pub decided_here : (raises : ℕ) → raises ≤ limit → ((j : ℕ) → j < raises → is_decisive m e step j ≡ false) → is_over_after m e step raises ≡ false
+      → is_exhausted_after m e step raises ≡ true → add1_of m e step limit ≡ Some raises
   decided_here raises within tried within_budget exhausted =
-      ap (option_map (λ n. if is_over_after e step n then n - 1 else n)) (end_found raises within tried (or_right _ _ exhausted))
+      ap (option_map (λ n. if is_over_after m e step n then n - 1 else n)) (end_found raises within tried (or_right _ _ exhausted))
       ∙ ap (λ n. Some n) (cond-false _ _ _ within_budget)
 
 -- what the code computes of an outcome is what the definition says after so many raises
-module _ (e : ElectionView) (step raises : ℕ) (s : SupportView) (same : s ≡ support_of e) (budget : ℕ) (budget_is : budget ≡ e.budget)
-    (o : OutcomeView) (settled_is : settled o ≡ settled_after e step raises) where
-  elected_is : o.elected ≡ elected_after e step raises
+module _ (m : Measure) (e : ElectionView) (step raises : ℕ) (s : SupportView) (same : s ≡ support_of e) (budget : ℕ) (budget_is : budget ≡ e.budget)
+    (o : OutcomeView) (settled_is : settled o ≡ settled_after m e step raises) where
+  elected_is : o.elected ≡ elected_after m e step raises
   elected_is = ap (λ (x : Settled). x.elected) settled_is
 
-  pub over_is : is_over s budget o.elected ≡ is_over_after e step raises
+  pub over_is : is_over s budget o.elected ≡ is_over_after m e step raises
   over_is = rw (same, budget_is, elected_is) refl
 
-  pub exhausted_is : is_exhausted s budget o.elected ≡ is_exhausted_after e step raises
+  pub exhausted_is : is_exhausted s budget o.elected ≡ is_exhausted_after m e step raises
   exhausted_is = rw (same, budget_is, elected_is) refl
 
   pub raised_is : o.raised ≡ raises
   raised_is = ap (λ (x : Settled). x.raised) settled_is
 
-pub settled_next : (e : ElectionView) (step raises : ℕ) (s : SupportView) → s ≡ support_of e → (opening : ℕ) → opening ≡ opening_share e
-    → (share : ℕ) → share ≡ opening + raises * step → (o : OutcomeView) → settled o ≡ settled_by share raises (run_of s share) → settled o ≡ settled_after e step raises
-settled_next e step raises s same opening opening_is share share_is o is =
+pub settled_next : (m : Measure) (e : ElectionView) (step raises : ℕ) (s : SupportView) → s ≡ support_of e → (opening : ℕ) → opening ≡ opening_share e
+    → (share : ℕ) → share ≡ opening + raises * step → (o : OutcomeView) → settled o ≡ settled_by share raises (run_of m s share) → settled o ≡ settled_after m e step raises
+settled_next m e step raises s same opening opening_is share share_is o is =
     let at : share ≡ share_after e step raises = share_is ∙ ap (λ n. n + raises * step) opening_is in
-    is ∙ ap (λ sh. settled_by sh raises (run_of s sh)) at ∙ ap (λ t. settled_by (share_after e step raises) raises (run_of t (share_after e step raises))) same
+    is ∙ ap (λ sh. settled_by sh raises (run_of m s sh)) at ∙ ap (λ t. settled_by (share_after e step raises) raises (run_of m t (share_after e step raises))) same
 
 -- where the outcome at the opening share is not exhausted, it is no end
-pub opening_no_end : (e : ElectionView) → IsSupport (support_of e) → (step : ℕ) → is_exhausted_after e step 0 ≡ false
-    → (raises : ℕ) → raises < 1 → is_end e step raises ≡ false
-opening_no_end e h step more raises first =
+pub opening_no_end : (m : Measure) (e : ElectionView) → IsSupport (support_of e) → (step : ℕ) → is_exhausted_after m e step 0 ≡ false
+    → (raises : ℕ) → raises < 1 → is_decisive m e step raises ≡ false
+opening_no_end m e h step more raises first =
     let none : raises ≡ 0 = omega arith in
-    rw none (or_from _ _ (opening_not_over e h step) more)
+    rw none (or_from _ _ (opening_not_over m e h step) more)
 
 -- one raise as the code makes it: after is the supporters' view after the run, over and exhausted what the tests answered of the next outcome
-module _ (e : ElectionView) (step limit raised : ℕ) (within : raised ≤ limit) (tried : (j : ℕ) → j < raised → is_end e step j ≡ false)
+module _ (m : Measure) (e : ElectionView) (step limit raised : ℕ) (within : raised ≤ limit) (tried : (j : ℕ) → j < raised → is_decisive m e step j ≡ false)
     (s : SupportView) (same : s ≡ support_of e) (after : SupportView) (after_is : after ≡ s) (opening : ℕ) (opening_is : opening ≡ opening_share e)
-    (share : ℕ) (share_is : share ≡ opening + raised * step) (next : OutcomeView) (next_is : settled next ≡ settled_by share raised (run_of s share))
+    (share : ℕ) (share_is : share ≡ opening + raised * step) (next : OutcomeView) (next_is : settled next ≡ settled_by share raised (run_of m s share))
     (budget : ℕ) (budget_is : budget ≡ e.budget) (over : Bool) (over_says : over ≡ is_over after budget next.elected) where
-  next_settled : settled next ≡ settled_after e step raised
-  next_settled = settled_next e step raised s same opening opening_is share share_is next next_is
+  next_settled : settled next ≡ settled_after m e step raised
+  next_settled = settled_next m e step raised s same opening opening_is share share_is next next_is
 
-  over_found : over ≡ is_over_after e step raised
-  over_found = over_says ∙ over_is e step raised after (after_is ∙ same) budget budget_is next next_settled
+  over_found : over ≡ is_over_after m e step raised
+  over_found = over_says ∙ over_is m e step raised after (after_is ∙ same) budget budget_is next next_settled
 
-  pub raised_over : over ≡ true → (last : OutcomeView) → settled last ≡ settled_after e step (raised - 1) → add1_of e step limit ≡ Some last.raised
+  pub raised_over : over ≡ true → (last : OutcomeView) → settled last ≡ settled_after m e step (raised - 1) → add1_of m e step limit ≡ Some last.raised
   raised_over yes_over last last_is =
-      decided_before e step limit raised within tried (sym over_found ∙ yes_over)
+      decided_before m e step limit raised within tried (sym over_found ∙ yes_over)
       ∙ ap (λ n. Some n) (sym (ap (λ (x : Settled). x.raised) last_is))
 
   pub raised_exhausted : over ≡ false → (exhausted : Bool) → exhausted ≡ is_exhausted after budget next.elected → exhausted ≡ true
-      → add1_of e step limit ≡ Some next.raised
+      → add1_of m e step limit ≡ Some next.raised
   raised_exhausted not_over exhausted says yes_exhausted =
-      decided_here e step limit raised within tried (sym over_found ∙ not_over)
-      (sym (exhausted_is e step raised after (after_is ∙ same) budget budget_is next next_settled) ∙ sym says ∙ yes_exhausted)
+      decided_here m e step limit raised within tried (sym over_found ∙ not_over)
+      (sym (exhausted_is m e step raised after (after_is ∙ same) budget budget_is next next_settled) ∙ sym says ∙ yes_exhausted)
       ∙ ap (λ n. Some n) (sym (ap (λ (x : Settled). x.raised) next_settled))
 
 -- the outcome that the completion decides on is not over
-decided_not_over : (e : ElectionView) → IsSupport (support_of e) → (step high : ℕ) → (o : Option ℕ)
-    → MatchOption o (NoneInRange (is_end e step) 0 high) (IsFirstInRange (is_end e step) 0 high) → (raises : ℕ)
-    → option_map (λ n. if is_over_after e step n then n - 1 else n) o ≡ Some raises → is_over_after e step raises ≡ false
-decided_not_over e h step high None found raises is = absurd (none-some raises is)
-decided_not_over e h step high (Some n) found raises is = elim (cases_Bool (is_over_after e step n)) [
+decided_not_over : (m : Measure) (e : ElectionView) → IsSupport (support_of e) → (step high : ℕ) → (o : Option ℕ)
+    → MatchOption o (NoneInRange (is_decisive m e step) 0 high) (IsFirstInRange (is_decisive m e step) 0 high) → (raises : ℕ)
+    → option_map (λ n. if is_over_after m e step n then n - 1 else n) o ≡ Some raises → is_over_after m e step raises ≡ false
+decided_not_over m e h step high None found raises is = absurd (none-some raises is)
+decided_not_over m e h step high (Some n) found raises is = elim (cases_Bool (is_over_after m e step n)) [
   | inl over ↦
       let before : raises ≡ n - 1 = same_Some _ _ (sym is ∙ ap (λ k. Some k) (cond-true _ _ _ over)) in
       elim (cases_eq n 0) [
-        | inl none ↦ absurd (true≢false (sym over ∙ rw none (opening_not_over e h step)))
+        | inl none ↦ absurd (true≢false (sym over ∙ rw none (opening_not_over m e h step)))
         | inr some ↦ rw before (or_parts _ _ (found.first (n - 1) (omega arith) (omega arith))).0
       ]
   | inr not_over ↦
@@ -130,64 +133,72 @@ decided_not_over e h step high (Some n) found raises is = elim (cases_Bool (is_o
       rw here not_over
 ]
 
-pub add1_not_over : (e : ElectionView) → IsSupport (support_of e) → (step limit raises : ℕ) → add1_of e step limit ≡ Some raises → is_over_after e step raises ≡ false
-unfolding first_end
-add1_not_over e h step limit raises is =
-    decided_not_over e h step (limit + 1) _ (find-range_with_len (is_end e step) (limit + 1) 0 (limit + 1) (omega arith)) raises is
+pub add1_not_over : (m : Measure) (e : ElectionView) → IsSupport (support_of e) → (step limit raises : ℕ) → add1_of m e step limit ≡ Some raises → is_over_after m e step raises ≡ false
+unfolding first_decisive
+add1_not_over m e h step limit raises is =
+    decided_not_over m e h step (limit + 1) _ (find-range_with_len (is_decisive m e step) (limit + 1) 0 (limit + 1) (omega arith)) raises is
 
 pub within_from_not_over : (s : SupportView) (budget : ℕ) (elected : List ElectedView) → is_over s budget elected ≡ false → spent_on s elected ≤ budget
 unfolding is_over
 within_from_not_over s budget elected e = ltb-false budget (spent_on s elected) e
 
 -- what is settled after raises that are not over is within the budget, and has a price system
-pub settled_within : (e : ElectionView) (step raises : ℕ) → is_over_after e step raises ≡ false → (o : OutcomeView) → settled o ≡ settled_after e step raises
+pub settled_within : (m : Measure) (e : ElectionView) (step raises : ℕ) → is_over_after m e step raises ≡ false → (o : OutcomeView) → settled o ≡ settled_after m e step raises
     → spent_on (support_of e) o.elected ≤ e.budget
-settled_within e step raises not_over o is =
-    rw (ap (λ (x : Settled). x.elected) is) (within_from_not_over (support_of e) e.budget (elected_after e step raises) not_over)
+settled_within m e step raises not_over o is =
+    rw (ap (λ (x : Settled). x.elected) is) (within_from_not_over (support_of e) e.budget (elected_after m e step raises) not_over)
 
-pub settled_priced : (e : ElectionView) → IsSupport (support_of e) → (step raises : ℕ) (o : OutcomeView) → settled o ≡ settled_after e step raises
+pub settled_priced : (m : Measure) (e : ElectionView) → IsSupport (support_of e) → (step raises : ℕ) (o : OutcomeView) → settled o ≡ settled_after m e step raises
     → HasPriceSystem (support_of e) o.share o.elected o.rests
-settled_priced e h step raises o is =
+settled_priced m e h step raises o is =
     rw (ap (λ (x : Settled). x.share) is, ap (λ (x : Settled). x.elected) is, ap (λ (x : Settled). x.rests) is)
-    (run_has_price_system (support_of e) h (share_after e step raises))
+    (run_has_price_system m (support_of e) h (share_after e step raises))
 
 -- the same of a result
-module _ (e : ElectionView) (h : IsSupport (support_of e)) (step limit : ℕ) {F : Type 0} where
-  pub all_within : (r : Result OutcomeView F) → IfOk r (λ o. add1_of e step limit ≡ Some o.raised) → IfOk r (λ o. settled o ≡ settled_after e step o.raised)
+module _ (m : Measure) (e : ElectionView) (h : IsSupport (support_of e)) (step limit : ℕ) {F : Type 0} where
+  pub all_within : (r : Result OutcomeView F) → IfOk r (λ o. add1_of m e step limit ≡ Some o.raised) → IfOk r (λ o. settled o ≡ settled_after m e step o.raised)
       → IfOk r (λ o. spent_on (support_of e) o.elected ≤ e.budget)
-  all_within (Ok o) decided is = settled_within e step o.raised (add1_not_over e h step limit o.raised decided) o is
+  all_within (Ok o) decided is = settled_within m e step o.raised (add1_not_over m e h step limit o.raised decided) o is
   all_within (Err fault) decided is = tt
 
-  pub all_priced_well : (r : Result OutcomeView F) → IfOk r (λ o. settled o ≡ settled_after e step o.raised)
+  pub all_priced_well : (r : Result OutcomeView F) → IfOk r (λ o. settled o ≡ settled_after m e step o.raised)
       → IfOk r (λ o. HasPriceSystem (support_of e) o.share o.elected o.rests)
-  all_priced_well (Ok o) is = settled_priced e h step o.raised o is
+  all_priced_well (Ok o) is = settled_priced m e h step o.raised o is
   all_priced_well (Err fault) is = tt
 
+  pub all_cheapest : (r : Result OutcomeView F) → IfOk r (λ o. settled o ≡ settled_after m e step o.raised)
+      → IfOk r (λ o. EachWasCheapest m (support_of e) o.share o.elected)
+  all_cheapest (Ok o) is = settled_was_cheapest m e (support_of e) refl h (share_after e step o.raised) o.raised o is
+  all_cheapest (Err fault) is = tt
+
 -- the outcome at the opening share
-module _ (e : ElectionView) (step : ℕ) (s : SupportView) (same : s ≡ support_of e) (h : IsSupport s)
-    (share : ℕ) (share_is : share ≡ opening_share e) (o : OutcomeView) (o_is : settled o ≡ settled_by share 0 (run_of s share)) where
-  first_settled : settled o ≡ settled_after e step 0
-  first_settled = settled_next e step 0 s same share share_is share (omega arith) o o_is
+module _ (m : Measure) (e : ElectionView) (step : ℕ) (s : SupportView) (same : s ≡ support_of e) (h : IsSupport s)
+    (share : ℕ) (share_is : share ≡ opening_share e) (o : OutcomeView) (o_is : settled o ≡ settled_by share 0 (run_of m s share)) where
+  first_settled : settled o ≡ settled_after m e step 0
+  first_settled = settled_next m e step 0 s same share share_is share (omega arith) o o_is
 
   support_is : IsSupport (support_of e)
   support_is = rw same at h
 
   pub first_within : spent_on (support_of e) o.elected ≤ e.budget
-  first_within = settled_within e step 0 (opening_not_over e support_is step) o first_settled
+  first_within = settled_within m e step 0 (opening_not_over m e support_is step) o first_settled
+
+  pub first_cheapest : EachWasCheapest m (support_of e) o.share o.elected
+  first_cheapest = settled_was_cheapest m e s same h share 0 o o_is
 
   pub first_priced : HasPriceSystem (support_of e) o.share o.elected o.rests
-  first_priced = settled_priced e support_is step 0 o first_settled
+  first_priced = settled_priced m e support_is step 0 o first_settled
 
 -- the outcome at the opening share as the code has it: exhausted is what the test answered of it
-module _ (e : ElectionView) (step limit : ℕ) (s : SupportView) (same : s ≡ support_of e) (h : IsSupport s) (budget : ℕ) (budget_is : budget ≡ e.budget)
-    (first : OutcomeView) (first_is : settled first ≡ settled_after e step 0) (exhausted : Bool) (exhausted_says : exhausted ≡ is_exhausted s budget first.elected) where
-  found_exhausted : exhausted ≡ is_exhausted_after e step 0
-  found_exhausted = exhausted_says ∙ exhausted_is e step 0 s same budget budget_is first first_is
+module _ (m : Measure) (e : ElectionView) (step limit : ℕ) (s : SupportView) (same : s ≡ support_of e) (h : IsSupport s) (budget : ℕ) (budget_is : budget ≡ e.budget)
+    (first : OutcomeView) (first_is : settled first ≡ settled_after m e step 0) (exhausted : Bool) (exhausted_says : exhausted ≡ is_exhausted s budget first.elected) where
+  found_exhausted : exhausted ≡ is_exhausted_after m e step 0
+  found_exhausted = exhausted_says ∙ exhausted_is m e step 0 s same budget budget_is first first_is
 
-  pub first_decides : exhausted ≡ true → add1_of e step limit ≡ Some first.raised
+  pub first_decides : exhausted ≡ true → add1_of m e step limit ≡ Some first.raised
   first_decides yes_exhausted =
-      decided_here e step limit 0 (omega arith) (λ j below. absurd (omega arith)) (opening_not_over e (rw same at h) step) (sym found_exhausted ∙ yes_exhausted)
-      ∙ ap (λ n. Some n) (sym (raised_is e step 0 s same budget budget_is first first_is))
+      decided_here m e step limit 0 (omega arith) (λ j below. absurd (omega arith)) (opening_not_over m e (rw same at h) step) (sym found_exhausted ∙ yes_exhausted)
+      ∙ ap (λ n. Some n) (sym (raised_is m e step 0 s same budget budget_is first first_is))
 
-  pub first_goes_on : exhausted ≡ false → (raises : ℕ) → raises < 1 → is_end e step raises ≡ false
-  first_goes_on not_exhausted = opening_no_end e (rw same at h) step (sym found_exhausted ∙ not_exhausted)
+  pub first_goes_on : exhausted ≡ false → (raises : ℕ) → raises < 1 → is_decisive m e step raises ≡ false
+  first_goes_on not_exhausted = opening_no_end m e (rw same at h) step (sym found_exhausted ∙ not_exhausted)

@@ -12,6 +12,7 @@ use Rattle.std.proofs.lemmas.List.Sums.{sum_by-cons}
 use Rattle.pb_price.specs.Supporters.{SupportView, IsSupport, supporters_at, cost_at}
 use Rattle.pb_price.specs.Price.{total_rest, price_at}
 use Rattle.pb_price.proofs.Payments.{least_from_price, short_from_no_price, collected_below}
+use Rattle.pb_rounds.specs.declared.measure.Measure.{Measure}
 use Rattle.pb_rounds.specs.Bid.{Bid}
 use Rattle.pb_rounds.specs.Run.{run_of, RunView, best_of, charged, elected_by, then_run, run_from, without, is_listed}
 use Rattle.pb_rounds.specs.Count.{spent_on}
@@ -44,11 +45,11 @@ supporters_rise s h place below =
     (h.supporters_known place [] (rw h.paired below)) (h.supporters_rise place [] (rw h.paired below))
 
 -- the payments for one winner
-winner_paid : (s : SupportView) → IsSupport s → (rests left : List ℕ) → IsRound s rests left
-    → (b : Bid) → IsBid s rests left b → (after : List ℕ)
+winner_paid : (m : Measure) (s : SupportView) → IsSupport s → (rests left : List ℕ) → IsRound s rests left
+    → (b : Bid) → IsBid m s rests left b → (after : List ℕ)
     → ((v : ℕ) → slice_index after v ≤ slice_index (charged (supporters_at s b.place) b.price rests) v)
     → PaysFor s after (elected_by s rests b) (payments_of (supporters_at s b.place) b.price rests)
-winner_paid s h rests left round b bid after less =
+winner_paid m s h rests left round b bid after less =
     let supporters = supporters_at s b.place in
     let below = round.known b.place bid.is_left in
     let least = least_from_price supporters rests (cost_at s b.place) b.price bid.is_price in
@@ -79,14 +80,14 @@ explained_none s rests left round none = (
   },
 )
 
-explained_some : (s : SupportView) → IsSupport s → (rests left : List ℕ) → IsRound s rests left
-    → (b : Bid) → IsBid s rests left b → (run : RunView)
+explained_some : (m : Measure) (s : SupportView) → IsSupport s → (rests left : List ℕ) → IsRound s rests left
+    → (b : Bid) → IsBid m s rests left b → (run : RunView)
     → IsExplained s (charged (supporters_at s b.place) b.price rests) (without b.place left) run
     → IsExplained s rests left (then_run (elected_by s rests b) run)
-explained_some s h rests left round b bid run (payments, later) =
+explained_some m s h rests left round b bid run (payments, later) =
     let supporters = supporters_at s b.place in
     let row = payments_of supporters b.price rests in
-    let winner = winner_paid s h rests left round b bid run.rests (λ v. let e = later.endowed v in omega arith) in (
+    let winner = winner_paid m s h rests left round b bid run.rests (λ v. let e = later.endowed v in omega arith) in (
       row ∷ payments,
       record {
         one_each = later.one_each;
@@ -122,28 +123,28 @@ next_round s rests left round b = record {
   known = λ place among. round.known place (listed_from_without left b.place place among);
 }
 
-explained_step : (s : SupportView) → IsSupport s → (rests left : List ℕ) → IsRound s rests left
+explained_step : (m : Measure) (s : SupportView) → IsSupport s → (rests left : List ℕ) → IsRound s rests left
     → (n : ℕ) → length left ≤ suc n
-    → ((rests left : List ℕ) → IsRound s rests left → length left ≤ n → IsExplained s rests left (run_from s n rests left))
-    → (o : Option Bid) → best_of s rests left ≡ o
+    → ((rests left : List ℕ) → IsRound s rests left → length left ≤ n → IsExplained s rests left (run_from m s n rests left))
+    → (o : Option Bid) → best_of m s rests left ≡ o
     → IsExplained s rests left
-    (option_map_or (λ b. then_run (elected_by s rests b) (run_from s n (charged (supporters_at s b.place) b.price rests) (without b.place left)))
+    (option_map_or (λ b. then_run (elected_by s rests b) (run_from m s n (charged (supporters_at s b.place) b.price rests) (without b.place left)))
     o (record { elected = []; rests = rests }))
-explained_step s h rests left round n short later None e =
-    explained_none s rests left round (no_price_without_best s rests left e)
-explained_step s h rests left round n short later (Some b) e =
-    let bid = best_is_bid s rests left b e in
-    explained_some s h rests left round b bid _
+explained_step m s h rests left round n short later None e =
+    explained_none s rests left round (no_price_without_best m s rests left e)
+explained_step m s h rests left round n short later (Some b) e =
+    let bid = best_is_bid m s rests left b e in
+    explained_some m s h rests left round b bid _
     (later _ _ (next_round s rests left round b) (let less = length-without left b.place bid.is_left in omega arith))
 
 -- a run that has a round for each project left has a price system
-pub run_is_explained : (s : SupportView) → IsSupport s → (n : ℕ) (rests left : List ℕ) → IsRound s rests left
-    → length left ≤ n → IsExplained s rests left (run_from s n rests left)
+pub run_is_explained : (m : Measure) (s : SupportView) → IsSupport s → (n : ℕ) (rests left : List ℕ) → IsRound s rests left
+    → length left ≤ n → IsExplained s rests left (run_from m s n rests left)
 unfolding run_from
-run_is_explained s h zero rests [] round short = explained_none s rests [] round (λ place among. absurd (true≢false (sym among)))
-run_is_explained s h zero rests (place ∷ left) round short = absurd (omega arith)
-run_is_explained s h (suc n) rests left round short =
-    explained_step s h rests left round n short (run_is_explained s h n) (best_of s rests left) refl
+run_is_explained m s h zero rests [] round short = explained_none s rests [] round (λ place among. absurd (true≢false (sym among)))
+run_is_explained m s h zero rests (place ∷ left) round short = absurd (omega arith)
+run_is_explained m s h (suc n) rests left round short =
+    explained_step m s h rests left round n short (run_is_explained m s h n) (best_of m s rests left) refl
 
 opening_round : (s : SupportView) (share : ℕ) → IsRound s (replicate s.voters share) (range_with_len 0 (length s.costs))
 opening_round s share = record {
@@ -152,17 +153,17 @@ opening_round s share = record {
       (RisesWithin-below _ 0 (length s.costs) (range_rises 0 (length s.costs) (length s.costs) (omega arith))) among;
 }
 
-opening_explained : (s : SupportView) → IsSupport s → (share : ℕ)
-    → IsExplained s (replicate s.voters share) (range_with_len 0 (length s.costs)) (run_of s share)
+opening_explained : (m : Measure) (s : SupportView) → IsSupport s → (share : ℕ)
+    → IsExplained s (replicate s.voters share) (range_with_len 0 (length s.costs)) (run_of m s share)
 unfolding run_of
-opening_explained s h share =
-    run_is_explained s h (length s.costs) (replicate s.voters share) (range_with_len 0 (length s.costs)) (opening_round s share)
+opening_explained m s h share =
+    run_is_explained m s h (length s.costs) (replicate s.voters share) (range_with_len 0 (length s.costs)) (opening_round s share)
     (rw (length-range_with_len 0 (length s.costs)) (omega arith))
 
 -- every run has a price system
-pub run_has_price_system : (s : SupportView) → IsSupport s → (share : ℕ) → HasPriceSystem s share (run_of s share).elected (run_of s share).rests
-run_has_price_system s h share =
-    let found = opening_explained s h share in (
+pub run_has_price_system : (m : Measure) (s : SupportView) → IsSupport s → (share : ℕ) → HasPriceSystem s share (run_of m s share).elected (run_of m s share).rests
+run_has_price_system m s h share =
+    let found = opening_explained m s h share in (
       found.0,
       record {
         paid = found.1.paid;
@@ -172,7 +173,7 @@ run_has_price_system s h share =
     )
 
 -- no run spends more than everybody's share
-pub run_within_shares : (s : SupportView) → IsSupport s → (share : ℕ) → spent_on s (run_of s share).elected ≤ s.voters * share
-run_within_shares s h share =
-    let found = opening_explained s h share in
+pub run_within_shares : (m : Measure) (s : SupportView) → IsSupport s → (share : ℕ) → spent_on s (run_of m s share).elected ≤ s.voters * share
+run_within_shares m s h share =
+    let found = opening_explained m s h share in
     omega (arith, found.1.within, sum_by-replicate (λ x. x) s.voters share)

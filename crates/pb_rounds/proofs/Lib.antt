@@ -11,3 +11,5 @@ pub mod Completion
 pub mod Explained
 pub mod Listed
 pub mod BestBid
+pub mod BestIs
+pub mod CheapestRounds

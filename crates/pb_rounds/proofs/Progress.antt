@@ -10,6 +10,7 @@ use Rattle.std.proofs.lemmas.List.Folds.{list_any-append}
 use Rattle.std.proofs.lemmas.List.FromFn.{length-range_with_len, map-range_with_len_more}
 use Rattle.pb_price.specs.Supporters.{SupportView, supporters_at}
 use Rattle.pb_price.specs.Price.{price_at, AreRests, largest_share}
+use Rattle.pb_rounds.specs.declared.measure.Measure.{Measure}
 use Rattle.pb_rounds.specs.Bid.{Bid}
 use Rattle.pb_rounds.specs.Outcome.{OutcomeView, settled, settled_by, all_priced}
 use Rattle.pb_rounds.specs.Run.{ElectedView, RunView, best_of, charged, elected_by, then_run, run_from, run_of, without, is_elected, IsLeft}
@@ -20,10 +21,10 @@ use Rattle.pb_rounds.proofs.Listed.{RisesWithin, range_rises, RisesWithin-withou
 abbrev pub after : List ElectedView → RunView → RunView
 after elected run = record { elected = elected ++ run.elected; rests = run.rests }
 
-pub record Progress (s : SupportView) (share raised : ℕ) (left : List ℕ) (o : OutcomeView) : Type 0 where
+pub record Progress (m : Measure) (s : SupportView) (share raised : ℕ) (left : List ℕ) (o : OutcomeView) : Type 0 where
   pub share_is : o.share ≡ share
   pub raised_is : o.raised ≡ raised
-  pub whole : run_of s share ≡ after o.elected (run_from s (length left) o.rests left)
+  pub whole : run_of m s share ≡ after o.elected (run_from m s (length left) o.rests left)
   pub rests_are : AreRests s.voters o.rests
   pub rises : RisesWithin 0 (length s.costs) left
   pub is_left : IsLeft s o.elected left
@@ -31,18 +32,18 @@ pub record Progress (s : SupportView) (share raised : ℕ) (left : List ℕ) (o 
   pub priced_are : o.priced ≡ all_priced (length s.costs) (length o.elected)
 
 -- a round that elects, and a round that does not
-run_from-some : (s : SupportView) (rests left : List ℕ) (b : Bid) → best_of s rests left ≡ Some b → (n : ℕ)
-    → run_from s (suc n) rests left ≡ then_run (elected_by s rests b) (run_from s n (charged (supporters_at s b.place) b.price rests) (without b.place left))
+run_from-some : (m : Measure) (s : SupportView) (rests left : List ℕ) (b : Bid) → best_of m s rests left ≡ Some b → (n : ℕ)
+    → run_from m s (suc n) rests left ≡ then_run (elected_by s rests b) (run_from m s n (charged (supporters_at s b.place) b.price rests) (without b.place left))
 unfolding run_from
-run_from-some s rests left b e n =
-    ap (λ best. option_map_or (λ b. then_run (elected_by s rests b) (run_from s n (charged (supporters_at s b.place) b.price rests) (without b.place left)))
+run_from-some m s rests left b e n =
+    ap (λ best. option_map_or (λ b. then_run (elected_by s rests b) (run_from m s n (charged (supporters_at s b.place) b.price rests) (without b.place left)))
     best (record { elected = []; rests = rests })) e
 
-run_from-none : (s : SupportView) (rests left : List ℕ) → best_of s rests left ≡ None → (n : ℕ) → run_from s n rests left ≡ record { elected = []; rests = rests }
+run_from-none : (m : Measure) (s : SupportView) (rests left : List ℕ) → best_of m s rests left ≡ None → (n : ℕ) → run_from m s n rests left ≡ record { elected = []; rests = rests }
 unfolding run_from
-run_from-none s rests left e zero = refl
-run_from-none s rests left e (suc n) =
-    ap (λ best. option_map_or (λ b. then_run (elected_by s rests b) (run_from s n (charged (supporters_at s b.place) b.price rests) (without b.place left)))
+run_from-none m s rests left e zero = refl
+run_from-none m s rests left e (suc n) =
+    ap (λ best. option_map_or (λ b. then_run (elected_by s rests b) (run_from m s n (charged (supporters_at s b.place) b.price rests) (without b.place left)))
     best (record { elected = []; rests = rests })) e
 
 -- rests do not rise
@@ -55,11 +56,11 @@ AreRests-charged voters supporters price rests h = record {
       omega (arith, charged_at supporters price rests k, bound));
 }
 
-pub progress_open : (s : SupportView) (share raised : ℕ) → share ≤ largest_share
-    → Progress s share raised (range_with_len 0 (length s.costs))
+pub progress_open : (m : Measure) (s : SupportView) (share raised : ℕ) → share ≤ largest_share
+    → Progress m s share raised (range_with_len 0 (length s.costs))
     (record { share = share; raised = raised; elected = []; rests = replicate s.voters share; priced = [] })
 unfolding run_of
-progress_open s share raised h = record {
+progress_open m s share raised h = record {
   share_is = refl;
   raised_is = refl;
   whole = rw (length-range_with_len 0 (length s.costs)) refl;
@@ -107,9 +108,9 @@ after-then elected w run =
     ap (λ all. record { elected = all; rests = run.rests }) (sym (append_assoc elected (w ∷ []) run.elected))
 
 -- one round more that elects
-pub progress_more : (s : SupportView) (share raised : ℕ) (left : List ℕ) (o : OutcomeView) → Progress s share raised left o
-    → (b : Bid) → best_of s o.rests left ≡ Some b
-    → Progress s share raised (without b.place left)
+pub progress_more : (m : Measure) (s : SupportView) (share raised : ℕ) (left : List ℕ) (o : OutcomeView) → Progress m s share raised left o
+    → (b : Bid) → best_of m s o.rests left ≡ Some b
+    → Progress m s share raised (without b.place left)
     (record {
       share = o.share;
       raised = o.raised;
@@ -117,8 +118,8 @@ pub progress_more : (s : SupportView) (share raised : ℕ) (left : List ℕ) (o 
       rests = charged (supporters_at s b.place) b.price o.rests;
       priced = o.priced ++ length left ∷ [];
     })
-progress_more s share raised left o h b e =
-    let bid = best_is_bid s o.rests left b e in
+progress_more m s share raised left o h b e =
+    let bid = best_is_bid m s o.rests left b e in
     let one_less = length-without_one left 0 (length s.costs) b.place h.rises bid.is_left in
     let one_more = length_push o.elected (elected_by s o.rests b) in
     let known = listed-below left (length s.costs) b.place h.is_left.known bid.is_left in
@@ -126,9 +127,9 @@ progress_more s share raised left o h b e =
     record {
       share_is = h.share_is;
       raised_is = h.raised_is;
-      whole = h.whole ∙ ap (λ n. after o.elected (run_from s n o.rests left)) rounds
-          ∙ ap (after o.elected) (run_from-some s o.rests left b e (length (without b.place left)))
-          ∙ after-then o.elected (elected_by s o.rests b) (run_from s (length (without b.place left)) (charged (supporters_at s b.place) b.price o.rests) (without b.place left));
+      whole = h.whole ∙ ap (λ n. after o.elected (run_from m s n o.rests left)) rounds
+          ∙ ap (after o.elected) (run_from-some m s o.rests left b e (length (without b.place left)))
+          ∙ after-then o.elected (elected_by s o.rests b) (run_from m s (length (without b.place left)) (charged (supporters_at s b.place) b.price o.rests) (without b.place left));
       rests_are = AreRests-charged s.voters (supporters_at s b.place) b.price o.rests h.rests_are;
       rises = RisesWithin-without left 0 (length s.costs) b.place h.rises;
       is_left = IsLeft-elect s o.elected left h.rises h.is_left (elected_by s o.rests b) known;
@@ -137,49 +138,49 @@ progress_more s share raised left o h b e =
     }
 
 -- the round that elects nothing
-pub progress_end : (s : SupportView) (share raised : ℕ) (left : List ℕ) (o : OutcomeView) → Progress s share raised left o
-    → best_of s o.rests left ≡ None → settled o ≡ settled_by share raised (run_of s share)
-progress_end s share raised left o h e =
-    let here : run_of s share ≡ record { elected = o.elected; rests = o.rests } = h.whole
-    ∙ ap (after o.elected) (run_from-none s o.rests left e (length left))
+pub progress_end : (m : Measure) (s : SupportView) (share raised : ℕ) (left : List ℕ) (o : OutcomeView) → Progress m s share raised left o
+    → best_of m s o.rests left ≡ None → settled o ≡ settled_by share raised (run_of m s share)
+progress_end m s share raised left o h e =
+    let here : run_of m s share ≡ record { elected = o.elected; rests = o.rests } = h.whole
+    ∙ ap (after o.elected) (run_from-none m s o.rests left e (length left))
     ∙ ap (λ elected. record { elected = elected; rests = o.rests }) (append-nil o.elected) in
     ap (λ share. record { share = share; raised = o.raised; elected = o.elected; rests = o.rests }) h.share_is
     ∙ ap (λ raised. record { share = share; raised = raised; elected = o.elected; rests = o.rests }) h.raised_is
     ∙ ap (settled_by share raised) (sym here)
 
 -- One round as the code makes it: seen are the projects left as they were priced, answer the best of them, and priced the outcome after that.
-module _ (s : SupportView) (share raised : ℕ) (left : List ℕ) (o : OutcomeView) (progress : Progress s share raised left o)
-    (seen : List ℕ) (seen_is : seen ≡ left) (answer : Option Bid) (answer_is : answer ≡ best_of s o.rests seen)
+module _ (m : Measure) (s : SupportView) (share raised : ℕ) (left : List ℕ) (o : OutcomeView) (progress : Progress m s share raised left o)
+    (seen : List ℕ) (seen_is : seen ≡ left) (answer : Option Bid) (answer_is : answer ≡ best_of m s o.rests seen)
     (priced : OutcomeView) (priced_is : priced ≡ record o { priced = o.priced ++ length seen ∷ [] }) where
-  best_is : answer ≡ best_of s o.rests left
-  best_is = answer_is ∙ ap (best_of s o.rests) seen_is
+  best_is : answer ≡ best_of m s o.rests left
+  best_is = answer_is ∙ ap (best_of m s o.rests) seen_is
 
   priced_as : priced ≡ record o { priced = o.priced ++ length left ∷ [] }
   priced_as = priced_is ∙ ap (λ xs. record o { priced = o.priced ++ length xs ∷ [] }) seen_is
 
   module _ (b : Bid) (found : answer ≡ Some b) where
-    found_best : best_of s o.rests left ≡ Some b
+    found_best : best_of m s o.rests left ≡ Some b
     found_best = sym best_is ∙ found
 
     pub round_known : b.place < length s.costs
-    round_known = listed-below left (length s.costs) b.place progress.is_left.known (best_is_bid s o.rests left b found_best).is_left
+    round_known = listed-below left (length s.costs) b.place progress.is_left.known (best_is_bid m s o.rests left b found_best).is_left
 
     pub round_price : price_at s priced.rests b.place ≡ Some b.price
-    round_price = rw priced_as (best_is_bid s o.rests left b found_best).is_price
+    round_price = rw priced_as (best_is_bid m s o.rests left b found_best).is_price
 
     pub round_less : (fewer : List ℕ) → fewer ≡ without b.place left → length fewer < length left
     round_less fewer fewer_is =
-        let one_less = length-without_one left 0 (length s.costs) b.place progress.rises (best_is_bid s o.rests left b found_best).is_left in
+        let one_less = length-without_one left 0 (length s.costs) b.place progress.rises (best_is_bid m s o.rests left b found_best).is_left in
         rw fewer_is (omega arith)
 
     pub round_more : (fewer : List ℕ) → fewer ≡ without b.place left → (more : OutcomeView)
         → more ≡ record priced { elected = priced.elected ++ elected_by s priced.rests b ∷ []; rests = charged (supporters_at s b.place) b.price priced.rests }
-        → Progress s share raised fewer more
+        → Progress m s share raised fewer more
     round_more fewer fewer_is more more_is =
-        rw (fewer_is, more_is, priced_as) (progress_more s share raised left o progress b found_best)
+        rw (fewer_is, more_is, priced_as) (progress_more m s share raised left o progress b found_best)
 
-  pub round_end : answer ≡ None → settled priced ≡ settled_by share raised (run_of s share)
-  round_end none = rw priced_as (progress_end s share raised left o progress (sym best_is ∙ none))
+  pub round_end : answer ≡ None → settled priced ≡ settled_by share raised (run_of m s share)
+  round_end none = rw priced_as (progress_end m s share raised left o progress (sym best_is ∙ none))
 
   pub round_counts : priced.priced ≡ all_priced (length s.costs) (length priced.elected + 1)
   round_counts = rw priced_as (priced_more (length s.costs) o.priced (length o.elected) (length left) progress.priced_are progress.counted)
@@ -188,8 +189,8 @@ module _ (s : SupportView) (share raised : ℕ) (left : List ℕ) (o : OutcomeVi
   round_left = rw priced_as progress.is_left
 
 -- the opening as the code makes it
-pub opened : (s : SupportView) (share raised : ℕ) → share ≤ largest_share → (left : List ℕ) (projects : ℕ) → left ≡ range_with_len 0 projects → projects ≡ length s.costs
+pub opened : (m : Measure) (s : SupportView) (share raised : ℕ) → share ≤ largest_share → (left : List ℕ) (projects : ℕ) → left ≡ range_with_len 0 projects → projects ≡ length s.costs
     → (o : OutcomeView) (voters : ℕ) → o ≡ record { share = share; raised = raised; elected = []; rests = replicate voters share; priced = [] } → voters ≡ s.voters
-    → Progress s share raised left o
-opened s share raised h left projects left_is projects_are o voters o_is voters_are =
-    rw (left_is, projects_are, o_is, voters_are) (progress_open s share raised h)
+    → Progress m s share raised left o
+opened m s share raised h left projects left_is projects_are o voters o_is voters_are =
+    rw (left_is, projects_are, o_is, voters_are) (progress_open m s share raised h)

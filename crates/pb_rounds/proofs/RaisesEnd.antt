@@ -9,8 +9,9 @@ use Rattle.std.proofs.lemmas.Option.{none-some, same_Some}
 use Rattle.pb_core.specs.Election.{ElectionView}
 use Rattle.pb_price.proofs.FirstInRange.{IsFirstInRange, NoneInRange, find-range_with_len}
 use Rattle.pb_price.specs.Supporters.{SupportView, IsSupport, support_of, supporters_at, cost_at}
+use Rattle.pb_rounds.specs.declared.measure.Measure.{Measure}
 use Rattle.pb_rounds.specs.Completed.{IsOver, IsExhausted, IsCompleted}
-use Rattle.pb_rounds.specs.Count.{spent_on, is_over, is_exhausted, could_be_added, is_over_after, is_exhausted_after, is_end, first_end, add1_of, elected_after}
+use Rattle.pb_rounds.specs.Count.{spent_on, is_over, is_exhausted, could_be_added, is_over_after, is_exhausted_after, is_decisive, first_decisive, add1_of, elected_after}
 use Rattle.pb_rounds.specs.declared.options.Completion.{Completion}
 use Rattle.pb_rounds.specs.declared.options.Completion.TheVariants.{Add1}
 use Rattle.pb_rounds.specs.Outcome.{OutcomeView}
@@ -67,56 +68,56 @@ module _ (s : SupportView) (budget : ℕ) (elected : List ElectedView) where
       let at : get_or (range_with_len 0 (length s.costs)) k d ≡ k = get_or-range_with_len 0 (length s.costs) k d within ∙ omega arith in
       ap (could_be_added s budget elected) at ∙ false_from_ne_true _ (could_none h k within))))
 
-no_end : (e : ElectionView) (step raises : ℕ) → is_end e step raises ≡ false
-    → (¬ IsOver (support_of e) e.budget (elected_after e step raises)) × (¬ IsExhausted (support_of e) e.budget (elected_after e step raises))
-no_end e step raises h =
+no_end : (m : Measure) (e : ElectionView) (step raises : ℕ) → is_decisive m e step raises ≡ false
+    → (¬ IsOver (support_of e) e.budget (elected_after m e step raises)) × (¬ IsExhausted (support_of e) e.budget (elected_after m e step raises))
+no_end m e step raises h =
     let parts = or_parts _ _ h in (
-      (λ over. true≢false (sym (over_from_more (support_of e) e.budget (elected_after e step raises) over) ∙ parts.0)),
-      (λ exhausted. true≢false (sym (test_from_exhausted (support_of e) e.budget (elected_after e step raises) exhausted) ∙ parts.1)),
+      (λ over. true≢false (sym (over_from_more (support_of e) e.budget (elected_after m e step raises) over) ∙ parts.0)),
+      (λ exhausted. true≢false (sym (test_from_exhausted (support_of e) e.budget (elected_after m e step raises) exhausted) ∙ parts.1)),
     )
 
 more_from_over : (s : SupportView) (budget : ℕ) (elected : List ElectedView) → is_over s budget elected ≡ true → IsOver s budget elected
 unfolding is_over
 more_from_over s budget elected e = ltb-true budget (spent_on s elected) e
 
-decided_completed : (e : ElectionView) → IsSupport (support_of e) → (step high : ℕ) → (o : Option ℕ)
-    → MatchOption o (NoneInRange (is_end e step) 0 high) (IsFirstInRange (is_end e step) 0 high) → (raises : ℕ)
-    → option_map (λ n. if is_over_after e step n then n - 1 else n) o ≡ Some raises → IsCompleted e step raises
-decided_completed e h step high None found raises is = absurd (none-some raises is)
-decided_completed e h step high (Some n) found raises is = elim (cases_Bool (is_over_after e step n)) [
+decided_completed : (m : Measure) (e : ElectionView) → IsSupport (support_of e) → (step high : ℕ) → (o : Option ℕ)
+    → MatchOption o (NoneInRange (is_decisive m e step) 0 high) (IsFirstInRange (is_decisive m e step) 0 high) → (raises : ℕ)
+    → option_map (λ n. if is_over_after m e step n then n - 1 else n) o ≡ Some raises → IsCompleted m e step raises
+decided_completed m e h step high None found raises is = absurd (none-some raises is)
+decided_completed m e h step high (Some n) found raises is = elim (cases_Bool (is_over_after m e step n)) [
   | inl over ↦
       let before : raises ≡ n - 1 = same_Some _ _ (sym is ∙ ap (λ k. Some k) (cond-true _ _ _ over)) in
       elim (cases_eq n 0) [
-        | inl none ↦ absurd (true≢false (sym over ∙ rw none (opening_not_over e h step)))
+        | inl none ↦ absurd (true≢false (sym over ∙ rw none (opening_not_over m e h step)))
         | inr some ↦
             let next : raises + 1 ≡ n = omega arith in
             record {
-              fewer_go_on = λ fewer below. no_end e step fewer (found.first fewer (omega arith) (omega arith));
-              ends = inr (more_from_over (support_of e) e.budget (elected_after e step (raises + 1)) (ap (is_over_after e step) next ∙ over));
+              fewer_go_on = λ fewer below. no_end m e step fewer (found.first fewer (omega arith) (omega arith));
+              ends = inr (more_from_over (support_of e) e.budget (elected_after m e step (raises + 1)) (ap (is_over_after m e step) next ∙ over));
             }
       ]
   | inr not_over ↦
       let here : raises ≡ n = same_Some _ _ (sym is ∙ ap (λ k. Some k) (cond-false _ _ _ not_over)) in
       record {
-        fewer_go_on = λ fewer below. no_end e step fewer (found.first fewer (omega arith) (omega arith));
-        ends = inl (exhausted_from_test (support_of e) e.budget (elected_after e step raises)
-            (ap (is_exhausted_after e step) here ∙ exhausted_at e step n not_over found.passes));
+        fewer_go_on = λ fewer below. no_end m e step fewer (found.first fewer (omega arith) (omega arith));
+        ends = inl (exhausted_from_test (support_of e) e.budget (elected_after m e step raises)
+            (ap (is_exhausted_after m e step) here ∙ exhausted_at m e step n not_over found.passes));
       }
 ]
   where
-    exhausted_at : (e : ElectionView) (step n : ℕ) → is_over_after e step n ≡ false → is_end e step n ≡ true → is_exhausted_after e step n ≡ true
-    exhausted_at e step n not_over ends = elim (or_cases _ _ ends) [
+    exhausted_at : (m : Measure) (e : ElectionView) (step n : ℕ) → is_over_after m e step n ≡ false → is_decisive m e step n ≡ true → is_exhausted_after m e step n ≡ true
+    exhausted_at m e step n not_over ends = elim (or_cases _ _ ends) [
       | inl over ↦ absurd (true≢false (sym over ∙ not_over))
       | inr exhausted ↦ exhausted
     ]
 
 -- what the completion decides on
-pub add1_completed : (e : ElectionView) → IsSupport (support_of e) → (step limit raises : ℕ) → add1_of e step limit ≡ Some raises → IsCompleted e step raises
-unfolding first_end
-add1_completed e h step limit raises is =
-    decided_completed e h step (limit + 1) _ (find-range_with_len (is_end e step) (limit + 1) 0 (limit + 1) (omega arith)) raises is
+pub add1_completed : (m : Measure) (e : ElectionView) → IsSupport (support_of e) → (step limit raises : ℕ) → add1_of m e step limit ≡ Some raises → IsCompleted m e step raises
+unfolding first_decisive
+add1_completed m e h step limit raises is =
+    decided_completed m e h step (limit + 1) _ (find-range_with_len (is_decisive m e step) (limit + 1) 0 (limit + 1) (omega arith)) raises is
 
-pub all_completed : (e : ElectionView) → IsSupport (support_of e) → (step limit : ℕ) → (completion : Completion) → {F : Type 0} → (r : Result OutcomeView F)
-    → IfOk r (λ o. add1_of e step limit ≡ Some o.raised) → IfOk r (λ o. completion ≡ Add1 → IsCompleted e step o.raised)
-all_completed e h step limit completion (Ok o) decided = λ _. add1_completed e h step limit o.raised decided
-all_completed e h step limit completion (Err fault) decided = tt
+pub all_completed : (m : Measure) (e : ElectionView) → IsSupport (support_of e) → (step limit : ℕ) → (completion : Completion) → {F : Type 0} → (r : Result OutcomeView F)
+    → IfOk r (λ o. add1_of m e step limit ≡ Some o.raised) → IfOk r (λ o. completion ≡ Add1 → IsCompleted m e step o.raised)
+all_completed m e h step limit completion (Ok o) decided = λ _. add1_completed m e h step limit o.raised decided
+all_completed m e h step limit completion (Err fault) decided = tt

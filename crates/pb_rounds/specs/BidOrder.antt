@@ -1,8 +1,105 @@
 -- That the order of bids is an order.
-use Rattle.std.proofs.Common.{rules}
-use Rattle.std.specs.Cmp.{IsTotalOrder}
-use Rattle.std.specs.Cmp.Rules.{comparing}
-use Rattle.pb_rounds.specs.Bid.{bid_cmp}
+use Rattle.std.proofs.Common.{◌≡◌, ℕ, ◌+◌, ◌*◌, ◌<◌, ◌≤◌, true, refl, sym, ◌∙◌, ap, inl, inr, arith}
+use Rattle.std.specs.Prelude.{◌==◌, ◌&&◌, max}
+use Rattle.std.specs.Cmp.{IsTotalOrder, Equal-is, both_ways, then_total, on_total, nat_cmp_total, ranks, tied_itself}
+use Rattle.std.specs.Ordering.{is_eq, nat_cmp, ordering_then}
+use Rattle.std.specs.declared.cmp.Ordering.{Ordering}
+use Rattle.std.specs.declared.cmp.Ordering.TheVariants.{Less, Equal, Greater}
+use Rattle.std.proofs.lemmas.Bool.{true≢false, cases_lt, cases_eq, lt-ltb, le-ltb, ne_eqb, eqb-true, eq-eqb, and_parts, and_from}
+use Rattle.std.proofs.Math.Nat.{mul-lt-mul_of_pos_right}
+use Rattle.pb_rounds.specs.Bid.{Bid, bid_cmp, ratio_cmp}
+
+less_from : (x y : ℕ) → x < y → nat_cmp x y ≡ Less
+less_from x y h = rw (lt-ltb x y h) refl
+
+greater_from : (x y : ℕ) → y < x → nat_cmp x y ≡ Greater
+greater_from x y h =
+    let other : x ≡ y → ⊥ = λ e. omega (arith, e) in
+    rw (le-ltb x y (omega arith), ne_eqb x y other) refl
+
+-- numbers compare as their multiples do
+scaled : (x y k : ℕ) → 0 < k → nat_cmp (x * k) (y * k) ≡ nat_cmp x y
+scaled x y k h = elim (cases_lt x y) [
+  | inl less ↦ less_from (x * k) (y * k) (mul-lt-mul_of_pos_right less h) ∙ sym (less_from x y less)
+  | inr least ↦ elim (cases_eq x y) [
+    | inl same ↦ ap (λ n. nat_cmp (n * k) (y * k)) same ∙ tied_itself nat_cmp_total (y * k)
+        ∙ sym (ap (λ n. nat_cmp n y) same ∙ tied_itself nat_cmp_total y)
+    | inr other ↦
+        let more : y < x = omega arith in
+        greater_from (x * k) (y * k) (mul-lt-mul_of_pos_right more h) ∙ sym (greater_from x y more)
+  ]
+]
+
+module _ (a b c u v w : ℕ) (hu : 0 < u) (hv : 0 < v) (hw : 0 < w) where
+  -- both ratios by the third weight
+  third : nat_cmp (a * w) (c * u) ≡ nat_cmp (a * v * w) (c * v * u)
+  third =
+      let left : a * w * v ≡ a * v * w = omega arith in
+      let right : c * u * v ≡ c * v * u = omega arith in
+      sym (scaled (a * w) (c * u) v hv) ∙ ap (λ n. nat_cmp n (c * u * v)) left ∙ ap (nat_cmp (a * v * w)) right
+
+  middle : b * u * w ≡ b * w * u
+  middle = omega arith
+
+  trans-ratios : nat_cmp (a * v) (b * u) ≡ Less → nat_cmp (b * w) (c * v) ≡ Less → nat_cmp (a * w) (c * u) ≡ Less
+  trans-ratios first second =
+      third ∙ nat_cmp_total.trans (a * v * w) (b * u * w) (c * v * u) (scaled (a * v) (b * u) w hw ∙ first)
+      (ap (λ n. nat_cmp n (c * v * u)) middle ∙ scaled (b * w) (c * v) u hu ∙ second)
+
+  congr-ratios : nat_cmp (a * v) (b * u) ≡ Equal → nat_cmp (a * w) (c * u) ≡ nat_cmp (b * w) (c * v)
+  congr-ratios same =
+      third ∙ nat_cmp_total.congr (a * v * w) (b * u * w) (c * v * u) (scaled (a * v) (b * u) w hw ∙ same)
+      ∙ ap (λ n. nat_cmp n (c * v * u)) middle ∙ scaled (b * w) (c * v) u hu
+
+ratio-total : IsTotalOrder ratio_cmp
+ratio-total = record {
+  antisymm = λ a b. nat_cmp_total.antisymm (a.price * max 1 b.weight) (b.price * max 1 a.weight);
+  trans = λ a b c. trans-ratios a.price b.price c.price (max 1 a.weight) (max 1 b.weight) (max 1 c.weight) (omega arith) (omega arith) (omega arith);
+  congr = λ a b c. congr-ratios a.price b.price c.price (max 1 a.weight) (max 1 b.weight) (max 1 c.weight) (omega arith) (omega arith) (omega arith);
+}
 
 pub bid_cmp-total : IsTotalOrder bid_cmp
-bid_cmp-total = search (comparing, rules)
+bid_cmp-total = then_total ratio-total (then_total (on_total (λ b. b.place) nat_cmp_total) (on_total (λ b. b.weight) nat_cmp_total))
+
+then_equal : (o p : Ordering) → ordering_then o p ≡ Equal → (o ≡ Equal) × (p ≡ Equal)
+then_equal Less p e = absurd (true≢false (sym (ap is_eq e)))
+then_equal Equal p e = (refl, e)
+then_equal Greater p e = absurd (true≢false (sym (ap is_eq e)))
+
+equal_numbers : (x y : ℕ) → nat_cmp x y ≡ Equal → x ≡ y
+equal_numbers x y e = rw e at (ranks x y)
+
+same_fields : (a b : Bid) → a.price ≡ b.price → a.weight ≡ b.weight → a.place ≡ b.place → a ≡ b
+same_fields a b price weight place =
+    ap (λ n. record { price = n; weight = a.weight; place = a.place }) price
+    ∙ ap (λ n. record { price = b.price; weight = n; place = a.place }) weight
+    ∙ ap (λ n. record { price = b.price; weight = b.weight; place = n }) place
+
+-- bids that the order does not tell apart are equal
+pub tied_bids : (a b : Bid) → bid_cmp a b ≡ Equal → a ≡ b
+tied_bids a b e =
+    let parts = then_equal _ _ e in
+    let later = then_equal _ _ parts.1 in
+    let place : a.place ≡ b.place = equal_numbers _ _ later.0 in
+    let weight : a.weight ≡ b.weight = equal_numbers _ _ later.1 in
+    let ratio : nat_cmp (a.price * max 1 b.weight) (b.price * max 1 b.weight) ≡ Equal =
+    ap (λ w. nat_cmp (a.price * max 1 b.weight) (b.price * max 1 w)) (sym weight) ∙ parts.0 in
+    let price : a.price ≡ b.price = equal_numbers _ _ (sym (scaled a.price b.price (max 1 b.weight) (omega arith)) ∙ ratio) in
+    same_fields a b price weight place
+
+tie_from_fields : (a b : Bid) → ((a.price == b.price) && ((a.weight == b.weight) && (a.place == b.place))) ≡ true → is_eq (bid_cmp a b) ≡ true
+tie_from_fields a b e =
+    let parts = and_parts _ _ e in
+    let later = and_parts _ _ parts.1 in
+    let same = same_fields a b (eqb-true _ _ parts.0) (eqb-true _ _ later.0) (eqb-true _ _ later.1) in
+    ap (λ c. is_eq (bid_cmp a c)) (sym same) ∙ ap is_eq (tied_itself bid_cmp-total a)
+
+fields_from_tie : (a b : Bid) → is_eq (bid_cmp a b) ≡ true → ((a.price == b.price) && ((a.weight == b.weight) && (a.place == b.place))) ≡ true
+fields_from_tie a b e =
+    let same = tied_bids a b ((Equal-is (bid_cmp a b)).0 e) in
+    and_from _ _ (eq-eqb _ _ (ap (λ (c : Bid). c.price) same))
+    (and_from _ _ (eq-eqb _ _ (ap (λ (c : Bid). c.weight) same)) (eq-eqb _ _ (ap (λ (c : Bid). c.place) same)))
+
+-- whether all fields are equal is whether the order does not tell the bids apart
+pub fields_tie : (a b : Bid) → ((a.price == b.price) && ((a.weight == b.weight) && (a.place == b.place))) ≡ is_eq (bid_cmp a b)
+fields_tie a b = both_ways _ _ (tie_from_fields a b) (fields_from_tie a b)

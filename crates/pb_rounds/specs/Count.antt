@@ -10,6 +10,7 @@ use Rattle.pb_rounds.specs.Run.{ElectedView, is_elected, outcome_of}
 use Rattle.pb_rounds.specs.declared.options.Completion.{Completion}
 use Rattle.pb_rounds.specs.declared.options.Completion.TheVariants.{Plain, Add1}
 use Rattle.pb_rounds.specs.declared.options.CountOptions.{CountOptions}
+use Rattle.pb_rounds.specs.declared.measure.Measure.{Measure}
 
 -- what the elected cost together
 abbrev pub spent_on : SupportView → List ElectedView → ℕ
@@ -33,44 +34,49 @@ is_exhausted s budget elected =
 abbrev pub opening_share : ElectionView → ℕ
 opening_share e = if length e.voters == 0 then 0 else e.budget / length e.voters
 
--- the share after so many raises by a step
+-- the share after this many raises by a step
 abbrev pub share_after : ElectionView → ℕ → ℕ → ℕ
 share_after e step raises = opening_share e + raises * step
 
-abbrev pub elected_after : ElectionView → ℕ → ℕ → List ElectedView
-elected_after e step raises = (outcome_of e (share_after e step raises)).elected
+abbrev pub elected_after : Measure → ElectionView → ℕ → ℕ → List ElectedView
+elected_after m e step raises = (outcome_of m e (share_after e step raises)).elected
 
-abbrev pub is_over_after : ElectionView → ℕ → ℕ → Bool
-is_over_after e step raises = is_over (support_of e) e.budget (elected_after e step raises)
+abbrev pub is_over_after : Measure → ElectionView → ℕ → ℕ → Bool
+is_over_after m e step raises = is_over (support_of e) e.budget (elected_after m e step raises)
 
-abbrev pub is_exhausted_after : ElectionView → ℕ → ℕ → Bool
-is_exhausted_after e step raises = is_exhausted (support_of e) e.budget (elected_after e step raises)
+abbrev pub is_exhausted_after : Measure → ElectionView → ℕ → ℕ → Bool
+is_exhausted_after m e step raises = is_exhausted (support_of e) e.budget (elected_after m e step raises)
 
-abbrev pub is_end : ElectionView → ℕ → ℕ → Bool
-is_end e step raises = is_over_after e step raises || is_exhausted_after e step raises
+-- an outcome that is over or exhausted decides
+abbrev pub is_decisive : Measure → ElectionView → ℕ → ℕ → Bool
+is_decisive m e step raises = is_over_after m e step raises || is_exhausted_after m e step raises
 
--- the first number of raises, up to a limit, whose outcome is over or exhausted
-unfoldable pub first_end : ElectionView → ℕ → ℕ → Option ℕ
-first_end e step limit = find (is_end e step) (range_with_len 0 (limit + 1))
+-- the first number of raises, up to a limit, whose outcome decides
+unfoldable pub first_decisive : Measure → ElectionView → ℕ → ℕ → Option ℕ
+first_decisive m e step limit = find (is_decisive m e step) (range_with_len 0 (limit + 1))
 
 -- completion by raises: the first outcome that is exhausted, or the last one before the first that is over
-abbrev pub add1_of : ElectionView → ℕ → ℕ → Option ℕ
-add1_of e step limit = option_map (λ raises. if is_over_after e step raises then raises - 1 else raises) (first_end e step limit)
+abbrev pub add1_of : Measure → ElectionView → ℕ → ℕ → Option ℕ
+add1_of m e step limit =
+    option_map (λ raises. if is_over_after m e step raises then raises - 1 else raises) (first_decisive m e step limit)
 
 -- how many raises a completion decides on, if it does within the limit
-abbrev pub raises_of : Completion → ElectionView → ℕ → ℕ → Option ℕ
-raises_of Plain e step limit = Some 0
-raises_of Add1 e step limit = add1_of e step limit
+abbrev pub raises_of : Completion → Measure → ElectionView → ℕ → ℕ → Option ℕ
+raises_of Plain m e step limit = Some 0
+raises_of Add1 m e step limit = add1_of m e step limit
 
--- the outcome after so many raises
-abbrev pub settled_after : ElectionView → ℕ → ℕ → Settled
-settled_after e step raises = settled_by (share_after e step raises) raises (outcome_of e (share_after e step raises))
+-- the outcome after this many raises
+abbrev pub settled_after : Measure → ElectionView → ℕ → ℕ → Settled
+settled_after m e step raises = settled_by (share_after e step raises) raises (outcome_of m e (share_after e step raises))
 
 -- the count: the outcome after as many raises as the completion decides on; none where it does not decide within the limit
 abbrev pub count_of : ElectionView → CountOptions → Option Settled
-count_of e options = option_map (settled_after e options.step) (raises_of options.completion e options.step options.max_raises)
+count_of e options =
+    option_map (settled_after options.measure e options.step)
+    (raises_of options.completion options.measure e options.step options.max_raises)
 
--- when each fault of a count comes; want of memory aside, a count that is not refused ends in its outcome or, where there is none, in spent raises
+-- When each fault of a count comes. Out of memory aside, a count that is not refused ends in its outcome or, where there
+-- is none, in spent raises.
 abbrev pub IsCountFault : ElectionView → CountOptions → CountFault → Type 0
 IsCountFault e options WorkerCount = refusal_of options ≡ Some WorkerCount
 IsCountFault e options StepRange = refusal_of options ≡ Some StepRange
@@ -83,5 +89,5 @@ abbrev pub IsCompletionFault : ElectionView → CountOptions → CountFault → 
 IsCompletionFault e options WorkerCount = ⊥
 IsCompletionFault e options StepRange = ⊥
 IsCompletionFault e options RaisesRange = ⊥
-IsCompletionFault e options RaisesSpent = add1_of e options.step options.max_raises ≡ None
+IsCompletionFault e options RaisesSpent = add1_of options.measure e options.step options.max_raises ≡ None
 IsCompletionFault e options NoMemory = Unit {0}

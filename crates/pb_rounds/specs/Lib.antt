@@ -1,5 +1,6 @@
 pub mod Bid
 pub mod BidOrder
+pub mod Cheapest
 pub mod Completed
 pub mod Count
 pub mod CountFault

@@ -2,9 +2,11 @@ use Rattle.std.specs.Prelude.{◌≡◌, ◌<◌, All, ℕ, zero, suc, Bool, Opt
 use Rattle.std.specs.List.{list_any, range_with_len}
 use Rattle.std.specs.Option.{option_map_or}
 use Rattle.pb_core.specs.Election.{ElectionView}
-use Rattle.pb_price.specs.Supporters.{SupportView, support_of, supporters_at}
+use Rattle.pb_price.specs.Supporters.{SupportView, support_of, supporters_at, cost_at}
 use Rattle.pb_price.specs.Price.{paid_at, price_at}
 use Rattle.pb_rounds.specs.Bid.{Bid, is_before, first_least}
+use Rattle.pb_rounds.specs.declared.measure.Measure.{Measure}
+use Rattle.pb_rounds.specs.declared.measure.Measure.TheVariants.{Votes, Cost}
 
 -- an elected project: its place, the price that each supporter paid at most, and the sum of their payments
 pub record ElectedView : Type 0 where
@@ -17,21 +19,26 @@ pub record RunView : Type 0 where
   pub elected : List ElectedView
   pub rests : List ℕ
 
--- the bid of the project at this place
-abbrev pub bid : SupportView → ℕ → ℕ → Bid
-bid s place price = record { price = price; place = place }
+-- what a price is divided by: nothing under measure votes, the cost under measure cost
+abbrev pub weight_of : Measure → SupportView → ℕ → ℕ
+weight_of Votes s place = 1
+weight_of Cost s place = cost_at s place
+
+-- the bid of the project at this place; every bid is written so
+abbrev pub bid : Measure → SupportView → ℕ → ℕ → Bid
+bid m s place price = record { price = price; weight = weight_of m s place; place = place }
 
 -- the project with its price at these rests, where it has one
-abbrev pub bid_at : SupportView → List ℕ → ℕ → Option Bid
-bid_at s rests place = option_map (bid s place) (price_at s rests place)
+abbrev pub bid_at : Measure → SupportView → List ℕ → ℕ → Option Bid
+bid_at m s rests place = option_map (bid m s place) (price_at s rests place)
 
 -- the bids of the projects left, in file order
-abbrev pub bids_at : SupportView → List ℕ → List ℕ → List Bid
-bids_at s rests left = filter_map (bid_at s rests) left
+abbrev pub bids_at : Measure → SupportView → List ℕ → List ℕ → List Bid
+bids_at m s rests left = filter_map (bid_at m s rests) left
 
--- the best project of a round: the least price among the projects left, the first in the file among equals
-unfoldable pub best_of : SupportView → List ℕ → List ℕ → Option Bid
-best_of s rests left = first_least is_before (bids_at s rests left)
+-- the best project of a round: the least price over weight among the projects left, the first in the file among equals
+unfoldable pub best_of : Measure → SupportView → List ℕ → List ℕ → Option Bid
+best_of m s rests left = first_least is_before (bids_at m s rests left)
 
 -- whether the number is in the list
 abbrev pub is_listed : List ℕ → ℕ → Bool
@@ -53,21 +60,23 @@ without place left = filter (λ p. not (p == place)) left
 abbrev pub then_run : ElectedView → RunView → RunView
 then_run w run = record { elected = w ∷ run.elected; rests = run.rests }
 
--- a run of so many rounds at most: while there is a best project it is elected, and its supporters pay
-unfoldable pub run_from : SupportView → ℕ → List ℕ → List ℕ → RunView
-run_from s zero rests left = record { elected = []; rests = rests }
-run_from s (suc rounds) rests left =
-    option_map_or (λ b. then_run (elected_by s rests b) (run_from s rounds (charged (supporters_at s b.place) b.price rests) (without b.place left)))
-    (best_of s rests left)
+-- a run of this many rounds at most: while there is a best project it is elected, and its supporters pay
+unfoldable pub run_from : Measure → SupportView → ℕ → List ℕ → List ℕ → RunView
+run_from m s zero rests left = record { elected = []; rests = rests }
+run_from m s (suc rounds) rests left =
+    option_map_or
+    (λ b. then_run (elected_by s rests b)
+    (run_from m s rounds (charged (supporters_at s b.place) b.price rests) (without b.place left)))
+    (best_of m s rests left)
     (record { elected = []; rests = rests })
 
 -- a run at a share: all projects are left, and every voter's rest is the share
-unfoldable pub run_of : SupportView → ℕ → RunView
-run_of s share = run_from s (length s.costs) (replicate s.voters share) (range_with_len 0 (length s.costs))
+unfoldable pub run_of : Measure → SupportView → ℕ → RunView
+run_of m s share = run_from m s (length s.costs) (replicate s.voters share) (range_with_len 0 (length s.costs))
 
 -- the outcome of an election at a share
-abbrev pub outcome_of : ElectionView → ℕ → RunView
-outcome_of e share = run_of (support_of e) share
+abbrev pub outcome_of : Measure → ElectionView → ℕ → RunView
+outcome_of m e share = run_of m (support_of e) share
 
 abbrev pub is_elected : List ElectedView → ℕ → Bool
 is_elected elected place = list_any (λ w. w.place == place) elected

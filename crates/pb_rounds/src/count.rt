@@ -2,6 +2,7 @@ ghost use Rattle.std.specs.Prelude.{◌≡◌, ◌+◌, ◌*◌, ◌≤◌, leng
 ghost use Rattle.pb_core.specs.Money.{largest_money};
 ghost use Rattle.pb_price.specs.Price.{largest_share};
 ghost use Rattle.pb_price.specs.Supporters.{IsSupport, support_of};
+ghost use Rattle.pb_rounds.specs.Cheapest.{EachWasCheapest};
 ghost use Rattle.pb_rounds.specs.Completed.{IsCompleted};
 ghost use Rattle.pb_rounds.specs.Count.{add1_of, count_of, opening_share, settled_after, spent_on, IsCountFault, IsCompletionFault};
 ghost use Rattle.pb_rounds.specs.CountFault.{is_worker_count, refusal_of};
@@ -10,6 +11,7 @@ ghost use Rattle.pb_rounds.specs.PriceSystem.{HasPriceSystem};
 ghost use Rattle.pb_rounds.specs.Run.{outcome_of, IsLeft};
 
 use crate::count_fault::CountFault;
+use crate::measure::Measure;
 use crate::options::{Completion, CountOptions};
 use crate::outcome::Outcome;
 use crate::rounds::Rounds;
@@ -77,20 +79,22 @@ pub fn equal_shares<R: Threads, G: Gate, A: Allocator, B: Allocator>(
     election: &Election<B>,
     share: Money,
     workers: u32,
+    measure: Measure,
     _gate: &G,
 ) -> Result<Outcome<A>, CountFault>
 where
     A: Copy,
     requires { share ≤ largest_share }
     ensures workers { MatchBool (is_worker_count workers) (IsOkUnless result CountFault.NoMemory) (result ≡ Err CountFault.WorkerCount) }
-    ensures outcome { IfOk result (λ o. settled o ≡ settled_by share 0 (outcome_of election.now share)) }
+    ensures outcome { IfOk result (λ o. settled o ≡ settled_by share 0 (outcome_of measure election.now share)) }
     ensures priced { IfOk result (λ o. o.priced ≡ all_priced (length election.now.projects) (length o.elected + 1)) }
+    ensures cheapest { IfOk result (λ o. EachWasCheapest measure (support_of election.now) share o.elected) }
     ensures price_system { IfOk result (λ o. HasPriceSystem (support_of election.now) share o.elected o.rests) }
 {
     if !is_worker_count(workers) {
         return Err(CountFault::WorkerCount);
     }
-    let mut rounds = Rounds::new(alloc, election)?;
+    let mut rounds = Rounds::new(alloc, election, measure)?;
     let mut outcome = Outcome::unfilled(alloc);
     rounds.run(share, 0, &mut outcome)?;
     Ok(outcome)
@@ -113,13 +117,14 @@ where
     ensures counted { IfOk result (λ o. count_of election.now options.now ≡ Some (settled o)) }
     ensures priced { IfOk result (λ o. o.priced ≡ all_priced (length election.now.projects) (length o.elected + 1)) }
     ensures within_budget { IfOk result (λ o. spent_on (support_of election.now) o.elected ≤ election.now.budget) }
-    ensures completed { IfOk result (λ o. options.now.completion ≡ Completion.Add1 → IsCompleted election.now options.now.step o.raised) }
+    ensures completed { IfOk result (λ o. options.now.completion ≡ Completion.Add1 → IsCompleted options.now.measure election.now options.now.step o.raised) }
+    ensures cheapest { IfOk result (λ o. EachWasCheapest options.now.measure (support_of election.now) o.share o.elected) }
     ensures price_system { IfOk result (λ o. HasPriceSystem (support_of election.now) o.share o.elected o.rests) }
 {
     if let Some(fault) = refusal_of(options) {
         return Err(fault);
     }
-    let mut rounds = Rounds::new(alloc, election)?;
+    let mut rounds = Rounds::new(alloc, election, options.measure)?;
     let mut first = Outcome::unfilled(alloc);
     rounds.run(opening_share(election), 0, &mut first)?;
     match options.completion {
@@ -141,12 +146,13 @@ where
     requires step { options.now.step ≤ 1000000000 }
     requires raises { options.now.max_raises ≤ 1000000 }
     requires supporters { rounds.old.supporters ≡ support_of election.now }
+    requires measure { rounds.old.measure ≡ options.now.measure }
     requires is_support { IsSupport rounds.old.supporters }
-    requires settled { settled first ≡ settled_after election.now options.now.step 0 }
+    requires settled { settled first ≡ settled_after options.now.measure election.now options.now.step 0 }
     requires priced { first.priced ≡ all_priced (length election.now.projects) (length first.elected + 1) }
     requires left { IsLeft rounds.old.supporters first.elected rounds.old.left.items }
-    ensures decided { IfOk result (λ o. add1_of election.now options.now.step options.now.max_raises ≡ Some o.raised) }
-    ensures settled { IfOk result (λ o. settled o ≡ settled_after election.now options.now.step o.raised) }
+    ensures decided { IfOk result (λ o. add1_of options.now.measure election.now options.now.step options.now.max_raises ≡ Some o.raised) }
+    ensures settled { IfOk result (λ o. settled o ≡ settled_after options.now.measure election.now options.now.step o.raised) }
     ensures priced { IfOk result (λ o. o.priced ≡ all_priced (length election.now.projects) (length o.elected + 1)) }
     ensures faults { IfErr result (IsCompletionFault election.now options.now) }
 {

@@ -1,32 +1,44 @@
-ghost use Rattle.std.specs.Prelude.{◌≡◌};
+ghost use Rattle.std.specs.Prelude.{◌≡◌, ◌≤◌};
 
 use pb_core::money::Money;
 use std::cmp::Ordering;
 use std::marker::Model;
 
-/// What a round orders projects by: the smaller price comes first, and among equal prices the project that stands earlier in the file.
+/// What a round orders projects by: the smaller price over weight comes first, and among equals the project that stands
+/// earlier in the file. (The place decides before the weight, which only tells apart keys that are made by hand.)
+///
+/// The definitions call its value a bid (`specs/Bid.antt`).
 #[derive(Clone, Copy, Debug, PartialEq, Eq)]
 pub struct Key {
     price: Money,
+    weight: u64,
     place: u32,
 }
 
 impl Model for Key {
+    ghost use Rattle.std.specs.Prelude.{◌≤◌};
     ghost use Rattle.pb_rounds.specs.Bid.{Bid};
 
     ghost Value = { Bid };
 
-    ghost view = { λ k. record { price = k.price; place = k.place } };
+    ghost view = { λ k. record { price = k.price; weight = k.weight; place = k.place } };
 
-    ghost inverse = { λ b. record { price = b.price; place = b.place } };
+    ghost invariant = { λ k. 1 ≤ k.weight };
+
+    ghost inverse = { λ b. record { price = b.price; weight = b.weight; place = b.place } };
 }
 
 impl Key {
-    /// The key of the project at this place, at this price.
-    pub fn new(price: Money, place: u32) -> Key
-        ensures { result ≡ record { price = price; place = place } }
+    /// The key of the project at this place, at this price, in hundredths, and this weight, which is at least 1.
+    pub fn new(price: Money, weight: u64, place: u32) -> Key
+        requires { 1 ≤ weight }
+        ensures { result ≡ record { price = price; weight = weight; place = place } }
     {
-        Key { price, place }
+        Key {
+            price,
+            weight,
+            place,
+        }
     }
 
     /// What each supporter pays at most, in hundredths.
@@ -34,6 +46,14 @@ impl Key {
         ensures { result ≡ self.now.price }
     {
         self.price
+    }
+
+    /// What the price is divided by: at least 1.
+    pub fn weight(&self) -> u64
+        ensures weight { result ≡ self.now.weight }
+        ensures positive { 1 ≤ result }
+    {
+        self.weight
     }
 
     /// The project's place in the file, from 0.
@@ -45,35 +65,36 @@ impl Key {
 }
 
 impl Ord for Key {
-    ghost use Rattle.std.proofs.Common.{rules};
-    ghost use Rattle.std.specs.Cmp.Rules.{comparing};
     ghost use Rattle.pb_rounds.specs.Bid.{bid_cmp};
-    ghost use Rattle.pb_rounds.specs.BidOrder.{bid_cmp-total};
+    ghost use Rattle.pb_rounds.specs.BidOrder.{bid_cmp-total, fields_tie};
+    ghost use Rattle.std.proofs.Common.{refl};
 
     ghost cmp = { bid_cmp };
 
     ghost total = { bid_cmp-total };
 
-    ghost matches_partial_cmp = { Prim.search (comparing, rules) };
+    ghost matches_partial_cmp = { λ x y. refl };
 
-    ghost matches_eq = { Prim.search (comparing, rules) };
+    ghost matches_eq = { fields_tie };
 
     fn cmp(&self, other: &Key) -> Ordering {
-        let by_price = self.price.cmp(&other.price);
-        by_price.then(self.place.cmp(&other.place))
+        let ratio = u128::from(self.price.0) * u128::from(other.weight);
+        let other_ratio = u128::from(other.price.0) * u128::from(self.weight);
+        let by_ratio = ratio.cmp(&other_ratio);
+        let by_place = self.place.cmp(&other.place);
+        by_ratio.then(by_place.then(self.weight.cmp(&other.weight)))
     }
 }
 
 impl PartialOrd for Key {
-    ghost use Rattle.std.proofs.Common.{rules};
-    ghost use Rattle.std.specs.Cmp.{partial_order_from_own_ties};
-    ghost use Rattle.std.specs.Cmp.Rules.{comparing};
+    ghost use Rattle.std.specs.Cmp.{partial_order_from_own_ties, partial_order_from_total};
     ghost use Rattle.std.specs.Ordering.{as_partial_cmp};
     ghost use Rattle.pb_rounds.specs.Bid.{bid_cmp};
+    ghost use Rattle.pb_rounds.specs.BidOrder.{bid_cmp-total, fields_tie};
 
     ghost partial_cmp = { as_partial_cmp bid_cmp };
 
-    ghost laws = { partial_order_from_own_ties (Prim.search (comparing, rules)) (Prim.search (comparing, rules)) };
+    ghost laws = { partial_order_from_own_ties (partial_order_from_total bid_cmp-total) fields_tie };
 
     fn partial_cmp(&self, other: &Key) -> Option<Ordering> {
         Some(self.cmp(other))

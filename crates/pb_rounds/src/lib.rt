@@ -4,6 +4,7 @@
 pub mod count;
 pub mod count_fault;
 pub mod key;
+pub mod measure;
 pub mod options;
 pub mod outcome;
 mod round;

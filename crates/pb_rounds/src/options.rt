@@ -1,6 +1,8 @@
 ghost use Rattle.std.specs.Prelude.{◌≡◌};
+ghost use Rattle.pb_rounds.specs.declared.measure.Measure.TheVariants.{Votes};
 ghost use Rattle.pb_rounds.specs.declared.options.Completion.TheVariants.{Add1};
 
+use crate::measure::Measure;
 use pb_core::money::Money;
 
 /// What is done with the money that a first run leaves.
@@ -21,19 +23,23 @@ pub struct CountOptions {
     pub max_raises: u32,
     /// How many workers compute prices side by side: 1 to 64. The outcome is the same for any number.
     pub workers: u32,
+    /// Whether an outcome is completed by raises.
     pub completion: Completion,
+    /// What a round orders projects by.
+    pub measure: Measure,
 }
 
 impl CountOptions {
-    /// One worker, steps of 1.00, up to 1,000,000 raises, and completion by raises.
+    /// One worker, steps of 1.00, up to 1,000,000 raises, completion by raises, and measure votes.
     pub fn standard() -> CountOptions
-        ensures { result ≡ record { step = 100; max_raises = 1000000; workers = 1; completion = Add1 } }
+        ensures { result ≡ record { step = 100; max_raises = 1000000; workers = 1; completion = Add1; measure = Votes } }
     {
         CountOptions {
             step: Money(100),
             max_raises: 1_000_000,
             workers: 1,
             completion: Completion::Add1,
+            measure: Measure::Votes,
         }
     }
 }

@@ -7,6 +7,7 @@ ghost use Rattle.pb_rounds.specs.Bid.{better_of};
 ghost use Rattle.pb_rounds.specs.Run.{best_of, charged, elected_by, without};
 
 use crate::key::Key;
+use crate::measure::Measure;
 use crate::outcome::{Elected, Outcome};
 use pb_core::money::Money;
 use pb_core::no_memory::NoMemory;
@@ -29,6 +30,7 @@ fn better(best: Option<Key>, key: Key) -> Key
 /// How many prices that took goes behind the outcome's other counts.
 pub(crate) fn price_left<A: Allocator>(
     supporters: &Supporters<A>,
+    measure: Measure,
     left: &[u32],
     buffer: &mut Vec<u64, A>,
     outcome: &mut Outcome<A>,
@@ -36,7 +38,7 @@ pub(crate) fn price_left<A: Allocator>(
     requires rests { AreRests supporters.now.voters outcome.old.rests }
     requires known { All (λ place. place < length supporters.now.costs) left.now }
     requires few { length left.now ≤ most_projects }
-    ensures best { IfOk result (λ best. best ≡ best_of supporters.now outcome.old.rests left.now) }
+    ensures best { IfOk result (λ best. best ≡ best_of measure supporters.now outcome.old.rests left.now) }
     ensures priced { OnOk result (outcome.new ≡ record outcome.old { priced = outcome.old.priced ++ length left.now ∷ [] }) }
 {
     let mut tally = Tally::new();
@@ -44,7 +46,8 @@ pub(crate) fn price_left<A: Allocator>(
     for place in left {
         let rests = outcome.rests.as_slice();
         if let Some(price) = price_with(buffer, supporters, rests, *place, &mut tally)? {
-            best = Some(better(best, Key::new(price, *place)));
+            let key = Key::new(price, measure.weight(supporters, *place), *place);
+            best = Some(better(best, key));
         }
     }
     outcome.priced.push(tally.count())?;

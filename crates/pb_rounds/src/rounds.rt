@@ -6,6 +6,7 @@ ghost use Rattle.pb_rounds.specs.Count.{is_over, is_exhausted};
 ghost use Rattle.pb_rounds.specs.Outcome.{settled, settled_by, all_priced};
 ghost use Rattle.pb_rounds.specs.Run.{run_of, IsLeft};
 
+use crate::measure::Measure;
 use crate::outcome::Outcome;
 use crate::round::{elect, price_left};
 use crate::standing::{is_exhausted, is_over};
@@ -18,6 +19,7 @@ use std::alloc::{Allocator, Global};
 /// What the runs of one count share: who supports each project, and lists that are used again from run to run.
 #[derive(Drop)]
 pub(crate) struct Rounds<A: Allocator = Global> {
+    measure: Measure,
     supporters: Supporters<A>,
     /// The projects that are left, by place, in file order.
     left: Vec<u32, A>,
@@ -27,12 +29,18 @@ pub(crate) struct Rounds<A: Allocator = Global> {
 
 impl<A: Allocator> Rounds<A> {
     /// Ready for runs over this election.
-    pub(crate) fn new<B: Allocator>(alloc: A, election: &Election<B>) -> Result<Rounds<A>, NoMemory>
+    pub(crate) fn new<B: Allocator>(
+        alloc: A,
+        election: &Election<B>,
+        measure: Measure,
+    ) -> Result<Rounds<A>, NoMemory>
     where
         A: Copy,
-        ensures { IfOk result (λ rounds. rounds.supporters ≡ support_of election.now) }
+        ensures supporters { IfOk result (λ rounds. rounds.supporters ≡ support_of election.now) }
+        ensures measure { IfOk result (λ rounds. rounds.measure ≡ measure) }
     {
         Ok(Rounds {
+            measure,
             supporters: Supporters::build(alloc, election)?,
             left: Vec::new(alloc),
             buffer: Vec::new(alloc),
@@ -47,16 +55,18 @@ impl<A: Allocator> Rounds<A> {
         outcome: &mut Outcome<A>,
     ) -> Result<(), NoMemory>
         requires { share ≤ largest_share }
-        ensures settled { OnOk result (settled outcome.new ≡ settled_by share raised (run_of self.old.supporters share)) }
+        ensures settled { OnOk result (settled outcome.new ≡ settled_by share raised (run_of self.old.measure self.old.supporters share)) }
         ensures priced { OnOk result (outcome.new.priced ≡ all_priced (length self.old.supporters.costs) (length outcome.new.elected + 1)) }
         ensures left { OnOk result (IsLeft self.old.supporters outcome.new.elected self.new.left.items) }
         ensures supporters { self.new.supporters ≡ self.old.supporters }
         ensures is_support { IsSupport self.old.supporters }
+        ensures measure { self.new.measure ≡ self.old.measure }
     {
         fill_left(&mut self.left, self.supporters.projects())?;
         open(outcome, share, raised, self.supporters.voters())?;
         while let Some(best) = price_left(
             &self.supporters,
+            self.measure,
             self.left.as_slice(),
             &mut self.buffer,
             outcome,

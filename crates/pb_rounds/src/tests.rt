@@ -1,6 +1,7 @@
 use crate::count::{count, equal_shares};
 use crate::count_fault::CountFault;
 use crate::key::Key;
+use crate::measure::Measure;
 use crate::options::{Completion, CountOptions};
 use crate::outcome::Elected;
 use pb_core::ballot::Ballot;
@@ -227,7 +228,15 @@ fn runs_at_a_share(rt: HostRuntime) -> Result<(), Fail> {
         &[1200, 1900, 650, 990],
         &[&[0, 1], &[0, 1], &[0], &[1, 2, 3]],
     )?;
-    let outcome = equal_shares(&rt, rt.alloc(), &four, Money(1000), 1, &NoGate)?;
+    let outcome = equal_shares(
+        &rt,
+        rt.alloc(),
+        &four,
+        Money(1000),
+        1,
+        Measure::Votes,
+        &NoGate,
+    )?;
     assert_eq!(rt; outcome.share, Money(1000));
     assert_eq!(rt; outcome.raised, 0);
     assert_eq!(rt;
@@ -263,7 +272,15 @@ fn refuses_options(rt: HostRuntime) -> Result<(), Fail> {
         let given = fault_of(&rt, rt.alloc(), &election, &options);
         assert_eq!(rt; given, Some(fault));
     }
-    let refused = equal_shares(&rt, rt.alloc(), &election, Money(100), 65, &NoGate);
+    let refused = equal_shares(
+        &rt,
+        rt.alloc(),
+        &election,
+        Money(100),
+        65,
+        Measure::Votes,
+        &NoGate,
+    );
     assert!(rt; matches!(refused, Err(CountFault::WorkerCount)));
     let most = CountOptions {
         workers: 64,
@@ -275,10 +292,27 @@ fn refuses_options(rt: HostRuntime) -> Result<(), Fail> {
 
 #[test]
 fn orders_keys(rt: HostRuntime) {
-    let key = Key::new(Money(400), 2);
+    let key = Key::new(Money(400), 3, 2);
     assert_eq!(rt; key.price(), Money(400));
+    assert_eq!(rt; key.weight(), 3);
     assert_eq!(rt; key.place(), 2);
-    assert!(rt; Key::new(Money(399), 3) < key && key < Key::new(Money(400), 3));
+    let largest = u64::MAX;
+    let before = [
+        (Key::new(Money(399), 3, 3), key),
+        (key, Key::new(Money(400), 3, 3)),
+        (Key::new(Money(800), 6, 1), key),
+        (key, Key::new(Money(800), 6, 3)),
+        (Key::new(Money(400), 4, 9), key),
+        (Key::new(Money(400), 3, 1), Key::new(Money(800), 6, 2)),
+        (Key::new(Money(400), 3, 2), Key::new(Money(800), 6, 2)),
+        (
+            Key::new(Money(largest - 1), largest, 9),
+            Key::new(Money(largest), largest, 0),
+        ),
+    ];
+    for (first, second) in before {
+        assert!(rt; first < second && second > first && first != second);
+    }
 }
 
 #[test]

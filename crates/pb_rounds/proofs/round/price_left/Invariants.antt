@@ -4,6 +4,6 @@ use Rattle.pb_rounds.proofs.round.price_left.Given as goal
 
 abbrev pub invariant-loop-place : goal.invariant-loop-place
 invariant-loop-place g l = record {
-  best : l.best ≡ best_of l.supporters l.outcome-inside.rests.items (take l.place-index l.left);
+  best : l.best ≡ best_of l.measure l.supporters l.outcome-inside.rests.items (take l.place-index l.left);
   counted : l.tally ≡ l.place-index;
 }

@@ -1,0 +1,151 @@
+-- Each project that a run elects was the cheapest of its round.
+use Rattle.std.proofs.Common.{◌≡◌, ◌≢◌, ℕ, zero, suc, ◌+◌, ◌*◌, ◌<◌, ◌≤◌, List, [], ◌∷◌, ◌++◌, length, Option, Some, None, true, false, refl, sym, subst, ◌∙◌, ap, inl, inr, arith}
+use Rattle.std.specs.Prelude.{All, ◌⊎◌, max, replicate}
+use Rattle.std.specs.Cmp.{ranks}
+use Rattle.std.specs.List.{range_with_len}
+use Rattle.std.specs.Option.{option_map_or}
+use Rattle.std.specs.Ordering.{is_lt, nat_cmp, ordering_then}
+use Rattle.std.specs.declared.cmp.Ordering.{Ordering}
+use Rattle.std.specs.declared.cmp.Ordering.TheVariants.{Less, Equal, Greater}
+use Rattle.std.proofs.lemmas.Bool.{true≢false}
+use Rattle.std.proofs.lemmas.List.Elements.{All-nil, All-cons, All-head, All-tail}
+use Rattle.pb_core.specs.Election.{ElectionView}
+use Rattle.pb_price.specs.Price.{price_at}
+use Rattle.pb_price.specs.Supporters.{SupportView, IsSupport, cost_at, support_of, supporters_at}
+use Rattle.pb_rounds.specs.declared.measure.Measure.{Measure}
+use Rattle.pb_rounds.specs.declared.measure.Measure.TheVariants.{Votes, Cost}
+use Rattle.pb_rounds.specs.Bid.{Bid, is_before}
+use Rattle.pb_rounds.specs.Cheapest.{IsCheaper, IsAsCheap, WasCheapest, EachWasCheapest, rests_after}
+use Rattle.pb_rounds.specs.Outcome.{OutcomeView, Settled, settled, settled_by}
+use Rattle.pb_rounds.specs.Run.{ElectedView, RunView, bid, best_of, charged, elected_by, is_listed, run_from, run_of, then_run, without}
+use Rattle.pb_rounds.proofs.BestBid.{best_is_bid}
+use Rattle.pb_rounds.proofs.BestIs.{none_before_best}
+use Rattle.pb_rounds.proofs.Listed.{is_listed-range, is_listed-without, is_listed-without_same, listed-below, listed_from_without, range_rises, RisesWithin-below}
+
+-- the other does not come before: by the ratios, or by the places where these are equal
+not_before : (x y i j : ℕ) (o r t : Ordering) → nat_cmp x y ≡ r → nat_cmp i j ≡ t → is_lt (ordering_then r (ordering_then t o)) ≡ false → i ≢ j
+    → (y < x) ⊎ ((y ≡ x) × (j < i))
+not_before x y i j o Less t ratio place h apart = absurd (true≢false h)
+not_before x y i j o Equal Less ratio place h apart = absurd (true≢false h)
+not_before x y i j o Equal Equal ratio place h apart = absurd (apart (rw place at (ranks i j)))
+not_before x y i j o Equal Greater ratio place h apart = inr (sym (rw ratio at (ranks x y)), rw place at (ranks i j))
+not_before x y i j o Greater t ratio place h apart = inl (rw ratio at (ranks x y))
+
+compared : (m : Measure) (s : SupportView) (place price other q : ℕ) → 0 < cost_at s place → 0 < cost_at s other → other ≢ place
+    → is_before (bid m s other q) (bid m s place price) ≡ false
+    → IsCheaper m s place price other q ⊎ (IsAsCheap m s place price other q × place < other)
+compared Votes s place price other q some more apart h =
+    elim (not_before (q * max 1 1) (price * max 1 1) other place _ _ _ refl refl h apart) [
+      | inl less ↦ inl (omega arith)
+      | inr same ↦ inr (omega (arith, same.0), same.1)
+    ]
+compared Cost s place price other q some more apart h =
+    let one : max 1 (cost_at s place) ≡ cost_at s place = omega arith in
+    let two : max 1 (cost_at s other) ≡ cost_at s other = omega arith in
+    elim (not_before (q * max 1 (cost_at s place)) (price * max 1 (cost_at s other)) other place _ _ _ refl refl h apart) [
+      | inl less ↦ inl (rw (one, two) at less)
+      | inr same ↦ inr (rw (one, two) at same.0, same.1)
+    ]
+
+-- w, elected after those before it, was the cheapest of its round; these are left at first
+record WasFirst (m : Measure) (s : SupportView) (rests left : List ℕ) (before : List ElectedView) (w : ElectedView) : Type 0 where
+  pub listed : is_listed left w.place ≡ true
+  pub was_left : All (λ v. v.place ≢ w.place) before
+  pub priced : price_at s (rests_after s rests before) w.place ≡ Some w.price
+  pub cheapest : (other price : ℕ) → is_listed left other ≡ true → other ≢ w.place → All (λ v. v.place ≢ other) before
+      → price_at s (rests_after s rests before) other ≡ Some price
+      → IsCheaper m s w.place w.price other price ⊎ (IsAsCheap m s w.place w.price other price × w.place < other)
+
+abbrev EachWasFirst : Measure → SupportView → List ℕ → List ℕ → List ElectedView → Type 0
+EachWasFirst m s rests left elected = (before : List ElectedView) (w : ElectedView) (later : List ElectedView)
+    → elected ≡ before ++ w ∷ later → WasFirst m s rests left before w
+
+head_is : (x y : ElectedView) (xs ys : List ElectedView) → x ∷ xs ≡ y ∷ ys → x ≡ y
+head_is x y xs ys e = cc
+
+tail_is : (x y : ElectedView) (xs ys : List ElectedView) → x ∷ xs ≡ y ∷ ys → xs ≡ ys
+tail_is x y xs ys e = cc
+
+none_was_first : (m : Measure) (s : SupportView) (rests left : List ℕ) → EachWasFirst m s rests left []
+none_was_first m s rests left [] w later e = cc
+none_was_first m s rests left (x ∷ before) w later e = cc
+
+abbrev ArePositive : SupportView → List ℕ → Type 0
+ArePositive s left = (place : ℕ) → is_listed left place ≡ true → 0 < cost_at s place
+
+best_was_first : (m : Measure) (s : SupportView) (rests left : List ℕ) → ArePositive s left → (b : Bid) → best_of m s rests left ≡ Some b
+    → WasFirst m s rests left [] (elected_by s rests b)
+best_was_first m s rests left positive b e =
+    let found = best_is_bid m s rests left b e in
+    record {
+      listed = found.is_left;
+      was_left = All-nil (λ v. v.place ≢ b.place);
+      priced = found.is_price;
+      cheapest = λ other price listed apart _ priced.
+          compared m s b.place b.price other price (positive b.place found.is_left) (positive other listed) apart
+          (ap (is_before (bid m s other price)) (sym found.is_bid) ∙ none_before_best m s rests left b e other price listed priced);
+    }
+
+later_was_first : (m : Measure) (s : SupportView) (rests left : List ℕ) → ArePositive s left → (b : Bid) → best_of m s rests left ≡ Some b
+    → (run : RunView) → EachWasFirst m s (charged (supporters_at s b.place) b.price rests) (without b.place left) run.elected
+    → EachWasFirst m s rests left (elected_by s rests b ∷ run.elected)
+later_was_first m s rests left positive b best run others [] w later e =
+    rw (← head_is _ _ _ _ e) (best_was_first m s rests left positive b best)
+later_was_first m s rests left positive b best run others (x ∷ before) w later e =
+    let found = others before w later (tail_is _ _ _ _ e) in
+    rw (← head_is _ _ _ _ e) (record {
+      listed = listed_from_without left b.place w.place found.listed;
+      was_left = All-cons (λ v. v.place ≢ w.place) (elected_by s rests b) before
+          (λ same. true≢false (sym found.listed ∙ ap (is_listed (without b.place left)) (sym same) ∙ is_listed-without_same left b.place)) found.was_left;
+      priced = found.priced;
+      cheapest = λ other price listed apart earlier priced.
+          found.cheapest other price
+          (is_listed-without left b.place other (λ same. All-head (λ v. v.place ≢ other) (elected_by s rests b) before earlier (sym same)) ∙ listed)
+          apart (All-tail (λ v. v.place ≢ other) (elected_by s rests b) before earlier) priced;
+    })
+
+run_step : (m : Measure) (s : SupportView) (rests left : List ℕ) → ArePositive s left → (n : ℕ)
+    → ((rests left : List ℕ) → ArePositive s left → EachWasFirst m s rests left (run_from m s n rests left).elected)
+    → (o : Option Bid) → best_of m s rests left ≡ o
+    → EachWasFirst m s rests left
+    (option_map_or (λ b. then_run (elected_by s rests b) (run_from m s n (charged (supporters_at s b.place) b.price rests) (without b.place left)))
+    o (record { elected = []; rests = rests })).elected
+run_step m s rests left positive n others None e = none_was_first m s rests left
+run_step m s rests left positive n others (Some b) e =
+    later_was_first m s rests left positive b e (run_from m s n (charged (supporters_at s b.place) b.price rests) (without b.place left))
+    (others (charged (supporters_at s b.place) b.price rests) (without b.place left) (λ place listed. positive place (listed_from_without left b.place place listed)))
+
+run_was_first : (m : Measure) (s : SupportView) (n : ℕ) (rests left : List ℕ) → ArePositive s left
+    → EachWasFirst m s rests left (run_from m s n rests left).elected
+unfolding run_from
+run_was_first m s zero rests left positive = none_was_first m s rests left
+run_was_first m s (suc n) rests left positive = run_step m s rests left positive n (run_was_first m s n) (best_of m s rests left) refl
+
+known_place : (s : SupportView) (place : ℕ) → is_listed (range_with_len 0 (length s.costs)) place ≡ true → place < length s.costs
+known_place s place listed = listed-below (range_with_len 0 (length s.costs)) (length s.costs) place
+    (RisesWithin-below _ 0 (length s.costs) (range_rises 0 (length s.costs) (length s.costs) (omega arith))) listed
+
+all_were_first : (m : Measure) (s : SupportView) → IsSupport s → (share : ℕ)
+    → EachWasFirst m s (replicate s.voters share) (range_with_len 0 (length s.costs)) (run_of m s share).elected
+unfolding run_of
+all_were_first m s h share = run_was_first m s (length s.costs) _ _ (λ place listed.
+    h.costs_positive place 0 (known_place s place listed))
+
+-- each of a run's elected was the cheapest of its round
+pub run_was_cheapest : (m : Measure) (s : SupportView) → IsSupport s → (share : ℕ) → EachWasCheapest m s share (run_of m s share).elected
+run_was_cheapest m s h share before w later e =
+    let found = all_were_first m s h share before w later e in
+    record {
+      known = known_place s w.place found.listed;
+      was_left = found.was_left;
+      priced = found.priced;
+      cheapest = λ other price known apart earlier priced.
+          found.cheapest other price (is_listed-range 0 (length s.costs) other (omega arith) (omega arith)) apart earlier priced;
+    }
+
+-- the same of an outcome
+pub settled_was_cheapest : (m : Measure) (e : ElectionView) (s : SupportView) → s ≡ support_of e → IsSupport s → (share raised : ℕ) (o : OutcomeView)
+    → settled o ≡ settled_by share raised (run_of m s share) → EachWasCheapest m (support_of e) o.share o.elected
+settled_was_cheapest m e s same h share raised o is =
+    subst (λ (t : SupportView). EachWasCheapest m t o.share o.elected) same
+    (subst (λ (x : Settled). EachWasCheapest m s x.share x.elected) (sym is) (run_was_cheapest m s h share))

@@ -1,0 +1,28 @@
+ghost use Rattle.std.specs.Prelude.{◌≡◌, ◌<◌, ◌≤◌, length};
+ghost use Rattle.pb_rounds.specs.Run.{weight_of};
+
+use pb_price::supporters::Supporters;
+use std::alloc::Allocator;
+
+/// What an elected project is worth to a voter who approves it: its utility in Equal Shares.
+#[derive(Clone, Copy, Debug, PartialEq, Eq)]
+pub enum Measure {
+    /// One for each approved project: a round elects the least price.
+    Votes,
+    /// The project's cost: a round elects the least price over cost.
+    Cost,
+}
+
+impl Measure {
+    /// What the price of the project at this place is divided by.
+    pub(crate) fn weight<A: Allocator>(self, supporters: &Supporters<A>, place: u32) -> u64
+        requires { place < length supporters.now.costs }
+        ensures weight { result ≡ weight_of self supporters.now place }
+        ensures positive { 1 ≤ result }
+    {
+        match self {
+            Measure::Votes => 1,
+            Measure::Cost => supporters.cost(place).0,
+        }
+    }
+}
