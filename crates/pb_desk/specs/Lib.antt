@@ -10,3 +10,4 @@ pub mod Audit
 pub mod AuditFault
 pub mod AuditSteps
 pub mod IntoFault
+pub mod Opening

@@ -5,13 +5,16 @@
 //!
 //! | Request | Answers, in this order | What `Done` changes |
 //! |---|---|---|
-//! | Cast(voter, ballot) | DeskShut; UnknownPlace(the first place at which there is no project); AlreadyCast; VoterLimit, where 1,000,000 ballots stand; Done | the ballot goes last |
-//! | Replace(voter, ballot) | DeskShut; UnknownPlace; NoBallot; Done | the voter's ballot changes in its place |
+//! | Cast(voter, ballot) | DeskShut; UnknownPlace(the first place at which there is no project); TooLong; AlreadyCast; VoterLimit, where 1,000,000 ballots stand; Done | the ballot goes last |
+//! | Replace(voter, ballot) | DeskShut; UnknownPlace; TooLong; NoBallot; Done | the voter's ballot changes in its place |
 //! | Withdraw(voter) | DeskShut; NoBallot; Done | the ballot goes, and the later ones close up |
 //! | Shut | DeskShut; Done | the desk is shut |
 //!
+//! TooLong is the answer to a ballot of more places than the election allows; a desk of version 1 knows no
+//! such limit, and the ballots that stand at the opening are not checked against it.
+//!
 //! Every answer stands in the journal. Its text has a row for each entry, with six fields and `;` between
-//! two: the number, from 1; the clerk, 0 to 63; `cast`, `replace`, `withdraw` or `shut`; the voter's id;
+//! two, after the row `journal;2` where the desk has version 2: the number, from 1; the clerk, 0 to 63; `cast`, `replace`, `withdraw` or `shut`; the voter's id;
 //! the places of the ballot, rising, with `,` between two; and the answer, as `done` or
 //! `unknown-place 2`. A field is quoted only where it has to be.
 //!
@@ -32,4 +35,7 @@ mod row_writer;
 pub mod start_fault;
 #[cfg(test)]
 mod tests;
+mod version;
 pub mod write_fault;
+
+pub use version::Version;

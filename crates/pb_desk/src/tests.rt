@@ -130,6 +130,10 @@ fn has_ballots(rt: &impl Abort, desk: &Desk, ids: &[&str], ballots: &[&[u32]]) -
 const FIVE_ROWS: &str =
     "1;0;cast;ann;0;done\n2;0;cast;ann;1;already-cast\n3;0;replace;ann;0,1;done\n4;0;withdraw;ann;;done\n5;0;replace;ann;0;no-ballot\n";
 
+/// The same, as a desk of version 2 writes it.
+const VERSIONED_FIVE_ROWS: &str =
+    "journal;2\n1;0;cast;ann;0;done\n2;0;cast;ann;1;already-cast\n3;0;replace;ann;0,1;done\n4;0;withdraw;ann;;done\n5;0;replace;ann;0;no-ballot\n";
+
 #[test]
 fn serves_five_requests(rt: HostRuntime) -> Result<(), Fail> {
     let alloc = rt.alloc();
@@ -170,7 +174,7 @@ fn serves_five_requests(rt: HostRuntime) -> Result<(), Fail> {
         Answer::NoBallot,
     )?;
     has_ballots(&rt, &desk, &["v1", "v2", "v3"], &[&[0], &[0, 1], &[1]])?;
-    has_text(&rt, alloc, &desk, FIVE_ROWS)
+    has_text(&rt, alloc, &desk, VERSIONED_FIVE_ROWS)
 }
 
 #[test]
@@ -205,7 +209,12 @@ fn the_first_unknown_place_is_named(rt: HostRuntime) -> Result<(), Fail> {
     assert_eq!(rt; entry.answer, Answer::UnknownPlace(2));
     assert!(rt; desk.entry(0).is_none());
     assert!(rt; desk.entry(2).is_none());
-    has_text(&rt, alloc, &desk, "1;0;cast;ann;0,2,9;unknown-place 2\n")
+    has_text(
+        &rt,
+        alloc,
+        &desk,
+        "journal;2\n1;0;cast;ann;0,2,9;unknown-place 2\n",
+    )
 }
 
 #[test]
@@ -318,7 +327,7 @@ fn writes_a_withdrawal_and_a_shut(rt: HostRuntime) -> Result<(), Fail> {
         &rt,
         alloc,
         &desk,
-        "1;0;withdraw;v3;;done\n2;0;shut;;;done\n",
+        "journal;2\n1;0;withdraw;v3;;done\n2;0;shut;;;done\n",
     )
 }
 
@@ -380,7 +389,7 @@ fn audits_answer_the_first_fault(rt: HostRuntime) -> Result<(), Fail> {
 
 /// Rows that have not the form of an entry's row, one a line.
 const MALFORMED: &str =
-    "01;0;cast;ann;0;done\n1;00;cast;ann;0;done\n1;0;cast;ann;00;done\n1;0;cast;ann;9;unknown-place 09\n+1;0;cast;ann;0;done\n1;+0;cast;ann;0;done\n-1;0;cast;ann;0;done\n1;0;cast;ann;+0;done\n;0;cast;ann;0;done\n1;;cast;ann;0;done\n1;64;cast;ann;0;done\n4294967296;0;cast;ann;0;done\n1;4294967296;cast;ann;0;done\n1;0;cast;ann;4294967296;unknown-place 4294967296\n1;0;Cast;ann;0;done\n1;0;vote;ann;0;done\n1;0;;ann;0;done\n1;0;cast;ann;0;Done\n1;0;cast;ann;0;\n1;0;cast;ann;0;too-long\n1;0;cast;ann;2;unknown-place\n1;0;cast;ann;2;unknown-place  2\n1;0;cast;ann;1,0;done\n1;0;cast;ann;0,0;done\n1;0;cast;ann;0,,1;done\n1;0;cast;ann;0,;done\n1;0;cast;ann;0, 1;done\n1;0;cast; ann;0;done\n1;0;cast;ann ;0;done\n1;0;cast;;0;done\n1;0;replace;;0;done\n1;0;withdraw;;;done\n1;0;withdraw;v1;0;done\n1;0;shut;v1;;done\n1;0;shut;;0;done\n1;0;cast;ann;0\n1;0;cast;ann;0;done;\n1\n 1;0;cast;ann;0;done";
+    "01;0;cast;ann;0;done\n1;00;cast;ann;0;done\n1;0;cast;ann;00;done\n1;0;cast;ann;9;unknown-place 09\n+1;0;cast;ann;0;done\n1;+0;cast;ann;0;done\n-1;0;cast;ann;0;done\n1;0;cast;ann;+0;done\n;0;cast;ann;0;done\n1;;cast;ann;0;done\n1;64;cast;ann;0;done\n4294967296;0;cast;ann;0;done\n1;4294967296;cast;ann;0;done\n1;0;cast;ann;4294967296;unknown-place 4294967296\n1;0;Cast;ann;0;done\n1;0;vote;ann;0;done\n1;0;;ann;0;done\n1;0;cast;ann;0;Done\n1;0;cast;ann;0;\n1;0;cast;ann;2;unknown-place\n1;0;cast;ann;2;unknown-place  2\n1;0;cast;ann;1,0;done\n1;0;cast;ann;0,0;done\n1;0;cast;ann;0,,1;done\n1;0;cast;ann;0,;done\n1;0;cast;ann;0, 1;done\n1;0;cast; ann;0;done\n1;0;cast;ann ;0;done\n1;0;cast;;0;done\n1;0;replace;;0;done\n1;0;withdraw;;;done\n1;0;withdraw;v1;0;done\n1;0;shut;v1;;done\n1;0;shut;;0;done\n1;0;cast;ann;0\n1;0;cast;ann;0;done;\n1\n 1;0;cast;ann;0;done";
 
 #[test]
 fn a_malformed_row_is_a_bad_row(rt: HostRuntime) -> Result<(), Fail> {
@@ -406,7 +415,12 @@ fn a_quoted_id_reads_back(rt: HostRuntime) -> Result<(), Fail> {
     let text = "1;0;cast;\"a;\"\"b\";0;done\n";
     let mut desk = desk_with_room(&rt, alloc, 10)?;
     asks(&rt, alloc, &mut desk, "cast", "a;\"b", &[0], Answer::Done)?;
-    has_text(&rt, alloc, &desk, text)?;
+    has_text(
+        &rt,
+        alloc,
+        &desk,
+        "journal;2\n1;0;cast;\"a;\"\"b\";0;done\n",
+    )?;
     let audited = audit(alloc, three_voters(&rt, alloc)?, 10, text.as_bytes())?;
     has_ballots(
         &rt,

@@ -43,21 +43,23 @@ where
 }
 
 impl<A: Allocator> Desk<A> {
-    // An election of the opening's budget and projects, and of the ballots on the desk.
+    /// A copy of the election that the desk opened with, with the ballots on the desk.
     fn closed(&self) -> Result<Election<A>, NoMemory>
     where
         A: Copy,
         ensures { IfOk result (λ election. election ≡ closed_election self.now) }
     {
         let alloc = *self.journal.allocator();
-        let mut election = Election::start(alloc, self.opening.budget());
-        add_projects(alloc, &mut election, self.opening.projects())?;
+        let mut election = Election::start(alloc, self.election.budget());
+        election.set_max_length(self.election.max_length());
+        add_projects(alloc, &mut election, self.election.projects())?;
         self.ballots.add_voters(alloc, &mut election)?;
         Ok(election)
     }
 
-    /// The election that a shut desk leaves: the opening's budget and projects, and the voters whose
-    /// ballots stand, in their order. A fault carries the desk back.
+    /// The election that a shut desk leaves: the one that it opened with (its budget, its projects and its
+    /// limit on a ballot's length), and the voters whose ballots stand, in their order. A fault carries the
+    /// desk back.
     pub fn into_election(self) -> Result<Election<A>, IntoFault<A>>
     where
         A: Copy,
