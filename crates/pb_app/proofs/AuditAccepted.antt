@@ -1,6 +1,6 @@
 -- A file and a journal that have a text get it, unless a device fails or memory is refused; and they have one at most.
 use Rattle.std.proofs.Common.{◌≡◌, ◌<◌, ◌^◌, ℕ, ◌++◌, List, Option, Some, None, Bool, true, false, sym, ◌∙◌, ap, arith}
-use Rattle.std.specs.Prelude.{All, IfErr, IfSome, IsErrAnd, MatchBool, Result}
+use Rattle.std.specs.Prelude.{All, IfSome, IsErrAnd, MatchBool, Result}
 use Rattle.std.proofs.lemmas.List.Elements.{All-nil}
 use Rattle.pb_core.specs.Election.{ElectionView}
 use Rattle.pb_core.specs.Request.{EntryView, RequestView, Cast, Replace, Withdraw, Shut}
@@ -15,16 +15,18 @@ use Rattle.pb_read.proofs.Uniqueness.{one_election}
 use Rattle.pb_read.specs.FirstFault.{IsFromOutside as IsReadFromOutside}
 use Rattle.pb_read.specs.StandsFor.{StandsFor}
 use Rattle.pb_read.specs.declared.fault.ReadFault.{ReadFault}
+use Rattle.pb_rounds.specs.declared.count_fault.CountFault.{CountFault}
+use Rattle.pb_rounds.specs.declared.count_fault.CountFault.TheVariants as count
 use Rattle.pb_rounds.specs.declared.options.CountOptions.{CountOptions}
 use Rattle.pb_rows.specs.Numbers.{AreNumbers}
 use Rattle.pb_rows.specs.Reading.{records_of}
 use Rattle.pb_rows.specs.Writing.{text_of_row}
 use Rattle.pb_app.specs.Audited.{AuditWrites, IsDeskOf, IsRefusedDesk, IsTextOf, entries_row, program_room}
-use Rattle.pb_app.specs.Counted.{IsFromOutside, IsReportOf}
-use Rattle.pb_app.specs.Fault.{of_audit, of_read}
+use Rattle.pb_app.specs.Counted.{IsReportOf}
+use Rattle.pb_app.specs.Ends.{Accepts, IfBothKnown, IsFromOutside}
+use Rattle.pb_app.specs.Fault.{of_audit, of_count, of_read}
 use Rattle.pb_app.specs.declared.fault.AppFault.{AppFault}
-use Rattle.pb_app.specs.declared.fault.AppFault.TheVariants.{Read, Audit, Count, Open, Write, Memory}
-use Rattle.pb_app.proofs.Accepted.{given_fault, no_refusal, one_report, read_from_outside}
+use Rattle.pb_app.proofs.Accepted.{count_from_outside, given_fault, one_report, read_from_outside}
 
 request_places : (r : RequestView) → IsRequest r → AreNumbers (places_of r)
 request_places (Cast voter ballot) is = is.1.are_numbers
@@ -52,11 +54,11 @@ one_desk bytes journal d other first second =
 pub audited_by_reader : (files journals : Option (List ℕ)) (options : CountOptions) (fault : ReadFault) (r : Result (Unit {0}) AppFault)
     → IsErrAnd r (λ app. app ≡ of_read fault)
     → IfSome files (λ bytes. (e : ElectionView) → StandsFor (records_of bytes) e → IsReadFromOutside fault.kind)
-    → IfSome files (λ bytes. IfSome journals (λ journal. (text : List ℕ) → AuditWrites bytes journal options text → IfErr r IsFromOutside))
+    → IfBothKnown files journals (λ bytes journal. Accepts (AuditWrites bytes journal options) r)
 audited_by_reader None journals options fault r is accepts = tt
 audited_by_reader (Some bytes) None options fault r is accepts = tt
 audited_by_reader (Some bytes) (Some journal) options fault r is accepts = λ text writes.
-    given_fault r (of_read fault) is (read_from_outside fault.kind fault.at (accepts writes.desk.opening writes.audited.stands))
+    given_fault IsFromOutside r (of_read fault) is (read_from_outside fault.kind fault.at (accepts writes.desk.opening writes.audited.stands))
 
 -- the rows of a sound journal have no fault, so that the fault is none of theirs
 journal_from_outside : (e : ElectionView) (journal : List EntryView) → IsSound e program_room journal
@@ -71,38 +73,48 @@ journal_from_outside e journal sound audit.NoMemory fails = tt
 pub audited_by_journal : (files journals : Option (List ℕ)) (options : CountOptions) (e : ElectionView) (fault : AuditFault) (r : Result (Unit {0}) AppFault)
     → IsErrAnd r (λ app. app ≡ of_audit fault)
     → IfSome files (λ bytes. StandsFor (records_of bytes) e) → IfSome journals (λ journal. IsFaultOfJournal e program_room (records_of journal) fault)
-    → IfSome files (λ bytes. IfSome journals (λ journal. (text : List ℕ) → AuditWrites bytes journal options text → IfErr r IsFromOutside))
+    → IfBothKnown files journals (λ bytes journal. Accepts (AuditWrites bytes journal options) r)
 audited_by_journal None journals options e fault r is stands fails = tt
 audited_by_journal (Some bytes) None options e fault r is stands fails = tt
 audited_by_journal (Some bytes) (Some journal) options e fault r is stands fails = λ text writes.
     let d = writes.desk in
     let opening = one_election (records_of bytes) d.opening e writes.audited.stands stands in
     let sound = rw (opening, writes.audited.room) at writes.audited.sound in
-    given_fault r (of_audit fault) is (journal_from_outside e d.journal sound fault (rw writes.audited.rows at fails))
+    given_fault IsFromOutside r (of_audit fault) is (journal_from_outside e d.journal sound fault (rw writes.audited.rows at fails))
 
--- a desk that has a text is not refused
+-- a desk that has a text is refused from outside alone
 desk_from_outside : (d : DeskView) (options : CountOptions) (text : List ℕ) → IsTextOf d options text
-    → (fault : AppFault) → IsRefusedDesk d options fault → IsFromOutside fault
-desk_from_outside d options text written (Count fault) refused =
+    → (fault : CountFault) → IsRefusedDesk d options fault → IsFromOutside (of_count fault)
+desk_from_outside d options text written count.NoMemory refused = tt
+desk_from_outside d options text written fault refused =
     let report = rw refused.0 at written in
-    absurd (no_refusal (closed_election d) options report.0 report.1 fault refused.1)
-desk_from_outside d options text written Memory refused = tt
-desk_from_outside d options text written (Read fault) refused = absurd refused
-desk_from_outside d options text written (Audit fault) refused = absurd refused
-desk_from_outside d options text written (Open place) refused = absurd refused
-desk_from_outside d options text written Write refused = absurd refused
+    count_from_outside (closed_election d) options report.0 report.1 fault refused.1
 
-pub audited_by_desk : (files journals : Option (List ℕ)) (options : CountOptions) (e : ElectionView) (d : DeskView) (fault : AppFault) (r : Result (Unit {0}) AppFault)
-    → IsErrAnd r (λ app. app ≡ fault)
-    → IfSome files (λ bytes. StandsFor (records_of bytes) e) → d.opening ≡ e → d.room ≡ program_room → IsSound e program_room d.journal
-    → IfSome journals (λ journal. records_of journal ≡ rows_of d.journal) → IsRefusedDesk d options fault
-    → IfSome files (λ bytes. IfSome journals (λ journal. (text : List ℕ) → AuditWrites bytes journal options text → IfErr r IsFromOutside))
-audited_by_desk None journals options e d fault r is stands opening room sound rows refused = tt
-audited_by_desk (Some bytes) None options e d fault r is stands opening room sound rows refused = tt
-audited_by_desk (Some bytes) (Some journal) options e d fault r is stands opening room sound rows refused = λ text writes.
-    let audited : IsDeskOf bytes journal d = record { stands = rw opening stands; room = room; rows = rows; sound = rw (opening, room) sound } in
-    let written = rw (one_desk bytes journal writes.desk d writes.audited audited) at writes.written in
-    given_fault r fault is (desk_from_outside d options text written fault refused)
+-- what is known of a desk that an audit answered
+pub record IsAudited (files journals : Option (List ℕ)) (e : ElectionView) (d : DeskView) : Type 0 where
+  pub stands : IfSome files (λ bytes. StandsFor (records_of bytes) e)
+  pub opening : d.opening ≡ e
+  pub room : d.room ≡ program_room
+  pub sound : IsSound e program_room d.journal
+  pub rows : IfSome journals (λ journal. records_of journal ≡ rows_of d.journal)
+
+pub desk_of : (bytes journal : List ℕ) (e : ElectionView) (d : DeskView) → IsAudited (Some bytes) (Some journal) e d → IsDeskOf bytes journal d
+desk_of bytes journal e d is = record {
+  stands = rw is.opening is.stands;
+  room = is.room;
+  rows = is.rows;
+  sound = rw (is.opening, is.room) is.sound;
+}
+
+pub audited_by_desk : (files journals : Option (List ℕ)) (options : CountOptions) (e : ElectionView) (d : DeskView) (fault : CountFault) (r : Result (Unit {0}) AppFault)
+    → IsErrAnd r (λ app. app ≡ of_count fault) → IsAudited files journals e d → IsRefusedDesk d options fault
+    → IfBothKnown files journals (λ bytes journal. Accepts (AuditWrites bytes journal options) r)
+audited_by_desk None journals options e d fault r is audited refused = tt
+audited_by_desk (Some bytes) None options e d fault r is audited refused = tt
+audited_by_desk (Some bytes) (Some journal) options e d fault r is audited refused = λ text writes.
+    let same = one_desk bytes journal writes.desk d writes.audited (desk_of bytes journal e d audited) in
+    let written = rw same at writes.written in
+    given_fault IsFromOutside r (of_count fault) is (desk_from_outside d options text written fault refused)
 
 -- a desk has one text
 one_desk_text : (shut : Bool) (e : ElectionView) (options : CountOptions) (row a b : List ℕ)

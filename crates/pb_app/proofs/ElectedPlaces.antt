@@ -17,7 +17,7 @@ use Rattle.pb_rounds.specs.Run.{ElectedView, best_of, charged, elected_by, is_li
 use Rattle.pb_rounds.specs.declared.measure.Measure.{Measure}
 use Rattle.pb_rounds.specs.declared.options.CountOptions.{CountOptions}
 
--- at most so many are elected, all from those that were left
+-- at most this many are elected, all from those that were left
 pub record IsDrawn (rounds : ℕ) (left : List ℕ) (elected : List ElectedView) : Type 0 where
   pub few : length elected ≤ rounds
   pub listed : All (λ w. is_listed left w.place ≡ true) elected

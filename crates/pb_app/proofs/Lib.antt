@@ -1,6 +1,5 @@
 pub mod RowsGrown
 pub mod ReportSums
-pub mod FaultLines
 pub mod ElectedPlaces
 pub mod Printables
 pub mod AuditWritten

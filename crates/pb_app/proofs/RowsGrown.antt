@@ -26,7 +26,7 @@ pub four_grown : (a b c d : Fields) (old first second third fourth : List ℕ)
 four_grown a b c d old first second third fourth e f g h =
     rows_grown (a ∷ b ∷ []) (c ∷ d ∷ []) old second fourth (two_grown a b old first second e f) (two_grown c d second third fourth g h)
 
--- one row more behind those that are written
+-- one row more after those that are written
 pub row_grown : (rows : List Fields) (row : Fields) (old first second : List ℕ)
     → first ≡ old ++ text_of_rows rows → second ≡ first ++ text_of_row row → second ≡ old ++ text_of_rows (rows ++ row ∷ [])
 row_grown rows row old first second e f =

@@ -5,12 +5,15 @@ use Rattle.pb_desk.specs.Audit.{IsFaultOfJournal, IsSound}
 use Rattle.pb_desk.specs.Desk.{DeskView, closed_election, standing_of}
 use Rattle.pb_desk.specs.Rows.{rows_of}
 use Rattle.pb_desk.specs.declared.audit_fault.AuditFault.{AuditFault}
-use Rattle.pb_desk.specs.declared.audit_fault.AuditFault.TheVariants as audit
 use Rattle.pb_read.specs.StandsFor.{StandsFor}
+use Rattle.pb_rounds.specs.Count.{IsCountFault}
+use Rattle.pb_rounds.specs.declared.count_fault.CountFault.{CountFault}
+use Rattle.pb_rounds.specs.declared.count_fault.CountFault.TheVariants.{NoMemory}
 use Rattle.pb_rounds.specs.declared.options.CountOptions.{CountOptions}
 use Rattle.pb_rows.specs.Reading.{Fields, records_of}
 use Rattle.pb_rows.specs.Writing.{text_of_row}
-use Rattle.pb_app.specs.Counted.{IsFaultOfCount, IsFileFault, IsReportOf}
+use Rattle.pb_app.specs.Counted.{IsReportOf}
+use Rattle.pb_app.specs.Ends.{IsFileFault}
 use Rattle.pb_app.specs.declared.fault.AppFault.{AppFault}
 use Rattle.pb_app.specs.declared.fault.AppFault.TheVariants.{Read, Audit, Count, Open, Write, Memory}
 
@@ -18,16 +21,21 @@ use Rattle.pb_app.specs.declared.fault.AppFault.TheVariants.{Read, Audit, Count,
 abbrev pub program_room : ℕ
 program_room = 4294967295
 
--- these bytes, read as a file and as a journal, are those of a desk: the file stands for its opening election, and the rows are its journal's
+-- these bytes, read as a file and as a journal, are those of a desk: the file stands for its opening election,
+-- and the rows are its journal's
 pub record IsDeskOf (bytes journal : List ℕ) (d : DeskView) : Type 0 where
   pub stands : StandsFor (records_of bytes) d.opening
   pub room : d.room ≡ program_room
   pub rows : records_of journal ≡ rows_of d.journal
   pub sound : IsSound d.opening d.room d.journal
 
+-- whether a desk is shut, as its row says it
+abbrev pub state_of : DeskView → List ℕ
+state_of d = if (standing_of d).is_shut then codes "shut" else codes "open"
+
 -- the row of a desk: how many entries its journal has, and whether it is shut
 abbrev pub entries_row : DeskView → Fields
-entries_row d = codes "entries" ∷ decimal (length d.journal) ∷ (if (standing_of d).is_shut then codes "shut" else codes "open") ∷ []
+entries_row d = codes "entries" ∷ decimal (length d.journal) ∷ state_of d ∷ []
 
 -- what is written of a desk: its row, and where it is shut the report of the ballots that its journal leaves
 abbrev pub IsTextOf : DeskView → CountOptions → List ℕ → Type 0
@@ -42,34 +50,29 @@ pub record AuditWrites (bytes journal : List ℕ) (options : CountOptions) (text
   pub audited : IsDeskOf bytes journal desk
   pub written : IsTextOf desk options text
 
--- the journal's first fault; want of memory is no fault of a journal
-abbrev pub IsJournalFault : ElectionView → List Fields → AuditFault → Type 0
-IsJournalFault e records audit.NoMemory = ⊥
-IsJournalFault e records fault = IsFaultOfJournal e program_room records fault
-
 -- the file stands for an election, and the journal has a fault on its desk
 pub record JournalFails (bytes journal : List ℕ) (fault : AuditFault) : Type 0 where
   pub election : ElectionView
   pub stands : StandsFor (records_of bytes) election
-  pub refused : IsJournalFault election (records_of journal) fault
+  pub refused : IsFaultOfJournal election program_room (records_of journal) fault
 
 -- the desk is shut, and the count of the ballots that its journal leaves is refused
-abbrev pub IsRefusedDesk : DeskView → CountOptions → AppFault → Type 0
-IsRefusedDesk d options (Count fault) = ((standing_of d).is_shut ≡ true) × IsFaultOfCount (closed_election d) options fault
-IsRefusedDesk d options Memory = ⊤
-IsRefusedDesk d options fault = ⊥
+abbrev pub IsRefusedDesk : DeskView → CountOptions → CountFault → Type 0
+IsRefusedDesk d options NoMemory = ⊤
+IsRefusedDesk d options fault = ((standing_of d).is_shut ≡ true) × IsCountFault (closed_election d) options fault
 
--- these bytes are those of a desk, and what is to be written of it is refused
-pub record DeskIsNotCounted (bytes journal : List ℕ) (options : CountOptions) (fault : AppFault) : Type 0 where
+-- these bytes are those of a desk whose count is refused
+pub record DeskIsNotCounted (bytes journal : List ℕ) (options : CountOptions) (fault : CountFault) : Type 0 where
   pub desk : DeskView
   pub audited : IsDeskOf bytes journal desk
   pub refused : IsRefusedDesk desk options fault
 
--- why a run of `audit` on these bytes ends: the file's first fault; or the journal's; or the count's; or the writer failed, which is tried last
+-- why a run of `audit` on these bytes ends: the file's first fault; or the journal's; or the count's;
+-- or the writer failed, which is tried last
 abbrev pub AuditFails : List ℕ → List ℕ → CountOptions → AppFault → Type 0
-AuditFails bytes journal options (Read fault) = IsFileFault (records_of bytes) fault.kind fault.at
+AuditFails bytes journal options (Read fault) = IsFileFault bytes fault
 AuditFails bytes journal options (Audit fault) = JournalFails bytes journal fault
-AuditFails bytes journal options (Count fault) = DeskIsNotCounted bytes journal options (Count fault)
-AuditFails bytes journal options (Open place) = ⊥
+AuditFails bytes journal options (Count fault) = DeskIsNotCounted bytes journal options fault
+AuditFails bytes journal options (Open number) = ⊥
 AuditFails bytes journal options Write = (text : List ℕ) × AuditWrites bytes journal options text
 AuditFails bytes journal options Memory = ⊤

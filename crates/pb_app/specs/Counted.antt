@@ -1,26 +1,22 @@
 -- What a run of `count` writes, and why it refuses.
 use Rattle.std.specs.Prelude.{◌≡◌, ℕ, ◌≤◌, ⊤, List, None, Some}
 use Rattle.pb_core.specs.Election.{ElectionView}
-use Rattle.pb_desk.specs.declared.audit_fault.AuditFault.{AuditFault}
-use Rattle.pb_desk.specs.declared.audit_fault.AuditFault.TheVariants as audit
 use Rattle.pb_price.specs.Supporters.{support_of}
-use Rattle.pb_read.specs.FirstFault.{IsFaultAt}
 use Rattle.pb_read.specs.StandsFor.{StandsFor}
-use Rattle.pb_read.specs.declared.fault.ReadKind.{ReadKind}
-use Rattle.pb_read.specs.declared.fault.ReadKind.TheVariants.{ReadFailed, NoMemory}
 use Rattle.pb_rounds.specs.Count.{IsCountFault, count_of, spent_on}
 use Rattle.pb_rounds.specs.CountFault.{refusal_of}
 use Rattle.pb_rounds.specs.Outcome.{Settled}
 use Rattle.pb_rounds.specs.PriceSystem.{HasPriceSystem}
 use Rattle.pb_rounds.specs.declared.count_fault.CountFault.{CountFault}
-use Rattle.pb_rounds.specs.declared.count_fault.CountFault.TheVariants as count
 use Rattle.pb_rounds.specs.declared.options.CountOptions.{CountOptions}
-use Rattle.pb_rows.specs.Reading.{Fields, records_of}
+use Rattle.pb_rows.specs.Reading.{records_of}
+use Rattle.pb_app.specs.Ends.{IsFileFault}
 use Rattle.pb_app.specs.Report.{report_of}
 use Rattle.pb_app.specs.declared.fault.AppFault.{AppFault}
 use Rattle.pb_app.specs.declared.fault.AppFault.TheVariants.{Read, Audit, Count, Open, Write, Memory}
 
--- the text is the report of the election, counted with these options; what is elected is within the budget, and a price system explains it
+-- the text is the report of the election, counted with these options;
+-- what is elected is within the budget, and a price system explains it
 pub record IsReportOf (e : ElectionView) (options : CountOptions) (text : List ℕ) : Type 0 where
   pub in_range : refusal_of options ≡ None
   pub outcome : Settled
@@ -35,47 +31,18 @@ pub record CountWrites (bytes : List ℕ) (options : CountOptions) (text : List 
   pub stands : StandsFor (records_of bytes) election
   pub report : IsReportOf election options text
 
--- the file's first fault; want of memory is no fault of a file
-abbrev pub IsFileFault : List Fields → ReadKind → ℕ → Type 0
-IsFileFault records NoMemory at = ⊥
-IsFileFault records kind at = IsFaultAt records kind at
-
--- the count's fault; want of memory is none
-abbrev pub IsFaultOfCount : ElectionView → CountOptions → CountFault → Type 0
-IsFaultOfCount e options count.NoMemory = ⊥
-IsFaultOfCount e options fault = IsCountFault e options fault
-
--- the count of an election is refused
-abbrev pub IsRefusedCount : ElectionView → CountOptions → AppFault → Type 0
-IsRefusedCount e options (Count fault) = IsFaultOfCount e options fault
-IsRefusedCount e options Memory = ⊤
-IsRefusedCount e options fault = ⊥
-
 -- the file stands for an election, and its count is refused
-pub record FileIsNotCounted (bytes : List ℕ) (options : CountOptions) (fault : AppFault) : Type 0 where
+pub record FileIsNotCounted (bytes : List ℕ) (options : CountOptions) (fault : CountFault) : Type 0 where
   pub election : ElectionView
   pub stands : StandsFor (records_of bytes) election
-  pub refused : IsRefusedCount election options fault
+  pub refused : IsCountFault election options fault
 
--- why a run of `count` on these bytes ends: the file's first fault; or the count's fault; or the writer failed, which is tried last
+-- why a run of `count` on these bytes ends: the file's first fault; or the count's; or the writer failed,
+-- which is tried last
 abbrev pub CountFails : List ℕ → CountOptions → AppFault → Type 0
-CountFails bytes options (Read fault) = IsFileFault (records_of bytes) fault.kind fault.at
+CountFails bytes options (Read fault) = IsFileFault bytes fault
 CountFails bytes options (Audit fault) = ⊥
-CountFails bytes options (Count fault) = FileIsNotCounted bytes options (Count fault)
-CountFails bytes options (Open place) = ⊥
+CountFails bytes options (Count fault) = FileIsNotCounted bytes options fault
+CountFails bytes options (Open number) = ⊥
 CountFails bytes options Write = (text : List ℕ) × CountWrites bytes options text
 CountFails bytes options Memory = ⊤
-
--- the journal's reader failed
-abbrev pub IsLostReader : AuditFault → Type 0
-IsLostReader (audit.ReadFailed row) = ⊤
-IsLostReader fault = ⊥
-
--- the fault of a device, or want of memory: it comes from outside, whatever the bytes are
-abbrev pub IsFromOutside : AppFault → Type 0
-IsFromOutside (Read fault) = fault.kind ≡ ReadFailed
-IsFromOutside (Audit fault) = IsLostReader fault
-IsFromOutside (Count fault) = ⊥
-IsFromOutside (Open place) = ⊥
-IsFromOutside Write = ⊤
-IsFromOutside Memory = ⊤

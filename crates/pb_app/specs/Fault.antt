@@ -1,6 +1,6 @@
 -- The line that a fault prints, and the status that the program then ends with.
-use Rattle.std.specs.Prelude.{ℕ, List, [], ◌∷◌, ◌++◌, codes, decimal, flat_map}
-use Rattle.pb_desk.specs.AuditFault.{name_of as audit_name, number_of as audit_number}
+use Rattle.std.specs.Prelude.{ℕ, List, [], ◌∷◌, ◌++◌, Option, None, Some, codes, decimal, flat_map}
+use Rattle.pb_desk.specs.AuditFault.{at_of as row_of, name_of as audit_name, number_of as audit_number}
 use Rattle.pb_desk.specs.declared.audit_fault.AuditFault.{AuditFault}
 use Rattle.pb_desk.specs.declared.audit_fault.AuditFault.TheVariants as audit
 use Rattle.pb_read.specs.Kinds.{name_of as read_name, number_of as read_number}
@@ -13,88 +13,7 @@ use Rattle.pb_rounds.specs.declared.count_fault.CountFault.TheVariants as count
 use Rattle.pb_app.specs.declared.fault.AppFault.{AppFault}
 use Rattle.pb_app.specs.declared.fault.AppFault.TheVariants.{Read, Audit, Count, Open, Write, Memory}
 
--- the line of these fields: each stands behind a `;`
-abbrev pub line : List (List ℕ) → List ℕ
-line fields = codes "fault" ++ (flat_map (λ field. codes ";" ++ field) fields ++ codes "\n")
-
--- where memory was refused
-abbrev pub memory_line : List ℕ
-memory_line = line (codes "memory" ∷ [])
-
--- the file is refused: the fault's number and name, and the record
-abbrev pub read_line : ReadFault → List ℕ
-read_line fault = by_kind fault.kind
-  where
-    by_kind : ReadKind → List ℕ
-    by_kind read.NoMemory = memory_line
-    by_kind kind = line (codes "read" ∷ decimal (read_number kind) ∷ read_name kind ∷ decimal fault.at ∷ [])
-
--- the journal is refused: the fault's number and name, and the row
-abbrev pub audit_line : AuditFault → List ℕ
-audit_line fault = by_case fault
-  where
-    at_row : ℕ → List ℕ
-    at_row row = line (codes "audit" ∷ decimal (audit_number fault) ∷ audit_name fault ∷ decimal row ∷ [])
-
-    by_case : AuditFault → List ℕ
-    by_case (audit.ReadFailed row) = at_row row
-    by_case (audit.BadRow row) = at_row row
-    by_case (audit.WrongNumber row) = at_row row
-    by_case (audit.JournalFull row) = at_row row
-    by_case (audit.WrongAnswer row) = at_row row
-    by_case audit.NoMemory = memory_line
-
--- the count is refused: the fault's number and name
-abbrev pub count_line : CountFault → List ℕ
-count_line count.NoMemory = memory_line
-count_line fault = line (codes "count" ∷ decimal (count_number fault) ∷ count_name fault ∷ [])
-
--- the line of a fault
-abbrev pub line_of : AppFault → List ℕ
-line_of (Read fault) = read_line fault
-line_of (Audit fault) = audit_line fault
-line_of (Count fault) = count_line fault
-line_of (Open place) = line (codes "open" ∷ decimal place ∷ [])
-line_of Write = line (codes "write" ∷ [])
-line_of Memory = memory_line
-
--- the statuses: what was read, or its count, is refused; the words of the command line are; a device failed, or memory was refused
-abbrev pub refused : ℕ
-refused = 1
-
-abbrev pub bad_words : ℕ
-bad_words = 2
-
-abbrev pub no_device : ℕ
-no_device = 3
-
-abbrev pub read_status : ReadKind → ℕ
-read_status read.ReadFailed = no_device
-read_status read.NoMemory = no_device
-read_status kind = refused
-
-abbrev pub audit_status : AuditFault → ℕ
-audit_status (audit.ReadFailed row) = no_device
-audit_status audit.NoMemory = no_device
-audit_status fault = refused
-
--- the options of a count are words of the command line
-abbrev pub count_status : CountFault → ℕ
-count_status count.WorkerCount = bad_words
-count_status count.StepRange = bad_words
-count_status count.RaisesRange = bad_words
-count_status count.RaisesSpent = refused
-count_status count.NoMemory = no_device
-
-abbrev pub status_of : AppFault → ℕ
-status_of (Read fault) = read_status fault.kind
-status_of (Audit fault) = audit_status fault
-status_of (Count fault) = count_status fault
-status_of (Open place) = no_device
-status_of Write = no_device
-status_of Memory = no_device
-
--- a lower crate's fault as one of the program: want of memory has a case of its own
+-- a lower crate's fault as one of the program: out of memory is a case of its own
 abbrev pub of_read : ReadFault → AppFault
 of_read fault = by_kind fault.kind
   where
@@ -109,3 +28,68 @@ of_audit fault = Audit fault
 abbrev pub of_count : CountFault → AppFault
 of_count count.NoMemory = Memory
 of_count fault = Count fault
+
+-- the same fault, in which out of memory is one case, whichever crate met it
+abbrev pub merged : AppFault → AppFault
+merged (Read fault) = of_read fault
+merged (Audit fault) = of_audit fault
+merged (Count fault) = of_count fault
+merged fault = fault
+
+-- a row's number, where there is a row
+abbrev pub row_field : Option ℕ → List (List ℕ)
+row_field None = []
+row_field (Some row) = decimal row ∷ []
+
+-- what a line says of a merged fault: what is refused, the fault's number and name, and the record or row
+abbrev pub fields_of : AppFault → List (List ℕ)
+fields_of (Read fault) =
+    codes "read" ∷ decimal (read_number fault.kind) ∷ read_name fault.kind ∷ decimal fault.at ∷ []
+fields_of (Audit fault) = codes "audit" ∷ decimal (audit_number fault) ∷ audit_name fault ∷ row_field (row_of fault)
+fields_of (Count fault) = codes "count" ∷ decimal (count_number fault) ∷ count_name fault ∷ []
+fields_of (Open number) = codes "open" ∷ decimal number ∷ []
+fields_of Write = codes "write" ∷ []
+fields_of Memory = codes "memory" ∷ []
+
+-- the line of these fields: a `;` stands before each
+abbrev pub line : List (List ℕ) → List ℕ
+line fields = codes "fault" ++ (flat_map (λ field. codes ";" ++ field) fields ++ codes "\n")
+
+-- the line of a fault
+abbrev pub line_of : AppFault → List ℕ
+line_of fault = line (fields_of (merged fault))
+
+-- the statuses: what was read, or its count, is refused; the arguments are; a device failed, or memory was refused
+abbrev pub refused : ℕ
+refused = 1
+
+abbrev pub bad_arguments : ℕ
+bad_arguments = 2
+
+abbrev pub no_device : ℕ
+no_device = 3
+
+abbrev pub read_status : ReadKind → ℕ
+read_status read.ReadFailed = no_device
+read_status kind = refused
+
+abbrev pub audit_status : AuditFault → ℕ
+audit_status (audit.ReadFailed row) = no_device
+audit_status fault = refused
+
+-- the options of a count are arguments, and options in range can still be too few raises for this file
+abbrev pub count_status : CountFault → ℕ
+count_status count.RaisesSpent = refused
+count_status fault = bad_arguments
+
+-- the status of a fault
+abbrev pub status_of : AppFault → ℕ
+status_of fault = by_case (merged fault)
+  where
+    by_case : AppFault → ℕ
+    by_case (Read fault) = read_status fault.kind
+    by_case (Audit fault) = audit_status fault
+    by_case (Count fault) = count_status fault
+    by_case (Open number) = no_device
+    by_case Write = no_device
+    by_case Memory = no_device

@@ -2,10 +2,11 @@
 //! the desk that took its ballots.
 #![tactic(auto)]
 
-mod commands;
+mod command_line;
 mod fault;
+mod fault_line;
 mod laws;
-mod options;
+mod perform;
 mod report;
 mod run_audit;
 mod run_count;
@@ -13,6 +14,7 @@ mod run_count;
 mod tests;
 
 use crate::fault::AppFault;
+use crate::fault_line::BAD_ARGUMENTS;
 use clap::error::ErrorKind;
 use std::process::ExitCode;
 use std::rt::{Env, Files};
@@ -30,23 +32,24 @@ fn main(rt: HostRuntime) -> ExitCode {
     }
 }
 
-// Reads the words, and does what they ask for; words that ask for nothing get clap's own text.
+/// Reads the arguments, and does what they ask for; where they ask for nothing that can be done, clap's own
+/// text is printed.
 fn run<R>(rt: &R) -> Result<ExitCode, AppFault>
 where
     R: Env + Files + Input + Print + Eprint + AllocGlobal + Threads,
 {
-    let words: Vec<String> = match env::args(rt) {
-        Ok(words) => words.collect(rt.alloc())?,
+    let arguments: Vec<String> = match env::args(rt) {
+        Ok(arguments) => arguments.collect(rt.alloc())?,
         Err(error) if error.kind() == io::ErrorKind::OutOfMemory => return Err(AppFault::Memory),
         Err(_) => {
-            let _ = eprintln!(rt; "error: a word is not UTF-8");
-            return Ok(ExitCode::from(2));
+            let _ = eprintln!(rt; "error: an argument is not UTF-8");
+            return Ok(ExitCode::from(BAD_ARGUMENTS));
         }
     };
-    let commands = options::commands(rt.alloc())?;
-    match commands.try_get_matches_from(words.as_slice()) {
+    let commands = command_line::commands(rt.alloc())?;
+    match commands.try_get_matches_from(arguments.as_slice()) {
         Ok(matches) => {
-            commands::perform(rt, &options::task_of(&matches))?;
+            perform::perform(rt, &command_line::task_of(&matches))?;
             Ok(ExitCode::SUCCESS)
         }
         Err(error) if error.kind() == ErrorKind::OutOfMemory => Err(AppFault::Memory),

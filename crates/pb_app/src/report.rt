@@ -1,6 +1,6 @@
 // The report of a count.
 
-ghost use Rattle.std.specs.Prelude.{◌≡◌, ◌<◌, ◌^◌, ◌++◌, ◌∷◌, [], All, OnOk, codes, decimal, length, map, sum_by};
+ghost use Rattle.std.specs.Prelude.{◌≡◌, ◌<◌, ◌^◌, ◌++◌, ◌∷◌, [], All, OnOk, codes, decimal, length, map};
 ghost use Rattle.pb_core.specs.MoneyText.{money_text};
 ghost use Rattle.pb_price.specs.Supporters.{support_of};
 ghost use Rattle.pb_rounds.specs.Count.{spent_on};
@@ -17,7 +17,7 @@ use pb_rounds::outcome::{Elected, Outcome};
 use pb_rows::RowsWriter;
 use std::alloc::Global;
 
-/// Writes the report of a count of this election behind the rows that stand there.
+/// Writes the report of a count of this election after the rows that stand there.
 ///
 /// It fails only where memory is refused, and then no text comes of the rows.
 pub fn put_report(
@@ -35,7 +35,7 @@ pub fn put_report(
     Ok(())
 }
 
-// The rows above the elected projects.
+/// The rows above the elected projects.
 fn put_opening(
     rows: &mut RowsWriter,
     alloc: Global,
@@ -51,7 +51,7 @@ fn put_opening(
     Ok(())
 }
 
-// One row for each elected project.
+/// One row for each elected project.
 fn put_elected(
     rows: &mut RowsWriter,
     alloc: Global,
@@ -71,7 +71,7 @@ fn put_elected(
     Ok(())
 }
 
-// The sums below.
+/// The sums below.
 fn put_closing(
     rows: &mut RowsWriter,
     alloc: Global,
@@ -88,7 +88,7 @@ fn put_closing(
     Ok(())
 }
 
-// What the elected cost together, in hundredths.
+/// What the elected cost together, in hundredths.
 fn spent_for(election: &Election, elected: &[Elected]) -> u64
     requires known { All (λ w. w.place < length election.now.projects) elected.now }
     requires fits { spent_on (support_of election.now) elected.now < 2 ^ 64 }
@@ -102,7 +102,7 @@ fn spent_for(election: &Election, elected: &[Elected]) -> u64
     spent
 }
 
-// What was paid for the elected together, in hundredths.
+/// What was paid for the elected together, in hundredths.
 fn collected_for(elected: &[Elected]) -> u64
     requires { collected_for elected.now < 2 ^ 64 }
     ensures { result ≡ collected_for elected.now }
@@ -110,7 +110,7 @@ fn collected_for(elected: &[Elected]) -> u64
     elected.iter().map(|winner| winner.collected.0).sum()
 }
 
-// A row of a name and an amount.
+/// A row of a name and an amount.
 fn put_amount(
     rows: &mut RowsWriter,
     alloc: Global,
@@ -124,7 +124,7 @@ fn put_amount(
     Ok(())
 }
 
-// A row of a name and a number.
+/// A row of a name and a number.
 fn put_number(rows: &mut RowsWriter, name: &str, number: u64) -> Result<(), NoMemory>
     ensures { OnOk result (rows.new ≡ rows.old ++ text_of_row (name.now ∷ decimal number ∷ [])) }
 {

@@ -1,10 +1,10 @@
-// What a journal says of a file.
+// The command `audit`: what a journal says of a file.
 
 ghost use Rattle.std.specs.Prelude.{◌≡◌, ◌≢◌, ◌++◌, ℕ, List, IfErr, IfSome, OnOk, codes, if◌then◌else◌};
-ghost use Rattle.std.specs.Io.KnownBytes.{Appends};
 ghost use Rattle.pb_rows.specs.Writing.{text_of_row};
-ghost use Rattle.pb_app.specs.Counted.{IsFromOutside};
 ghost use Rattle.pb_app.specs.Audited.{AuditFails, AuditWrites, IsRefusedDesk, IsTextOf, entries_row};
+ghost use Rattle.pb_app.specs.Ends.{Accepts, HasWritten, IfBothKnown, JudgesFile};
+ghost use Rattle.pb_app.specs.Fault.{merged};
 
 use crate::fault::AppFault;
 use crate::run_count::{put_count, write_out};
@@ -13,6 +13,7 @@ use pb_core::no_memory::NoMemory;
 use pb_desk::audit::audit;
 use pb_desk::desk::Desk;
 use pb_read::read_pb;
+use pb_rounds::count_fault::CountFault;
 use pb_rounds::options::CountOptions;
 use pb_rows::RowsWriter;
 use std::alloc::Global;
@@ -27,40 +28,53 @@ const ROOM: u32 = 4_294_967_295;
 /// their report follows.
 ///
 /// The file is refused before the journal, and the journal before the options. Nothing is written but
-/// the whole text. Where the fault is `Write` some of it may stand there; on any other fault the writer
+/// the whole text. Where the fault is `Write` some of it may have gone out; on any other fault the writer
 /// is as it was.
 pub fn run_audit<T: Threads, P: Read + Drop, J: Read + Drop, W: Write>(
     rt: &T,
     alloc: Global,
-    pb_reader: P,
-    journal_reader: J,
+    file: P,
+    journal: J,
     writer: &mut W,
     options: &CountOptions,
 ) -> Result<(), AppFault>
-    ensures ok { OnOk result (IfSome (P.remaining pb_reader) (λ bytes. IfSome (J.remaining journal_reader) (λ journal. (text : List ℕ)
-        × AuditWrites bytes journal options.now text × Appends (W.contents writer.old) (W.contents writer.new) text))) }
-    ensures fault { IfErr result (λ fault. IfSome (P.remaining pb_reader) (λ bytes. IfSome (J.remaining journal_reader) (λ journal.
-        AuditFails bytes journal options.now fault))) }
-    ensures accepts { IfSome (P.remaining pb_reader) (λ bytes. IfSome (J.remaining journal_reader) (λ journal. (text : List ℕ)
-        → AuditWrites bytes journal options.now text → IfErr result IsFromOutside)) }
+    // Where the bytes of both readers are known, they alone and the options decide what is written,
+    ensures ok { OnOk result (IfBothKnown (P.remaining file) (J.remaining journal)
+        (λ bytes rows. HasWritten (AuditWrites bytes rows options.now) (W.contents writer.old) (W.contents writer.new))) }
+
+    // and which fault comes.
+    ensures fault { IfErr result (λ fault. IfBothKnown (P.remaining file) (J.remaining journal)
+        (λ bytes rows. AuditFails bytes rows options.now fault)) }
+
+    // A file and a journal that have a text get it, unless a device fails or memory is refused.
+    ensures accepts { IfBothKnown (P.remaining file) (J.remaining journal)
+        (λ bytes rows. Accepts (AuditWrites bytes rows options.now) result) }
+
+    // The file is judged first, whatever is known of the journal.
+    ensures file { IfSome (P.remaining file) (λ bytes. JudgesFile bytes result) }
+
+    // A fault writes nothing, unless it is the writer's.
     ensures unchanged { IfErr result (λ fault. fault ≢ AppFault.Write → writer.new ≡ writer.old) }
+
+    // Out of memory is one fault.
+    ensures merged { IfErr result (λ fault. merged fault ≡ fault) }
 {
-    let election = read_pb(alloc, pb_reader)?;
-    let desk = audit(alloc, election, ROOM, journal_reader)?;
+    let election = read_pb(alloc, file)?;
+    let desk = audit(alloc, election, ROOM, journal)?;
     let mut rows = RowsWriter::start(alloc);
     put_desk(rt, alloc, &mut rows, desk, options)?;
     let text = rows.finish()?;
     write_out(writer, text.as_slice())
 }
 
-// Writes what is said of a desk.
+/// Writes what is said of a desk.
 fn put_desk<T: Threads>(
     rt: &T,
     alloc: Global,
     rows: &mut RowsWriter,
     desk: Desk,
     options: &CountOptions,
-) -> Result<(), AppFault>
+) -> Result<(), CountFault>
     ensures ok { OnOk result ((text : List ℕ) × IsTextOf desk options.now text × (rows.new ≡ rows.old ++ text)) }
     ensures fault { IfErr result (IsRefusedDesk desk options.now) }
 {
@@ -69,13 +83,13 @@ fn put_desk<T: Threads>(
         return Ok(());
     }
     let Ok(election) = desk.into_election() else {
-        return Err(AppFault::Memory);
+        return Err(CountFault::NoMemory);
     };
     put_count(rt, alloc, rows, &election, options)?;
     Ok(())
 }
 
-// Writes the row of a desk.
+/// Writes the row of a desk.
 fn put_entries(rows: &mut RowsWriter, desk: &Desk) -> Result<(), NoMemory>
     ensures { OnOk result (rows.new ≡ rows.old ++ text_of_row (entries_row desk.now)) }
 {
@@ -85,6 +99,7 @@ fn put_entries(rows: &mut RowsWriter, desk: &Desk) -> Result<(), NoMemory>
     Ok(())
 }
 
+/// Whether a desk is shut, as its row says it.
 fn state_of(is_shut: bool) -> &'static str
     ensures { result.now ≡ (if is_shut then codes "shut" else codes "open") }
 {

@@ -1,14 +1,18 @@
-// The report of a file.
+// The command `count`: a file's report.
 
-ghost use Rattle.std.specs.Prelude.{◌≡◌, ◌≢◌, ◌++◌, ℕ, List, [], IfErr, IfSome, OnErr, OnOk};
+ghost use Rattle.std.specs.Prelude.{◌≡◌, ◌≢◌, ◌++◌, ℕ, List, IfErr, IfSome, OnOk};
 ghost use Rattle.std.specs.Io.KnownBytes.{Appends};
-ghost use Rattle.pb_app.specs.Counted.{CountFails, CountWrites, IsFromOutside, IsRefusedCount, IsReportOf};
+ghost use Rattle.pb_rounds.specs.Count.{IsCountFault};
+ghost use Rattle.pb_app.specs.Counted.{CountFails, CountWrites, IsReportOf};
+ghost use Rattle.pb_app.specs.Ends.{Accepts, HasWritten};
+ghost use Rattle.pb_app.specs.Fault.{merged};
 
 use crate::fault::AppFault;
 use crate::report::put_report;
 use pb_core::election::Election;
 use pb_read::read_pb;
 use pb_rounds::count::count;
+use pb_rounds::count_fault::CountFault;
 use pb_rounds::options::CountOptions;
 use pb_rows::RowsWriter;
 use std::alloc::Global;
@@ -18,7 +22,7 @@ use std::thread::Threads;
 /// Reads a .pb file, counts it with these options, and writes the report.
 ///
 /// The file is refused before the options are looked at, and nothing is written but the whole report.
-/// Where the fault is `Write` some of the report may stand there; on any other fault the writer is as it was.
+/// Where the fault is `Write` some of the report may have gone out; on any other fault the writer is as it was.
 pub fn run_count<T: Threads, R: Read + Drop, W: Write>(
     rt: &T,
     alloc: Global,
@@ -26,11 +30,21 @@ pub fn run_count<T: Threads, R: Read + Drop, W: Write>(
     writer: &mut W,
     options: &CountOptions,
 ) -> Result<(), AppFault>
-    ensures ok { OnOk result (IfSome (R.remaining reader) (λ bytes. (text : List ℕ)
-        × CountWrites bytes options.now text × Appends (W.contents writer.old) (W.contents writer.new) text)) }
+    // Where the reader's bytes are known, they alone and the options decide what is written,
+    ensures ok { OnOk result (IfSome (R.remaining reader)
+        (λ bytes. HasWritten (CountWrites bytes options.now) (W.contents writer.old) (W.contents writer.new))) }
+
+    // and which fault comes.
     ensures fault { IfErr result (λ fault. IfSome (R.remaining reader) (λ bytes. CountFails bytes options.now fault)) }
-    ensures accepts { IfSome (R.remaining reader) (λ bytes. (text : List ℕ) → CountWrites bytes options.now text → IfErr result IsFromOutside) }
+
+    // A file that has a report gets it, unless a device fails or memory is refused.
+    ensures accepts { IfSome (R.remaining reader) (λ bytes. Accepts (CountWrites bytes options.now) result) }
+
+    // A fault writes nothing, unless it is the writer's.
     ensures unchanged { IfErr result (λ fault. fault ≢ AppFault.Write → writer.new ≡ writer.old) }
+
+    // Out of memory is one fault.
+    ensures merged { IfErr result (λ fault. merged fault ≡ fault) }
 {
     let election = read_pb(alloc, reader)?;
     let mut rows = RowsWriter::start(alloc);
@@ -39,16 +53,16 @@ pub fn run_count<T: Threads, R: Read + Drop, W: Write>(
     write_out(writer, text.as_slice())
 }
 
-/// Counts an election and puts the report behind the rows that stand there.
+/// Counts an election, and puts the report after the rows that stand there.
 pub(crate) fn put_count<T: Threads>(
     rt: &T,
     alloc: Global,
     rows: &mut RowsWriter,
     election: &Election,
     options: &CountOptions,
-) -> Result<(), AppFault>
+) -> Result<(), CountFault>
     ensures ok { OnOk result ((text : List ℕ) × IsReportOf election.now options.now text × (rows.new ≡ rows.old ++ text)) }
-    ensures fault { IfErr result (IsRefusedCount election.now options.now) }
+    ensures fault { IfErr result (IsCountFault election.now options.now) }
 {
     // What is true of every election bounds the sums of its report.
     let _budget = election.budget();

@@ -1,15 +1,15 @@
-// The commands, on real files.
+// What the command line asks for, done on real files.
 
+use crate::command_line::{Source, Task};
 use crate::fault::AppFault;
-use crate::options::Task;
 use crate::run_audit::run_audit;
 use crate::run_count::run_count;
-use pb_rounds::options::CountOptions;
 use std::rt::Files;
 use std::thread::Threads;
 use std::{fs, io};
 
-/// Does what the words ask for. Files are opened, in their order, before any is read.
+/// Does what the arguments ask for, and writes to standard output. Files are opened, in their order, before
+/// any is read.
 pub(crate) fn perform<R>(rt: &R, task: &Task<'_>) -> Result<(), AppFault>
 where
     R: Files + Input + Print + AllocGlobal + Threads,
@@ -17,23 +17,26 @@ where
     let alloc = rt.alloc();
     let mut out = io::writer(rt);
     match task {
-        Task::CountInput => {
-            let options = CountOptions::standard();
-            run_count(rt, alloc, rt.reader(), &mut out, &options)
+        Task::Count(Source::Input, options) => {
+            run_count(rt, alloc, rt.reader(), &mut out, options)
         }
-        Task::Count(file, options) => {
-            let file = open(rt, file, 1)?;
+        Task::Count(Source::File(path), options) => {
+            let file = open(rt, path, 1)?;
             run_count(rt, alloc, file, &mut out, options)
         }
-        Task::Audit(file, journal, options) => {
-            let file = open(rt, file, 1)?;
+        Task::Audit(Source::Input, journal, options) => {
+            let journal = open(rt, journal, 2)?;
+            run_audit(rt, alloc, rt.reader(), journal, &mut out, options)
+        }
+        Task::Audit(Source::File(path), journal, options) => {
+            let file = open(rt, path, 1)?;
             let journal = open(rt, journal, 2)?;
             run_audit(rt, alloc, file, journal, &mut out, options)
         }
     }
 }
 
-// Opens the file with this number on the command line.
+/// Opens the file with this number on the command line, from 1.
 fn open<R: Files>(rt: &R, path: &str, number: u32) -> Result<R::File, AppFault> {
     match fs::open(rt, path) {
         Ok(file) => Ok(file),

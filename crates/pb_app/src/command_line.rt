@@ -1,49 +1,54 @@
-// The words of the command line.
+// The command line: the commands and options that the program knows, and what parsed arguments ask for.
 
 use clap::{Arg, ArgAction, ArgMatches, Command, value_parser};
 use pb_core::money::Money;
 use pb_rounds::options::{Completion, CountOptions};
 use std::alloc::{AllocError, Global};
 
-/// What the words ask for.
-#[derive(Clone, Copy)]
+/// The program's version.
+const VERSION: &str = "1.0.0";
+
+/// Where a .pb file is read from.
+#[derive(Clone, Copy, PartialEq, Eq, Debug)]
+pub(crate) enum Source<'a> {
+    /// Standard input, which `-` names.
+    Input,
+    /// The file with this path.
+    File(&'a str),
+}
+
+/// What the arguments ask for.
+#[derive(Clone, Copy, PartialEq, Eq, Debug)]
 pub(crate) enum Task<'a> {
-    /// A count of standard input, with the standard options.
-    CountInput,
-    /// A count of this file.
-    Count(&'a str, CountOptions),
-    /// An audit of the second file, a journal, on the first.
-    Audit(&'a str, &'a str, CountOptions),
+    /// A count of a .pb file.
+    Count(Source<'a>, CountOptions),
+    /// An audit of the journal with this path on a .pb file.
+    Audit(Source<'a>, &'a str, CountOptions),
 }
 
 /// The commands that the program knows.
 pub(crate) fn commands<'a>(alloc: Global) -> Result<Command<'a>, AllocError> {
+    let election = "The election, a .pb file with approval votes; - is standard input";
     let count = Command::new(alloc, "count")
         .about("Counts a .pb file, and prints the report")
-        .arg(path(
-            alloc,
-            "FILE",
-            "The election, a .pb file with approval votes",
-        ))?;
+        .arg(path(alloc, "FILE", election))?;
     let audit = Command::new(alloc, "audit")
         .about("Audits a journal on a .pb file, and prints the report of a shut desk")
-        .arg(path(
-            alloc,
-            "FILE",
-            "The election, a .pb file with approval votes",
-        ))?
+        .arg(path(alloc, "FILE", election))?
         .arg(path(
             alloc,
             "JOURNAL",
             "The journal of a desk that opened with it",
         ))?;
     Command::new(alloc, "pb_app")
+        .bin_name("pb_app")?
+        .version(VERSION)
         .about("Counts standard input by the Method of Equal Shares, where no command is given")
         .subcommand(with_options(alloc, count)?)?
         .subcommand(with_options(alloc, audit)?)
 }
 
-// A file that has to be named.
+/// A file that has to be named.
 fn path<'a>(alloc: Global, name: &'a str, help: &'a str) -> Arg<'a> {
     Arg::new(alloc, name)
         .value_name(name)
@@ -52,7 +57,7 @@ fn path<'a>(alloc: Global, name: &'a str, help: &'a str) -> Arg<'a> {
         .action(ArgAction::Set)
 }
 
-// An option that takes a whole number.
+/// An option that takes a whole number.
 fn number<'a>(alloc: Global, name: &'a str, value_name: &'a str, help: &'a str) -> Arg<'a> {
     Arg::new(alloc, name)
         .long(name)
@@ -62,7 +67,7 @@ fn number<'a>(alloc: Global, name: &'a str, value_name: &'a str, help: &'a str) 
         .action(ArgAction::Set)
 }
 
-// The options of a count.
+/// A command with the options of a count.
 fn with_options<'a>(alloc: Global, command: Command<'a>) -> Result<Command<'a>, AllocError> {
     let workers = "How many workers compute prices, 1 to 64 [default: 1]";
     let step = "By how many hundredths a raise lifts the share, 1 to 1000000000 [default: 100]";
@@ -80,36 +85,44 @@ fn with_options<'a>(alloc: Global, command: Command<'a>) -> Result<Command<'a>, 
         )
 }
 
-/// What parsed words ask for.
+/// What parsed arguments ask for; without a command it is a count of standard input.
 pub(crate) fn task_of<'a>(matches: &ArgMatches<'a>) -> Task<'a> {
     match matches.subcommand() {
-        Some(("count", words)) => Task::Count(path_of(words, "FILE"), options_of(words)),
-        Some((_, words)) => Task::Audit(
-            path_of(words, "FILE"),
-            path_of(words, "JOURNAL"),
-            options_of(words),
+        Some(("count", given)) => Task::Count(source_of(given), options_of(given)),
+        Some((_, given)) => Task::Audit(
+            source_of(given),
+            path_of(given, "JOURNAL"),
+            options_of(given),
         ),
-        None => Task::CountInput,
+        None => Task::Count(Source::Input, CountOptions::standard()),
     }
 }
 
-// A file's name; a parse succeeds only where the required ones are there.
-fn path_of<'a>(words: &ArgMatches<'a>, name: &str) -> &'a str {
-    words.get_str(name).unwrap_or("")
+/// Where FILE is read from.
+fn source_of<'a>(given: &ArgMatches<'a>) -> Source<'a> {
+    match path_of(given, "FILE") {
+        "-" => Source::Input,
+        path => Source::File(path),
+    }
+}
+
+/// A file's path; a parse succeeds only where those that are required are given.
+fn path_of<'a>(given: &ArgMatches<'a>, name: &str) -> &'a str {
+    given.get_str(name).unwrap_or("")
 }
 
 /// The options of a count; those that are not given are the standard ones.
-fn options_of(words: &ArgMatches<'_>) -> CountOptions {
+fn options_of(given: &ArgMatches<'_>) -> CountOptions {
     let standard = CountOptions::standard();
     CountOptions {
-        step: match words.get_one::<u32>("step") {
+        step: match given.get_one::<u32>("step") {
             Some(hundredths) => Money(u64::from(hundredths)),
             None => standard.step,
         },
-        max_raises: words.get_one("raises").unwrap_or(standard.max_raises),
-        workers: words.get_one("workers").unwrap_or(standard.workers),
+        max_raises: given.get_one("raises").unwrap_or(standard.max_raises),
+        workers: given.get_one("workers").unwrap_or(standard.workers),
         measure: standard.measure,
-        completion: if words.get_flag("plain") {
+        completion: if given.get_flag("plain") {
             Completion::Plain
         } else {
             standard.completion
