@@ -9,7 +9,8 @@ use Rattle.pb_core.specs.Money.{money_of}
 use Rattle.pb_core.specs.declared.money_fault.MoneyFault.{MoneyFault}
 use Rattle.pb_rows.specs.Reading.{Fields}
 use Rattle.pb_read.specs.Columns.{has_project_fields, has_vote_fields}
-use Rattle.pb_read.specs.Machine.{Explains, kind_of_money, project_checks, project_row_checks, vote_checks, vote_row_checks}
+use Rattle.pb_read.specs.Kinds.{kind_of_money}
+use Rattle.pb_read.specs.Machine.{Explains, project_checks, project_row_checks, vote_checks, vote_row_checks}
 use Rattle.pb_read.specs.Rows.{field, is_empty}
 use Rattle.pb_read.specs.Voting.{is_among, names_only}
 use Rattle.pb_read.specs.declared.columns.ProjectColumns.{ProjectColumns}

@@ -1,5 +1,5 @@
 -- Records that were read without fault may go on to stand for an election; behind a fault nothing helps.
-use Rattle.std.proofs.Common.{◌≡◌, ◌≤◌, ◌+◌, ◌==◌, ◌⊎◌, Bool, true, false, cond, not, List, [], ◌∷◌, ◌++◌, length, map, filter, Option, Some, None, Ok, refl, ap, sym, ◌∙◌, subst, inl, inr, append_assoc}
+use Rattle.std.proofs.Common.{◌≡◌, ◌≤◌, ◌+◌, ◌==◌, Bool, true, false, cond, not, List, [], ◌∷◌, ◌++◌, length, map, filter, Option, Some, None, Ok, refl, ap, sym, ◌∙◌, subst, arith, append_assoc, length-append}
 use Rattle.std.specs.Prelude.{codes}
 use Rattle.std.specs.List.{AllByRecursion, list_all}
 use Rattle.std.specs.Str.{is_utf8, trim_start, trim_end, chars}
@@ -11,12 +11,13 @@ use Rattle.csv.specs.Records.{AllText}
 use lib.Utf8.{encode}
 use Rattle.pb_core.specs.Election.{ElectionView}
 use Rattle.pb_rows.specs.Reading.{Fields}
+use Rattle.pb_read.proofs.LowestKind.{lowest_applies}
 use Rattle.pb_read.proofs.Keeps.{IsTidy, IsTidy-trimmed, kept, next_follows}
 use Rattle.pb_read.proofs.ListFacts.{some≢none, ok≢err, same_Ok, AllByRecursion-append, AllByRecursion-left, AllByRecursion-right}
 use Rattle.pb_read.proofs.Runs.{AreFull, run_fault, run_onto, run_row, runs}
-use Rattle.pb_read.specs.Faults.{Position, start, meta_head, in_meta, projects_head, in_projects, votes_head, in_votes, the_end, blank, next_row, next_of, row_fault, IsAt, lowest_kind, IsSound}
-use Rattle.pb_read.specs.FirstFault.{MayGoOn, HasNoFault, IsAtFault, IsFirstFault, first_of}
-use Rattle.pb_read.specs.Machine.{advance, run, step}
+use Rattle.pb_read.specs.Positions.{Position, start, meta_head, in_meta, projects_head, in_projects, votes_head, in_votes, the_end, blank, next_row, IsAt, IsSound}
+use Rattle.pb_read.specs.FirstFault.{MayGoOn, HasNoFault, IsAtFault, IsFirstFault}
+use Rattle.pb_read.specs.Machine.{advance, run, step, row_fault, lowest_kind}
 use Rattle.pb_read.specs.Tracking.{Reached}
 use Rattle.pb_read.specs.Rows.{head_of, is_blank, rows_of, trimmed}
 use Rattle.pb_read.specs.StandsFor.{StandsFor, IsVotes, most_records}
@@ -171,7 +172,7 @@ pub next_row-blank : (row : Fields) → is_blank row ≡ true → next_row row �
 next_row-blank row none = rw none refl
 
 -- one record without fault
-pub reached_next : (done : List Fields) (p : Position) (r : Fields) → Reached done p → AllText r → row_fault p (next_of (Some r)) ≡ None → Reached (done ++ r ∷ []) (advance p (next_of (Some r)))
+pub reached_next : (done : List Fields) (p : Position) (r : Fields) → Reached done p → AllText r → row_fault p (next_row (trimmed r)) ≡ None → Reached (done ++ r ∷ []) (advance p (next_row (trimmed r)))
 reached_next done p r so_far text none = go (is_blank (trimmed r)) refl
   where
     all_text : AllByRecursion AllText (done ++ r ∷ [])
@@ -216,7 +217,7 @@ run_from_start : (done : List Fields) (p : Position) → Reached done p → run 
 run_from_start done p so_far = runs p (rows_of done) (rows_of-are_full done) so_far.at so_far.sound
 
 -- behind a record at fault nothing helps
-pub fault_ends : (done : List Fields) (p : Position) (r : Fields) (kind : ReadKind) → Reached done p → row_fault p (next_of (Some r)) ≡ Some kind → ¬ MayGoOn (done ++ r ∷ [])
+pub fault_ends : (done : List Fields) (p : Position) (r : Fields) (kind : ReadKind) → Reached done p → row_fault p (next_row (trimmed r)) ≡ Some kind → ¬ MayGoOn (done ++ r ∷ [])
 fault_ends done p r kind so_far fault way = go (is_blank (trimmed r)) refl
   where
     records : List Fields
@@ -255,30 +256,32 @@ pub no_fault_so_far : (done : List Fields) (p : Position) → length done ≤ mo
 no_fault_so_far done p few so_far = record { few = few; goes_on = goes_on done p so_far }
 
 -- the lowest kind that applies is the first fault
-pub first_fault : (done left : List Fields) (p : Position) (kind : ReadKind) → length done ≤ most_records → Reached done p → lowest_kind (length done) p (first_of left) ≡ Some kind → IsFirstFault (done ++ left) kind (length done + 1)
-first_fault done left p kind few so_far lowest = record {
-  done = done;
-  left = left;
-  cut = refl;
-  at_is = refl;
-  no_fault_before = no_fault_so_far done p few so_far;
-  at_fault = at_fault left lowest;
-  position = p;
-  so_far = so_far.at;
-  sound = so_far.sound;
-  lowest = lowest;
-}
+pub first_fault : (done left : List Fields) (p : Position) (kind : ReadKind) → length done ≤ most_records → Reached done p → lowest_kind (length done) p left ≡ Some kind → IsFirstFault (done ++ left) kind (length done + 1)
+first_fault done left p kind few so_far lowest =
+    let found = lowest_applies (length done) p left kind lowest in
+    record {
+      reached = record { done = done; left = left; cut = refl; at_is = refl; no_fault_before = no_fault_so_far done p few so_far };
+      at_fault = at_fault left lowest;
+      position = p;
+      so_far = so_far.at;
+      sound = so_far.sound;
+      applies = found.0;
+      lowest = found.1;
+    }
   where
-    at_fault : (left : List Fields) → lowest_kind (length done) p (first_of left) ≡ Some kind → IsAtFault done left
+    at_fault : (left : List Fields) → lowest_kind (length done) p left ≡ Some kind → IsAtFault done left
     at_fault [] e = end_ends done p kind so_far e
     at_fault (r ∷ rest) e = by_text (list_all is_utf8 r) refl e
       where
-        by_count : (all : Bool) → (length done == most_records) ≡ all → cond all (Some kinds.TooManyRecords) (row_fault p (next_of (Some r))) ≡ Some kind → (¬ MayGoOn (done ++ r ∷ [])) ⊎ (length done ≡ most_records)
-        by_count true n f = inr (eqb-true (length done) most_records n)
-        by_count false n f = inl (fault_ends done p r kind so_far f)
+        full : length done ≡ most_records → ¬ HasNoFault (done ++ r ∷ [])
+        full n none = omega (arith, n, none.few, length-append done (r ∷ []))
+
+        by_count : (all : Bool) → (length done == most_records) ≡ all → cond all (Some kinds.TooManyRecords) (row_fault p (next_row (trimmed r))) ≡ Some kind → ¬ HasNoFault (done ++ r ∷ [])
+        by_count true n f = full (eqb-true (length done) most_records n)
+        by_count false n f = λ none. fault_ends done p r kind so_far f none.goes_on
 
         by_text : (text : Bool) → list_all is_utf8 r ≡ text →
-            cond (not text) (Some kinds.NotText) (cond (length done == most_records) (Some kinds.TooManyRecords) (row_fault p (next_of (Some r)))) ≡ Some kind →
-            (¬ MayGoOn (done ++ r ∷ [])) ⊎ (length done ≡ most_records)
-        by_text false t f = inl (no_text_ends done r (λ text. false≢true (sym t ∙ test-from_AllText r text)))
+            cond (not text) (Some kinds.NotText) (cond (length done == most_records) (Some kinds.TooManyRecords) (row_fault p (next_row (trimmed r)))) ≡ Some kind →
+            ¬ HasNoFault (done ++ r ∷ [])
+        by_text false t f = λ none. no_text_ends done r (λ text. false≢true (sym t ∙ test-from_AllText r text)) none.goes_on
         by_text true t f = by_count (length done == most_records) refl f

@@ -25,8 +25,8 @@ use Rattle.pb_rows.specs.Reading.{Fields}
 use Rattle.pb_read.proofs.ListFacts.{some≢none, ok≢err, AllZip-push, AllByRecursion-append, is_among-Contains}
 use Rattle.pb_read.proofs.MachineLaws.{meta_of-push, passes_project, passes_vote, passes_head, PassesProject, PassesVote}
 use Rattle.pb_read.specs.Columns.{project_columns, vote_columns}
-use Rattle.pb_read.specs.Faults.{Position, start, meta_head, in_meta, projects_head, in_projects, votes_head, in_votes, Next, the_end, blank, head, plain, next_row, row_fault, IsAt, IsSound}
-use Rattle.pb_read.specs.Machine.{advance, budget_of, limit_of, amount_of, project_of, voter_of, with_project, with_voter, with_row}
+use Rattle.pb_read.specs.Positions.{Position, start, meta_head, in_meta, projects_head, in_projects, votes_head, in_votes, Next, the_end, blank, head, plain, next_row, IsAt, IsSound}
+use Rattle.pb_read.specs.Machine.{advance, budget_of, limit_of, amount_of, project_of, voter_of, with_project, with_voter, with_row, row_fault}
 use Rattle.pb_read.specs.MetaRows.{meta_of, value_of}
 use Rattle.pb_read.specs.Rows.{field, head_of, is_blank, is_empty, trimmed}
 use Rattle.pb_read.specs.StandsFor.{IsVotesHead, IsPlain, GivesProject, GivesVoter, opening}

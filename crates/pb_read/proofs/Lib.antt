@@ -2,6 +2,7 @@ pub mod ListFacts
 pub mod MachineLaws
 pub mod Keeps
 pub mod Runs
+pub mod LowestKind
 pub mod GoesOn
 pub mod IdFacts
 pub mod Uniqueness

@@ -10,8 +10,9 @@ use Rattle.pb_core.specs.declared.money_fault.MoneyFault.TheVariants as money
 use Rattle.pb_rows.specs.Reading.{Fields}
 use Rattle.pb_read.proofs.ListFacts.{cond_none, some≢none}
 use Rattle.pb_read.specs.Columns.{has_project_fields, has_vote_fields}
-use Rattle.pb_read.specs.Faults.{Position, in_meta, in_projects, in_votes, head, plain, next_row, row_fault, is_nothing, fails_by}
-use Rattle.pb_read.specs.Machine.{with_row, step, bind, run, head_checks, project_checks, vote_checks}
+use Rattle.pb_read.specs.Faults.{is_zero, fails_by}
+use Rattle.pb_read.specs.Positions.{Position, in_meta, in_projects, in_votes, head, plain, next_row}
+use Rattle.pb_read.specs.Machine.{with_row, step, bind, run, head_checks, project_checks, vote_checks, row_fault}
 use Rattle.pb_read.specs.Lengths.{max_length_of}
 use Rattle.pb_read.specs.MetaRows.{meta_of, value_of}
 use Rattle.pb_read.specs.Rows.{field, is_empty, is_word}
@@ -92,10 +93,10 @@ head_fault meta = go meta.budget meta.approval meta.max_length
 abbrev found_for : Bool → Result ℕ MoneyFault → Bool → Bool → Bool → Option ReadKind
 found_for whole cost no_id repeated full =
     cond (not whole) (Some kind.MissingField) (
-    cond (fails_by money.BadMoney (Some cost)) (Some kind.BadMoney) (
-    cond (fails_by money.MoneyTooFine (Some cost)) (Some kind.MoneyTooFine) (
-    cond (fails_by money.MoneyTooLarge (Some cost)) (Some kind.MoneyTooLarge) (
-    cond (is_nothing cost) (Some kind.ZeroCost) (
+    cond (fails_by kind.BadMoney cost) (Some kind.BadMoney) (
+    cond (fails_by kind.MoneyTooFine cost) (Some kind.MoneyTooFine) (
+    cond (fails_by kind.MoneyTooLarge cost) (Some kind.MoneyTooLarge) (
+    cond (is_zero cost) (Some kind.ZeroCost) (
     cond no_id (Some kind.EmptyId) (
     cond repeated (Some kind.RepeatedProject) (
     cond full (Some kind.TooManyProjects) None)))))))

@@ -11,8 +11,8 @@ use Rattle.pb_read.proofs.Keeps.{money_of-le}
 use Rattle.pb_read.proofs.MachineLaws.{project_fault, vote_fault}
 use Rattle.pb_read.proofs.Runs.{meta_row_passes}
 use Rattle.pb_read.specs.Drafts.{IsTied}
-use Rattle.pb_read.specs.Faults.{Position, in_meta, in_projects, in_votes, Next, next_row, plain, row_fault}
-use Rattle.pb_read.specs.Machine.{Explains, advance, project_row_checks, vote_row_checks, with_project, with_row, with_voter}
+use Rattle.pb_read.specs.Positions.{Position, in_meta, in_projects, in_votes, Next, next_row, plain}
+use Rattle.pb_read.specs.Machine.{Explains, advance, project_row_checks, vote_row_checks, with_project, with_row, with_voter, row_fault}
 use Rattle.pb_read.specs.Progresses.{IsKept, IsRead, IsReady, position_of}
 use Rattle.pb_read.specs.Rows.{field, is_blank, is_word}
 use Rattle.pb_read.specs.declared.columns.ProjectColumns.{ProjectColumns}

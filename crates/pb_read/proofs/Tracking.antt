@@ -9,10 +9,10 @@ use Rattle.pb_core.specs.Election.{ElectionView}
 use Rattle.pb_rows.specs.Reading.{Fields, IsNext, NextIsNoText, records_of}
 use Rattle.pb_read.specs.Tracking.{HasCome, HasEnded, Reached, Tracks}
 use Rattle.pb_read.proofs.GoesOn.{AllText-from_test, end_stands, first_fault, no_fault_so_far, reached_next, reached_start, test-from_AllText}
-use Rattle.pb_read.proofs.Uniqueness.{no_first_fault, one_election}
-use Rattle.pb_read.specs.Faults.{Position, start, lowest_kind, next_of, next_row, row_fault, the_end}
-use Rattle.pb_read.specs.FirstFault.{IsCutShort, IsFaultAt, IsFirstFault, IsFromOutside, first_of}
-use Rattle.pb_read.specs.Machine.{Explains, advance}
+use Rattle.pb_read.proofs.Uniqueness.{one_election, refused_from_outside}
+use Rattle.pb_read.specs.Positions.{Position, start, next_row, the_end}
+use Rattle.pb_read.specs.FirstFault.{IsReachedAt, IsFaultAt, IsFirstFault, IsFromOutside}
+use Rattle.pb_read.specs.Machine.{Explains, advance, lowest_kind, row_fault}
 use Rattle.pb_read.specs.Progresses.{EndsWith, StopsReading}
 use Rattle.pb_read.specs.Rows.{trimmed}
 use Rattle.pb_read.specs.StandsFor.{StandsFor, most_records}
@@ -38,7 +38,7 @@ tracks_more (Some all) (Some (r ∷ rest)) after count p q fields tracks next te
       reached = subst (Reached (tracks.done ++ fields ∷ [])) (sym goes) (reached_next tracks.done p fields tracks.reached text none);
     })
 
-cut_short : (all left : List Fields) (count : ℕ) (p : Position) → HasCome all left count p → count ≤ most_records → (at : ℕ) → at ≡ count + 1 → IsCutShort all at
+cut_short : (all left : List Fields) (count : ℕ) (p : Position) → HasCome all left count p → count ≤ most_records → (at : ℕ) → at ≡ count + 1 → IsReachedAt all at
 cut_short all left count p come few at is = record {
   done = come.done;
   left = left;
@@ -47,14 +47,14 @@ cut_short all left count p come few at is = record {
   no_fault_before = no_fault_so_far come.done p (omega (arith, come.count_is, few)) come.reached;
 }
 
-first_at : (all left : List Fields) (count : ℕ) (p : Position) → HasCome all left count p → count ≤ most_records → (at : ℕ) → at ≡ count + 1 → (kind : ReadKind) → lowest_kind count p (first_of left) ≡ Some kind → IsFirstFault all kind at
+first_at : (all left : List Fields) (count : ℕ) (p : Position) → HasCome all left count p → count ≤ most_records → (at : ℕ) → at ≡ count + 1 → (kind : ReadKind) → lowest_kind count p left ≡ Some kind → IsFirstFault all kind at
 first_at all left count p come few at is kind lowest =
     let here : IsFirstFault (come.done ++ left) kind (length come.done + 1) =
-    first_fault come.done left p kind (omega (arith, come.count_is, few)) come.reached (ap (λ n. lowest_kind n p (first_of left)) come.count_is ∙ lowest) in
+    first_fault come.done left p kind (omega (arith, come.count_is, few)) come.reached (ap (λ n. lowest_kind n p left) come.count_is ∙ lowest) in
     subst (λ n. IsFirstFault all kind n) (ap (λ n. n + 1) come.count_is ∙ sym is) (subst (λ xs. IsFirstFault xs kind (length come.done + 1)) (sym come.cut) here)
 
 -- a kind that the checks found
-explained : (all : List Fields) (kind : ReadKind) (at : ℕ) (found : Option ReadKind) → IsCutShort all at → Explains kind found → ((k : ReadKind) → found ≡ Some k → IsFirstFault all k at) → IsFaultAt all kind at
+explained : (all : List Fields) (kind : ReadKind) (at : ℕ) (found : Option ReadKind) → IsReachedAt all at → Explains kind found → ((k : ReadKind) → found ≡ Some k → IsFirstFault all k at) → IsFaultAt all kind at
 explained all kinds.ReadFailed at found cut said first = cut
 explained all kinds.NoMemory at found cut said first = cut
 explained all kind at found cut said first = first _ said
@@ -69,7 +69,7 @@ stopped (Some all) (Some left) count p kind at tracks few is stops = go kind sto
     no_text [] come none = absurd none
     no_text (r ∷ rest) come none =
         let test : list_all is_utf8 r ≡ false = false_from_ne_true (list_all is_utf8 r) (λ e. none (AllText-from_test r e)) in
-        first_at all (r ∷ rest) count p come few at is kinds.NotText (ap (λ t. cond (not t) (Some kinds.NotText) (cond (count == most_records) (Some kinds.TooManyRecords) (row_fault p (next_of (Some r))))) test)
+        first_at all (r ∷ rest) count p come few at is kinds.NotText (ap (λ t. cond (not t) (Some kinds.NotText) (cond (count == most_records) (Some kinds.TooManyRecords) (row_fault p (next_row (trimmed r))))) test)
 
     go : (k : ReadKind) → StopsReading k (Some left) → IsFaultAt all k at
     go kinds.ReadFailed s = cut_short all left count p tracks few at is
@@ -87,8 +87,8 @@ refused (Some all) (Some (r ∷ rest)) after count p fields kind at tracks few i
     explained all kind at _ (cut_short all (r ∷ rest) count p tracks (omega (arith, few)) at is) (subst (λ x. Explains kind (row_fault p (next_row (trimmed x)))) next.1 said)
     (λ k found.
     first_at all (r ∷ rest) count p tracks (omega (arith, few)) at is k
-    (ap (λ t. cond (not t) (Some kinds.NotText) (cond (count == most_records) (Some kinds.TooManyRecords) (row_fault p (next_of (Some r))))) (test-from_AllText r (subst AllText next.1 text))
-    ∙ ap (λ t. cond t (Some kinds.TooManyRecords) (row_fault p (next_of (Some r)))) (ne_eqb count most_records (λ e. absurd (omega (arith, e, few)))) ∙ found))
+    (ap (λ t. cond (not t) (Some kinds.NotText) (cond (count == most_records) (Some kinds.TooManyRecords) (row_fault p (next_row (trimmed r))))) (test-from_AllText r (subst AllText next.1 text))
+    ∙ ap (λ t. cond t (Some kinds.TooManyRecords) (row_fault p (next_row (trimmed r)))) (ne_eqb count most_records (λ e. absurd (omega (arith, e, few)))) ∙ found))
 
 -- one record too many
 pub too_many : (all left after : Option (List Fields)) (p : Position) (fields : Fields) → Tracks all left most_records p → IsNext left after true fields → AllText fields → IfSome all (λ records. IsFaultAt records kinds.TooManyRecords (most_records + 1))
@@ -97,7 +97,7 @@ too_many (Some all) None after p fields tracks next text = absurd tracks
 too_many (Some all) (Some []) after p fields tracks next text = absurd (true≢false next)
 too_many (Some all) (Some (r ∷ rest)) after p fields tracks next text =
     first_at all (r ∷ rest) most_records p tracks (omega arith) (most_records + 1) refl kinds.TooManyRecords
-    (ap (λ t. cond (not t) (Some kinds.NotText) (cond (most_records == most_records) (Some kinds.TooManyRecords) (row_fault p (next_of (Some r))))) (test-from_AllText r (subst AllText next.1 text)))
+    (ap (λ t. cond (not t) (Some kinds.NotText) (cond (most_records == most_records) (Some kinds.TooManyRecords) (row_fault p (next_row (trimmed r))))) (test-from_AllText r (subst AllText next.1 text)))
 
 -- no record is left
 pub has_ended : (all left after : Option (List Fields)) (count : ℕ) (p : Position) (fields : Fields) (at : ℕ) → Tracks all left count p → count ≤ most_records → at ≡ count + 1 → IsNext left after false fields → HasEnded all at p
@@ -118,12 +118,6 @@ pub ended_at_fault : (all : Option (List Fields)) (at : ℕ) (p : Position) (kin
 ended_at_fault None at p kind number end same said = tt
 ended_at_fault (Some all) at p kind number end same said =
     explained all kind number _ (cut_short all [] end.count p end.come end.few number (same ∙ end.at_is)) said (λ k found. first_at all [] end.count p end.come end.few number (same ∙ end.at_is) k found)
-
--- what stands for an election is refused only from outside
-pub refused_from_outside : (all : List Fields) (e : ElectionView) (kind : ReadKind) (at : ℕ) → StandsFor all e → IsFaultAt all kind at → IsFromOutside kind
-refused_from_outside all e kinds.ReadFailed at stands fault = tt
-refused_from_outside all e kinds.NoMemory at stands fault = tt
-refused_from_outside all e kind at stands fault = no_first_fault all e _ at stands fault
 
 -- a refusal as the result
 pub as_result : {T : Type 0} (all : Option (List Fields)) (r : Result T ReadFault) (fault : ReadFault) → r ≡ Err fault → IfSome all (λ records. IsFaultAt records fault.kind fault.at) → IfSome all (λ records. IfErr r (λ f. IsFaultAt records f.kind f.at))

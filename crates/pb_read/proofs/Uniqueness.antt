@@ -1,19 +1,23 @@
 -- Records stand for one election at most, or have one first fault.
-use Rattle.std.proofs.Common.{◌≡◌, ◌<◌, ◌+◌, ◌⊎◌, ℕ, List, [], ◌∷◌, ◌++◌, length, Some, refl, ap, sym, ◌∙◌, subst, arith, inl, inr, append_assoc, length-append}
-use Rattle.std.proofs.lemmas.Bool.{cases_order}
+use Rattle.std.proofs.Common.{◌≡◌, ◌<◌, ◌≤◌, ◌+◌, ◌-◌, ◌⊎◌, ℕ, List, [], ◌∷◌, ◌++◌, length, take, refl, ap, sym, ◌∙◌, subst, arith, inl, inr, append_assoc, length-append}
+use Rattle.std.proofs.lemmas.Bool.{cases_order, true≢false}
+use Rattle.std.proofs.Math.Seq.{take-append-add, take-append_seam}
 use Rattle.std.proofs.lemmas.List.{append-nil}
-use Rattle.std.proofs.lemmas.Option.{same_Some}
 use Rattle.pb_core.specs.Election.{ElectionView}
 use Rattle.pb_rows.specs.Reading.{Fields}
+use Rattle.pb_read.proofs.LowestKind.{same_number}
 use Rattle.pb_read.proofs.GoesOn.{rows_of-are_full}
 use Rattle.pb_read.proofs.ListFacts.{same_Ok}
 use Rattle.pb_read.proofs.Runs.{runs}
-use Rattle.pb_read.specs.Faults.{Position, start, in_votes, lowest_kind}
-use Rattle.pb_read.specs.FirstFault.{IsAtFault, IsFirstFault, first_of}
+use Rattle.pb_read.specs.Faults.{applies_after}
+use Rattle.pb_read.specs.Kinds.{number_of}
+use Rattle.pb_read.specs.Positions.{Position, start, in_votes}
+use Rattle.pb_read.specs.FirstFault.{HasNoFault, IsAtFault, IsFaultAt, IsFirstFault, IsFromOutside, IsReachedAt}
 use Rattle.pb_read.specs.Machine.{run}
 use Rattle.pb_read.specs.Rows.{rows_of}
 use Rattle.pb_read.specs.StandsFor.{Describes, StandsFor}
 use Rattle.pb_read.specs.declared.fault.ReadKind.{ReadKind}
+use Rattle.pb_read.specs.declared.fault.ReadKind.TheVariants as kinds
 
 election_at : Position → ElectionView → ElectionView
 election_at (in_votes columns e) other = e
@@ -29,18 +33,20 @@ one_election records e f se sf =
 
 -- what stands has no fault
 pub no_first_fault : (records : List Fields) (e : ElectionView) (kind : ReadKind) (at : ℕ) → StandsFor records e → ¬ IsFirstFault records kind at
-no_first_fault records e kind at stands fault = go fault.left fault.cut fault.at_fault
+no_first_fault records e kind at stands fault = go fault.reached.done fault.reached.left fault.reached.cut fault.at_fault
   where
-    go : (left : List Fields) → records ≡ fault.done ++ left → IsAtFault fault.done left → ⊥
-    go [] cut none = none e (subst (λ xs. StandsFor xs e) (cut ∙ append-nil fault.done) stands)
-    go (next ∷ rest) cut (inl none) = none (record {
-      more = rest;
-      election = e;
-      describes = subst (λ xs. Describes xs e) (cut ∙ sym (append_assoc fault.done (next ∷ []) rest)) stands.describes;
-    })
-    go (next ∷ rest) cut (inr full) =
-        let size : length records ≡ length fault.done + length (next ∷ rest) = ap length cut ∙ length-append fault.done (next ∷ rest) in
-        absurd (omega (arith, size, full, stands.few))
+    go : (done left : List Fields) → records ≡ done ++ left → IsAtFault done left → ⊥
+    go done [] cut none = none e (subst (λ xs. StandsFor xs e) (cut ∙ append-nil done) stands)
+    go done (next ∷ rest) cut none =
+        let size : length records ≡ length done + length (next ∷ rest) = ap length cut ∙ length-append done (next ∷ rest) in
+        none (record {
+          few = omega (arith, size, stands.few, length-append done (next ∷ []));
+          goes_on = record {
+            more = rest;
+            election = e;
+            describes = subst (λ xs. Describes xs e) (cut ∙ sym (append_assoc done (next ∷ []) rest)) stands.describes;
+          };
+        })
 
 same_rest : (front xs ys : List Fields) → front ++ xs ≡ front ++ ys → xs ≡ ys
 same_rest [] xs ys e = e
@@ -66,9 +72,9 @@ regrouped done other next x more tail e same =
     ∙ ap (λ y. done ++ y ∷ (more ++ tail)) (sym same)
     ∙ sym (append_assoc done (next ∷ []) (more ++ tail))
 
--- a fault is not behind another
-not_behind : (records : List Fields) (k l : ReadKind) (a b : ℕ) (f : IsFirstFault records k a) (g : IsFirstFault records l b) → length f.done < length g.done → ⊥
-not_behind records k l a b f g shorter = go f.left f.cut f.at_fault
+-- a fault does not come after another
+not_after : (records : List Fields) (k l : ReadKind) (a b : ℕ) (f : IsFirstFault records k a) (g : IsFirstFault records l b) → length f.reached.done < length g.reached.done → ⊥
+not_after records k l a b f g shorter = go f.reached.left f.reached.cut f.at_fault
   where
     within : (done left : List Fields) (other rest : List Fields) → done ++ left ≡ other ++ rest → length done < length other → (next : Fields) × (more : List Fields) × (other ≡ done ++ next ∷ more)
     within [] left [] rest e l = absurd (omega (arith, l))
@@ -80,35 +86,88 @@ not_behind records k l a b f g shorter = go f.left f.cut f.at_fault
         let found = within done left other rest tails (omega (arith, l)) in
         (found.0, found.1, cc (heads, found.2))
 
-    go : (left : List Fields) → records ≡ f.done ++ left → IsAtFault f.done left → ⊥
+    go : (left : List Fields) → records ≡ f.reached.done ++ left → IsAtFault f.reached.done left → ⊥
     go [] cut none =
-        let size : length records ≡ length g.done + length g.left = ap length g.cut ∙ length-append g.done g.left in
-        let all : length records ≡ length f.done = ap length (cut ∙ append-nil f.done) in
+        let size : length records ≡ length g.reached.done + length g.reached.left = ap length g.reached.cut ∙ length-append g.reached.done g.reached.left in
+        let all : length records ≡ length f.reached.done = ap length (cut ∙ append-nil f.reached.done) in
         absurd (omega (arith, size, all, shorter))
-    go (next ∷ rest) cut (inr full) = absurd (omega (arith, full, shorter, g.no_fault_before.few))
-    go (next ∷ rest) cut (inl none) =
-        let found = within f.done (next ∷ rest) g.done g.left (sym cut ∙ g.cut) shorter in
-        let whole : f.done ++ next ∷ rest ≡ f.done ++ (found.0 ∷ (found.1 ++ g.left)) = sym cut ∙ g.cut ∙ ap (λ xs. xs ++ g.left) found.2 ∙ append_assoc f.done (found.0 ∷ found.1) g.left in
-        let same : next ≡ found.0 = same_head f.done next found.0 rest (found.1 ++ g.left) whole in
-        let way = g.no_fault_before.goes_on in
+    go (next ∷ rest) cut none =
+        let found = within f.reached.done (next ∷ rest) g.reached.done g.reached.left (sym cut ∙ g.reached.cut) shorter in
+        let whole : f.reached.done ++ next ∷ rest ≡ f.reached.done ++ (found.0 ∷ (found.1 ++ g.reached.left)) =
+        sym cut ∙ g.reached.cut ∙ ap (λ xs. xs ++ g.reached.left) found.2 ∙ append_assoc f.reached.done (found.0 ∷ found.1) g.reached.left in
+        let same : next ≡ found.0 = same_head f.reached.done next found.0 rest (found.1 ++ g.reached.left) whole in
+        let way = g.reached.no_fault_before.goes_on in
         none (record {
-          more = found.1 ++ way.more;
-          election = way.election;
-          describes = subst (λ xs. Describes xs way.election) (regrouped f.done g.done next found.0 found.1 way.more found.2 same) way.describes;
+          few = omega (arith, shorter, g.reached.no_fault_before.few, length-append f.reached.done (next ∷ []));
+          goes_on = record {
+            more = found.1 ++ way.more;
+            election = way.election;
+            describes = subst (λ xs. Describes xs way.election) (regrouped f.reached.done g.reached.done next found.0 found.1 way.more found.2 same) way.describes;
+          };
         })
 
 -- the first fault is one
-pub one_first_fault : (records : List Fields) (k l : ReadKind) (a b : ℕ) → IsFirstFault records k a → IsFirstFault records l b → (k ≡ l) × (a ≡ b)
-one_first_fault records k l a b f g = go (cases_order (length f.done) (length g.done))
+one_first_fault : (records : List Fields) (k l : ReadKind) (a b : ℕ) → IsFirstFault records k a → IsFirstFault records l b → (k ≡ l) × (a ≡ b)
+one_first_fault records k l a b f g = go (cases_order (length f.reached.done) (length g.reached.done))
   where
-    go : (length f.done ≡ length g.done) ⊎ ((length f.done < length g.done) ⊎ (length g.done < length f.done)) → (k ≡ l) × (a ≡ b)
-    go (inr (inl shorter)) = absurd (not_behind records k l a b f g shorter)
-    go (inr (inr longer)) = absurd (not_behind records l k b a g f longer)
+    go : (length f.reached.done ≡ length g.reached.done) ⊎ ((length f.reached.done < length g.reached.done) ⊎ (length g.reached.done < length f.reached.done)) → (k ≡ l) × (a ≡ b)
+    go (inr (inl shorter)) = absurd (not_after records k l a b f g shorter)
+    go (inr (inr longer)) = absurd (not_after records l k b a g f longer)
     go (inl same) =
-        let done : f.done ≡ g.done = same_front f.done g.done f.left g.left (sym f.cut ∙ g.cut) same in
-        let left : f.left ≡ g.left = same_rest f.done f.left g.left (sym f.cut ∙ g.cut ∙ ap (λ xs. xs ++ g.left) (sym done)) in
-        let here = runs f.position (rows_of f.done) (rows_of-are_full f.done) f.so_far f.sound in
-        let there = runs g.position (rows_of g.done) (rows_of-are_full g.done) g.so_far g.sound in
-        let position : f.position ≡ g.position = same_Ok (sym here ∙ ap (λ xs. run start (rows_of xs)) done ∙ there) in
-        let kinds : Some k ≡ Some l = sym f.lowest ∙ (λ i. lowest_kind (length (done i)) (position i) (first_of (left i))) ∙ g.lowest in
-        (same_Some k l kinds, f.at_is ∙ ap (λ n. n + 1) same ∙ sym g.at_is)
+        let done : f.reached.done ≡ g.reached.done = same_front f.reached.done g.reached.done f.reached.left g.reached.left (sym f.reached.cut ∙ g.reached.cut) same in
+        let left : f.reached.left ≡ g.reached.left = same_rest f.reached.done f.reached.left g.reached.left (sym f.reached.cut ∙ g.reached.cut ∙ ap (λ xs. xs ++ g.reached.left) (sym done)) in
+        let here = runs f.position (rows_of f.reached.done) (rows_of-are_full f.reached.done) f.so_far f.sound in
+        let there = runs g.position (rows_of g.reached.done) (rows_of-are_full g.reached.done) g.so_far g.sound in
+        let position : f.position ≡ g.position = same_Ok (sym here ∙ ap (λ xs. run start (rows_of xs)) done ∙ there) in (
+          by_number (λ kind i. applies_after (length (done i)) (position i) (left i) kind) (cases_order (number_of k) (number_of l)),
+          f.reached.at_is ∙ ap (λ n. n + 1) same ∙ sym g.reached.at_is,
+        )
+      where
+        by_number : ((kind : ReadKind) → applies_after (length f.reached.done) f.position f.reached.left kind ≡ applies_after (length g.reached.done) g.position g.reached.left kind) →
+            (number_of k ≡ number_of l) ⊎ ((number_of k < number_of l) ⊎ (number_of l < number_of k)) → k ≡ l
+        by_number same (inl numbers) = same_number k l numbers
+        by_number same (inr (inl lower)) = absurd (true≢false (sym f.applies ∙ same k ∙ g.lowest k lower))
+        by_number same (inr (inr higher)) = absurd (true≢false (sym g.applies ∙ sym (same l) ∙ f.lowest l higher))
+
+reached_at : (records : List Fields) (kind : ReadKind) (at : ℕ) → IsFaultAt records kind at → IsReachedAt records at
+reached_at records kinds.ReadFailed at fault = fault
+reached_at records kinds.NoMemory at fault = fault
+reached_at records kind at fault = fault.reached
+
+pub refused_from_outside : (records : List Fields) (e : ElectionView) (kind : ReadKind) (at : ℕ) → StandsFor records e → IsFaultAt records kind at → IsFromOutside kind
+refused_from_outside records e kinds.ReadFailed at stands fault = tt
+refused_from_outside records e kinds.NoMemory at stands fault = tt
+refused_from_outside records e kind at stands fault = absurd (no_first_fault records e _ at stands fault)
+
+first_unless : (records : List Fields) (kind : ReadKind) (at : ℕ) → IsFaultAt records kind at → ¬ IsFromOutside kind → IsFirstFault records kind at
+first_unless records kinds.ReadFailed at fault inside = absurd (inside tt)
+first_unless records kinds.NoMemory at fault inside = absurd (inside tt)
+first_unless records kind at fault inside = fault
+
+-- a fault that is not from outside is one
+pub one_fault : (records : List Fields) (k l : ReadKind) (a b : ℕ) → IsFaultAt records k a → IsFaultAt records l b → ¬ IsFromOutside k → ¬ IsFromOutside l → (k ≡ l) × (a ≡ b)
+one_fault records k l a b f g inside within = one_first_fault records k l a b (first_unless records k a f inside) (first_unless records l b g within)
+
+-- the records before the one at fault have no fault
+pub none_before : (records : List Fields) (kind : ReadKind) (at : ℕ) → IsFaultAt records kind at → HasNoFault (take (at - 1) records)
+none_before records kind at fault =
+    let reached = reached_at records kind at fault in
+    let size : at - 1 ≡ length reached.done = omega (arith, reached.at_is) in
+    let first : take (at - 1) records ≡ reached.done = (λ i. take (size i) (reached.cut i)) ∙ take-append_seam reached.done reached.left in
+    subst HasNoFault (sym first) reached.no_fault_before
+
+-- with it they have one
+pub one_with_it : (records : List Fields) (kind : ReadKind) (at : ℕ) → IsFaultAt records kind at → ¬ IsFromOutside kind → at ≤ length records → ¬ HasNoFault (take at records)
+one_with_it records kind at fault inside within = go first.reached.left first.reached.cut first.at_fault
+  where
+    first : IsFirstFault records kind at
+    first = first_unless records kind at fault inside
+
+    go : (left : List Fields) → records ≡ first.reached.done ++ left → IsAtFault first.reached.done left → ¬ HasNoFault (take at records)
+    go [] cut none =
+        let size : length records ≡ length first.reached.done = ap length (cut ∙ append-nil first.reached.done) in
+        absurd (omega (arith, size, within, first.reached.at_is))
+    go (next ∷ rest) cut none =
+        let up_to : take at records ≡ first.reached.done ++ next ∷ [] =
+        (λ i. take (first.reached.at_is i) (cut i)) ∙ take-append-add first.reached.done (next ∷ rest) 1 in
+        subst (λ xs. ¬ HasNoFault xs) (sym up_to) none

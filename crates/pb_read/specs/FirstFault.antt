@@ -1,8 +1,10 @@
 -- The first fault of a list of records.
-use Rattle.std.specs.Prelude.{◌≡◌, ◌≤◌, ◌+◌, ◌⊎◌, ℕ, List, [], ◌∷◌, ◌++◌, length, Option, None, Some}
+use Rattle.std.specs.Prelude.{◌≡◌, ◌≤◌, ◌<◌, ◌+◌, ℕ, true, false, List, [], ◌∷◌, ◌++◌, length}
 use Rattle.pb_core.specs.Election.{ElectionView}
 use Rattle.pb_rows.specs.Reading.{Fields}
-use Rattle.pb_read.specs.Faults.{Position, IsAt, IsSound, lowest_kind}
+use Rattle.pb_read.specs.Faults.{applies_after}
+use Rattle.pb_read.specs.Kinds.{number_of}
+use Rattle.pb_read.specs.Positions.{Position, IsAt, IsSound}
 use Rattle.pb_read.specs.Rows.{rows_of}
 use Rattle.pb_read.specs.StandsFor.{Describes, StandsFor, most_records}
 use Rattle.pb_read.specs.declared.fault.ReadKind.{ReadKind}
@@ -19,41 +21,34 @@ pub record HasNoFault (records : List Fields) : Type 0 where
   pub few : length records ≤ most_records
   pub goes_on : MayGoOn records
 
--- the first of the records that are left is at fault: however the file goes on behind it, it describes no election,
--- or it is one record too many; where none is left, those that were read stand for no election
+-- the first of the records that are left is at fault: those before it have no fault, and with it they have;
+-- where none is left, those that were read stand for no election
 abbrev pub IsAtFault : List Fields → List Fields → Type 0
 IsAtFault done [] = (e : ElectionView) → ¬ StandsFor done e
-IsAtFault done (next ∷ rest) = (¬ MayGoOn (done ++ next ∷ [])) ⊎ (length done ≡ most_records)
+IsAtFault done (next ∷ rest) = ¬ HasNoFault (done ++ next ∷ [])
 
-abbrev pub first_of : List Fields → Option Fields
-first_of [] = None
-first_of (next ∷ rest) = Some next
+-- the records before this one have no fault; they are numbered from 1, and the end of the file counts as one
+pub record IsReachedAt (records : List Fields) (at : ℕ) : Type 0 where
+  pub done : List Fields
+  pub left : List Fields
+  pub cut : records ≡ done ++ left
+  pub at_is : at ≡ length done + 1
+  pub no_fault_before : HasNoFault done
 
--- the first fault is of this kind and stands in this record, numbered from 1; the end of the file counts as a record
+-- the first fault is of this kind and stands in this record: no kind of a lower number applies to it
 pub record IsFirstFault (records : List Fields) (kind : ReadKind) (at : ℕ) : Type 0 where
-  pub done : List Fields
-  pub left : List Fields
-  pub cut : records ≡ done ++ left
-  pub at_is : at ≡ length done + 1
-  pub no_fault_before : HasNoFault done
-  pub at_fault : IsAtFault done left
+  pub reached : IsReachedAt records at
+  pub at_fault : IsAtFault reached.done reached.left
   pub position : Position
-  pub so_far : IsAt (rows_of done) position
+  pub so_far : IsAt (rows_of reached.done) position
   pub sound : IsSound position
-  pub lowest : lowest_kind (length done) position (first_of left) ≡ Some kind
+  pub applies : applies_after (length reached.done) position reached.left kind ≡ true
+  pub lowest : (other : ReadKind) → number_of other < number_of kind → applies_after (length reached.done) position reached.left other ≡ false
 
--- a refusal because the reader failed or memory was refused, at this record: the records before it have no fault
-pub record IsCutShort (records : List Fields) (at : ℕ) : Type 0 where
-  pub done : List Fields
-  pub left : List Fields
-  pub cut : records ≡ done ++ left
-  pub at_is : at ≡ length done + 1
-  pub no_fault_before : HasNoFault done
-
--- a fault is the first one, unless reading was cut short
+-- a fault is the first one; where the reader failed or memory was refused, no record up to it is known to be at fault
 abbrev pub IsFaultAt : List Fields → ReadKind → ℕ → Type 0
-IsFaultAt records ReadFailed at = IsCutShort records at
-IsFaultAt records NoMemory at = IsCutShort records at
+IsFaultAt records ReadFailed at = IsReachedAt records at
+IsFaultAt records NoMemory at = IsReachedAt records at
 IsFaultAt records kind at = IsFirstFault records kind at
 
 -- a refusal that no file can rule out

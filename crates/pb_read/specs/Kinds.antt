@@ -1,57 +1,49 @@
 -- The numbers and names of the kinds of fault.
-use Rattle.std.specs.Prelude.{ℕ, List, [], ◌∷◌, codes}
+use Rattle.std.specs.Prelude.{ℕ, List, codes}
+use Rattle.pb_core.specs.declared.money_fault.MoneyFault.{MoneyFault}
+use Rattle.pb_core.specs.declared.money_fault.MoneyFault.TheVariants as money
+use Rattle.pb_rows.specs.declared.fault.RecordsFault.{RecordsFault}
+use Rattle.pb_rows.specs.declared.fault.RecordsFault.TheVariants as records
 use Rattle.pb_read.specs.declared.fault.ReadKind.{ReadKind}
 use Rattle.pb_read.specs.declared.fault.ReadKind.TheVariants.{ReadFailed, NotText, TooManyRecords, NoSection, SectionOrder, NoHeader, MissingColumn, MissingField, MissingKey, VoteType, BadMoney, MoneyTooFine, MoneyTooLarge, ZeroCost, EmptyId, RepeatedProject, RepeatedVoter, UnknownProject, TooManyProjects, TooManyVoters, NoMemory, BadLength}
 
+abbrev pub numbered_name : ReadKind → ℕ × List ℕ
+numbered_name ReadFailed = (1, codes "ReadFailed")
+numbered_name NotText = (2, codes "NotText")
+numbered_name TooManyRecords = (3, codes "TooManyRecords")
+numbered_name NoSection = (4, codes "NoSection")
+numbered_name SectionOrder = (5, codes "SectionOrder")
+numbered_name NoHeader = (6, codes "NoHeader")
+numbered_name MissingColumn = (7, codes "MissingColumn")
+numbered_name MissingField = (8, codes "MissingField")
+numbered_name MissingKey = (9, codes "MissingKey")
+numbered_name VoteType = (10, codes "VoteType")
+numbered_name BadMoney = (11, codes "BadMoney")
+numbered_name MoneyTooFine = (12, codes "MoneyTooFine")
+numbered_name MoneyTooLarge = (13, codes "MoneyTooLarge")
+numbered_name ZeroCost = (14, codes "ZeroCost")
+numbered_name EmptyId = (15, codes "EmptyId")
+numbered_name RepeatedProject = (16, codes "RepeatedProject")
+numbered_name RepeatedVoter = (17, codes "RepeatedVoter")
+numbered_name UnknownProject = (18, codes "UnknownProject")
+numbered_name TooManyProjects = (19, codes "TooManyProjects")
+numbered_name TooManyVoters = (20, codes "TooManyVoters")
+numbered_name NoMemory = (21, codes "NoMemory")
+numbered_name BadLength = (22, codes "BadLength")
+
 abbrev pub number_of : ReadKind → ℕ
-number_of ReadFailed = 1
-number_of NotText = 2
-number_of TooManyRecords = 3
-number_of NoSection = 4
-number_of SectionOrder = 5
-number_of NoHeader = 6
-number_of MissingColumn = 7
-number_of MissingField = 8
-number_of MissingKey = 9
-number_of VoteType = 10
-number_of BadMoney = 11
-number_of MoneyTooFine = 12
-number_of MoneyTooLarge = 13
-number_of ZeroCost = 14
-number_of EmptyId = 15
-number_of RepeatedProject = 16
-number_of RepeatedVoter = 17
-number_of UnknownProject = 18
-number_of TooManyProjects = 19
-number_of TooManyVoters = 20
-number_of NoMemory = 21
-number_of BadLength = 22
+number_of kind = (numbered_name kind).0
 
 abbrev pub name_of : ReadKind → List ℕ
-name_of ReadFailed = codes "ReadFailed"
-name_of NotText = codes "NotText"
-name_of TooManyRecords = codes "TooManyRecords"
-name_of NoSection = codes "NoSection"
-name_of SectionOrder = codes "SectionOrder"
-name_of NoHeader = codes "NoHeader"
-name_of MissingColumn = codes "MissingColumn"
-name_of MissingField = codes "MissingField"
-name_of MissingKey = codes "MissingKey"
-name_of VoteType = codes "VoteType"
-name_of BadMoney = codes "BadMoney"
-name_of MoneyTooFine = codes "MoneyTooFine"
-name_of MoneyTooLarge = codes "MoneyTooLarge"
-name_of ZeroCost = codes "ZeroCost"
-name_of EmptyId = codes "EmptyId"
-name_of RepeatedProject = codes "RepeatedProject"
-name_of RepeatedVoter = codes "RepeatedVoter"
-name_of UnknownProject = codes "UnknownProject"
-name_of TooManyProjects = codes "TooManyProjects"
-name_of TooManyVoters = codes "TooManyVoters"
-name_of NoMemory = codes "NoMemory"
-name_of BadLength = codes "BadLength"
+name_of kind = (numbered_name kind).1
 
--- the kinds that depend on how far the file has come, in rising number
-abbrev pub row_kinds : List ReadKind
-row_kinds =
-    NoSection ∷ SectionOrder ∷ NoHeader ∷ MissingColumn ∷ MissingField ∷ MissingKey ∷ VoteType ∷ BadMoney ∷ MoneyTooFine ∷ MoneyTooLarge ∷ ZeroCost ∷ EmptyId ∷ RepeatedProject ∷ RepeatedVoter ∷ UnknownProject ∷ TooManyProjects ∷ TooManyVoters ∷ BadLength ∷ []
+-- the kinds of the faults that an amount, and the reading of records, can have
+abbrev pub kind_of_money : MoneyFault → ReadKind
+kind_of_money money.BadMoney = BadMoney
+kind_of_money money.MoneyTooFine = MoneyTooFine
+kind_of_money money.MoneyTooLarge = MoneyTooLarge
+
+abbrev pub kind_of_records : RecordsFault → ReadKind
+kind_of_records records.ReadFailed = ReadFailed
+kind_of_records records.NotText = NotText
+kind_of_records records.NoMemory = NoMemory

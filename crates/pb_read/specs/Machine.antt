@@ -1,25 +1,26 @@
 -- The reading of rows one by one. Private contracts and proofs speak of it; what a file stands for does not rest on it.
-use Rattle.std.specs.Prelude.{◌≡◌, ℕ, Bool, not, if◌then◌else◌, List, [], ◌∷◌, ◌++◌, Option, Some, None, Result, Ok, Err, codes}
+use Rattle.std.specs.Prelude.{◌≡◌, ◌==◌, ℕ, Bool, not, find, if◌then◌else◌, List, [], ◌∷◌, ◌++◌, Option, Some, None, Result, Ok, Err, codes}
 use Rattle.std.specs.Option.{option_map_or}
 use Rattle.std.specs.Prelude.{length, map, nat_le}
-use Rattle.std.specs.List.{position_or_len}
-use Rattle.std.specs.Str.{bytes_eq}
+use Rattle.std.specs.List.{list_all, position_or_len}
+use Rattle.std.specs.Str.{bytes_eq, is_utf8}
 use Rattle.pb_core.specs.Election.{ElectionView, ProjectView, VoterView, most_projects, most_voters, project_ids, voter_ids}
 use Rattle.pb_core.specs.Money.{money_of}
 use Rattle.pb_core.specs.declared.money_fault.MoneyFault.{MoneyFault}
-use Rattle.pb_core.specs.declared.money_fault.MoneyFault.TheVariants as money
 use Rattle.pb_rows.specs.Reading.{Fields}
 use Rattle.pb_read.specs.Columns.{project_columns, vote_columns, has_project_fields, has_vote_fields, name_field}
-use Rattle.pb_read.specs.Faults.{is_nothing, Position, start, meta_head, in_meta, projects_head, in_projects, votes_head, in_votes, Next, head, plain, next_row, row_fault}
+use Rattle.pb_read.specs.Faults.{applies, is_zero}
+use Rattle.pb_read.specs.Kinds.{kind_of_money}
 use Rattle.pb_read.specs.Lengths.{max_length_of}
 use Rattle.pb_read.specs.MetaRows.{meta_of}
-use Rattle.pb_read.specs.Rows.{field, is_empty, is_word}
-use Rattle.pb_read.specs.StandsFor.{opening}
+use Rattle.pb_read.specs.Positions.{Position, start, meta_head, in_meta, projects_head, in_projects, votes_head, in_votes, Next, head, plain, the_end, next_row}
+use Rattle.pb_read.specs.Rows.{field, is_empty, is_word, trimmed}
+use Rattle.pb_read.specs.StandsFor.{most_records, opening}
 use Rattle.pb_read.specs.Voting.{ballot_of, is_among, names_only}
 use Rattle.pb_read.specs.declared.columns.ProjectColumns.{ProjectColumns}
 use Rattle.pb_read.specs.declared.columns.VoteColumns.{VoteColumns}
 use Rattle.pb_read.specs.declared.fault.ReadKind.{ReadKind}
-use Rattle.pb_read.specs.declared.fault.ReadKind.TheVariants.{MissingField, MissingKey, VoteType, BadMoney, MoneyTooFine, MoneyTooLarge, ZeroCost, EmptyId, RepeatedProject, RepeatedVoter, UnknownProject, TooManyProjects, TooManyVoters, NoMemory, BadLength}
+use Rattle.pb_read.specs.declared.fault.ReadKind.TheVariants.{ReadFailed, NotText, TooManyRecords, NoSection, SectionOrder, NoHeader, MissingColumn, MissingField, MissingKey, VoteType, BadMoney, MoneyTooFine, MoneyTooLarge, ZeroCost, EmptyId, RepeatedProject, RepeatedVoter, UnknownProject, TooManyProjects, TooManyVoters, NoMemory, BadLength}
 use Rattle.pb_read.specs.declared.meta.Meta.{Meta}
 
 -- what META says with one more row
@@ -67,6 +68,30 @@ advance (votes_head e) (plain header) = option_map_or (λ columns. in_votes colu
 advance (in_votes columns e) (plain row) = in_votes columns (with_voter columns row e)
 advance p n = p
 
+-- the kinds that depend on how far the rows have come, and all kinds, each in rising number
+abbrev pub row_kinds : List ReadKind
+row_kinds =
+    NoSection ∷ SectionOrder ∷ NoHeader ∷ MissingColumn ∷ MissingField ∷ MissingKey ∷ VoteType ∷ BadMoney ∷ MoneyTooFine ∷ MoneyTooLarge
+    ∷ ZeroCost ∷ EmptyId ∷ RepeatedProject ∷ RepeatedVoter ∷ UnknownProject ∷ TooManyProjects ∷ TooManyVoters ∷ BadLength ∷ []
+
+abbrev pub all_kinds : List ReadKind
+all_kinds =
+    ReadFailed ∷ NotText ∷ TooManyRecords
+    ∷ NoSection ∷ SectionOrder ∷ NoHeader ∷ MissingColumn ∷ MissingField ∷ MissingKey ∷ VoteType ∷ BadMoney ∷ MoneyTooFine ∷ MoneyTooLarge
+    ∷ ZeroCost ∷ EmptyId ∷ RepeatedProject ∷ RepeatedVoter ∷ UnknownProject ∷ TooManyProjects ∷ TooManyVoters ∷ NoMemory ∷ BadLength ∷ []
+
+-- the first of them that applies
+unfoldable pub row_fault : Position → Next → Option ReadKind
+row_fault p n = find (λ kind. applies kind p n) row_kinds
+
+-- the first of all that applies after this many records
+abbrev pub lowest_kind : ℕ → Position → List Fields → Option ReadKind
+lowest_kind done p [] = row_fault p the_end
+lowest_kind done p (next ∷ rest) =
+    if not (list_all is_utf8 next) then Some NotText
+    else if done == most_records then Some TooManyRecords
+    else row_fault p (next_row (trimmed next))
+
 abbrev pub step_or : Option ReadKind → Position → Result Position ReadKind
 step_or None q = Ok q
 step_or (Some kind) q = Err kind
@@ -84,11 +109,6 @@ run p [] = Ok p
 run p (row ∷ rows) = bind (step p (next_row row)) (λ q. run q rows)
 
 -- the checks of PROJECTS' head, of a project row and of a vote row, in their order
-abbrev pub kind_of_money : MoneyFault → ReadKind
-kind_of_money money.BadMoney = BadMoney
-kind_of_money money.MoneyTooFine = MoneyTooFine
-kind_of_money money.MoneyTooLarge = MoneyTooLarge
-
 abbrev pub money_checks : Result ℕ MoneyFault → Option ReadKind → Option ReadKind
 money_checks (Ok amount) more = more
 money_checks (Err fault) more = Some (kind_of_money fault)
@@ -107,7 +127,7 @@ abbrev pub project_checks : Bool → Result ℕ MoneyFault → Bool → Bool →
 project_checks whole cost no_id repeated full =
     if not whole then Some MissingField
     else money_checks cost (
-    if is_nothing cost then Some ZeroCost
+    if is_zero cost then Some ZeroCost
     else if no_id then Some EmptyId
     else if repeated then Some RepeatedProject
     else if full then Some TooManyProjects

@@ -4,12 +4,10 @@ use Rattle.pb_core.specs.Election.{ElectionView}
 use Rattle.pb_core.specs.Money.{largest_money}
 use Rattle.pb_read.specs.declared.meta.Meta.{Meta}
 use Rattle.pb_rows.specs.Reading.{Fields, NextIsNoText}
-use Rattle.pb_rows.specs.declared.fault.RecordsFault.{RecordsFault}
-use Rattle.pb_rows.specs.declared.fault.RecordsFault.TheVariants as records
 use Rattle.pb_read.specs.declared.fault.ReadKind.{ReadKind}
 use Rattle.pb_read.specs.declared.fault.ReadKind.TheVariants.{ReadFailed, NotText, NoMemory}
 use Rattle.pb_read.specs.Drafts.{IsTied}
-use Rattle.pb_read.specs.Faults.{Position, start, meta_head, in_meta, projects_head, in_projects, votes_head, in_votes}
+use Rattle.pb_read.specs.Positions.{Position, start, meta_head, in_meta, projects_head, in_projects, votes_head, in_votes}
 use Rattle.pb_read.specs.declared.columns.VoteColumns.{VoteColumns}
 use Rattle.pb_read.specs.declared.progress.Progress.{Progress}
 use Rattle.pb_read.specs.declared.progress.Stage.{Stage}
@@ -49,8 +47,3 @@ StopsReading ReadFailed left = Unit {0}
 StopsReading NoMemory left = Unit {0}
 StopsReading NotText left = NextIsNoText left
 StopsReading kind left = ⊥
-
-abbrev pub kind_of_records : RecordsFault → ReadKind
-kind_of_records records.ReadFailed = ReadFailed
-kind_of_records records.NotText = NotText
-kind_of_records records.NoMemory = NoMemory

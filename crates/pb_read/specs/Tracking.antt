@@ -3,7 +3,7 @@ use Rattle.std.specs.Prelude.{◌≡◌, ◌≤◌, ◌+◌, ℕ, List, [], ◌+
 use Rattle.std.specs.List.{AllByRecursion}
 use Rattle.csv.specs.Records.{AllText}
 use Rattle.pb_rows.specs.Reading.{Fields}
-use Rattle.pb_read.specs.Faults.{IsAt, IsSound, Position}
+use Rattle.pb_read.specs.Positions.{IsAt, IsSound, Position}
 use Rattle.pb_read.specs.Rows.{rows_of}
 use Rattle.pb_read.specs.StandsFor.{most_records}
 

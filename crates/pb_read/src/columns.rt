@@ -23,7 +23,7 @@ pub(crate) struct VoteColumns {
 impl ProjectColumns {
     ghost use Rattle.std.specs.Prelude.{◌≡◌, Ok, IsErrAnd, MatchResult};
     ghost use Rattle.pb_core.specs.Money.{money_of};
-    ghost use Rattle.pb_read.specs.Machine.{kind_of_money};
+    ghost use Rattle.pb_read.specs.Kinds.{kind_of_money};
     ghost use Rattle.csv.specs.Records.{fields_of};
     ghost use Rattle.pb_read.specs.Columns.{has_project_fields, name_field, project_columns};
     ghost use Rattle.pb_read.specs.Rows.{field, trimmed};

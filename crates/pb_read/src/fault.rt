@@ -12,7 +12,7 @@ use thiserror::Error;
 /// Why a file is refused. Within one record the checks run in rising number.
 #[derive(Clone, Copy, PartialEq, Eq, Debug, Error)]
 pub enum ReadKind {
-    /// The reader failed while this record was read.
+    /// The reader failed; the records before this one have no fault.
     #[error("the reader failed")]
     ReadFailed,
     /// A field of this record is not UTF-8.
@@ -73,7 +73,7 @@ pub enum ReadKind {
     /// The 1,000,001st vote row.
     #[error("too many voters")]
     TooManyVoters,
-    /// Memory was refused while this record was in work.
+    /// Memory was refused; the records before this one have no fault.
     #[error("out of memory")]
     NoMemory,
     /// At PROJECTS' head: META's `max_length` is no number, perhaps with zeros as decimals, nor empty.
@@ -145,7 +145,7 @@ impl ReadKind {
 
 impl From<MoneyFault> for ReadKind {
     ghost use Rattle.std.specs.Prelude.{◌≡◌};
-    ghost use Rattle.pb_read.specs.Machine.{kind_of_money};
+    ghost use Rattle.pb_read.specs.Kinds.{kind_of_money};
 
     ghost from_gives = { λ fault kind. kind ≡ kind_of_money fault };
 
@@ -160,7 +160,7 @@ impl From<MoneyFault> for ReadKind {
 
 impl From<RecordsFault> for ReadKind {
     ghost use Rattle.std.specs.Prelude.{◌≡◌};
-    ghost use Rattle.pb_read.specs.Progresses.{kind_of_records};
+    ghost use Rattle.pb_read.specs.Kinds.{kind_of_records};
 
     ghost from_gives = { λ fault kind. kind ≡ kind_of_records fault };
 

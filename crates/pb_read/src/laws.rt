@@ -1,15 +1,25 @@
 // Laws of the definitions.
 
-ghost use Rattle.std.specs.Prelude.{◌≡◌, ℕ, List};
+ghost use Rattle.std.specs.Prelude.{◌≡◌, ◌≤◌, ◌-◌, ℕ, List, length, take};
 ghost use Rattle.pb_core.specs.Election.{ElectionView};
 ghost use Rattle.pb_rows.specs.Reading.{Fields};
-ghost use Rattle.pb_read.specs.FirstFault.{IsFirstFault};
+ghost use Rattle.pb_read.specs.FirstFault.{HasNoFault, IsFaultAt, IsFromOutside};
 ghost use Rattle.pb_read.specs.StandsFor.{StandsFor};
 ghost use Rattle.pb_read.specs.declared.fault.ReadKind.{ReadKind};
 
-/// Records stand for one election at most, have one first fault at most, and never both.
+/// Records stand for one election at most, are refused by one fault at most, and never both, a failed reader and
+/// refused memory aside. The fault's record is the first that the records before it can't go on with.
 pub fn one_answer()
-    ensures one_election { (records : List Fields) (e f : ElectionView) → StandsFor records e → StandsFor records f → e ≡ f }
-    ensures one_fault { (records : List Fields) (k l : ReadKind) (a b : ℕ) → IsFirstFault records k a → IsFirstFault records l b → (k ≡ l) × (a ≡ b) }
-    ensures not_both { (records : List Fields) (e : ElectionView) (kind : ReadKind) (at : ℕ) → StandsFor records e → ¬ IsFirstFault records kind at }
+    ensures one_election { (records : List Fields) (e f : ElectionView) →
+        StandsFor records e → StandsFor records f → e ≡ f }
+    ensures one_fault { (records : List Fields) (k l : ReadKind) (a b : ℕ) →
+        IsFaultAt records k a → IsFaultAt records l b → ¬ IsFromOutside k → ¬ IsFromOutside l → (k ≡ l) × (a ≡ b) }
+    ensures not_both { (records : List Fields) (e : ElectionView) (kind : ReadKind) (at : ℕ) →
+        StandsFor records e → IsFaultAt records kind at → IsFromOutside kind }
+
+    // Records are numbered from 1: those before the one at fault have no fault, and with it they have one.
+    ensures none_before { (records : List Fields) (kind : ReadKind) (at : ℕ) →
+        IsFaultAt records kind at → HasNoFault (take (at - 1) records) }
+    ensures one_with_it { (records : List Fields) (kind : ReadKind) (at : ℕ) →
+        IsFaultAt records kind at → ¬ IsFromOutside kind → at ≤ length records → ¬ HasNoFault (take at records) }
 {}

@@ -3,8 +3,8 @@
 ghost use Rattle.std.specs.Prelude.{◌≡◌, None, Some, IfErr, OnOk, MatchResult};
 ghost use Rattle.csv.specs.Records.{fields_of};
 ghost use Rattle.pb_core.specs.Election.{ElectionView};
-ghost use Rattle.pb_read.specs.Faults.{head, next_row, plain, projects_head, row_fault, start, the_end};
-ghost use Rattle.pb_read.specs.Machine.{Explains, advance, budget_of, head_checks, limit_of};
+ghost use Rattle.pb_read.specs.Positions.{head, next_row, plain, projects_head, start, the_end};
+ghost use Rattle.pb_read.specs.Machine.{Explains, advance, budget_of, head_checks, limit_of, row_fault};
 ghost use Rattle.pb_read.specs.Progresses.{EndsWith, IsRead, IsReady, position_of};
 ghost use Rattle.pb_read.specs.Rows.{trimmed};
 ghost use Rattle.pb_read.specs.StandsFor.{opening};
@@ -75,7 +75,7 @@ impl Progress {
     }
 
     /// Reads a section's head.
-    #[tactic(auto, unfolding(crate::specs::Faults::row_fault))]
+    #[tactic(auto, unfolding(crate::specs::Machine::row_fault))]
     fn open(&mut self, section: Section) -> Result<(), ReadKind>
         requires { IsReady self.old }
         ensures ok { OnOk result ((row_fault (position_of self.old.stage self.old.draft.election) (head section) ≡ None)
@@ -121,7 +121,7 @@ impl Progress {
     }
 
     /// Reads a row that is no section's head.
-    #[tactic(auto, unfolding(crate::specs::Faults::row_fault))]
+    #[tactic(auto, unfolding(crate::specs::Machine::row_fault))]
     fn read_plain(&mut self, row: &StringRecord) -> Result<(), ReadKind>
         requires { IsReady self.old }
         ensures ok { OnOk result ((row_fault (position_of self.old.stage self.old.draft.election) (plain (trimmed (fields_of row.now))) ≡ None)
@@ -150,7 +150,7 @@ impl Progress {
     }
 
     /// The election, where the file may end here.
-    #[tactic(auto, unfolding(crate::specs::Faults::row_fault))]
+    #[tactic(auto, unfolding(crate::specs::Machine::row_fault))]
     pub(crate) fn finish(self) -> Result<Election, ReadKind>
         ensures { MatchResult result (λ election. EndsWith (position_of self.stage self.draft.election) election)
             (λ kind. Explains kind (row_fault (position_of self.stage self.draft.election) the_end)) }

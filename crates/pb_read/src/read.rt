@@ -4,9 +4,9 @@ ghost use Rattle.std.specs.Prelude.{◌≡◌, ◌+◌, ◌≤◌, None, IfOk, I
 ghost use Rattle.csv.specs.Records.{AllText, fields_of};
 ghost use Rattle.pb_core.specs.Election.{ElectionView};
 ghost use Rattle.pb_rows.specs.Reading.{IsNext, records_of};
-ghost use Rattle.pb_read.specs.Faults.{next_row, row_fault, start, the_end};
+ghost use Rattle.pb_read.specs.Positions.{next_row, start, the_end};
 ghost use Rattle.pb_read.specs.FirstFault.{IsFaultAt, IsFromOutside};
-ghost use Rattle.pb_read.specs.Machine.{Explains, advance};
+ghost use Rattle.pb_read.specs.Machine.{Explains, advance, row_fault};
 ghost use Rattle.pb_read.specs.Progresses.{EndsWith, IsReady, StopsReading, position_of};
 ghost use Rattle.pb_read.specs.Rows.{trimmed};
 ghost use Rattle.pb_read.specs.StandsFor.{StandsFor};
@@ -28,7 +28,7 @@ pub const MOST_RECORDS: u32 = 2_000_000;
 ///
 /// Answers the election exactly where the records stand for one, and otherwise the first fault
 /// with the number of its record; the end of the file counts as a record. A reader that fails is
-/// `ReadFailed` and want of memory `NoMemory`; then the records before that one have no fault. At
+/// `ReadFailed` and refused memory `NoMemory`; then the records before that number have no fault. At
 /// most 2,000,001 records are read, and the memory in use grows with the election and the longest
 /// record, not with the file. Ids are found by hash with a fixed seed.
 pub fn read_pb<R: Read + Drop>(alloc: Global, reader: R) -> Result<Election, ReadFault>

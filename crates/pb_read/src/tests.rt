@@ -254,6 +254,9 @@ fn names_the_first_fault(rt: HostRuntime) -> Result<(), Fail> {
         (7, " ;\na;10.005", "12 8"),
         (1, ";\n;;;\nMETA\n\"\"\nkey;value\nMETA", "5 6"),
     ];
+    // Without its PROJECTS section whole.
+    let text = "META\nkey;value\nbudget;100\nvote_type;approval\nVOTES\nvoter_id;vote\nv1;\n";
+    assert_eq!(rt; answer(alloc, text.as_bytes())?.as_str(), "5 5");
     for (line, text, want) in faults {
         let answered = answer(alloc, with_line(alloc, line, text)?.as_bytes())?;
         assert_eq!(rt; answered.as_str(), want, "{text:?} in line {line}");
@@ -367,9 +370,21 @@ fn keeps_the_limits(rt: HostRuntime) -> Result<(), Fail> {
     assert_eq!(rt; answer(alloc, one_more.as_bytes())?.as_str(), "19 10007");
     let repeated = format!(in alloc; "{projects}p0;1\n")?;
     assert_eq!(rt; answer(alloc, repeated.as_bytes())?.as_str(), "16 10007");
-    projects.push_str("VOTES\nvoter_id;vote\nv;p9999,p7\n")?;
+    // One ballot names the last and an early one, one names all, from the last to the first.
+    projects.push_str("VOTES\nvoter_id;vote\nv;p9999,p7\nw;")?;
+    for i in (0..10_000).rev() {
+        write!(projects, "p{i},")?;
+    }
     let election = read_pb(alloc, projects.as_bytes()).ok().ok_or("refused")?;
     assert_eq!(rt; election.projects().len(), 10_000);
+    let mut ballots = election.voters().iter().map(|voter| voter.ballot.places());
+    let few = ballots.next().ok_or("no voter")?;
+    assert_eq!(rt; few, [7, 9_999].as_slice());
+    let all = ballots.next().ok_or("no second voter")?;
+    assert_eq!(rt; all.len(), 10_000);
+    for (i, place) in all.iter().enumerate() {
+        assert_eq!(rt; *place as usize, i);
+    }
 
     let mut voters = String::from_str(
         alloc,
@@ -397,21 +412,136 @@ fn keeps_the_limits(rt: HostRuntime) -> Result<(), Fail> {
 
 #[test]
 fn numbers_and_names_the_kinds(rt: HostRuntime) -> Result<(), Fail> {
+    let alloc = rt.alloc();
     let kinds = [
-        (ReadKind::ReadFailed, 1, "ReadFailed"),
-        (ReadKind::TooManyRecords, 3, "TooManyRecords"),
-        (ReadKind::VoteType, 10, "VoteType"),
-        (ReadKind::MoneyTooFine, 12, "MoneyTooFine"),
-        (ReadKind::TooManyVoters, 20, "TooManyVoters"),
-        (ReadKind::NoMemory, 21, "NoMemory"),
+        (ReadKind::ReadFailed, 1, "ReadFailed", "the reader failed"),
+        (ReadKind::NotText, 2, "NotText", "a field is not UTF-8"),
+        (
+            ReadKind::TooManyRecords,
+            3,
+            "TooManyRecords",
+            "too many records",
+        ),
+        (ReadKind::NoSection, 4, "NoSection", "a section is missing"),
+        (
+            ReadKind::SectionOrder,
+            5,
+            "SectionOrder",
+            "a section out of order",
+        ),
+        (
+            ReadKind::NoHeader,
+            6,
+            "NoHeader",
+            "a section has no header row",
+        ),
+        (
+            ReadKind::MissingColumn,
+            7,
+            "MissingColumn",
+            "a needed column is missing",
+        ),
+        (
+            ReadKind::MissingField,
+            8,
+            "MissingField",
+            "a needed field is missing",
+        ),
+        (
+            ReadKind::MissingKey,
+            9,
+            "MissingKey",
+            "a needed key of META is missing",
+        ),
+        (
+            ReadKind::VoteType,
+            10,
+            "VoteType",
+            "the vote type is not approval",
+        ),
+        (ReadKind::BadMoney, 11, "BadMoney", "an amount is malformed"),
+        (
+            ReadKind::MoneyTooFine,
+            12,
+            "MoneyTooFine",
+            "an amount is finer than a hundredth",
+        ),
+        (
+            ReadKind::MoneyTooLarge,
+            13,
+            "MoneyTooLarge",
+            "an amount is too large",
+        ),
+        (
+            ReadKind::ZeroCost,
+            14,
+            "ZeroCost",
+            "a project costs nothing",
+        ),
+        (ReadKind::EmptyId, 15, "EmptyId", "an id is empty"),
+        (
+            ReadKind::RepeatedProject,
+            16,
+            "RepeatedProject",
+            "a project's id is repeated",
+        ),
+        (
+            ReadKind::RepeatedVoter,
+            17,
+            "RepeatedVoter",
+            "a voter's id is repeated",
+        ),
+        (
+            ReadKind::UnknownProject,
+            18,
+            "UnknownProject",
+            "a vote names an unknown project",
+        ),
+        (
+            ReadKind::TooManyProjects,
+            19,
+            "TooManyProjects",
+            "too many projects",
+        ),
+        (
+            ReadKind::TooManyVoters,
+            20,
+            "TooManyVoters",
+            "too many voters",
+        ),
+        (ReadKind::NoMemory, 21, "NoMemory", "out of memory"),
+        (
+            ReadKind::BadLength,
+            22,
+            "BadLength",
+            "the limit on a ballot's length is malformed",
+        ),
     ];
-    for (kind, number, name) in kinds {
+    for (kind, number, name, text) in kinds {
         let fault = ReadFault { kind, at: 7 };
         assert_eq!(rt; (kind.number(), kind.name()), (number, name));
         assert_eq!(rt; (fault.number(), fault.name()), (number, name));
+        assert_eq!(rt; format!(in alloc; "{kind}")?.as_str(), text);
+        let line = format!(in alloc; "record 7: {text}")?;
+        assert_eq!(rt; format!(in alloc; "{fault}")?, line);
     }
-    let kind = ReadKind::ZeroCost;
-    let shown = format!(in rt.alloc(); "{}", ReadFault { kind, at: 7 })?;
-    assert_eq!(rt; shown.as_str(), "record 7: a project costs nothing");
+    Ok(())
+}
+
+#[test]
+fn reads_what_is_long(rt: HostRuntime) -> Result<(), Fail> {
+    let alloc = rt.alloc();
+    let mut id = String::new(alloc);
+    let mut more = String::new(alloc);
+    for i in 0..1_000 {
+        write!(id, "id{i}")?;
+        write!(more, ";more {i}")?;
+    }
+    // Ids of 4,890 bytes, and records of a thousand fields and more.
+    let text = format!(in alloc;
+        "META{more}\nkey;value{more}\nbudget;1{more}\nvote_type;approval\nPROJECTS{more}\nproject_id;cost{more}\n{id};2{more}\n{id}x;3\nVOTES{more}\nvoter_id{more};vote\nv{id}{more};{id}x\n"
+    )?;
+    let want = format!(in alloc; "100;{id},,200;{id}x,,300;|v{id} 1;")?;
+    assert_eq!(rt; answer(alloc, text.as_bytes())?, want);
     Ok(())
 }

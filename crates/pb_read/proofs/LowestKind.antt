@@ -1,0 +1,94 @@
+-- The first kind that applies, in the order of all kinds, has the lowest number.
+use Rattle.std.proofs.Common.{◌≡◌, ◌<◌, ◌≤◌, ◌+◌, ◌-◌, ◌⊎◌, ℕ, zero, suc, Bool, true, false, cond, List, [], ◌∷◌, Some, refl, ap, sym, ◌∙◌, subst, arith, inl, inr, get_or}
+use Rattle.std.specs.List.{find}
+use Rattle.std.proofs.lemmas.Bool.{cases_order}
+use Rattle.std.proofs.lemmas.Option.{same_Some}
+use Rattle.pb_rows.specs.Reading.{Fields}
+use Rattle.pb_read.proofs.ListFacts.{some≢none}
+use Rattle.pb_read.specs.Faults.{applies_after}
+use Rattle.pb_read.specs.Kinds.{number_of}
+use Rattle.pb_read.specs.Machine.{all_kinds, lowest_kind, row_fault}
+use Rattle.pb_read.specs.Positions.{Position}
+use Rattle.pb_read.specs.declared.fault.ReadKind.{ReadKind}
+use Rattle.pb_read.specs.declared.fault.ReadKind.TheVariants as kinds
+
+-- the numbers of these kinds rise by one
+abbrev NumberedFrom : ℕ → List ReadKind → Type 0
+NumberedFrom n [] = Unit {0}
+NumberedFrom n (kind ∷ rest) = (number_of kind ≡ n) × NumberedFrom (n + 1) rest
+
+all_numbered : NumberedFrom 1 all_kinds
+all_numbered = (refl, (refl, (refl, (refl, (refl, (refl, (refl, (refl, (refl, (refl, (refl, (refl, (refl, (refl, (refl, (refl, (refl, (refl, (refl, (refl, (refl, (refl, tt))))))))))))))))))))))
+
+-- each kind stands where its number says
+stands_at : (kind : ReadKind) → get_or all_kinds (number_of kind - 1) kinds.NoMemory ≡ kind
+stands_at kinds.ReadFailed = refl
+stands_at kinds.NotText = refl
+stands_at kinds.TooManyRecords = refl
+stands_at kinds.NoSection = refl
+stands_at kinds.SectionOrder = refl
+stands_at kinds.NoHeader = refl
+stands_at kinds.MissingColumn = refl
+stands_at kinds.MissingField = refl
+stands_at kinds.MissingKey = refl
+stands_at kinds.VoteType = refl
+stands_at kinds.BadMoney = refl
+stands_at kinds.MoneyTooFine = refl
+stands_at kinds.MoneyTooLarge = refl
+stands_at kinds.ZeroCost = refl
+stands_at kinds.EmptyId = refl
+stands_at kinds.RepeatedProject = refl
+stands_at kinds.RepeatedVoter = refl
+stands_at kinds.UnknownProject = refl
+stands_at kinds.TooManyProjects = refl
+stands_at kinds.TooManyVoters = refl
+stands_at kinds.NoMemory = refl
+stands_at kinds.BadLength = refl
+
+pub same_number : (k l : ReadKind) → number_of k ≡ number_of l → k ≡ l
+same_number k l e = sym (stands_at k) ∙ ap (λ n. get_or all_kinds (n - 1) kinds.NoMemory) e ∙ stands_at l
+
+numbered_from_one : (kind : ReadKind) → 1 ≤ number_of kind
+numbered_from_one kind = go (number_of kind) refl
+  where
+    go : (n : ℕ) → number_of kind ≡ n → 1 ≤ n
+    go zero e =
+        let first : kinds.ReadFailed ≡ kind = ap (λ n. get_or all_kinds (n - 1) kinds.NoMemory) (sym e) ∙ stands_at kind in
+        let one : 1 ≡ number_of kind = ap number_of first in
+        absurd (omega (arith, one, e))
+    go (suc n) e = omega arith
+
+-- of kinds numbered from n on, the first that passes a test passes it, and none of a lower number does
+abbrev IsLowest : (ReadKind → Bool) → ℕ → ReadKind → Type 0
+IsLowest test n kind = (test kind ≡ true) × ((other : ReadKind) → n ≤ number_of other → number_of other < number_of kind → test other ≡ false)
+
+first_is_lowest : (test : ReadKind → Bool) (n : ℕ) (ks : List ReadKind) (kind : ReadKind) → NumberedFrom n ks → find test ks ≡ Some kind → IsLowest test n kind
+first_is_lowest test n [] kind from found = absurd (some≢none (sym found))
+first_is_lowest test n (x ∷ ks) kind from found = go (test x) refl found (first_is_lowest test (n + 1) ks kind from.1)
+  where
+    go : (t : Bool) → test x ≡ t → cond t (Some x) (find test ks) ≡ Some kind → (find test ks ≡ Some kind → IsLowest test (n + 1) kind) → IsLowest test n kind
+    go true t e later =
+        let same : x ≡ kind = same_Some x kind e in
+        let number : number_of x ≡ number_of kind = ap number_of same in
+        (subst (λ k. test k ≡ true) same t, λ other low below. absurd (omega (arith, from.0, number, low, below)))
+    go false t e later =
+        let rest = later e in
+        (rest.0, λ other low below. by other low below rest (cases_order n (number_of other)))
+      where
+        by : (other : ReadKind) → n ≤ number_of other → number_of other < number_of kind → IsLowest test (n + 1) kind →
+            (n ≡ number_of other) ⊎ ((n < number_of other) ⊎ (number_of other < n)) → test other ≡ false
+        by other low below rest (inl same) = ap test (same_number other x (sym same ∙ sym from.0)) ∙ t
+        by other low below rest (inr (inl above)) = rest.1 other (omega (arith, above)) below
+        by other low below rest (inr (inr under)) = absurd (omega (arith, low, under))
+
+lowest_is_first : (done : ℕ) (p : Position) (left : List Fields) → find (applies_after done p left) all_kinds ≡ lowest_kind done p left
+unfolding row_fault
+lowest_is_first done p [] = refl
+lowest_is_first done p (next ∷ rest) = refl
+
+-- the lowest kind that applies after this many records
+pub lowest_applies : (done : ℕ) (p : Position) (left : List Fields) (kind : ReadKind) → lowest_kind done p left ≡ Some kind →
+    (applies_after done p left kind ≡ true) × ((other : ReadKind) → number_of other < number_of kind → applies_after done p left other ≡ false)
+lowest_applies done p left kind e =
+    let found = first_is_lowest (applies_after done p left) 1 all_kinds kind all_numbered (lowest_is_first done p left ∙ e) in
+    (found.0, λ other below. found.1 other (numbered_from_one other) below)

@@ -1,0 +1,61 @@
+-- How far the rows of a file have come, and what comes next.
+use Rattle.std.specs.Prelude.{◌≡◌, List, [], ◌∷◌, if◌then◌else◌}
+use Rattle.std.specs.Option.{option_map_or}
+use Rattle.pb_core.specs.Election.{ElectionView, IsElection}
+use Rattle.pb_rows.specs.Reading.{Fields}
+use Rattle.pb_read.specs.Rows.{head_of, is_blank, trimmed}
+use Rattle.pb_read.specs.StandsFor.{IsHead, IsMeta, IsProjectsHead, IsProjects, IsVotesHead, IsVotes, opening}
+use Rattle.pb_read.specs.declared.columns.ProjectColumns.{ProjectColumns}
+use Rattle.pb_read.specs.declared.columns.VoteColumns.{VoteColumns}
+use Rattle.pb_read.specs.declared.meta.Meta.{Meta}
+use Rattle.pb_read.specs.declared.section.Section.{Section}
+use Rattle.pb_read.specs.declared.section.Section.TheVariants as section
+
+-- how far the rows of a file have come
+pub data Position : Type 0 where
+  start : Position
+  meta_head : Position
+  in_meta : Meta → Position
+  projects_head : ElectionView → Position
+  in_projects : ProjectColumns → ElectionView → Position
+  votes_head : ElectionView → Position
+  in_votes : VoteColumns → ElectionView → Position
+
+-- the rows are META's head alone
+pub record IsMetaHead (rows : List Fields) : Type 0 where
+  pub head : Fields
+  pub cut : rows ≡ head ∷ []
+  pub opens : IsHead section.Meta head
+
+-- the rows have come so far: an election has the projects and voters of the rows behind us
+abbrev pub IsAt : List Fields → Position → Type 0
+IsAt rows start = rows ≡ []
+IsAt rows meta_head = IsMetaHead rows
+IsAt rows (in_meta meta) = IsMeta rows meta
+IsAt rows (projects_head e) = IsProjectsHead rows e.budget e.max_length × (e ≡ opening e.budget e.max_length)
+IsAt rows (in_projects columns e) = IsProjects rows columns e
+IsAt rows (votes_head e) = IsVotesHead rows e
+IsAt rows (in_votes columns e) = IsVotes rows columns e
+
+-- what was read so far is an election: its ids differ, its amounts are in range, and so on
+abbrev pub IsSound : Position → Type 0
+IsSound (projects_head e) = IsElection e × (e.voters ≡ [])
+IsSound (in_projects columns e) = IsElection e × (e.voters ≡ [])
+IsSound (votes_head e) = IsElection e × (e.voters ≡ [])
+IsSound (in_votes columns e) = IsElection e
+IsSound p = Unit {0}
+
+-- what comes next: the end of the file, a blank record, a section's head, or a plain row
+pub data Next : Type 0 where
+  the_end : Next
+  blank : Next
+  head : Section → Next
+  plain : Fields → Next
+
+abbrev pub next_row : Fields → Next
+next_row row = if is_blank row then blank else option_map_or head (head_of row) (plain row)
+
+-- the same of the records that are left
+abbrev pub next_of : List Fields → Next
+next_of [] = the_end
+next_of (next ∷ rest) = next_row (trimmed next)
