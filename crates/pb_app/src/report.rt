@@ -27,7 +27,7 @@ pub fn put_report(
     outcome: &Outcome,
 ) -> Result<(), NoMemory>
     requires { IsPrintable election.now outcome.now.elected }
-    ensures { OnOk result (rows.new ≡ rows.old ++ report_of election.now (settled outcome.now)) }
+    ensures { OnOk result (rows.new.text ≡ rows.old.text ++ report_of election.now (settled outcome.now)) }
 {
     put_opening(rows, alloc, election, outcome)?;
     put_elected(rows, alloc, election, outcome.elected.as_slice())?;
@@ -42,7 +42,7 @@ fn put_opening(
     election: &Election,
     outcome: &Outcome,
 ) -> Result<(), NoMemory>
-    ensures { OnOk result (rows.new ≡ rows.old ++ text_of_rows (opening_rows election.now (settled outcome.now))) }
+    ensures { OnOk result (rows.new.text ≡ rows.old.text ++ text_of_rows (opening_rows election.now (settled outcome.now))) }
 {
     put_amount(rows, alloc, "budget", election.budget())?;
     put_number(rows, "voters", election.voters().len() as u64)?;
@@ -59,7 +59,7 @@ fn put_elected(
     elected: &[Elected],
 ) -> Result<(), NoMemory>
     requires { All (λ w. w.place < length election.now.projects) elected.now }
-    ensures { OnOk result (rows.new ≡ rows.old ++ text_of_rows (map (elected_row election.now) elected.now)) }
+    ensures { OnOk result (rows.new.text ≡ rows.old.text ++ text_of_rows (map (elected_row election.now) elected.now)) }
 {
     let projects = election.projects();
     for winner in elected {
@@ -79,7 +79,7 @@ fn put_closing(
     elected: &[Elected],
 ) -> Result<(), NoMemory>
     requires { IsPrintable election.now elected.now }
-    ensures { OnOk result (rows.new ≡ rows.old ++ text_of_rows (closing_rows election.now elected.now)) }
+    ensures { OnOk result (rows.new.text ≡ rows.old.text ++ text_of_rows (closing_rows election.now elected.now)) }
 {
     let spent = spent_for(election, elected);
     let surplus = collected_for(elected).saturating_sub(spent);
@@ -117,7 +117,7 @@ fn put_amount(
     name: &str,
     amount: Money,
 ) -> Result<(), NoMemory>
-    ensures { OnOk result (rows.new ≡ rows.old ++ text_of_row (name.now ∷ money_text amount ∷ [])) }
+    ensures { OnOk result (rows.new.text ≡ rows.old.text ++ text_of_row (name.now ∷ money_text amount ∷ [])) }
 {
     let text = amount.text(alloc)?;
     rows.put_row(&[name, text.as_str()])?;
@@ -126,7 +126,7 @@ fn put_amount(
 
 /// A row of a name and a number.
 fn put_number(rows: &mut RowsWriter, name: &str, number: u64) -> Result<(), NoMemory>
-    ensures { OnOk result (rows.new ≡ rows.old ++ text_of_row (name.now ∷ decimal number ∷ [])) }
+    ensures { OnOk result (rows.new.text ≡ rows.old.text ++ text_of_row (name.now ∷ decimal number ∷ [])) }
 {
     let mut digits = Buffer::new();
     rows.put_row(&[name, digits.format(number)])?;

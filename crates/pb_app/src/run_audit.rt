@@ -75,7 +75,7 @@ fn put_desk<T: Threads>(
     desk: Desk,
     options: &CountOptions,
 ) -> Result<(), CountFault>
-    ensures ok { OnOk result ((text : List ℕ) × IsTextOf desk options.now text × (rows.new ≡ rows.old ++ text)) }
+    ensures ok { OnOk result ((text : List ℕ) × IsTextOf desk options.now text × (rows.new.text ≡ rows.old.text ++ text)) }
     ensures fault { IfErr result (IsRefusedDesk desk options.now) }
 {
     put_entries(rows, &desk)?;
@@ -91,7 +91,7 @@ fn put_desk<T: Threads>(
 
 /// Writes the row of a desk.
 fn put_entries(rows: &mut RowsWriter, desk: &Desk) -> Result<(), NoMemory>
-    ensures { OnOk result (rows.new ≡ rows.old ++ text_of_row (entries_row desk.now)) }
+    ensures { OnOk result (rows.new.text ≡ rows.old.text ++ text_of_row (entries_row desk.now)) }
 {
     let mut digits = Buffer::new();
     let state = state_of(desk.is_shut());

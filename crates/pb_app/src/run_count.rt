@@ -61,7 +61,7 @@ pub(crate) fn put_count<T: Threads>(
     election: &Election,
     options: &CountOptions,
 ) -> Result<(), CountFault>
-    ensures ok { OnOk result ((text : List ℕ) × IsReportOf election.now options.now text × (rows.new ≡ rows.old ++ text)) }
+    ensures ok { OnOk result ((text : List ℕ) × IsReportOf election.now options.now text × (rows.new.text ≡ rows.old.text ++ text)) }
     ensures fault { IfErr result (IsCountFault election.now options.now) }
 {
     // What is true of every election bounds the sums of its report.

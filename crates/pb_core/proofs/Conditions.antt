@@ -15,3 +15,10 @@ both a b ha hb = rw ha hb
 pub or_true : (a b : Bool) → (a || b) ≡ true → (a ≡ true) ⊎ (b ≡ true)
 or_true true b h = inl refl
 or_true false b h = inr h
+
+pub or_left : (a b : Bool) → a ≡ true → (a || b) ≡ true
+or_left a b h = rw h refl
+
+pub or_right : (a b : Bool) → b ≡ true → (a || b) ≡ true
+or_right true b h = refl
+or_right false b h = h

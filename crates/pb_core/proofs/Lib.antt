@@ -1,6 +1,9 @@
 pub mod Conditions
 pub mod Elections
 pub mod MoneyBack
+pub mod MoneyNamed
+pub mod MoneyParts
 pub mod MoneyTexts
+pub mod MoneyWorth
 pub mod Rising
 pub mod Trim

@@ -1,4 +1,4 @@
-use Rattle.std.proofs.Common.{◌≡◌, nat_le, subst, ℕ, ◌+◌, ◌*◌, ◌/◌, ◌%◌, ◌^◌, ◌<◌, ◌≤◌, Bool, true, false, ◌&&◌, ◌||◌, Ok, List, [], ◌∷◌, ◌++◌, length, decimal, refl, sym, ◌∙◌, ap, arith, rules}
+use Rattle.std.proofs.Common.{◌≡◌, nat_le, subst, ℕ, ◌+◌, ◌*◌, ◌/◌, ◌%◌, ◌^◌, ◌<◌, ◌≤◌, Bool, true, ◌&&◌, Ok, List, [], ◌∷◌, ◌++◌, length, decimal, refl, sym, ◌∙◌, ap, arith, rules}
 use Rattle.std.proofs.Math.Nat.{div-add-mod}
 use Rattle.std.proofs.Math.Seq.{take-append_seam, drop-append-add}
 use Rattle.std.proofs.lemmas.Fmt.{decimal_by_steps, decimal_is_IsNumeral}
@@ -6,7 +6,8 @@ use Rattle.std.proofs.lemmas.List.{append_assoc}
 use Rattle.std.specs.Char.{is_ascii_digit, digit_value}
 use Rattle.std.specs.List.{list_all, position_or_len}
 use Rattle.std.specs.Str.Parse.{digits_value}
-use Rattle.pb_core.proofs.Conditions.{left_of, right_of, both}
+use Rattle.pb_core.proofs.Conditions.{both, left_of, or_right, right_of}
+use Rattle.pb_core.proofs.MoneyParts.{first_mark, is_number-of}
 use Rattle.pb_core.proofs.MoneyTexts.{digit_value-digit}
 use Rattle.pb_core.specs.Money.{money_of, largest_money}
 use Rattle.pb_core.specs.MoneyText.{is_number, is_mark, whole_part, fraction, has_money_form, is_in_hundredths, hundredths, money_text}
@@ -14,7 +15,8 @@ use Rattle.pb_core.specs.MoneyText.{is_number, is_mark, whole_part, fraction, ha
 nat_le-within : (a b : ℕ) → a ≤ b → nat_le a b ≡ true
 nat_le-within a b within = search rules
 
-money_of-ok : (t : List ℕ) (h : ℕ) → has_money_form t ≡ true → is_in_hundredths t ≡ true → h ≡ hundredths t → h ≤ largest_money → money_of t ≡ Ok h
+-- a text of this form and fineness, within the limit, is read
+pub money_of-ok : (t : List ℕ) (h : ℕ) → has_money_form t ≡ true → is_in_hundredths t ≡ true → h ≡ hundredths t → h ≤ largest_money → money_of t ≡ Ok h
 money_of-ok t h form fine same within =
     rw form (rw fine (rw (nat_le-within (hundredths t) largest_money (subst (λ n. n ≤ largest_money) same within)) (ap Ok (sym same))))
 
@@ -32,22 +34,6 @@ decimal-digits =
     (λ n below. both (is_ascii_digit (48 + n)) true (digit-below n below) refl)
     (λ n ds big all. list_all-append is_ascii_digit ds ((48 + n % 10) ∷ []) all (both (is_ascii_digit (48 + n % 10)) true (digit-below (n % 10) (omega arith)) refl))
 
-no_mark : (c : ℕ) → is_ascii_digit c ≡ true → is_mark c ≡ false
-no_mark c is_digit = search (rules, arith)
-
-first_mark : (ds rest : List ℕ) → list_all is_ascii_digit ds ≡ true → position_or_len is_mark (ds ++ 46 ∷ rest) ≡ length ds
-first_mark [] rest all = refl
-first_mark (c ∷ ds) rest all =
-    let goes_on : is_mark c ≡ false = no_mark c (left_of (is_ascii_digit c) (list_all is_ascii_digit ds) all) in
-    rw goes_on (rw (first_mark ds rest (right_of (is_ascii_digit c) (list_all is_ascii_digit ds) all)) (omega arith))
-
-is_number-of : (ds : List ℕ) → 0 < length ds → list_all is_ascii_digit ds ≡ true → is_number ds ≡ true
-is_number-of ds some all = search rules
-
-or_right : (x y : Bool) → y ≡ true → (x || y) ≡ true
-or_right true y h = refl
-or_right false y h = h
-
 digit-shown : (d : ℕ) → d < 10 → digit_value (48 + d) ≡ d
 digit-shown d below = digit_value-digit (48 + d) (digit-below d below) ∙ omega arith
 
@@ -57,7 +43,7 @@ shown : (ds : List ℕ) (a b : ℕ) → 0 < length ds → list_all is_ascii_digi
     money_of (ds ++ 46 ∷ (48 + a) ∷ (48 + b) ∷ []) ≡ Ok (100 * digits_value 10 ds + (10 * a + b))
 shown ds a b some all small_a small_b within =
     let t : List ℕ = ds ++ 46 ∷ (48 + a) ∷ (48 + b) ∷ [] in
-    let mark : position_or_len is_mark t ≡ length ds = first_mark ds ((48 + a) ∷ (48 + b) ∷ []) all in
+    let mark : position_or_len is_mark t ≡ length ds = first_mark ds 46 ((48 + a) ∷ (48 + b) ∷ []) refl all in
     let whole_is : whole_part t ≡ ds = rw mark (take-append_seam ds (46 ∷ (48 + a) ∷ (48 + b) ∷ [])) in
     let fraction_is : fraction t ≡ (48 + a) ∷ (48 + b) ∷ [] = rw mark (drop-append-add ds (46 ∷ (48 + a) ∷ (48 + b) ∷ []) 1) in
     let small : list_all is_ascii_digit ((48 + a) ∷ (48 + b) ∷ []) ≡ true =

@@ -1,14 +1,15 @@
-use Rattle.std.proofs.Common.{inl, inr, suc, zero, ◌≡◌, ℕ, ◌+◌, ◌*◌, ◌^◌, ◌-◌, ◌<◌, Bool, true, ◌&&◌, ◌==◌, not, min, List, [], ◌∷◌, ◌++◌, length, take, drop, get_or, refl, arith, rules}
+use Rattle.std.proofs.Common.{inl, inr, suc, zero, ◌≡◌, ℕ, ◌+◌, ◌*◌, ◌-◌, ◌<◌, Bool, true, ◌&&◌, ◌==◌, not, min, List, [], ◌∷◌, ◌++◌, length, take, drop, get_or, refl, arith, rules}
 use Rattle.std.specs.Char.{is_ascii_digit, digit_value}
 use Rattle.std.specs.List.{list_all, position_or_len}
 use Rattle.std.specs.Str.Parse.{digits_value}
 use Rattle.std.proofs.lemmas.Int.Digits.{digits_value_push}
 use Rattle.pb_core.proofs.Conditions.{left_of, right_of, both, or_true}
+use Rattle.pb_core.specs.Money.{largest_money}
 use Rattle.pb_core.specs.MoneyText.{is_number, is_mark, whole_part, fraction, has_money_form}
 
 -- one more digit, where numbers past ten thousand million million are kept at that
-pub capped_push : (ds : List ℕ) (c n m : ℕ) → n ≡ min (digits_value 10 ds) (10 ^ 16) → m ≡ min (10 * n + digit_value c) (10 ^ 16) →
-    m ≡ min (digits_value 10 (ds ++ c ∷ [])) (10 ^ 16)
+pub capped_push : (ds : List ℕ) (c n m : ℕ) → n ≡ min (digits_value 10 ds) (10 * largest_money) → m ≡ min (10 * n + digit_value c) (10 * largest_money) →
+    m ≡ min (digits_value 10 (ds ++ c ∷ [])) (10 * largest_money)
 capped_push ds c n m n_is m_is = rw (digits_value_push 10 ds c) (omega (arith, n_is, m_is))
 
 pub digit_value-digit : (c : ℕ) → is_ascii_digit c ≡ true → digit_value c ≡ c - 48

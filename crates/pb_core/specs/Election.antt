@@ -14,7 +14,8 @@ pub record VoterView : Type 0 where
   pub id : List ℕ
   pub ballot : List ℕ
 
--- what contracts see of an election: projects and voters stand in file order; a limit is on the places of a ballot that a clerk asks for
+-- what contracts see of an election: projects and voters stand in file order, and the length of a ballot that
+-- a clerk asks for may have a limit
 pub record ElectionView : Type 0 where
   pub budget : ℕ
   pub max_length : Option ℕ
@@ -27,7 +28,7 @@ pub record IsProject (p : ProjectView) : Type 0 where
   pub costs : 0 < p.cost
   pub affordable : p.cost ≤ largest_money
 
--- a voter approves some of so many projects
+-- a voter approves some of this many projects
 pub record IsVoter (projects : ℕ) (v : VoterView) : Type 0 where
   pub has_id : IsVoterId v.id
   pub ballot_rises : IsBallot v.ballot
@@ -43,6 +44,7 @@ project_ids e = map (λ p. p.id) e.projects
 abbrev pub voter_ids : ElectionView → List (List ℕ)
 voter_ids e = map (λ v. v.id) e.voters
 
+-- the most projects and voters that an election has
 abbrev pub most_projects : ℕ
 most_projects = 10000
 

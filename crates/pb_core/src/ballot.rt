@@ -1,4 +1,4 @@
-ghost use Rattle.std.specs.Prelude.{◌≡◌, ◌↔◌, ℕ, List, IsTrue, IfOk};
+ghost use Rattle.std.specs.Prelude.{◌≡◌, ◌↔◌, ℕ, List, IsTrue, IfOk, MatchOption};
 ghost use Rattle.pb_core.specs.Ballot.{IsBallot, approves, HasSameMembers};
 
 use crate::no_memory::NoMemory;
@@ -33,11 +33,23 @@ impl<A: Allocator> Ballot<A> {
         Ok(Ballot { places: own })
     }
 
+    /// A ballot that approves these places where they rise, none twice; `None` where they don't.
+    pub fn rising(alloc: A, places: &[u32]) -> Result<Option<Ballot<A>>, NoMemory>
+        ensures { IfOk result (λ found. MatchOption found (¬ IsBallot places.now) (λ ballot. ballot ≡ places.now)) }
+    {
+        if !is_rising(places) {
+            return Ok(None);
+        }
+        let places = Vec::from_slice(alloc, places)?;
+        Ok(Some(Ballot { places }))
+    }
+
     /// A ballot with the same places, in memory of its own.
     pub fn copy<B: Allocator>(&self, alloc: B) -> Result<Ballot<B>, NoMemory>
         ensures { IfOk result (λ ballot. ballot ≡ self.now) }
     {
-        Ballot::of(alloc, self.places())
+        let places = Vec::from_slice(alloc, self.places())?;
+        Ok(Ballot { places })
     }
 
     /// The approved places, from 0, rising.

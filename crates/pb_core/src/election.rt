@@ -1,4 +1,5 @@
-ghost use Rattle.std.specs.Prelude.{◌≡◌, ◌≢◌, ◌<◌, ◌≤◌, ◌↔◌, ◌++◌, ◌∷◌, [], length, All, IsTrue, Contains, OnOk, OnErr, None, map};
+ghost use Rattle.std.specs.Prelude.{◌≡◌, ◌<◌, ◌≤◌, ◌↔◌, ◌++◌, ◌∷◌, [], length, All, IsTrue, Contains};
+ghost use Rattle.std.specs.Prelude.{OnOk, OnErr, None};
 ghost use Rattle.pb_core.specs.Money.{largest_money};
 
 use crate::ballot::Ballot;
@@ -16,8 +17,9 @@ pub const MOST_PROJECTS: usize = 10_000;
 /// The most voters that an election has.
 pub const MOST_VOTERS: usize = 1_000_000;
 
-/// A budget, the projects in file order, and the voters in file order with their ballots; perhaps with a limit on how
-/// many projects a ballot may approve, which the desk keeps for clerks' requests. The ballots here may be longer.
+/// A budget, the projects in file order, and the voters in file order with their ballots; perhaps with
+/// a limit on how many projects a ballot may approve, which the desk keeps for clerks' requests. The
+/// ballots here may be longer.
 #[derive(Drop)]
 pub struct Election<A: Allocator = Global> {
     budget: Money,
@@ -31,13 +33,23 @@ impl<A: Allocator> Model for Election<A> {
 
     ghost Value = { ElectionView };
 
-    ghost view = { λ e. record { budget = e.budget; max_length = e.max_length; projects = e.projects.items; voters = e.voters.items } };
+    ghost view = { λ e. record {
+      budget = e.budget;
+      max_length = e.max_length;
+      projects = e.projects.items;
+      voters = e.voters.items;
+    } };
 
-    ghost invariant = { λ e. IsElection (record { budget = e.budget; max_length = e.max_length; projects = e.projects.items; voters = e.voters.items }) };
+    ghost invariant = { λ e. IsElection (record {
+      budget = e.budget;
+      max_length = e.max_length;
+      projects = e.projects.items;
+      voters = e.voters.items;
+    }) };
 }
 
 impl<A: Allocator> Election<A> {
-    ghost use Rattle.pb_core.specs.Election.{IsElection, IsVoter, project_ids, voter_ids, most_projects, most_voters};
+    ghost use Rattle.pb_core.specs.Election.{IsElection, project_ids, voter_ids, most_projects, most_voters};
 
     /// An election with this budget, without a limit, and with neither projects nor voters yet.
     pub fn start(alloc: A, budget: Money) -> Election<A>
@@ -69,7 +81,8 @@ impl<A: Allocator> Election<A> {
         self.max_length
     }
 
-    /// Sets the limit on how many projects a ballot may approve, or takes it away. The ballots here stay as they are.
+    /// Sets the limit on how many projects a ballot may approve, or takes it away. All else stays as it
+    /// is, longer ballots too.
     pub fn set_max_length(&mut self, max_length: Option<u32>)
         ensures { self.new ≡ record self.old { max_length = max_length } }
     {
@@ -127,12 +140,13 @@ impl<A: Allocator> Election<A> {
             .all(|place| (*place as usize) < projects)
     }
 
-    /// Adds a project behind the others.
+    /// Adds a project after the others. Where memory is refused the project is given up.
     pub fn add_project(&mut self, project: Project<A>) -> Result<(), NoMemory>
         requires no_voter_yet { self.old.voters ≡ [] }
         requires room { length self.old.projects < most_projects }
         requires new_id { ¬ Contains (project_ids self.old) project.id }
-        ensures ok { OnOk result (self.new ≡ record self.old { projects = self.old.projects ++ project ∷ [] }) }
+        ensures ok { OnOk result (self.new
+            ≡ record self.old { projects = self.old.projects ++ project ∷ [] }) }
         ensures err { OnErr result (self.new ≡ self.old) }
     {
         let _checked = project.cost();
@@ -140,12 +154,13 @@ impl<A: Allocator> Election<A> {
         Ok(())
     }
 
-    /// Adds a voter behind the others.
+    /// Adds a voter after the others. Where memory is refused the voter is given up.
     pub fn add_voter(&mut self, voter: Voter<A>) -> Result<(), NoMemory>
         requires room { length self.old.voters < most_voters }
         requires new_id { ¬ Contains (voter_ids self.old) voter.id }
         requires known { All (λ place. place < length self.old.projects) voter.ballot }
-        ensures ok { OnOk result (self.new ≡ record self.old { voters = self.old.voters ++ voter ∷ [] }) }
+        ensures ok { OnOk result (self.new
+            ≡ record self.old { voters = self.old.voters ++ voter ∷ [] }) }
         ensures err { OnErr result (self.new ≡ self.old) }
     {
         let _checked = (voter.id.text().len(), voter.ballot.places().len());

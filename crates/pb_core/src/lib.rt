@@ -11,8 +11,21 @@ pub mod money_fault;
 pub mod no_memory;
 pub mod project;
 pub mod request;
-#[cfg(test)]
-mod tests;
 pub mod voter;
 pub mod voter_id;
 mod voter_id_eq;
+
+pub use answer::Answer;
+pub use ballot::Ballot;
+pub use election::{Election, MOST_PROJECTS, MOST_VOTERS};
+pub use entry::Entry;
+pub use money::Money;
+pub use money_fault::MoneyFault;
+pub use no_memory::NoMemory;
+pub use project::Project;
+pub use request::Request;
+pub use voter::Voter;
+pub use voter_id::VoterId;
+
+#[cfg(test)]
+mod tests;

@@ -1,9 +1,9 @@
-ghost use Rattle.std.specs.Prelude.{◌≡◌, ◌==◌, ◌&&◌, ◌||◌, ℕ, ◌+◌, ◌*◌, ◌^◌, ◌<◌, ◌≤◌, IsTrue, IfOk, min, string_bytes, take, drop, length, true, ◌++◌, codes};
+ghost use Rattle.std.specs.Prelude.{◌≡◌, ◌==◌, ◌&&◌, ◌||◌, ◌*◌, ◌<◌, ◌++◌, ℕ, true, codes, drop, min, take, string_bytes, IfOk};
 ghost use Rattle.std.specs.Char.{is_ascii_digit};
 ghost use Rattle.std.specs.List.{list_all, position_or_len};
 ghost use Rattle.std.specs.Str.Parse.{digits_value};
-ghost use Rattle.pb_core.specs.MoneyText.{is_number, is_mark, whole_part, fraction, money_text, is_in_hundredths, hundredths};
-ghost use Rattle.pb_core.specs.Money.{money_of};
+ghost use Rattle.pb_core.specs.MoneyText.{is_number, is_mark, whole_part, fraction, money_text};
+ghost use Rattle.pb_core.specs.Money.{largest_money, money_of};
 
 use crate::money_fault::MoneyFault;
 use crate::no_memory::NoMemory;
@@ -23,12 +23,15 @@ impl Model for Money {
     ghost inverse = { λ n. record { 0 = n } };
 }
 
+/// What larger numbers are read as. It is above every amount, and ten times as much fits a u64.
+const CAP: u64 = 10 * Money::LARGEST.0;
+
 impl Money {
     /// The largest amount that is read, in hundredths: ten million million units.
     pub const LARGEST: Money = Money(1_000_000_000_000_000);
 
     /// The amount that a text names: digits, then perhaps `.` or `,` and further digits, of which those
-    /// behind the second are zeros. The caller trims; a comma is never a mark of thousands.
+    /// after the second are zeros. The caller trims; a comma is never a mark of thousands.
     pub fn read(text: &str) -> Result<Money, MoneyFault>
         ensures { result ≡ money_of text.now }
     {
@@ -73,7 +76,7 @@ fn mark_place(text: &[u8]) -> usize
     text.iter().take_while(|c| !is_mark(**c)).count()
 }
 
-/// What stands before the first point or comma, and behind it.
+/// What stands before the first point or comma, and after it.
 fn parts(text: &[u8]) -> (&[u8], &[u8])
     ensures whole { result.0.now ≡ whole_part text.now }
     ensures decimals { result.1.now ≡ fraction text.now }
@@ -86,7 +89,7 @@ fn parts(text: &[u8]) -> (&[u8], &[u8])
     }
 }
 
-/// Whether each digit behind the second is `0`.
+/// Whether each digit after the second is `0`.
 fn has_two_decimals(decimals: &[u8]) -> bool
     ensures { result ≡ list_all (λ c. c == 48) (drop 2 decimals.now) }
 {
@@ -112,14 +115,14 @@ fn is_money(text: &[u8], whole: &[u8], decimals: &[u8]) -> bool
     is_number(text) || is_number(whole) && is_number(decimals)
 }
 
-/// The number that digits name, up to ten thousand million million.
+/// The number that digits name, or `CAP` where that is less.
 fn number(digits: &[u8]) -> u64
     requires { list_all is_ascii_digit digits.now ≡ true }
-    ensures { result ≡ min (digits_value 10 digits.now) (10 ^ 16) }
+    ensures { result ≡ min (digits_value 10 digits.now) (10 * largest_money) }
 {
     let mut number = 0;
     for digit in digits {
-        number = (10 * number + u64::from(*digit - b'0')).min(10_000_000_000_000_000);
+        number = (10 * number + u64::from(*digit - b'0')).min(CAP);
     }
     number
 }

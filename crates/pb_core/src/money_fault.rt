@@ -9,7 +9,7 @@ pub enum MoneyFault {
     /// The text is not digits, or digits, a point or comma, and digits.
     #[error("not an amount of money")]
     BadMoney,
-    /// A digit behind the second decimal is not `0`.
+    /// A digit after the second decimal is not `0`.
     #[error("finer than a hundredth")]
     MoneyTooFine,
     /// The amount is above `Money::LARGEST`.

@@ -21,7 +21,11 @@ impl<A: Allocator> Model for Project<A> {
 
     ghost view = { λ p. record { id = string_bytes p.id; name = string_bytes p.name; cost = p.cost } };
 
-    ghost invariant = { λ p. IsProject (record { id = string_bytes p.id; name = string_bytes p.name; cost = p.cost }) };
+    ghost invariant = { λ p. IsProject (record {
+      id = string_bytes p.id;
+      name = string_bytes p.name;
+      cost = p.cost;
+    }) };
 }
 
 impl<A: Allocator> Project<A> {

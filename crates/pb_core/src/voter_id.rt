@@ -21,9 +21,10 @@ impl<A: Allocator> Model for VoterId<A> {
 }
 
 impl<A: Allocator> VoterId<A> {
-    /// The id that a text has once white space at its ends is taken off; none where nothing is left.
+    /// The id that a text has once white space at its ends is taken off; `None` where nothing is left.
     pub fn new(alloc: A, text: &str) -> Result<Option<VoterId<A>>, NoMemory>
-        ensures { IfOk result (λ id. MatchOption id (trim text.now ≡ []) (λ id. (trim text.now ≢ []) × (id ≡ trim text.now))) }
+        ensures { IfOk result (λ found. MatchOption found (trim text.now ≡ [])
+            (λ id. (trim text.now ≢ []) × (id ≡ trim text.now))) }
     {
         let trimmed = text.trim();
         if trimmed.is_empty() {

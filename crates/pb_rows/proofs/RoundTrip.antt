@@ -1,15 +1,23 @@
 -- What is written as rows is read back as records.
-use Rattle.std.proofs.Common.{◌≡◌, ◌∙◌, ◌++◌, ◌+◌, ◌<◌, [], ◌∷◌, ℕ, suc, List, get_or, length, map, refl, ap, arith, true, false, inl, inr}
+use Rattle.std.proofs.Common.{◌≡◌, ◌≢◌, ◌&&◌, Bool, if◌then◌else◌, ◌∙◌, ◌++◌, ◌+◌, ◌<◌, [], ◌∷◌, ℕ, suc, List, get_or, length, map, refl, ap, arith, true, false, inl, inr}
 use Rattle.std.specs.Prelude.{◌==◌, All}
 use Rattle.std.specs.List.{list_any}
-use Rattle.std.proofs.lemmas.Bool.{cases_Bool, ne_eqb}
-use Rattle.csv.specs.Reading.{records_from, strip_bom}
+use Rattle.std.proofs.lemmas.Bool.{cases_Bool, eqb-true}
+use Rattle.csv.specs.Reading.{is_bom, records_from, strip_bom}
 use Rattle.csv.specs.Writing.{field_text, fields_text, is_blank, needs_byte, read_back}
 use Rattle.csv.specs.declared.parser.State.TheVariants as st
 use Rattle.pb_rows.specs.Reading.{Fields, pb_config, records_of}
-use Rattle.pb_rows.specs.Writing.{ComeBack, first_byte, pb_writer, text_of_row, text_of_rows}
+use Rattle.pb_rows.specs.Writing.{ComeBack, byte_order_mark, pb_writer, text_of_row, text_of_rows}
 use Rattle.pb_rows.proofs.RecordFacts.{none_in_empty, records_more}
 use Rattle.pb_rows.proofs.RowTrip.{empty-field, head-of, read-write, row-plain, tail-of, text-head}
+
+left_of : (a b : Bool) → (a && b) ≡ true → a ≡ true
+left_of true b h = refl
+left_of false b h = h
+
+right_of : (a b : Bool) → (a && b) ≡ true → b ≡ true
+right_of true b h = h
+right_of false b h = cc h
 
 -- rows, written one after the other, are read back
 rows_read_back : (rows : List Fields)
@@ -28,15 +36,28 @@ read_back_same ([] ∷ rows) some =
     absurd (omega arith)
 read_back_same ((x ∷ rest) ∷ rows) some = ap (λ (t : List Fields). (x ∷ rest) ∷ t) (read_back_same rows (λ k d within. some (suc k) d (omega arith)))
 
--- a text that begins with an ASCII character begins with no byte order mark
-no_mark : (text : List ℕ) → get_or text 0 0 < 128 → strip_bom text ≡ text
+-- a text that begins with no byte order mark loses none
+no_mark : (text : List ℕ) → ((rest : List ℕ) → text ≢ byte_order_mark ++ rest) → strip_bom text ≡ text
 unfolding strip_bom
-no_mark [] ascii = refl
-no_mark (a ∷ []) ascii = refl
-no_mark (a ∷ b ∷ []) ascii = refl
-no_mark (a ∷ b ∷ c ∷ rest) ascii =
-    let other : (a == 0xEF) ≡ false = ne_eqb a 0xEF (λ e. absurd (omega arith)) in
-    rw other refl
+no_mark [] other = refl
+no_mark (a ∷ []) other = refl
+no_mark (a ∷ b ∷ []) other = refl
+no_mark (a ∷ b ∷ c ∷ rest) other = by (is_bom a b c) refl
+  where
+    by : (marked : Bool) → is_bom a b c ≡ marked → (if is_bom a b c then rest else a ∷ b ∷ c ∷ rest) ≡ a ∷ b ∷ c ∷ rest
+    by false is = rw is refl
+    by true is =
+        let two = left_of ((a == 0xEF) && (b == 0xBB)) (c == 0xBF) is in
+        let first = eqb-true a 0xEF (left_of (a == 0xEF) (b == 0xBB) two) in
+        let second = eqb-true b 0xBB (right_of (a == 0xEF) (b == 0xBB) two) in
+        let third = eqb-true c 0xBF (right_of ((a == 0xEF) && (b == 0xBB)) (c == 0xBF) is) in
+        absurd (other rest (rw (first, second, third) refl))
+
+-- the first byte of the first field, or 0
+abbrev pub first_byte : List Fields → ℕ
+first_byte [] = 0
+first_byte ([] ∷ rows) = 0
+first_byte ((field ∷ fields) ∷ rows) = get_or field 0 0
 
 -- a field begins in the text as it does by itself, or with a quote
 field_first : (x : List ℕ) (c : ℕ) (tail : List ℕ) → get_or x 0 0 < 128 → c < 128 → get_or (field_text pb_writer x ++ (c ∷ tail)) 0 0 < 128
@@ -76,8 +97,15 @@ rows_first ([] ∷ rows) ascii some =
     absurd (omega arith)
 rows_first ((x ∷ rest) ∷ rows) ascii some = row_first x rest (text_of_rows rows) ascii
 
--- rows that each have a field, the first byte of all in ASCII, are the records of their text
+-- rows that each have a field, the first byte of all in ASCII, come back
+pub ComeBack-ascii : (rows : List Fields) → All (λ fields. 0 < length fields) rows → first_byte rows < 128 → ComeBack rows
+ComeBack-ascii rows some ascii = record {
+  some_field = some;
+  no_mark = λ rest is. absurd (omega (arith, rw is at (rows_first rows ascii some)));
+}
+
+-- rows that come back are the records of their text
 pub records_of-text_of_rows : (rows : List Fields) → ComeBack rows → records_of (text_of_rows rows) ≡ rows
 unfolding records_of
 records_of-text_of_rows rows come =
-    rw (no_mark (text_of_rows rows) (rows_first rows come.ascii_first come.some_field)) (rows_read_back rows ∙ read_back_same rows come.some_field)
+    rw (no_mark (text_of_rows rows) come.no_mark) (rows_read_back rows ∙ read_back_same rows come.some_field)

@@ -14,7 +14,8 @@ use Rattle.pb_rows.specs.declared.fault.RecordsFault.TheVariants.{ReadFailed, No
 abbrev pub Fields : Type 0
 Fields = List (List ℕ)
 
--- a record's fields stand between `;`, in `"` where they need it, with `""` for a quote inside, and a record ends at any line end
+-- a record's fields stand between `;`, in `"` where they need it, with `""` for a quote inside, and a record
+-- ends at any line end
 abbrev pub pb_config : Config
 pb_config = record default_config { delimiter = 59 }
 
@@ -22,12 +23,14 @@ pb_config = record default_config { delimiter = 59 }
 unfoldable pub records_of : List ℕ → List Fields
 records_of bytes = records pb_config (strip_bom bytes)
 
--- what is left to read: the records, where the reader's bytes are known and no fault stopped the reading, and that fault
+-- what is left to read: the records, where the reader's bytes are known and no fault stopped the reading; and
+-- that fault
 pub record Left : Type 0 where
   pub left : Option (List Fields)
   pub fault : Option RecordsFault
 
--- an answer on the next record, where it is known what is left: there is one, it has these fields, and the rest is left after it; or none is left
+-- an answer on the next record, where it is known what is left: there is one, it has these fields, and the rest
+-- is left after it; or none is left
 abbrev pub IsNext : Option (List Fields) → Option (List Fields) → Bool → Fields → Type 0
 IsNext None after found fields = ⊤
 IsNext (Some []) after found fields = found ≡ false
@@ -39,7 +42,8 @@ NextIsNoText None = ⊤
 NextIsNoText (Some []) = ⊥
 NextIsNoText (Some (first ∷ rest)) = ¬ AllText first
 
--- these records were read so far, where the text is known: they, and then those that are left, are all its records
+-- these records were read so far, where the text is known: they, and then those that are left, are all its
+-- records
 abbrev pub HasRead : Option (List ℕ) → List Fields → Option (List Fields) → Type 0
 HasRead None done left = ⊤
 HasRead (Some bytes) done None = ⊥
@@ -48,12 +52,14 @@ HasRead (Some bytes) done (Some rest) = records_of bytes ≡ done ++ rest
 -- the records that a reader of csv still gives
 abbrev pub left_of : {R : Type 0} → (R → Option (List ℕ)) → Reader R → Option (List Fields)
 left_of remaining reader =
-    option_map (λ bytes. records_from pb_config (length bytes + 1) (reader_state reader) bytes) (source_of remaining reader)
+    option_map (λ bytes. records_from pb_config (length bytes + 1) (reader_state reader) bytes)
+    (source_of remaining reader)
 
--- the same, where it is known that no fault stopped the reading
-abbrev pub left_unless : Option RecordsFault → Option (List Fields) → Option (List Fields)
-left_unless None left = left
-left_unless (Some fault) left = None
+-- what is left of them: unknown after a fault, none after the end
+abbrev pub left_until : Option RecordsFault → Bool → Option (List Fields) → Option (List Fields)
+left_until None false left = left
+left_until None true left = Some []
+left_until (Some fault) has_ended left = None
 
 -- a reader of csv that reads records as above
 pub record IsSetUp {R : Type 0} (reader : Reader R) : Type 0 where

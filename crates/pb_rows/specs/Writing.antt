@@ -1,5 +1,5 @@
 -- The text of rows.
-use Rattle.std.specs.Prelude.{◌≡◌, ◌<◌, ◌++◌, ℕ, false, true, List, [], ◌∷◌, All, length, slice_index}
+use Rattle.std.specs.Prelude.{◌≡◌, ◌≢◌, ◌<◌, ◌++◌, ℕ, Bool, false, true, List, [], ◌∷◌, All, length}
 use Rattle.csv.specs.Writing.{default_writer, fields_written, has_written, row_text, writer_pending, writer_setup, writer_under, with_delimiter, with_flexible}
 use Rattle.csv.specs.declared.writer.WriterBuilder.{WriterBuilder}
 use Rattle.csv.specs.declared.writer.Writer.{Writer}
@@ -8,6 +8,11 @@ use Rattle.pb_rows.specs.Reading.{Fields}
 -- a row is written with `;` between its fields, quotes only where they are needed, and `\n` after it
 abbrev pub pb_writer : WriterBuilder
 pb_writer = with_flexible (with_delimiter default_writer 59) true
+
+-- what contracts see of rows that are being written: their text so far, and whether no row was refused
+pub record RowsView : Type 0 where
+  pub text : List ℕ
+  pub is_whole : Bool
 
 -- the text of a row
 unfoldable pub text_of_row : Fields → List ℕ
@@ -18,16 +23,14 @@ unfoldable pub text_of_rows : List Fields → List ℕ
 text_of_rows [] = []
 text_of_rows (row ∷ rows) = text_of_row row ++ text_of_rows rows
 
--- the first byte of the first field, or 0
-abbrev pub first_byte : List Fields → ℕ
-first_byte [] = 0
-first_byte ([] ∷ rows) = 0
-first_byte ((field ∷ fields) ∷ rows) = slice_index field 0
+-- the byte order mark in UTF-8
+abbrev pub byte_order_mark : List ℕ
+byte_order_mark = 0xEF ∷ 0xBB ∷ 0xBF ∷ []
 
--- rows that are read back as they were written: each has a field, and the text begins with no byte order mark
+-- rows that can be read back as they were written: each has a field, and their text begins with no byte order mark
 pub record ComeBack (rows : List Fields) : Type 0 where
   pub some_field : All (λ fields. 0 < length fields) rows
-  pub ascii_first : first_byte rows < 128
+  pub no_mark : (rest : List ℕ) → text_of_rows rows ≢ byte_order_mark ++ rest
 
 -- a writer of csv that writes rows as above, and stands at the start of one
 pub record IsAtRowStart {W : Type 0} (writer : Writer W) : Type 0 where

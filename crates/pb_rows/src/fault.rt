@@ -1,5 +1,10 @@
 // Why a record could not be read.
 
+ghost use Rattle.std.specs.Prelude.{◌≡◌};
+ghost use Rattle.csv.specs.Reading.{error_kind};
+ghost use Rattle.pb_rows.specs.Reading.{fault_of_kind};
+
+use csv::ErrorKind;
 use thiserror::Error;
 
 /// Why the next record of a text could not be read.
@@ -14,4 +19,19 @@ pub enum RecordsFault {
     /// Memory was refused.
     #[error("out of memory")]
     NoMemory,
+}
+
+impl From<csv::Error> for RecordsFault {
+    /// What an error of csv stands for. The ones that a reader of records of any length never answers
+    /// count as its failure.
+    #[cold]
+    fn from(error: csv::Error) -> RecordsFault
+        ensures { result ≡ fault_of_kind (error_kind error) }
+    {
+        match error.kind() {
+            ErrorKind::Utf8 { .. } => RecordsFault::NotText,
+            ErrorKind::OutOfMemory => RecordsFault::NoMemory,
+            _ => RecordsFault::ReadFailed,
+        }
+    }
 }

@@ -4,8 +4,8 @@ ghost use Rattle.std.specs.Prelude.{◌≡◌, List};
 ghost use Rattle.pb_rows.specs.Reading.{Fields, records_of};
 ghost use Rattle.pb_rows.specs.Writing.{ComeBack, text_of_rows};
 
-/// What is written as rows is read back as just these records, if each row has a field and the
-/// first byte of all is an ASCII character.
+/// What is written as rows is read back as just these records, if each row has a field and the text
+/// doesn't begin with a byte order mark. The fields may hold `;`, quotes and line ends.
 pub fn rows_come_back()
     ensures { (rows : List Fields) → ComeBack rows → records_of (text_of_rows rows) ≡ rows }
 {}

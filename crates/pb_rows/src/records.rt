@@ -1,12 +1,11 @@
 // The records of a text, one at a time.
 
-ghost use Rattle.std.specs.Prelude.{◌≡◌, Some, None, IfOk, IfErr, IfSome, OnOk, option_map};
+ghost use Rattle.std.specs.Prelude.{◌≡◌, [], false, Some, None, IfOk, IfErr, IfSome, OnOk, option_map};
 ghost use Rattle.csv.specs.Records.{AllText, fields_of};
-ghost use Rattle.csv.specs.Reading.{error_kind};
-ghost use Rattle.pb_rows.specs.Reading.{IsNext, NextIsNoText, fault_of_kind, records_of};
+ghost use Rattle.pb_rows.specs.Reading.{IsNext, NextIsNoText, records_of};
 
 use crate::fault::RecordsFault;
-use csv::{Error, ErrorKind, Reader, ReaderBuilder, StringRecord};
+use csv::{Reader, ReaderBuilder, StringRecord};
 use std::alloc::Global;
 use std::io::Read;
 use std::marker::Model;
@@ -19,15 +18,19 @@ use std::marker::Model;
 pub struct Records<R: Read> {
     reader: Reader<R>,
     fault: Option<RecordsFault>,
+    has_ended: bool,
 }
 
 impl<R: Read> Model for Records<R> {
     ghost use Rattle.std.specs.Prelude.{◌≡◌, None};
-    ghost use Rattle.pb_rows.specs.Reading.{IsSetUp, Left, left_of, left_unless};
+    ghost use Rattle.pb_rows.specs.Reading.{IsSetUp, Left, left_of, left_until};
 
     ghost Value = { Left };
 
-    ghost view = { λ s. record { left = left_unless s.fault (left_of R.remaining s.reader); fault = s.fault } };
+    ghost view = { λ s. record {
+      left = left_until s.fault s.has_ended (left_of R.remaining s.reader);
+      fault = s.fault;
+    } };
 
     ghost invariant = { λ s. s.fault ≡ None → IsSetUp s.reader };
 }
@@ -47,6 +50,7 @@ impl<R: Read> Records<R> {
         Records {
             reader,
             fault: None,
+            has_ended: false,
         }
     }
 
@@ -54,9 +58,11 @@ impl<R: Read> Records<R> {
     /// `row.get(i)`, or `row.iter()`; a contract has them as csv's `fields_of row`, and the one at
     /// `i` as `field_at (fields_of row) i`.
     ///
+    /// After the end of the text there is no record any more, whatever the reader would still give.
     /// Stop at the first fault: each later call answers that fault again.
     pub fn read(&mut self, row: &mut StringRecord) -> Result<bool, RecordsFault>
         ensures next { IfOk result (λ found. IsNext self.old.left self.new.left found (fields_of row.new)) }
+        ensures end { IfOk result (λ found. found ≡ false → self.new.left ≡ Some []) }
         ensures text { OnOk result (AllText (fields_of row.new)) }
         ensures goes_on { OnOk result (self.new.fault ≡ None) }
         ensures stops { IfErr result (λ fault. self.new.fault ≡ Some fault) }
@@ -66,25 +72,20 @@ impl<R: Read> Records<R> {
         if let Some(fault) = self.fault {
             return Err(fault);
         }
+        if self.has_ended {
+            row.clear();
+            return Ok(false);
+        }
         match self.reader.read_record(row) {
-            Ok(found) => Ok(found),
+            Ok(found) => {
+                self.has_ended = !found;
+                Ok(found)
+            }
             Err(error) => {
-                let fault = fault_of(error);
+                let fault = RecordsFault::from(error);
                 self.fault = Some(fault);
                 Err(fault)
             }
         }
-    }
-}
-
-// What an error of csv stands for.
-#[cold]
-fn fault_of(error: Error) -> RecordsFault
-    ensures { result ≡ fault_of_kind (error_kind error) }
-{
-    match error.kind() {
-        ErrorKind::Utf8 { .. } => RecordsFault::NotText,
-        ErrorKind::OutOfMemory => RecordsFault::NoMemory,
-        _ => RecordsFault::ReadFailed,
     }
 }

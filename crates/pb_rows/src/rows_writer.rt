@@ -1,6 +1,6 @@
 // Rows, written as text.
 
-ghost use Rattle.std.specs.Prelude.{◌≡◌, ◌++◌, [], map, IfOk, OnOk};
+ghost use Rattle.std.specs.Prelude.{◌≡◌, ◌++◌, [], false, map, true, IfOk, IsErr, OnErr, OnOk};
 ghost use Rattle.pb_rows.specs.Writing.{IsAtRowStart, text_of_row, written_by};
 
 use csv::{Writer, WriterBuilder};
@@ -10,21 +10,24 @@ use std::marker::Model;
 /// A text that grows by rows: `;` between two fields, quotes where a field needs them, and `\n`
 /// after each row.
 ///
-/// A contract sees it as the text so far.
+/// A contract sees its `text` so far, and whether it `is_whole`: no row of it was refused. One that
+/// was may stand there in part.
 #[derive(Drop)]
 pub struct RowsWriter {
     writer: Writer<Vec<u8>>,
-    // No row was refused so far: one that was may stand there in part.
     is_whole: bool,
 }
 
 impl Model for RowsWriter {
-    ghost use Rattle.std.specs.Prelude.{◌≡◌, ℕ, List, true};
-    ghost use Rattle.pb_rows.specs.Writing.{IsAtRowStart, written_by};
+    ghost use Rattle.std.specs.Prelude.{◌≡◌, true};
+    ghost use Rattle.pb_rows.specs.Writing.{IsAtRowStart, RowsView, written_by};
 
-    ghost Value = { List ℕ };
+    ghost Value = { RowsView };
 
-    ghost view = { λ s. written_by s.writer (λ text. text.items) };
+    ghost view = { λ s. record {
+      text = written_by s.writer (λ text. text.items);
+      is_whole = s.is_whole;
+    } };
 
     ghost invariant = { λ s. s.is_whole ≡ true → IsAtRowStart s.writer };
 }
@@ -32,7 +35,8 @@ impl Model for RowsWriter {
 impl RowsWriter {
     /// A text of no row.
     pub fn start(alloc: Global) -> RowsWriter
-        ensures { result ≡ [] }
+        ensures text { result.text ≡ [] }
+        ensures whole { result.is_whole ≡ true }
     {
         let writer = WriterBuilder::new()
             .delimiter(b';')
@@ -49,7 +53,11 @@ impl RowsWriter {
     /// It fails only where memory is refused. The row may then stand there in part, so each later
     /// call fails too, `finish` among them.
     pub fn put_row(&mut self, fields: &[&str]) -> Result<(), AllocError>
-        ensures { OnOk result (self.new ≡ self.old ++ text_of_row (map (λ field. field.now) fields.now)) }
+        ensures text { OnOk result (self.new.text
+            ≡ self.old.text ++ text_of_row (map (λ field. field.now) fields.now)) }
+        ensures whole { OnOk result (self.new.is_whole ≡ true) }
+        ensures stops { OnErr result (self.new.is_whole ≡ false) }
+        ensures stopped { self.old.is_whole ≡ false → IsErr result }
     {
         if !self.is_whole {
             return Err(AllocError);
@@ -62,7 +70,8 @@ impl RowsWriter {
 
     /// The text of all rows. It fails only where memory is refused, here or at an earlier call.
     pub fn finish(self) -> Result<Vec<u8>, AllocError>
-        ensures { IfOk result (λ text. text.items ≡ self) }
+        ensures text { IfOk result (λ text. text.items ≡ self.text) }
+        ensures stopped { self.is_whole ≡ false → IsErr result }
     {
         if !self.is_whole {
             return Err(AllocError);
@@ -74,12 +83,13 @@ impl RowsWriter {
     }
 }
 
-// Writes one row with a writer that stands at the start of one, and leaves it at the next.
+/// Writes one row with a writer that stands at the start of one, and leaves it at the next.
 fn write_row(writer: &mut Writer<Vec<u8>>, fields: &[&str]) -> Result<(), AllocError>
     requires { IsAtRowStart writer.old }
     ensures next { OnOk result (IsAtRowStart writer.new) }
     ensures text { OnOk result (written_by writer.new (λ text. text.items)
-        ≡ written_by writer.old (λ text. text.items) ++ text_of_row (map (λ field. field.now) fields.now)) }
+        ≡ written_by writer.old (λ text. text.items)
+        ++ text_of_row (map (λ field. field.now) fields.now)) }
 {
     for field in fields {
         if let Err(_) = writer.write_field(field.as_bytes()) {

@@ -1,17 +1,34 @@
-use Rattle.std.proofs.Common.{◌∙◌, sym}
+use Rattle.std.proofs.Common.{◌≡◌, ◌∙◌, ◌∷◌, Bool, true, false, not, List, [], Option, Some, None, refl, sym}
 use Rattle.csv.specs.Reading.{error_kind}
+use Rattle.csv.specs.Records.{AllText}
+use Rattle.pb_rows.specs.Reading.{Fields, IsNext, left_until}
 use Rattle.pb_rows.proofs.RecordFacts.{no_text_read, read_leaves}
 use Rattle.pb_rows.proofs.records.Records.read.Goals as goal
+
+-- the next record, where an end is remembered
+next_until : (left after : Option (List Fields)) (found : Bool) (fields : Fields) → IsNext left after found fields → IsNext left (left_until None (not found) after) found fields
+next_until left after true fields next = next
+next_until None after false fields next = tt
+next_until (Some []) after false fields next = refl
+next_until (Some (first ∷ rest)) after false fields next = cc next.0
+
+all_text : (fields : Fields) → fields ≡ [] → AllText fields
+unfolding AllText
+all_text [] none = tt
+all_text (field ∷ fields) none = cc none
+
+pub returns-then-self-clause-text : goal.returns-then-self-clause-text
+returns-then-self-clause-text g c = all_text _ c.clear.ensures.fields
 
 pub returns-in-Ok-clause-next : goal.returns-in-Ok-clause-next
 returns-in-Ok-clause-next g c =
     let is = c.self.invariant c.in_default.is in
-    rw (← c.self.view_is, c.in_default.is) (read_leaves g.R.Read.remaining c.self.inside.reader c.read_record.new.self _ _ is
-    (c.in-Ok.ensures.goes ∙ is.runs) (c.in-Ok.ensures.reads is.trim is.ready))
+    rw (← c.self.view_is, c.in_default.is, c.if-self.false) (next_until _ _ c.in-Ok.found _ (read_leaves g.R.Read.remaining c.self.inside.reader c.read_record.new.self _ _ is
+    (c.in-Ok.ensures.goes ∙ is.runs) (c.in-Ok.ensures.reads is.trim is.ready)))
 
 pub returns-in-Err-clause-not_text : goal.returns-in-Err-clause-not_text
 returns-in-Err-clause-not_text g c =
     λ named.
     let is = c.self.invariant c.in_default.is in
-    rw (← c.self.view_is, c.in_default.is) (no_text_read g.R.Read.remaining c.self.inside.reader c.read_record.new.self (error_kind c.in-Err.error) is (sym c.fault_of-fault.ensures ∙ (cc))
+    rw (← c.self.view_is, c.in_default.is, c.if-self.false) (no_text_read g.R.Read.remaining c.self.inside.reader c.read_record.new.self (error_kind c.in-Err.error) is (sym c.from-fault.ensures ∙ (cc))
     (c.in-Err.ensures.why is.trim is.ready))
