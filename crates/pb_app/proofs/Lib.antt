@@ -6,3 +6,5 @@ pub mod AuditWritten
 pub mod Accepted
 pub mod AuditAccepted
 mod ThreeVoters
+pub mod ScriptForms
+pub mod Scripts

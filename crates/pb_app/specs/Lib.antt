@@ -4,3 +4,6 @@ pub mod Fault
 pub mod Ends
 pub mod Counted
 pub mod Audited
+pub mod Script
+pub mod ScriptFault
+pub mod ScriptReading

@@ -8,8 +8,11 @@ mod fault_line;
 mod laws;
 mod perform;
 mod report;
+mod requests;
 mod run_audit;
 mod run_count;
+mod script;
+mod script_fault;
 #[cfg(test)]
 mod tests;
 

@@ -1,0 +1,66 @@
+-- A script: the requests of a run's clerks, one a row.
+use Rattle.std.specs.Prelude.{◌≡◌, ℕ, ◌<◌, ◌≤◌, ◌==◌, List, [], ◌∷◌, decimal, filter, length, map, min, slice_index_or}
+use Rattle.std.specs.List.{AllZip}
+use Rattle.std.specs.Str.{trim}
+use Rattle.csv.specs.Records.{AllText}
+use Rattle.pb_core.specs.Ballot.{HasSameMembers}
+use Rattle.pb_core.specs.Request.{RequestView}
+use Rattle.pb_desk.specs.Replay.{most_clerks}
+use Rattle.pb_desk.specs.Rows.{IsRequest, places_of, voter_of, word_of}
+use Rattle.pb_rows.specs.Numbers.{AreNumbers, places_text}
+use Rattle.pb_rows.specs.Reading.{Fields}
+
+-- what a row says: which clerk asks what
+pub record ScriptRowView : Type 0 where
+  pub clerk : ℕ
+  pub request : RequestView
+
+-- the field lists the places of this ballot, in any order and with repeats
+pub record ListsPlaces (field ballot : List ℕ) : Type 0 where
+  pub listed : List ℕ
+  pub are_numbers : AreNumbers listed
+  pub field_is : field ≡ places_text listed
+  pub members : HasSameMembers listed ballot
+
+-- the fields for what is asked, voter and places are those of this request; white space round the voter does not count
+pub record AsksFor (word voter places : List ℕ) (request : RequestView) : Type 0 where
+  pub can_be : IsRequest request
+  pub word_is : word ≡ word_of request
+  pub voter_is : trim voter ≡ voter_of request
+  pub places_are : ListsPlaces places (places_of request)
+
+-- a run has this many clerks at most; they are numbered from 0
+abbrev pub clerks_within : ℕ → ℕ
+clerks_within clerks = min clerks most_clerks
+
+-- the row of a script for this many clerks that says this: four fields of text, for clerk, request, voter and places
+pub record IsScriptRow (clerks : ℕ) (row : Fields) (x : ScriptRowView) : Type 0 where
+  pub is_text : AllText row
+  pub by_clerk : x.clerk < clerks_within clerks
+  pub word : List ℕ
+  pub voter : List ℕ
+  pub places : List ℕ
+  pub row_is : row ≡ decimal x.clerk ∷ word ∷ voter ∷ places ∷ []
+  pub asks : AsksFor word voter places x.request
+
+-- a row has the form of a script's row: it says something
+abbrev pub HasScriptForm : ℕ → Fields → Type 0
+HasScriptForm clerks row = (x : ScriptRowView) × IsScriptRow clerks row x
+
+-- a script has this many rows at most
+abbrev pub most_rows : ℕ
+most_rows = 2000000
+
+-- the records are a script for this many clerks, whose rows say this
+pub record IsScript (clerks : ℕ) (records : List Fields) (script : List ScriptRowView) : Type 0 where
+  pub few : length records ≤ most_rows
+  pub rows : AllZip (IsScriptRow clerks) records script
+
+-- what a clerk asks, in the order of the script
+abbrev pub asked_by : ℕ → List ScriptRowView → List RequestView
+asked_by clerk script = map (λ x. x.request) (filter (λ x. x.clerk == clerk) script)
+
+-- one list for each clerk, of what it asks in the order of the script
+pub record AreAsked (clerks : ℕ) (script : List ScriptRowView) (lists : List (List RequestView)) : Type 0 where
+  pub one_each : length lists ≡ clerks_within clerks
+  pub asked : (clerk : ℕ) → clerk < clerks_within clerks → slice_index_or lists clerk [] ≡ asked_by clerk script
