@@ -9,8 +9,10 @@ use Rattle.pb_read.specs.StandsFor.{StandsFor}
 use Rattle.pb_read.specs.declared.fault.ReadFault.{ReadFault}
 use Rattle.pb_read.specs.declared.fault.ReadKind.TheVariants.{ReadFailed}
 use Rattle.pb_rows.specs.Reading.{records_of}
+use Rattle.pb_app.specs.declared.script_fault.ScriptFault.{ScriptFault}
+use Rattle.pb_app.specs.declared.script_fault.ScriptFault.TheVariants as script
 use Rattle.pb_app.specs.declared.fault.AppFault.{AppFault}
-use Rattle.pb_app.specs.declared.fault.AppFault.TheVariants.{Read, Audit, Count, Open, Write, Memory}
+use Rattle.pb_app.specs.declared.fault.AppFault.TheVariants.{Read, Script, ClerkCount, Audit, Count, Open, Write, Memory}
 
 -- where the bytes of both readers are known, they are so
 abbrev pub IfBothKnown : Option (List ℕ) → Option (List ℕ) → (List ℕ → List ℕ → Type 0) → Type 0
@@ -25,9 +27,16 @@ abbrev pub IsLostReader : AuditFault → Type 0
 IsLostReader (audit.ReadFailed row) = ⊤
 IsLostReader fault = ⊥
 
+-- the script's reader failed
+abbrev pub IsLostScript : ScriptFault → Type 0
+IsLostScript (script.ReadFailed row) = ⊤
+IsLostScript fault = ⊥
+
 -- the fault of a device, or out of memory: it comes from outside, whatever the bytes are
 abbrev pub IsFromOutside : AppFault → Type 0
 IsFromOutside (Read fault) = fault.kind ≡ ReadFailed
+IsFromOutside (Script fault) = IsLostScript fault
+IsFromOutside ClerkCount = ⊥
 IsFromOutside (Audit fault) = IsLostReader fault
 IsFromOutside (Count fault) = ⊥
 IsFromOutside (Open number) = ⊥
@@ -50,6 +59,8 @@ IsFileFault bytes fault = IsFaultAt (records_of bytes) fault.kind fault.at
 abbrev pub JudgesFile : List ℕ → Result (Unit {0}) AppFault → Type 0
 JudgesFile bytes (Ok done) = IsElectionFile bytes
 JudgesFile bytes (Err (Read fault)) = IsFileFault bytes fault
+JudgesFile bytes (Err (Script fault)) = IsElectionFile bytes
+JudgesFile bytes (Err ClerkCount) = IsElectionFile bytes
 JudgesFile bytes (Err (Audit fault)) = IsElectionFile bytes
 JudgesFile bytes (Err (Count fault)) = IsElectionFile bytes
 JudgesFile bytes (Err (Open number)) = ⊥

@@ -10,8 +10,11 @@ use Rattle.pb_read.specs.declared.fault.ReadKind.TheVariants as read
 use Rattle.pb_rounds.specs.CountFault.{name_of as count_name, number_of as count_number}
 use Rattle.pb_rounds.specs.declared.count_fault.CountFault.{CountFault}
 use Rattle.pb_rounds.specs.declared.count_fault.CountFault.TheVariants as count
+use Rattle.pb_app.specs.ScriptFault.{at_of as script_at, name_of as script_name, number_of as script_number}
+use Rattle.pb_app.specs.declared.script_fault.ScriptFault.{ScriptFault}
+use Rattle.pb_app.specs.declared.script_fault.ScriptFault.TheVariants as script
 use Rattle.pb_app.specs.declared.fault.AppFault.{AppFault}
-use Rattle.pb_app.specs.declared.fault.AppFault.TheVariants.{Read, Audit, Count, Open, Write, Memory}
+use Rattle.pb_app.specs.declared.fault.AppFault.TheVariants.{Read, Script, ClerkCount, Audit, Count, Open, Write, Memory}
 
 -- a lower crate's fault as one of the program: out of memory is a case of its own
 abbrev pub of_read : ReadFault → AppFault
@@ -20,6 +23,10 @@ of_read fault = by_kind fault.kind
     by_kind : ReadKind → AppFault
     by_kind read.NoMemory = Memory
     by_kind kind = Read fault
+
+abbrev pub of_script : ScriptFault → AppFault
+of_script script.NoMemory = Memory
+of_script fault = Script fault
 
 abbrev pub of_audit : AuditFault → AppFault
 of_audit audit.NoMemory = Memory
@@ -32,6 +39,7 @@ of_count fault = Count fault
 -- the same fault, in which out of memory is one case, whichever crate met it
 abbrev pub merged : AppFault → AppFault
 merged (Read fault) = of_read fault
+merged (Script fault) = of_script fault
 merged (Audit fault) = of_audit fault
 merged (Count fault) = of_count fault
 merged fault = fault
@@ -45,6 +53,9 @@ row_field (Some row) = decimal row ∷ []
 abbrev pub fields_of : AppFault → List (List ℕ)
 fields_of (Read fault) =
     codes "read" ∷ decimal (read_number fault.kind) ∷ read_name fault.kind ∷ decimal fault.at ∷ []
+fields_of (Script fault) =
+    codes "script" ∷ decimal (script_number fault) ∷ script_name fault ∷ decimal (script_at fault) ∷ []
+fields_of ClerkCount = codes "clerks" ∷ codes "1" ∷ codes "ClerkCount" ∷ []
 fields_of (Audit fault) = codes "audit" ∷ decimal (audit_number fault) ∷ audit_name fault ∷ row_field (row_of fault)
 fields_of (Count fault) = codes "count" ∷ decimal (count_number fault) ∷ count_name fault ∷ []
 fields_of (Open number) = codes "open" ∷ decimal number ∷ []
@@ -73,6 +84,10 @@ abbrev pub read_status : ReadKind → ℕ
 read_status read.ReadFailed = no_device
 read_status kind = refused
 
+abbrev pub script_status : ScriptFault → ℕ
+script_status (script.ReadFailed row) = no_device
+script_status fault = refused
+
 abbrev pub audit_status : AuditFault → ℕ
 audit_status (audit.ReadFailed row) = no_device
 audit_status fault = refused
@@ -88,6 +103,8 @@ status_of fault = by_case (merged fault)
   where
     by_case : AppFault → ℕ
     by_case (Read fault) = read_status fault.kind
+    by_case (Script fault) = script_status fault
+    by_case ClerkCount = bad_arguments
     by_case (Audit fault) = audit_status fault
     by_case (Count fault) = count_status fault
     by_case (Open number) = no_device

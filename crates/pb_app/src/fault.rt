@@ -1,5 +1,6 @@
 // Why a run ends without what it was to write.
 
+use crate::script_fault::ScriptFault;
 use pb_core::no_memory::NoMemory;
 use pb_desk::audit_fault::AuditFault;
 use pb_read::{ReadFault, ReadKind};
@@ -13,6 +14,12 @@ pub enum AppFault {
     /// The file is refused, or could not be read.
     #[error("file: {0}")]
     Read(ReadFault),
+    /// The script is refused, or could not be read.
+    #[error("script: {0}")]
+    Script(ScriptFault),
+    /// The number of clerks is not 1 to 64.
+    #[error("the number of clerks is not 1 to 64")]
+    ClerkCount,
     /// The journal is refused, or could not be read.
     #[error("journal: {0}")]
     Audit(AuditFault),
@@ -40,9 +47,10 @@ impl AppFault {
     {
         match *self {
             AppFault::Read(fault) => AppFault::from(fault),
+            AppFault::Script(fault) => AppFault::from(fault),
             AppFault::Audit(fault) => AppFault::from(fault),
             AppFault::Count(fault) => AppFault::from(fault),
-            AppFault::Open(_) | AppFault::Write | AppFault::Memory => *self,
+            AppFault::ClerkCount | AppFault::Open(_) | AppFault::Write | AppFault::Memory => *self,
         }
     }
 }
@@ -57,6 +65,20 @@ impl From<ReadFault> for AppFault {
         match fault.kind {
             ReadKind::NoMemory => AppFault::Memory,
             _ => AppFault::Read(fault),
+        }
+    }
+}
+
+impl From<ScriptFault> for AppFault {
+    ghost use Rattle.std.specs.Prelude.{◌≡◌};
+    ghost use Rattle.pb_app.specs.Fault.{of_script};
+
+    ghost from_gives = { λ fault app. app ≡ of_script fault };
+
+    fn from(fault: ScriptFault) -> AppFault {
+        match fault {
+            ScriptFault::NoMemory => AppFault::Memory,
+            _ => AppFault::Script(fault),
         }
     }
 }

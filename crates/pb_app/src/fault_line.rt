@@ -3,9 +3,10 @@
 ghost use Rattle.std.specs.Prelude.{◌≡◌, ◌∷◌, OnOk, codes, decimal, map};
 ghost use Rattle.std.specs.Io.KnownBytes.{Appends};
 ghost use Rattle.pb_app.specs.Fault.{fields_of, line, line_of, status_of};
-ghost use Rattle.pb_app.specs.declared.fault.AppFault.TheVariants.{Read, Audit, Count};
+ghost use Rattle.pb_app.specs.declared.fault.AppFault.TheVariants.{Read, Script, Audit, Count};
 
 use crate::fault::AppFault;
+use crate::script_fault::ScriptFault;
 use itoa::Buffer;
 use pb_desk::audit_fault::AuditFault;
 use pb_read::{ReadFault, ReadKind};
@@ -28,6 +29,8 @@ impl AppFault {
     {
         match self.merged() {
             AppFault::Read(fault) => write_read(writer, &fault),
+            AppFault::Script(fault) => write_script(writer, &fault),
+            AppFault::ClerkCount => write_fields(writer, &["clerks", "1", "ClerkCount"]),
             AppFault::Audit(fault) => write_audit(writer, &fault),
             AppFault::Count(fault) => write_count(writer, &fault),
             AppFault::Open(number) => {
@@ -49,6 +52,11 @@ impl AppFault {
                 ReadKind::ReadFailed => NO_DEVICE,
                 _ => REFUSED,
             },
+            AppFault::Script(fault) => match fault {
+                ScriptFault::ReadFailed(_) => NO_DEVICE,
+                _ => REFUSED,
+            },
+            AppFault::ClerkCount => BAD_ARGUMENTS,
             AppFault::Audit(fault) => match fault {
                 AuditFault::ReadFailed(_) => NO_DEVICE,
                 _ => REFUSED,
@@ -73,6 +81,21 @@ fn write_read<W: Write>(writer: &mut W, fault: &ReadFault) -> io::Result<()>
         number.format(fault.number()),
         fault.name(),
         at.format(fault.at),
+    ];
+    write_fields(writer, &fields)
+}
+
+/// Writes the line of a refused script.
+fn write_script<W: Write>(writer: &mut W, fault: &ScriptFault) -> io::Result<()>
+    ensures { OnOk result (Appends (W.contents writer.old) (W.contents writer.new) (line (fields_of (Script fault.now)))) }
+{
+    let mut number = Buffer::new();
+    let mut at = Buffer::new();
+    let fields = [
+        "script",
+        number.format(fault.number()),
+        fault.name(),
+        at.format(fault.at()),
     ];
     write_fields(writer, &fields)
 }
