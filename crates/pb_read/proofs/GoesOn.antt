@@ -20,7 +20,7 @@ use Rattle.pb_read.specs.FirstFault.{MayGoOn, HasNoFault, IsAtFault, IsFirstFaul
 use Rattle.pb_read.specs.Machine.{advance, run, step, row_fault, lowest_kind}
 use Rattle.pb_read.specs.Tracking.{Reached}
 use Rattle.pb_read.specs.Rows.{head_of, is_blank, rows_of, trimmed}
-use Rattle.pb_read.specs.StandsFor.{StandsFor, IsVotes, most_records}
+use Rattle.pb_read.specs.StandsFor.{GivesAll, StandsFor, most_records}
 use Rattle.pb_read.specs.declared.columns.VoteColumns.{VoteColumns}
 use Rattle.pb_read.specs.declared.fault.ReadKind.{ReadKind}
 use Rattle.pb_read.specs.declared.fault.ReadKind.TheVariants as kinds
@@ -202,7 +202,7 @@ goes_on done p so_far =
       describes = record {
         text = AllByRecursion-append AllText done more so_far.text text;
         columns = q.0;
-        rows = subst (λ xs. IsVotes xs q.0 q.1) (sym (rows_of-append done more)) all.0;
+        rows = subst (GivesAll q.0 q.1) (sym (rows_of-append done more)) all.0;
         is_election = all.1;
       };
     }

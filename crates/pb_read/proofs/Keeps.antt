@@ -29,7 +29,7 @@ use Rattle.pb_read.specs.Positions.{Position, start, meta_head, in_meta, project
 use Rattle.pb_read.specs.Machine.{advance, budget_of, limit_of, amount_of, project_of, voter_of, with_project, with_voter, with_row, row_fault}
 use Rattle.pb_read.specs.MetaRows.{meta_of, value_of}
 use Rattle.pb_read.specs.Rows.{field, head_of, is_blank, is_empty, trimmed}
-use Rattle.pb_read.specs.StandsFor.{IsVotesHead, IsPlain, GivesProject, GivesVoter, opening}
+use Rattle.pb_read.specs.StandsFor.{GivesAllButVoters, GivesProject, GivesProjects, GivesTerms, GivesVoter, GivesVoters, IsHead, IsMeta, IsPlain, IsSection, Then, opening}
 use Rattle.pb_read.specs.Voting.{ballot_of, is_among}
 use Rattle.pb_read.specs.declared.columns.ProjectColumns.{ProjectColumns}
 use Rattle.pb_read.specs.declared.columns.VoteColumns.{VoteColumns}
@@ -152,8 +152,31 @@ with_voter_is_election columns row e tidy is p =
       ballot_known = subst (λ n. All (λ place. place < n) (ballot_of (project_ids e) (field row columns.vote))) (length-map e.projects (λ (q : ProjectView). q.id)) (ballot_of-below (project_ids e) (field row columns.vote));
     }) p.room (not_among _ _ p.new_id)
 
-without_voters : (e : ElectionView) → e.voters ≡ [] → e ≡ record e { voters = [] }
-without_voters e none = λ i. record { budget = e.budget; max_length = e.max_length; projects = e.projects; voters = none i }
+-- a section with one row more
+section_push : (name : Section) (Says Then_says : Fields → List Fields → Type 0) (rows : List Fields) (row : Fields) → (at : IsSection name Says rows) → IsPlain row →
+    Then_says at.header (at.body ++ row ∷ []) → IsSection name Then_says (rows ++ row ∷ [])
+section_push name Says Then_says rows row at is says = record {
+  head = at.head;
+  header = at.header;
+  body = at.body ++ row ∷ [];
+  cut = ap (λ xs. xs ++ row ∷ []) at.cut;
+  opens = at.opens;
+  plain = AllByRecursion-append IsPlain (at.header ∷ at.body) (row ∷ []) at.plain (is, tt);
+  says = says;
+}
+
+-- a section with its header row
+section_headed : (name : Section) (Says : Fields → List Fields → Type 0) (rows : List Fields) (row : Fields) → IsHead name rows → IsPlain row → Says row [] → IsSection name Says (rows ++ row ∷ [])
+section_headed name Says rows row at is says =
+    record { head = at.head; header = row; body = []; cut = ap (λ xs. xs ++ row ∷ []) at.cut; opens = at.opens; plain = (is, tt); says = says }
+
+-- one row more behind a part
+then_push : (First Second Third : List Fields → Type 0) (rows : List Fields) (row : Fields) → (at : Then First Second rows) → Third (at.back ++ row ∷ []) → Then First Third (rows ++ row ∷ [])
+then_push First Second Third rows row at third =
+    record { front = at.front; back = at.back ++ row ∷ []; cut = ap (λ xs. xs ++ row ∷ []) at.cut ∙ append_assoc at.front at.back (row ∷ []); first = at.first; second = third }
+
+then_head : (First : List Fields → Type 0) (name : Section) (rows : List Fields) (row : Fields) → First rows → head_of row ≡ Some name → Then First (IsHead name) (rows ++ row ∷ [])
+then_head First name rows row at opens = record { front = rows; back = row ∷ []; cut = refl; first = at; second = record { head = row; cut = refl; opens = opens } }
 
 -- one row without fault
 pub kept : (p : Position) (n : Next) (rows : List Fields) (row : Fields) → Follows n row → IsTidy row → row_fault p n ≡ None → IsAt rows p → IsSound p →
@@ -168,124 +191,72 @@ kept start (head section.Votes) rows row follows tidy none at sound = absurd (so
 kept start (plain r) rows row follows tidy none at sound = absurd (some≢none none)
 kept meta_head (head name) rows row follows tidy none at sound = absurd (some≢none none)
 kept meta_head (plain r) rows row follows tidy none at sound =
-    (record { head = at.head; header = row; body = []; cut = ap (λ xs. xs ++ row ∷ []) at.cut; opens = at.opens; plain_header = follows.1; plain = tt; says = refl }, tt)
+    (section_headed section.Meta (λ header body. meta_of [] ≡ meta_of body) rows row at follows.1 refl, tt)
 kept (in_meta meta) (head section.Meta) rows row follows tidy none at sound = absurd (some≢none none)
 kept (in_meta meta) (head section.Projects) rows row follows tidy none at sound =
     let passed = passes_head meta none in
-    let same : passed.budget ≡ budget_of meta.budget = ap budget_of (sym passed.budget_is) in
+    let budget : passed.budget ≡ budget_of meta.budget = ap budget_of (sym passed.budget_is) in
     let limit : passed.max_length ≡ limit_of meta.max_length = ap limit_of (sym passed.limit) in
-    let few : passed.budget ≤ largest_money = budget_le at.body passed.budget (ap (λ (m : Meta). m.budget) (sym at.says) ∙ passed.budget_is) in (
-      (
-        record {
-          front = rows;
-          meta = meta;
-          head = row;
-          cut = refl;
-          before = at;
-          opens = follows;
-          budget_is = passed.budget_is ∙ ap (λ b. Some (Ok b)) same;
-          approval = passed.approval;
-          limit = passed.limit ∙ ap (λ l. Ok l) limit;
-        },
-        refl,
-      ),
-      (opening_is_election (budget_of meta.budget) (limit_of meta.max_length) (subst (λ b. b ≤ largest_money) same few), refl),
+    let few : passed.budget ≤ largest_money = budget_le at.body passed.budget (ap (λ (m : Meta). m.budget) (sym at.says) ∙ passed.budget_is) in
+    let says : meta ≡ record { budget = Some (Ok (budget_of meta.budget)); approval = Some true; max_length = Ok (limit_of meta.max_length) } =
+    (λ i. record { budget = passed.budget_is i; approval = passed.approval i; max_length = passed.limit i })
+    ∙ (λ i. record { budget = Some (Ok (budget i)); approval = Some true; max_length = Ok (limit i) }) in (
+      (then_head (GivesTerms (budget_of meta.budget) (limit_of meta.max_length)) section.Projects rows row (subst (λ m. IsMeta m rows) says at) follows, refl),
+      (opening_is_election (budget_of meta.budget) (limit_of meta.max_length) (subst (λ b. b ≤ largest_money) budget few), refl),
     )
 kept (in_meta meta) (head section.Votes) rows row follows tidy none at sound = absurd (some≢none none)
 kept (in_meta meta) (plain r) rows row follows tidy none at sound = (
-  record {
-    head = at.head;
-    header = at.header;
-    body = at.body ++ row ∷ [];
-    cut = ap (λ xs. xs ++ row ∷ []) at.cut;
-    opens = at.opens;
-    plain_header = at.plain_header;
-    plain = AllByRecursion-append IsPlain at.body (row ∷ []) at.plain (follows.1, tt);
-    says = ap (with_row meta) follows.0 ∙ ap (λ m. with_row m row) at.says ∙ sym (meta_of-push at.body row);
-  },
+  section_push section.Meta (λ header body. meta ≡ meta_of body) (λ header body. with_row meta r ≡ meta_of body) rows row at follows.1
+      (ap (with_row meta) follows.0 ∙ ap (λ m. with_row m row) at.says ∙ sym (meta_of-push at.body row)),
   tt,
 )
 kept (projects_head e) (head name) rows row follows tidy none at sound = absurd (some≢none none)
 kept (projects_head e) (plain header) rows row follows tidy none at sound =
     let found = project_columns_found e header none in
     let no_project : e.projects ≡ [] = ap (λ (x : ElectionView). x.projects) at.1 in
-    rw found.1 (
-      record {
-        front = rows;
-        header = row;
-        body = [];
-        cut = refl;
-        before = at.0;
-        plain_header = follows.1;
-        columns_are = ap project_columns (sym follows.0) ∙ found.1;
-        projects = subst (λ ps. AllZip (GivesProject found.0) [] ps) (sym no_project) tt;
-        no_voter = sound.1;
-      },
-      sound,
-    )
+    let says : (project_columns row ≡ Some found.0) × AllZip (GivesProject found.0) [] e.projects = (ap project_columns (sym follows.0) ∙ found.1, subst (λ ps. AllZip (GivesProject found.0) [] ps) (sym no_project) tt) in
+    rw found.1 (then_push _ _ (GivesProjects found.0 e.projects) rows row at.0 (section_headed section.Projects _ at.0.back row at.0.second follows.1 says), sound)
 kept (in_projects columns e) (head section.Meta) rows row follows tidy none at sound = absurd (some≢none none)
 kept (in_projects columns e) (head section.Projects) rows row follows tidy none at sound = absurd (some≢none none)
 kept (in_projects columns e) (head section.Votes) rows row follows tidy none at sound =
-    (record { front = rows; columns = columns; head = row; cut = refl; before = at; opens = follows }, sound)
+    ((columns, then_head (GivesAllButVoters columns e) section.Votes rows row at follows), sound)
 kept (in_projects columns e) (plain r) rows row follows tidy none at sound =
     let passed : PassesProject columns row e = subst (λ x. PassesProject columns x e) follows.0 (passes_project columns r e none) in
     let gives : GivesProject columns row (project_of columns row) = record {
-      plain = follows.1;
       whole = passed.whole;
       id = refl;
       name = refl;
       cost = passed.reads ∙ ap (λ x. Ok (amount_of x)) (sym passed.reads);
     } in
+    let part = at.second in
+    let says : (project_columns part.header ≡ Some columns) × AllZip (GivesProject columns) (part.body ++ row ∷ []) (e.projects ++ project_of columns row ∷ []) =
+    (part.says.0, AllZip-push (GivesProject columns) part.body e.projects row (project_of columns row) part.says.1 gives) in
     rw follows.0 (
-      record {
-        front = at.front;
-        header = at.header;
-        body = at.body ++ row ∷ [];
-        cut = ap (λ xs. xs ++ row ∷ []) at.cut ∙ append_assoc at.front (at.header ∷ at.body) (row ∷ []);
-        before = at.before;
-        plain_header = at.plain_header;
-        columns_are = at.columns_are;
-        projects = AllZip-push (GivesProject columns) at.body e.projects row (project_of columns row) at.projects gives;
-        no_voter = at.no_voter;
-      },
+      then_push _ _ (GivesProjects columns (e.projects ++ project_of columns row ∷ [])) rows row at (section_push section.Projects _ _ at.back row part follows.1 says),
       (with_project_is_election columns row e sound.0 sound.1 passed, sound.1),
     )
 kept (votes_head e) (head name) rows row follows tidy none at sound = absurd (some≢none none)
 kept (votes_head e) (plain header) rows row follows tidy none at sound =
     let found = vote_columns_found e header none in
+    let says : (vote_columns row ≡ Some found.0) × AllZip (GivesVoter found.0 (project_ids e)) [] e.voters = (ap vote_columns (sym follows.0) ∙ found.1, subst (λ vs. AllZip (GivesVoter found.0 (project_ids e)) [] vs) (sym sound.1) tt) in
     rw found.1 (
       record {
-        front = rows;
-        header = row;
-        body = [];
-        cut = refl;
-        before = subst (IsVotesHead rows) (without_voters e sound.1) at;
-        plain_header = follows.1;
-        columns_are = ap vote_columns (sym follows.0) ∙ found.1;
-        voters = subst (λ vs. AllZip (GivesVoter found.0 (project_ids e)) [] vs) (sym sound.1) tt;
+        project_columns = at.0;
+        sections = then_push _ _ (GivesVoters found.0 (project_ids e) e.voters) rows row at.1 (section_headed section.Votes _ at.1.back row at.1.second follows.1 says);
       },
       sound.0,
     )
 kept (in_votes columns e) (head name) rows row follows tidy none at sound = absurd (some≢none none)
 kept (in_votes columns e) (plain r) rows row follows tidy none at sound =
     let passed : PassesVote columns row e = subst (λ x. PassesVote columns x e) follows.0 (passes_vote columns r e none) in
-    let gives : GivesVoter columns (project_ids e) row (voter_of columns (project_ids e) row) = record {
-      plain = follows.1;
-      whole = passed.whole;
-      id = refl;
-      known = passed.known;
-      ballot = refl;
-    } in
+    let gives : GivesVoter columns (project_ids e) row (voter_of columns (project_ids e) row) = record { whole = passed.whole; id = refl; known = passed.known; ballot = refl } in
+    let part = at.sections.second in
+    let says : (vote_columns part.header ≡ Some columns) × AllZip (GivesVoter columns (project_ids e)) (part.body ++ row ∷ []) (e.voters ++ voter_of columns (project_ids e) row ∷ []) =
+    (part.says.0, AllZip-push (GivesVoter columns (project_ids e)) part.body e.voters row (voter_of columns (project_ids e) row) part.says.1 gives) in
     rw follows.0 (
       record {
-        front = at.front;
-        header = at.header;
-        body = at.body ++ row ∷ [];
-        cut = ap (λ xs. xs ++ row ∷ []) at.cut ∙ append_assoc at.front (at.header ∷ at.body) (row ∷ []);
-        before = at.before;
-        plain_header = at.plain_header;
-        columns_are = at.columns_are;
-        voters = AllZip-push (GivesVoter columns (project_ids e)) at.body e.voters row (voter_of columns (project_ids e) row) at.voters gives;
+        project_columns = at.project_columns;
+        sections = then_push _ _ (GivesVoters columns (project_ids e) (e.voters ++ voter_of columns (project_ids e) row ∷ [])) rows row at.sections (section_push section.Votes _ _ at.sections.back row part follows.1 says);
       },
       with_voter_is_election columns row e tidy sound passed,
     )

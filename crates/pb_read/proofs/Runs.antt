@@ -1,5 +1,5 @@
 -- What stands runs: rows that have come so far are read without fault, to that position.
-use Rattle.std.proofs.Common.{◌≡◌, ◌≢◌, ◌<◌, ℕ, false, cond, List, [], ◌∷◌, ◌++◌, length, map, All, Contains, Option, Some, None, Ok, Err, refl, ap, sym, ◌∙◌, subst, arith, append_assoc, length-append}
+use Rattle.std.proofs.Common.{◌≡◌, ◌≢◌, ◌<◌, ℕ, true, false, cond, List, [], ◌∷◌, ◌++◌, length, map, All, Contains, Option, Some, None, Ok, Err, refl, ap, sym, ◌∙◌, subst, arith, append_assoc, length-append}
 use Rattle.std.specs.Option.{option_map_or}
 use Rattle.std.specs.Prelude.{is_none}
 use Rattle.std.specs.List.{AllByRecursion, AllZip}
@@ -13,10 +13,10 @@ use Rattle.pb_read.proofs.ListFacts.{Contains-is_among, AllByRecursion-left, All
 use Rattle.pb_read.proofs.MachineLaws.{run-append, meta_of-push, head_passes, project_passes, vote_passes, PassesProject, PassesVote}
 use Rattle.pb_read.specs.Columns.{project_columns, vote_columns}
 use Rattle.pb_read.specs.Positions.{Position, start, meta_head, in_meta, projects_head, in_projects, votes_head, in_votes, Next, head, plain, next_row, IsAt, IsSound}
-use Rattle.pb_read.specs.Machine.{advance, budget_of, limit_of, amount_of, project_of, voter_of, run, bind, step, step_or, row_fault}
+use Rattle.pb_read.specs.Machine.{advance, amount_of, project_of, voter_of, run, bind, step, step_or, row_fault}
 use Rattle.pb_read.specs.MetaRows.{meta_of}
-use Rattle.pb_read.specs.Rows.{field, is_blank, is_empty}
-use Rattle.pb_read.specs.StandsFor.{IsMeta, IsProjectsHead, IsProjects, IsVotesHead, IsVotes, IsPlain, IsHead, GivesProject, GivesVoter, opening}
+use Rattle.pb_read.specs.Rows.{field, head_of, is_blank, is_empty}
+use Rattle.pb_read.specs.StandsFor.{GivesAll, GivesAllButVoters, GivesProject, GivesTerms, GivesVoter, IsHead, IsMeta, IsPlain, Then, opening}
 use Rattle.pb_read.specs.Voting.{is_among}
 use Rattle.pb_read.specs.declared.columns.ProjectColumns.{ProjectColumns}
 use Rattle.pb_read.specs.declared.columns.VoteColumns.{VoteColumns}
@@ -50,7 +50,7 @@ run_onto p q front rest e = run-append p front rest ∙ ap (λ r. bind r (λ x. 
 next_plain : (row : Fields) → is_blank row ≡ false → IsPlain row → next_row row ≡ plain row
 next_plain row full is = rw (full, is) refl
 
-next_head : (row : Fields) (name : Section) → is_blank row ≡ false → IsHead name row → next_row row ≡ head name
+next_head : (row : Fields) (name : Section) → is_blank row ≡ false → head_of row ≡ Some name → next_row row ≡ head name
 next_head row name full is = rw (full, is) refl
 
 meta_opens : row_fault start (head section.Meta) ≡ None
@@ -85,24 +85,37 @@ run_meta_body done (row ∷ body) plain_rows full =
     ∙ run_meta_body (done ++ row ∷ []) body plain_rows.1 full.1
     ∙ ap (λ rows. Ok (in_meta (meta_of rows))) (append_assoc done (row ∷ []) body)
 
-run_meta : (rows : List Fields) (meta : Meta) → AreFull rows → IsMeta rows meta → Runs start rows (in_meta meta)
+run_meta : (rows : List Fields) (meta : Meta) → AreFull rows → IsMeta meta rows → Runs start rows (in_meta meta)
 run_meta rows meta full at =
     let whole : AreFull (at.head ∷ at.header ∷ at.body) = subst AreFull at.cut full in
     ap (run start) at.cut
     ∙ run_row start at.head (at.header ∷ at.body) (head section.Meta) (next_head at.head section.Meta whole.0 at.opens) meta_opens
-    ∙ run_row meta_head at.header at.body (plain at.header) (next_plain at.header whole.1.0 at.plain_header) (header_passes at.header)
-    ∙ run_meta_body [] at.body at.plain whole.1.1
+    ∙ run_row meta_head at.header at.body (plain at.header) (next_plain at.header whole.1.0 at.plain.0) (header_passes at.header)
+    ∙ run_meta_body [] at.body at.plain.1 whole.1.1
     ∙ ap (λ m. Ok (in_meta m)) (sym at.says)
 
-run_projects_head : (rows : List Fields) (budget : ℕ) (max_length : Option ℕ) → AreFull rows → IsProjectsHead rows budget max_length → Runs start rows (projects_head (opening budget max_length))
+-- rows of which the first part runs to a position
+run_then : (First Second : List Fields → Type 0) (p : Position) (rows back : List Fields) → (at : Then First Second rows) → at.back ≡ back → Runs start at.front p → run start rows ≡ run p back
+run_then First Second p rows back at is front =
+    ap (run start) (at.cut ∙ ap (λ xs. at.front ++ xs) is) ∙ run_onto start p at.front back front
+
+full_front : (First Second : List Fields → Type 0) (rows : List Fields) → (at : Then First Second rows) → AreFull rows → AreFull at.front
+full_front First Second rows at full = AllByRecursion-left _ at.front at.back (subst AreFull at.cut full)
+
+full_back : (First Second : List Fields → Type 0) (rows back : List Fields) → (at : Then First Second rows) → at.back ≡ back → AreFull rows → AreFull back
+full_back First Second rows back at is full = subst AreFull is (AllByRecursion-right _ at.front at.back (subst AreFull at.cut full))
+
+run_terms : (budget : ℕ) (max_length : Option ℕ) (row : Fields) (rest : List Fields) → is_blank row ≡ false → head_of row ≡ Some section.Projects →
+    run (in_meta (record { budget = Some (Ok budget); approval = Some true; max_length = Ok max_length })) (row ∷ rest) ≡ run (projects_head (opening budget max_length)) rest
+run_terms budget max_length row rest full opens =
+    run_row (in_meta (record { budget = Some (Ok budget); approval = Some true; max_length = Ok max_length })) row rest (head section.Projects) (next_head row section.Projects full opens)
+    (head_passes (record { budget = Some (Ok budget); approval = Some true; max_length = Ok max_length }) budget max_length refl refl refl)
+
+run_projects_head : (rows : List Fields) (budget : ℕ) (max_length : Option ℕ) → AreFull rows → Then (GivesTerms budget max_length) (IsHead section.Projects) rows → Runs start rows (projects_head (opening budget max_length))
 run_projects_head rows budget max_length full at =
-    let whole : AreFull (at.front ++ at.head ∷ []) = subst AreFull at.cut full in
-    let front : AreFull at.front = AllByRecursion-left _ at.front (at.head ∷ []) whole in
-    let last : AreFull (at.head ∷ []) = AllByRecursion-right _ at.front (at.head ∷ []) whole in
-    ap (run start) at.cut
-    ∙ run_onto start (in_meta at.meta) at.front (at.head ∷ []) (run_meta at.front at.meta front at.before)
-    ∙ run_row (in_meta at.meta) at.head [] (head section.Projects) (next_head at.head section.Projects last.0 at.opens) (head_passes at.meta budget max_length at.budget_is at.approval at.limit)
-    ∙ (λ i. Ok (projects_head (opening (budget_of (at.budget_is i)) (limit_of (at.limit i)))))
+    let back : AreFull (at.second.head ∷ []) = full_back _ _ rows (at.second.head ∷ []) at at.second.cut full in
+    run_then _ _ _ rows (at.second.head ∷ []) at at.second.cut (run_meta at.front _ (full_front _ _ rows at full) at.first)
+    ∙ run_terms budget max_length at.second.head [] back.0 at.second.opens
 
 -- what is true of an element in the middle
 middle : {X : Type 0} (P : X → Type 0) (xs : List X) (y : X) (ys : List X) → All P (xs ++ y ∷ ys) → P y
@@ -141,40 +154,36 @@ passes_at columns e qs ps p row given is =
       room = omega (arith, is.few_projects, length-append qs (p ∷ ps));
     }
 
-run_projects_body : (columns : ProjectColumns) (e : ElectionView) (qs ps : List ProjectView) (body : List Fields) → AllZip (GivesProject columns) body ps → AreFull body →
+run_projects_body : (columns : ProjectColumns) (e : ElectionView) (qs ps : List ProjectView) (body : List Fields) → AllZip (GivesProject columns) body ps → AllByRecursion IsPlain body → AreFull body →
     IsElection (record e { projects = qs ++ ps; voters = [] }) →
     Runs (in_projects columns (record e { projects = qs; voters = [] })) body (in_projects columns (record e { projects = qs ++ ps; voters = [] }))
-run_projects_body columns e qs [] [] zip full is = ap (λ ps. Ok (in_projects columns (record e { projects = ps; voters = [] }))) (sym (append-nil qs))
-run_projects_body columns e qs (p ∷ ps) [] zip full is = absurd zip
-run_projects_body columns e qs [] (row ∷ body) zip full is = absurd zip
-run_projects_body columns e qs (p ∷ ps) (row ∷ body) zip full is =
+run_projects_body columns e qs [] [] zip plain_rows full is = ap (λ ps. Ok (in_projects columns (record e { projects = ps; voters = [] }))) (sym (append-nil qs))
+run_projects_body columns e qs (p ∷ ps) [] zip plain_rows full is = absurd zip
+run_projects_body columns e qs [] (row ∷ body) zip plain_rows full is = absurd zip
+run_projects_body columns e qs (p ∷ ps) (row ∷ body) zip plain_rows full is =
     let given : GivesProject columns row p = zip.0 in
     let same : project_of columns row ≡ p = λ i. record { id = sym given.id i; name = sym given.name i; cost = ap amount_of given.cost i } in
-    run_row (in_projects columns (record e { projects = qs; voters = [] })) row body (plain row) (next_plain row full.0 given.plain) (project_passes columns row (record e { projects = qs; voters = [] }) (passes_at columns e qs ps p row given is))
+    run_row (in_projects columns (record e { projects = qs; voters = [] })) row body (plain row) (next_plain row full.0 plain_rows.0) (project_passes columns row (record e { projects = qs; voters = [] }) (passes_at columns e qs ps p row given is))
     ∙ ap (λ x. run (in_projects columns (record e { projects = qs ++ x ∷ []; voters = [] })) body) same
-    ∙ run_projects_body columns e (qs ++ p ∷ []) ps body zip.1 full.1 (subst (λ xs. IsElection (record e { projects = xs; voters = [] })) (sym (append_assoc qs (p ∷ []) ps)) is)
+    ∙ run_projects_body columns e (qs ++ p ∷ []) ps body zip.1 plain_rows.1 full.1 (subst (λ xs. IsElection (record e { projects = xs; voters = [] })) (sym (append_assoc qs (p ∷ []) ps)) is)
     ∙ ap (λ xs. Ok (in_projects columns (record e { projects = xs; voters = [] }))) (append_assoc qs (p ∷ []) ps)
 
-run_projects : (rows : List Fields) (columns : ProjectColumns) (e : ElectionView) → AreFull rows → IsProjects rows columns e → IsElection e → Runs start rows (in_projects columns e)
-run_projects rows columns e full at is =
-    let whole : AreFull (at.front ++ at.header ∷ at.body) = subst AreFull at.cut full in
-    let front : AreFull at.front = AllByRecursion-left _ at.front (at.header ∷ at.body) whole in
-    let last : AreFull (at.header ∷ at.body) = AllByRecursion-right _ at.front (at.header ∷ at.body) whole in
-    ap (run start) at.cut
-    ∙ run_onto start (projects_head (opening e.budget e.max_length)) at.front (at.header ∷ at.body) (run_projects_head at.front e.budget e.max_length front at.before)
-    ∙ run_row (projects_head (opening e.budget e.max_length)) at.header at.body (plain at.header) (next_plain at.header last.0 at.plain_header) (project_header_passes (opening e.budget e.max_length) at.header columns at.columns_are)
-    ∙ ap (λ o. run (option_map_or (λ c. in_projects c (opening e.budget e.max_length)) o start) at.body) at.columns_are
-    ∙ run_projects_body columns e [] e.projects at.body at.projects last.1 (subst (λ vs. IsElection (record e { voters = vs })) at.no_voter is)
-    ∙ ap (λ vs. Ok (in_projects columns (record e { voters = vs }))) (sym at.no_voter)
+run_projects : (rows : List Fields) (columns : ProjectColumns) (e : ElectionView) → AreFull rows → GivesAllButVoters columns e rows → e.voters ≡ [] → IsElection e → Runs start rows (in_projects columns e)
+run_projects rows columns e full at no_voter is =
+    let part = at.second in
+    let back : AreFull (part.head ∷ part.header ∷ part.body) = full_back _ _ rows (part.head ∷ part.header ∷ part.body) at part.cut full in
+    run_then _ _ _ rows (part.head ∷ part.header ∷ part.body) at part.cut (run_meta at.front _ (full_front _ _ rows at full) at.first)
+    ∙ run_terms e.budget e.max_length part.head (part.header ∷ part.body) back.0 part.opens
+    ∙ run_row (projects_head (opening e.budget e.max_length)) part.header part.body (plain part.header) (next_plain part.header back.1.0 part.plain.0) (project_header_passes (opening e.budget e.max_length) part.header columns part.says.0)
+    ∙ ap (λ o. run (option_map_or (λ c. in_projects c (opening e.budget e.max_length)) o start) part.body) part.says.0
+    ∙ run_projects_body columns e [] e.projects part.body part.says.1 part.plain.1 back.1.1 (subst (λ vs. IsElection (record e { voters = vs })) no_voter is)
+    ∙ ap (λ vs. Ok (in_projects columns (record e { voters = vs }))) (sym no_voter)
 
-run_votes_head : (rows : List Fields) (e : ElectionView) → AreFull rows → IsVotesHead rows e → IsElection e → Runs start rows (votes_head e)
-run_votes_head rows e full at is =
-    let whole : AreFull (at.front ++ at.head ∷ []) = subst AreFull at.cut full in
-    let front : AreFull at.front = AllByRecursion-left _ at.front (at.head ∷ []) whole in
-    let last : AreFull (at.head ∷ []) = AllByRecursion-right _ at.front (at.head ∷ []) whole in
-    ap (run start) at.cut
-    ∙ run_onto start (in_projects at.columns e) at.front (at.head ∷ []) (run_projects at.front at.columns e front at.before is)
-    ∙ run_row (in_projects at.columns e) at.head [] (head section.Votes) (next_head at.head section.Votes last.0 at.opens) (votes_open at.columns e)
+run_votes_head : (rows : List Fields) (columns : ProjectColumns) (e : ElectionView) → AreFull rows → Then (GivesAllButVoters columns e) (IsHead section.Votes) rows → e.voters ≡ [] → IsElection e → Runs start rows (votes_head e)
+run_votes_head rows columns e full at no_voter is =
+    let back : AreFull (at.second.head ∷ []) = full_back _ _ rows (at.second.head ∷ []) at at.second.cut full in
+    run_then _ _ (in_projects columns e) rows (at.second.head ∷ []) at at.second.cut (run_projects at.front columns e (full_front _ _ rows at full) at.first no_voter is)
+    ∙ run_row (in_projects columns e) at.second.head [] (head section.Votes) (next_head at.second.head section.Votes back.0 at.second.opens) (votes_open columns e)
 
 vote_passes_at : (columns : VoteColumns) (e : ElectionView) (us vs : List VoterView) (v : VoterView) (row : Fields) → GivesVoter columns (project_ids e) row v → IsElection (record e { voters = us ++ v ∷ vs }) →
     PassesVote columns row (record e { voters = us })
@@ -189,18 +198,18 @@ vote_passes_at columns e us vs v row given is =
       room = omega (arith, is.few_voters, length-append us (v ∷ vs));
     }
 
-run_votes_body : (columns : VoteColumns) (e : ElectionView) (us vs : List VoterView) (body : List Fields) → AllZip (GivesVoter columns (project_ids e)) body vs → AreFull body →
+run_votes_body : (columns : VoteColumns) (e : ElectionView) (us vs : List VoterView) (body : List Fields) → AllZip (GivesVoter columns (project_ids e)) body vs → AllByRecursion IsPlain body → AreFull body →
     IsElection (record e { voters = us ++ vs }) →
     Runs (in_votes columns (record e { voters = us })) body (in_votes columns (record e { voters = us ++ vs }))
-run_votes_body columns e us [] [] zip full is = ap (λ xs. Ok (in_votes columns (record e { voters = xs }))) (sym (append-nil us))
-run_votes_body columns e us (v ∷ vs) [] zip full is = absurd zip
-run_votes_body columns e us [] (row ∷ body) zip full is = absurd zip
-run_votes_body columns e us (v ∷ vs) (row ∷ body) zip full is =
+run_votes_body columns e us [] [] zip plain_rows full is = ap (λ xs. Ok (in_votes columns (record e { voters = xs }))) (sym (append-nil us))
+run_votes_body columns e us (v ∷ vs) [] zip plain_rows full is = absurd zip
+run_votes_body columns e us [] (row ∷ body) zip plain_rows full is = absurd zip
+run_votes_body columns e us (v ∷ vs) (row ∷ body) zip plain_rows full is =
     let given : GivesVoter columns (project_ids e) row v = zip.0 in
     let same : voter_of columns (project_ids e) row ≡ v = λ i. record { id = sym given.id i; ballot = sym given.ballot i } in
-    run_row (in_votes columns (record e { voters = us })) row body (plain row) (next_plain row full.0 given.plain) (vote_passes columns row (record e { voters = us }) (vote_passes_at columns e us vs v row given is))
+    run_row (in_votes columns (record e { voters = us })) row body (plain row) (next_plain row full.0 plain_rows.0) (vote_passes columns row (record e { voters = us }) (vote_passes_at columns e us vs v row given is))
     ∙ ap (λ x. run (in_votes columns (record e { voters = us ++ x ∷ [] })) body) same
-    ∙ run_votes_body columns e (us ++ v ∷ []) vs body zip.1 full.1 (subst (λ xs. IsElection (record e { voters = xs })) (sym (append_assoc us (v ∷ []) vs)) is)
+    ∙ run_votes_body columns e (us ++ v ∷ []) vs body zip.1 plain_rows.1 full.1 (subst (λ xs. IsElection (record e { voters = xs })) (sym (append_assoc us (v ∷ []) vs)) is)
     ∙ ap (λ xs. Ok (in_votes columns (record e { voters = xs }))) (append_assoc us (v ∷ []) vs)
 
 pub without_voters_is_election : (e : ElectionView) → IsElection e → IsElection (record e { voters = [] })
@@ -214,17 +223,18 @@ without_voters_is_election e is = record {
   voters_differ = λ i j d above below. absurd (omega (arith, below));
 }
 
-run_votes : (rows : List Fields) (columns : VoteColumns) (e : ElectionView) → AreFull rows → IsVotes rows columns e → IsElection e → Runs start rows (in_votes columns e)
-run_votes rows columns e full at is =
-    let whole : AreFull (at.front ++ at.header ∷ at.body) = subst AreFull at.cut full in
-    let front : AreFull at.front = AllByRecursion-left _ at.front (at.header ∷ at.body) whole in
-    let last : AreFull (at.header ∷ at.body) = AllByRecursion-right _ at.front (at.header ∷ at.body) whole in
+run_votes : (rows : List Fields) (columns : VoteColumns) (e : ElectionView) → AreFull rows → GivesAll columns e rows → IsElection e → Runs start rows (in_votes columns e)
+run_votes rows columns e full all is =
+    let at = all.sections in
+    let part = at.second in
     let before : ElectionView = record e { voters = [] } in
-    ap (run start) at.cut
-    ∙ run_onto start (votes_head before) at.front (at.header ∷ at.body) (run_votes_head at.front before front at.before (without_voters_is_election e is))
-    ∙ run_row (votes_head before) at.header at.body (plain at.header) (next_plain at.header last.0 at.plain_header) (vote_header_passes before at.header columns at.columns_are)
-    ∙ ap (λ o. run (option_map_or (λ c. in_votes c before) o start) at.body) at.columns_are
-    ∙ run_votes_body columns e [] e.voters at.body at.voters last.1 is
+    let back : AreFull (part.head ∷ part.header ∷ part.body) = full_back _ _ rows (part.head ∷ part.header ∷ part.body) at part.cut full in
+    run_then _ _ (in_projects all.project_columns before) rows (part.head ∷ part.header ∷ part.body) at part.cut
+    (run_projects at.front all.project_columns before (full_front _ _ rows at full) at.first refl (without_voters_is_election e is))
+    ∙ run_row (in_projects all.project_columns before) part.head (part.header ∷ part.body) (head section.Votes) (next_head part.head section.Votes back.0 part.opens) (votes_open all.project_columns before)
+    ∙ run_row (votes_head before) part.header part.body (plain part.header) (next_plain part.header back.1.0 part.plain.0) (vote_header_passes before part.header columns part.says.0)
+    ∙ ap (λ o. run (option_map_or (λ c. in_votes c before) o start) part.body) part.says.0
+    ∙ run_votes_body columns e [] e.voters part.body part.says.1 part.plain.1 back.1.1 is
 
 -- what stands runs, wherever a file has come to
 pub runs : (p : Position) (rows : List Fields) → AreFull rows → IsAt rows p → IsSound p → Runs start rows p
@@ -234,6 +244,6 @@ runs meta_head rows full at sound =
     ap (run start) at.cut ∙ run_row start at.head [] (head section.Meta) (next_head at.head section.Meta whole.0 at.opens) meta_opens
 runs (in_meta meta) rows full at sound = run_meta rows meta full at
 runs (projects_head e) rows full at sound = run_projects_head rows e.budget e.max_length full at.0 ∙ ap (λ x. Ok (projects_head x)) (sym at.1)
-runs (in_projects columns e) rows full at sound = run_projects rows columns e full at sound.0
-runs (votes_head e) rows full at sound = run_votes_head rows e full at sound.0
+runs (in_projects columns e) rows full at sound = run_projects rows columns e full at sound.1 sound.0
+runs (votes_head e) rows full at sound = run_votes_head rows at.0 e full at.1 sound.1 sound.0
 runs (in_votes columns e) rows full at sound = run_votes rows columns e full at sound

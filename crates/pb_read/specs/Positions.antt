@@ -4,7 +4,7 @@ use Rattle.std.specs.Option.{option_map_or}
 use Rattle.pb_core.specs.Election.{ElectionView, IsElection}
 use Rattle.pb_rows.specs.Reading.{Fields}
 use Rattle.pb_read.specs.Rows.{head_of, is_blank, trimmed}
-use Rattle.pb_read.specs.StandsFor.{IsHead, IsMeta, IsProjectsHead, IsProjects, IsVotesHead, IsVotes, opening}
+use Rattle.pb_read.specs.StandsFor.{GivesAll, GivesAllButVoters, GivesTerms, IsHead, IsMeta, Then, opening}
 use Rattle.pb_read.specs.declared.columns.ProjectColumns.{ProjectColumns}
 use Rattle.pb_read.specs.declared.columns.VoteColumns.{VoteColumns}
 use Rattle.pb_read.specs.declared.meta.Meta.{Meta}
@@ -21,21 +21,15 @@ pub data Position : Type 0 where
   votes_head : ElectionView → Position
   in_votes : VoteColumns → ElectionView → Position
 
--- the rows are META's head alone
-pub record IsMetaHead (rows : List Fields) : Type 0 where
-  pub head : Fields
-  pub cut : rows ≡ head ∷ []
-  pub opens : IsHead section.Meta head
-
--- the rows have come so far: an election has the projects and voters of the rows behind us
+-- the rows have come so far: the election has the projects and voters of the rows up to here
 abbrev pub IsAt : List Fields → Position → Type 0
 IsAt rows start = rows ≡ []
-IsAt rows meta_head = IsMetaHead rows
-IsAt rows (in_meta meta) = IsMeta rows meta
-IsAt rows (projects_head e) = IsProjectsHead rows e.budget e.max_length × (e ≡ opening e.budget e.max_length)
-IsAt rows (in_projects columns e) = IsProjects rows columns e
-IsAt rows (votes_head e) = IsVotesHead rows e
-IsAt rows (in_votes columns e) = IsVotes rows columns e
+IsAt rows meta_head = IsHead section.Meta rows
+IsAt rows (in_meta meta) = IsMeta meta rows
+IsAt rows (projects_head e) = Then (GivesTerms e.budget e.max_length) (IsHead section.Projects) rows × (e ≡ opening e.budget e.max_length)
+IsAt rows (in_projects columns e) = GivesAllButVoters columns e rows
+IsAt rows (votes_head e) = (columns : ProjectColumns) × Then (GivesAllButVoters columns e) (IsHead section.Votes) rows
+IsAt rows (in_votes columns e) = GivesAll columns e rows
 
 -- what was read so far is an election: its ids differ, its amounts are in range, and so on
 abbrev pub IsSound : Position → Type 0

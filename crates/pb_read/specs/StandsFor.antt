@@ -15,20 +15,12 @@ use Rattle.pb_read.specs.declared.meta.Meta.{Meta}
 use Rattle.pb_read.specs.declared.section.Section.{Section}
 use Rattle.pb_read.specs.declared.section.Section.TheVariants as section
 
-abbrev pub IsHead : Section → Fields → Type 0
-IsHead name row = head_of row ≡ Some name
-
--- a row that is no section's head
-abbrev pub IsPlain : Fields → Type 0
-IsPlain row = head_of row ≡ None
-
 -- an election of this budget and this limit on a ballot's length, with neither projects nor voters yet
 abbrev pub opening : ℕ → Option ℕ → ElectionView
 opening budget max_length = record { budget = budget; max_length = max_length; projects = []; voters = [] }
 
 -- a row of PROJECTS gives a project
 pub record GivesProject (columns : ProjectColumns) (row : Fields) (project : ProjectView) : Type 0 where
-  pub plain : IsPlain row
   pub whole : has_project_fields columns row ≡ true
   pub id : project.id ≡ field row columns.id
   pub name : project.name ≡ name_field columns row
@@ -36,72 +28,72 @@ pub record GivesProject (columns : ProjectColumns) (row : Fields) (project : Pro
 
 -- a row of VOTES gives a voter, where the projects have these ids
 pub record GivesVoter (columns : VoteColumns) (ids : List (List ℕ)) (row : Fields) (voter : VoterView) : Type 0 where
-  pub plain : IsPlain row
   pub whole : has_vote_fields columns row ≡ true
   pub id : voter.id ≡ field row columns.voter
   pub known : names_only ids (field row columns.vote) ≡ true
   pub ballot : voter.ballot ≡ ballot_of ids (field row columns.vote)
 
--- META's head, its header row, and rows that say this
-pub record IsMeta (rows : List Fields) (meta : Meta) : Type 0 where
+-- a row that is no section's head
+abbrev pub IsPlain : Fields → Type 0
+IsPlain row = head_of row ≡ None
+
+-- a section's head alone
+pub record IsHead (name : Section) (rows : List Fields) : Type 0 where
+  pub head : Fields
+  pub cut : rows ≡ head ∷ []
+  pub opens : head_of head ≡ Some name
+
+-- a section: its head, its header row, and further rows, of which this holds
+pub record IsSection (name : Section) (Says : Fields → List Fields → Type 0) (rows : List Fields) : Type 0 where
   pub head : Fields
   pub header : Fields
   pub body : List Fields
   pub cut : rows ≡ head ∷ header ∷ body
-  pub opens : IsHead section.Meta head
-  pub plain_header : IsPlain header
-  pub plain : AllByRecursion IsPlain body
-  pub says : meta ≡ meta_of body
+  pub opens : head_of head ≡ Some name
+  pub plain : AllByRecursion IsPlain (header ∷ body)
+  pub says : Says header body
 
--- META, and PROJECTS' head behind it; META gives the budget, approval as the vote type, and the limit
-pub record IsProjectsHead (rows : List Fields) (budget : ℕ) (max_length : Option ℕ) : Type 0 where
+-- META, whose rows say this
+abbrev pub IsMeta : Meta → List Fields → Type 0
+IsMeta meta rows = IsSection section.Meta (λ header body. meta ≡ meta_of body) rows
+
+-- META that gives a budget, approval as the vote type, and a limit
+abbrev pub GivesTerms : ℕ → Option ℕ → List Fields → Type 0
+GivesTerms budget max_length rows =
+    IsMeta (record { budget = Some (Ok budget); approval = Some true; max_length = Ok max_length }) rows
+
+-- PROJECTS with these columns, and a row for each project
+abbrev pub GivesProjects : ProjectColumns → List ProjectView → List Fields → Type 0
+GivesProjects columns projects rows =
+    IsSection section.Projects (λ header body. (project_columns header ≡ Some columns) × AllZip (GivesProject columns) body projects) rows
+
+-- VOTES with these columns, and a row for each voter
+abbrev pub GivesVoters : VoteColumns → List (List ℕ) → List VoterView → List Fields → Type 0
+GivesVoters columns ids voters rows =
+    IsSection section.Votes (λ header body. (vote_columns header ≡ Some columns) × AllZip (GivesVoter columns ids) body voters) rows
+
+-- rows of one form, and then rows of another
+pub record Then (First Second : List Fields → Type 0) (rows : List Fields) : Type 0 where
   pub front : List Fields
-  pub meta : Meta
-  pub head : Fields
-  pub cut : rows ≡ front ++ head ∷ []
-  pub before : IsMeta front meta
-  pub opens : IsHead section.Projects head
-  pub budget_is : meta.budget ≡ Some (Ok budget)
-  pub approval : meta.approval ≡ Some true
-  pub limit : meta.max_length ≡ Ok max_length
+  pub back : List Fields
+  pub cut : rows ≡ front ++ back
+  pub first : First front
+  pub second : Second back
 
--- PROJECTS with its header row, and one row for each project of the election, which has no voter yet
-pub record IsProjects (rows : List Fields) (columns : ProjectColumns) (e : ElectionView) : Type 0 where
-  pub front : List Fields
-  pub header : Fields
-  pub body : List Fields
-  pub cut : rows ≡ front ++ header ∷ body
-  pub before : IsProjectsHead front e.budget e.max_length
-  pub plain_header : IsPlain header
-  pub columns_are : project_columns header ≡ Some columns
-  pub projects : AllZip (GivesProject columns) body e.projects
-  pub no_voter : e.voters ≡ []
+-- META and PROJECTS of an election
+abbrev pub GivesAllButVoters : ProjectColumns → ElectionView → List Fields → Type 0
+GivesAllButVoters columns e rows = Then (GivesTerms e.budget e.max_length) (GivesProjects columns e.projects) rows
 
--- PROJECTS, and VOTES' head behind it
-pub record IsVotesHead (rows : List Fields) (e : ElectionView) : Type 0 where
-  pub front : List Fields
-  pub columns : ProjectColumns
-  pub head : Fields
-  pub cut : rows ≡ front ++ head ∷ []
-  pub before : IsProjects front columns e
-  pub opens : IsHead section.Votes head
+-- META, PROJECTS and VOTES of an election
+pub record GivesAll (columns : VoteColumns) (e : ElectionView) (rows : List Fields) : Type 0 where
+  pub project_columns : ProjectColumns
+  pub sections : Then (GivesAllButVoters project_columns e) (GivesVoters columns (project_ids e) e.voters) rows
 
--- VOTES with its header row, and one row for each voter of the election
-pub record IsVotes (rows : List Fields) (columns : VoteColumns) (e : ElectionView) : Type 0 where
-  pub front : List Fields
-  pub header : Fields
-  pub body : List Fields
-  pub cut : rows ≡ front ++ header ∷ body
-  pub before : IsVotesHead front (record e { voters = [] })
-  pub plain_header : IsPlain header
-  pub columns_are : vote_columns header ≡ Some columns
-  pub voters : AllZip (GivesVoter columns (project_ids e)) body e.voters
-
--- the records are text, and their rows give the election: META, PROJECTS, VOTES, one after another
+-- the records are text, and their rows give the election
 pub record Describes (records : List Fields) (e : ElectionView) : Type 0 where
   pub text : AllByRecursion AllText records
   pub columns : VoteColumns
-  pub rows : IsVotes (rows_of records) columns e
+  pub rows : GivesAll columns e (rows_of records)
   pub is_election : IsElection e
 
 -- the most records that a file has
