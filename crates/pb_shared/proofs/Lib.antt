@@ -1,0 +1,6 @@
+pub mod Moves
+pub mod LockSteps
+pub mod SeatSteps
+pub mod Offers
+pub mod Calls
+pub mod Finishes

@@ -1,0 +1,8 @@
+use Rattle.std.proofs.Common.{arith}
+use Rattle.pb_shared.proofs.LockSteps.{loads}
+use Rattle.pb_shared.proofs.Offers.{clerk_sits}
+use Rattle.pb_shared.proofs.shared_desk.SharedDesk.front.Goals as goal
+
+pub load-requires : goal.load-requires
+load-requires c = let words = c.self.invariant.words in
+    (clerk_sits _ _ _ c.clerk.inside.seat.me _ _ c.clerk.view_is c.requires.own c.self.view_is, omega arith, loads c.self.inside.table.shared.key _ _ _ c.clerk.invariant.role)

@@ -1,0 +1,18 @@
+use Rattle.std.proofs.Common.{ap, sym, refl, ◌∙◌, arith}
+use Rattle.pb_shared.proofs.Offers.{stores_at, frees_again, in_hand}
+use Rattle.pb_shared.proofs.shared_desk.SharedDesk.publish.Goals as goal
+
+pub store-requires : goal.store-requires
+store-requires c = let words = c.self.invariant.words in let out = c.requires.out in let served = c.requires.desk in (
+  c.exchange.ensures.0 ∙ (c.requires.own ∙ sym (ap (λ v. v.id) c.self.view_is)),
+  omega arith,
+  stores_at c.self.inside.table.shared.key _ _ c.args.seat.now.me.0 c.args.desk served.0 _ _ out.role out.holds served.1 served.2 c.entries.ensures.legal c.entries.ensures.fits (c.from-entries.ensures ∙ c.entries.ensures.entries)
+      (in_hand c.args.seat.now.me _ c.args.desk out.taken c.exchange.ensures.3),
+)
+
+pub store-requires-2 : goal.store-requires-2
+store-requires-2 c = let words = c.self.invariant.words in let out = c.requires.out in (
+  c.store.ensures.0 ∙ (c.exchange.ensures.0 ∙ (c.requires.own ∙ sym (ap (λ v. v.id) c.self.view_is))),
+  omega arith,
+  frees_again c.self.inside.table.shared.key _ _ _ _ (ap (λ m. m.0.role) c.exchange.ensures.3 ∙ out.role) refl c.store.ensures.2,
+)

@@ -1,0 +1,6 @@
+use thiserror::Error;
+
+/// The clerk with this number held the lock, so nothing was done.
+#[derive(Clone, Copy, Debug, PartialEq, Eq, Error)]
+#[error("clerk {0} holds the lock")]
+pub struct Busy(pub u32);

@@ -1,0 +1,45 @@
+use pb_desk::desk::Desk;
+use std::fmt;
+use thiserror::Error;
+
+/// Why a desk was not shared. It carries the desk back, unchanged.
+#[derive(Drop, Error)]
+pub enum ShareFault {
+    /// The number of clerks is not 1 to 64.
+    #[error("the number of clerks is not 1 to 64")]
+    ClerkCount(Desk),
+    /// Memory was refused.
+    #[error("out of memory")]
+    NoMemory(Desk),
+}
+
+impl fmt::Debug for ShareFault {
+    fn fmt<W: fmt::Write>(&self, f: &mut fmt::Formatter<W>) -> fmt::Result {
+        f.write_str(self.name())
+    }
+}
+
+impl ShareFault {
+    ghost use Rattle.std.specs.Prelude.{◌≡◌};
+    ghost use Rattle.pb_shared.specs.Faults.{share_number_of, share_name_of};
+
+    /// The fault's number, from 1.
+    pub fn number(&self) -> u32
+        ensures { result ≡ share_number_of self.now }
+    {
+        match self {
+            ShareFault::ClerkCount(_) => 1,
+            ShareFault::NoMemory(_) => 2,
+        }
+    }
+
+    /// The fault's name.
+    pub fn name(&self) -> &'static str
+        ensures { result.now ≡ share_name_of self.now }
+    {
+        match self {
+            ShareFault::ClerkCount(_) => "ClerkCount",
+            ShareFault::NoMemory(_) => "NoMemory",
+        }
+    }
+}

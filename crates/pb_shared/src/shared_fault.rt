@@ -1,0 +1,42 @@
+ghost use Rattle.std.specs.Prelude.{◌≡◌};
+ghost use Rattle.pb_shared.specs.Faults.{number_of, name_of};
+
+use thiserror::Error;
+
+/// Why a request was not served on a shared desk. Nothing was appended.
+#[derive(Clone, Copy, Debug, PartialEq, Eq, Error)]
+pub enum SharedFault {
+    /// The clerk with this number held the lock at the call's last exchange.
+    #[error("clerk {0} holds the lock")]
+    Busy(u32),
+    /// The journal has as many entries as the desk has room for.
+    #[error("the journal is full")]
+    JournalFull,
+    /// Memory was refused.
+    #[error("out of memory")]
+    NoMemory,
+}
+
+impl SharedFault {
+    /// The fault's number, from 1.
+    pub fn number(&self) -> u32
+        ensures { result ≡ number_of self.now }
+    {
+        match self {
+            SharedFault::Busy(_) => 1,
+            SharedFault::JournalFull => 2,
+            SharedFault::NoMemory => 3,
+        }
+    }
+
+    /// The fault's name.
+    pub fn name(&self) -> &'static str
+        ensures { result.now ≡ name_of self.now }
+    {
+        match self {
+            SharedFault::Busy(_) => "Busy",
+            SharedFault::JournalFull => "JournalFull",
+            SharedFault::NoMemory => "NoMemory",
+        }
+    }
+}
