@@ -3,6 +3,7 @@ use Rattle.std.specs.Prelude.{◌≡◌, ◌≢◌, ℕ, suc, ◌+◌, ◌≤◌
 use Rattle.pb_core.specs.Request.{EntryView}
 use Rattle.pb_desk.specs.Desk.{DeskView}
 use Rattle.pb_desk.specs.Replay.{IsLegal}
+use Rattle.pb_desk.specs.declared.version.Version.TheVariants.{Two}
 use Rattle.pb_shared.specs.Clerk.{Begins}
 use Rattle.pb_shared.specs.Rule.{blank, desk_at, seated, Sitter}
 use Rattle.pb_shared.specs.declared.seat_view.About.{About}
@@ -73,7 +74,7 @@ handed v clerk = record v { returned = clerk.sheet ∷ v.returned }
 
 -- a desk that nobody has
 abbrev pub no_desk : DeskView
-no_desk = record { opening = record { budget = 0; projects = []; voters = [] }; room = 0; journal = [] }
+no_desk = record { opening = record { election = record { budget = 0; max_length = None; projects = []; voters = [] }; version = Two }; room = 0; journal = [] }
 
 abbrev pub nobody : SeatView
 nobody = let a : About = record { desk = record { marker = record {}; value = no_desk }; clerks = 0 } in seated Spent a (blank a 0)
