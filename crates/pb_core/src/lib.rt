@@ -3,6 +3,7 @@
 
 pub mod answer;
 pub mod ballot;
+pub mod devices;
 pub mod election;
 pub mod entry;
 pub mod laws;

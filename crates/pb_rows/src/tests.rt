@@ -1,5 +1,6 @@
 use crate::{
-    Records, RecordsFault, RowsWriter, read_number, read_place_list, read_places, write_places,
+    Records, RecordsFault, RowsWriter, read_number, read_place_list, read_places, rows_come_back,
+    write_places,
 };
 use csv::StringRecord;
 use std::alloc::Global;
@@ -7,7 +8,7 @@ use std::io;
 use std::io::{ErrorKind, Read};
 use std::test::Fail;
 
-// The records of a text: each field in brackets, and a bar after each record.
+/// The records of a text: each field in brackets, and a bar after each record.
 fn shown(alloc: Global, text: &[u8]) -> Result<String, Fail> {
     let mut records = Records::new(alloc, text);
     let mut row = StringRecord::new(alloc);
@@ -26,7 +27,7 @@ fn shown(alloc: Global, text: &[u8]) -> Result<String, Fail> {
     Ok(shown)
 }
 
-// Texts, and their records as `shown` gives them.
+/// Texts, and their records as `shown` gives them.
 const RECORDS: [(&str, &str); 8] = [
     ("", ""),
     ("a;b\nc;d;e\nf", "[a][b]|[c][d][e]|[f]|"),
@@ -47,17 +48,7 @@ fn records(rt: HostRuntime) -> Result<(), Fail> {
     Ok(())
 }
 
-#[test]
-fn stops_at_a_field_that_is_no_text(rt: HostRuntime) -> Result<(), Fail> {
-    let mut records = Records::new(rt.alloc(), b"a\nb;\xff\nc\n".as_slice());
-    let mut row = StringRecord::new(rt.alloc());
-    assert_eq!(rt; records.read(&mut row), Ok(true));
-    assert_eq!(rt; records.read(&mut row), Err(RecordsFault::NotText));
-    assert_eq!(rt; records.read(&mut row), Err(RecordsFault::NotText));
-    Ok(())
-}
-
-// Gives its text byte by byte, and then an error, and then an end.
+/// Gives its text byte by byte, and then an error, and then an end.
 #[derive(Drop)]
 struct Broken<'a> {
     text: &'a [u8],
@@ -82,16 +73,46 @@ impl<'a> Read for Broken<'a> {
 }
 
 #[test]
-fn stops_at_a_reader_that_fails(rt: HostRuntime) -> Result<(), Fail> {
+fn stops(rt: HostRuntime) -> Result<(), Fail> {
+    let mut row = StringRecord::new(rt.alloc());
+    let mut records = Records::new(rt.alloc(), b"a\n".as_slice());
+    for found in [true, false, false] {
+        assert_eq!(rt; records.read(&mut row), Ok(found));
+        assert_eq!(rt; row.is_empty(), !found);
+    }
+
+    let mut records = Records::new(rt.alloc(), b"a\nb;\xff\nc\n".as_slice());
+    let not_text = Err(RecordsFault::NotText);
+    for answer in [Ok(true), not_text, not_text] {
+        assert_eq!(rt; records.read(&mut row), answer);
+    }
+
     let broken = Broken {
         text: b"a;b\nc",
         has_failed: false,
     };
     let mut records = Records::new(rt.alloc(), broken);
-    let mut row = StringRecord::new(rt.alloc());
-    assert_eq!(rt; records.read(&mut row), Ok(true));
-    assert_eq!(rt; records.read(&mut row), Err(RecordsFault::ReadFailed));
-    assert_eq!(rt; records.read(&mut row), Err(RecordsFault::ReadFailed));
+    let failed = Err(RecordsFault::ReadFailed);
+    for answer in [Ok(true), failed, failed] {
+        assert_eq!(rt; records.read(&mut row), answer);
+    }
+    Ok(())
+}
+
+#[test]
+fn tells_faults(rt: HostRuntime) -> Result<(), Fail> {
+    let faults = [
+        (RecordsFault::ReadFailed, "the reader failed"),
+        (RecordsFault::NotText, "a field is not UTF-8"),
+        (
+            RecordsFault::from(csv::Error::out_of_memory()),
+            "out of memory",
+        ),
+    ];
+    for (fault, wanted) in faults {
+        let shown = format!(in rt.alloc(); "{fault}")?;
+        assert_eq!(rt; shown.as_str(), wanted);
+    }
     Ok(())
 }
 
@@ -110,7 +131,54 @@ fn rows(rt: HostRuntime) -> Result<(), Fail> {
     Ok(())
 }
 
-// Texts, and the number that each spells.
+/// Fields that need quotes, and some that need none.
+const FIELDS: [&str; 12] = [
+    "1",
+    "",
+    "a;b",
+    ";",
+    "say \"hi\"",
+    "\"",
+    "two\nlines",
+    "\r\n",
+    "\r",
+    " c,d ",
+    "Łódź",
+    "\u{feff}",
+];
+
+#[test]
+fn rows_come_back_whole(rt: HostRuntime) -> Result<(), Fail> {
+    let alloc = rt.alloc();
+    rows_come_back();
+    let mut long = String::new(alloc);
+    for _ in 0..10_000 {
+        long.push_str("\";x\r\n")?;
+    }
+    let mut wide = Vec::new(alloc);
+    for place in 0..1_000usize {
+        wide.push(FIELDS[place % 12])?;
+    }
+    let mut rows = RowsWriter::start(alloc);
+    rows.put_row(&FIELDS)?;
+    rows.put_row(&[long.as_str(), "end"])?;
+    rows.put_row(wide.as_slice())?;
+    let text = rows.finish()?;
+
+    let mut records = Records::new(alloc, text.as_slice());
+    let mut row = StringRecord::new(alloc);
+    for wanted in [FIELDS.as_slice(), &[long.as_str(), "end"], wide.as_slice()] {
+        assert_eq!(rt; records.read(&mut row), Ok(true));
+        assert_eq!(rt; row.len(), wanted.len());
+        for (i, field) in wanted.iter().enumerate() {
+            assert_eq!(rt; row.get(i), Some(*field));
+        }
+    }
+    assert_eq!(rt; records.read(&mut row), Ok(false));
+    Ok(())
+}
+
+/// Texts, and the number that each spells.
 const NUMBERS: [(&str, Option<u32>); 14] = [
     ("0", Some(0)),
     ("7", Some(7)),
@@ -135,7 +203,7 @@ fn numbers(rt: HostRuntime) {
     }
 }
 
-// Texts, whether each is a list of places, and whether that list rises.
+/// Texts, whether each is a list of places, and whether that list rises.
 const PLACES: [(&str, bool, bool); 12] = [
     ("", true, true),
     ("0", true, true),
