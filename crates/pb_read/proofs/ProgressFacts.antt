@@ -13,7 +13,7 @@ use Rattle.pb_read.proofs.Runs.{meta_row_passes}
 use Rattle.pb_read.specs.Drafts.{IsTied}
 use Rattle.pb_read.specs.Positions.{Position, in_meta, in_projects, in_votes, Next, next_row, plain}
 use Rattle.pb_read.specs.Machine.{Explains, advance, project_row_checks, vote_row_checks, with_project, with_row, with_voter, row_fault}
-use Rattle.pb_read.specs.Progresses.{IsKept, IsRead, IsReady, position_of}
+use Rattle.pb_read.specs.Progresses.{IsKept, IsRead, IsReady, at_stage, position_of}
 use Rattle.pb_read.specs.Rows.{field, is_blank, is_word}
 use Rattle.pb_read.specs.declared.columns.ProjectColumns.{ProjectColumns}
 use Rattle.pb_read.specs.declared.columns.VoteColumns.{VoteColumns}
@@ -26,7 +26,7 @@ use Rattle.pb_read.specs.declared.progress.Stage.TheVariants.{InMeta, InProjects
 
 -- a step without fault, from the stage and the election before it to those behind it
 abbrev pub IsStep : Stage → ElectionView → Next → Progress → Type 0
-IsStep stage e n new = (row_fault (position_of stage e) n ≡ None) × (position_of new.stage new.draft.election ≡ advance (position_of stage e) n) × IsReady new
+IsStep stage e n new = (row_fault (at_stage stage e) n ≡ None) × (position_of new ≡ advance (at_stage stage e) n) × IsReady new
 
 project_row_fault : (columns : ProjectColumns) (row : Fields) (e : ElectionView) → project_row_checks columns row e ≡ row_fault (in_projects columns e) (plain row)
 unfolding project_row_checks
@@ -48,9 +48,9 @@ project_ok stage columns row old new r is kept ok =
     )) ok) kept
 
 pub project_err : (stage : Stage) (columns : ProjectColumns) (row : Fields) (e : ElectionView) (r : Result (Unit {0}) ReadKind) → stage ≡ InProjects columns →
-    IfErr r (λ kind. Explains kind (project_row_checks columns row e)) → IfErr r (λ kind. Explains kind (row_fault (position_of stage e) (plain row)))
+    IfErr r (λ kind. Explains kind (project_row_checks columns row e)) → IfErr r (λ kind. Explains kind (row_fault (at_stage stage e) (plain row)))
 project_err stage columns row e r is err =
-    IfErr-weaker r _ _ (λ kind said. subst (Explains kind) (project_row_fault columns row e ∙ ap (λ s. row_fault (position_of s e) (plain row)) (sym is)) said) err
+    IfErr-weaker r _ _ (λ kind said. subst (Explains kind) (project_row_fault columns row e ∙ ap (λ s. row_fault (at_stage s e) (plain row)) (sym is)) said) err
 
 pub vote_ok : (stage : Stage) (columns : VoteColumns) (row : Fields) (old new : Draft) (r : Result (Unit {0}) ReadKind) → stage ≡ InVotes columns →
     OnOk r ((vote_row_checks columns row old.election ≡ None) × (new.election ≡ with_voter columns row old.election) × IsTied new) →
@@ -60,9 +60,9 @@ vote_ok stage columns row old new r is ok =
     (on_ok_weaker r (λ p. (sym (vote_row_fault columns row old.election) ∙ p.0, ap (in_votes columns) p.1, record { tied = p.2; kept = tt })) ok)
 
 pub vote_err : (stage : Stage) (columns : VoteColumns) (row : Fields) (e : ElectionView) (r : Result (Unit {0}) ReadKind) → stage ≡ InVotes columns →
-    IfErr r (λ kind. Explains kind (vote_row_checks columns row e)) → IfErr r (λ kind. Explains kind (row_fault (position_of stage e) (plain row)))
+    IfErr r (λ kind. Explains kind (vote_row_checks columns row e)) → IfErr r (λ kind. Explains kind (row_fault (at_stage stage e) (plain row)))
 vote_err stage columns row e r is err =
-    IfErr-weaker r _ _ (λ kind said. subst (Explains kind) (vote_row_fault columns row e ∙ ap (λ s. row_fault (position_of s e) (plain row)) (sym is)) said) err
+    IfErr-weaker r _ _ (λ kind said. subst (Explains kind) (vote_row_fault columns row e ∙ ap (λ s. row_fault (at_stage s e) (plain row)) (sym is)) said) err
 
 IsRead-with_row : (meta : Meta) (row : Fields) → IsRead meta → IsRead (with_row meta row)
 IsRead-with_row meta row read budget e = go (is_word (codes "budget") (field row 0)) e
@@ -84,5 +84,5 @@ meta_ok stage meta new row draft is noted ready =
 -- a blank record changes nothing
 pub blank_ok : (progress : Progress) (row : Fields) → is_blank row ≡ true → IsReady progress → IsStep progress.stage progress.draft.election (next_row row) progress
 blank_ok progress row none ready =
-    let p : Position = position_of progress.stage progress.draft.election in
+    let p : Position = position_of progress in
     (ap (row_fault p) (next_row-blank row none) ∙ blank_passes p, sym (ap (advance p) (next_row-blank row none) ∙ advance-blank p), ready)

@@ -6,8 +6,8 @@ use Rattle.std.specs.List.{list_all}
 use Rattle.std.specs.Str.{is_utf8}
 use Rattle.csv.specs.Records.{AllText}
 use Rattle.pb_core.specs.Election.{ElectionView}
-use Rattle.pb_rows.specs.Reading.{Fields, IsNext, NextIsNoText, records_of}
-use Rattle.pb_read.specs.Tracking.{HasCome, HasEnded, Reached, Tracks}
+use Rattle.pb_rows.specs.Reading.{Fields, NextIsNoText, records_of}
+use Rattle.pb_read.specs.Tracking.{HasCome, HasEnded, IsNextRow, Reached, Tracks}
 use Rattle.pb_read.proofs.GoesOn.{AllText-from_test, end_stands, first_fault, no_fault_so_far, reached_next, reached_start, test-from_AllText}
 use Rattle.pb_read.proofs.Uniqueness.{one_election, refused_from_outside}
 use Rattle.pb_read.specs.Positions.{Position, start, next_row, the_end}
@@ -25,17 +25,17 @@ tracks_start None = tt
 tracks_start (Some all) = record { done = []; cut = refl; count_is = refl; reached = reached_start }
 
 -- one record more
-pub tracks_more : (all left after : Option (List Fields)) (count : ℕ) (p q : Position) (fields : Fields) → Tracks all left count p → IsNext left after true fields → AllText fields → row_fault p (next_row (trimmed fields)) ≡ None → q ≡ advance p (next_row (trimmed fields)) →
+pub tracks_more : (all left after : Option (List Fields)) (count : ℕ) (p q : Position) (row : Fields) → Tracks all left count p → IsNextRow left after true row → row_fault p (next_row row) ≡ None → q ≡ advance p (next_row row) →
     Tracks all after (count + 1) q
-tracks_more None left after count p q fields tracks next text none goes = tt
-tracks_more (Some all) None after count p q fields tracks next text none goes = absurd tracks
-tracks_more (Some all) (Some []) after count p q fields tracks next text none goes = absurd (true≢false next)
-tracks_more (Some all) (Some (r ∷ rest)) after count p q fields tracks next text none goes =
-    subst (λ left. Tracks (Some all) left (count + 1) q) (sym next.2) (record {
-      done = tracks.done ++ fields ∷ [];
-      cut = tracks.cut ∙ ap (λ x. tracks.done ++ x ∷ rest) (sym next.1) ∙ sym (append_assoc tracks.done (fields ∷ []) rest);
-      count_is = length-append tracks.done (fields ∷ []) ∙ ap (λ n. n + 1) tracks.count_is;
-      reached = subst (Reached (tracks.done ++ fields ∷ [])) (sym goes) (reached_next tracks.done p fields tracks.reached text none);
+tracks_more None left after count p q row tracks next none goes = tt
+tracks_more (Some all) None after count p q row tracks next none goes = absurd tracks
+tracks_more (Some all) (Some []) after count p q row tracks next none goes = absurd (true≢false next.next)
+tracks_more (Some all) (Some (r ∷ rest)) after count p q row tracks next none goes =
+    subst (λ left. Tracks (Some all) left (count + 1) q) (sym next.next.2) (record {
+      done = tracks.done ++ next.fields ∷ [];
+      cut = tracks.cut ∙ ap (λ x. tracks.done ++ x ∷ rest) (sym next.next.1) ∙ sym (append_assoc tracks.done (next.fields ∷ []) rest);
+      count_is = length-append tracks.done (next.fields ∷ []) ∙ ap (λ n. n + 1) tracks.count_is;
+      reached = subst (Reached (tracks.done ++ next.fields ∷ [])) (sym (goes ∙ ap (λ x. advance p (next_row x)) next.row_is)) (reached_next tracks.done p next.fields tracks.reached next.text (ap (λ x. row_fault p (next_row x)) (sym next.row_is) ∙ none));
     })
 
 cut_short : (all left : List Fields) (count : ℕ) (p : Position) → HasCome all left count p → count ≤ most_records → (at : ℕ) → at ≡ count + 1 → IsReachedAt all at
@@ -78,33 +78,33 @@ stopped (Some all) (Some left) count p kind at tracks few is stops = go kind sto
     go _ s = absurd s
 
 -- the next record is at fault
-pub refused : (all left after : Option (List Fields)) (count : ℕ) (p : Position) (fields : Fields) (kind : ReadKind) (at : ℕ) → Tracks all left count p → count < most_records → at ≡ count + 1 → IsNext left after true fields → AllText fields → Explains kind (row_fault p (next_row (trimmed fields))) →
+pub refused : (all left after : Option (List Fields)) (count : ℕ) (p : Position) (row : Fields) (kind : ReadKind) (at : ℕ) → Tracks all left count p → count < most_records → at ≡ count + 1 → IsNextRow left after true row → Explains kind (row_fault p (next_row row)) →
     IfSome all (λ records. IsFaultAt records kind at)
-refused None left after count p fields kind at tracks few is next text said = tt
-refused (Some all) None after count p fields kind at tracks few is next text said = absurd tracks
-refused (Some all) (Some []) after count p fields kind at tracks few is next text said = absurd (true≢false next)
-refused (Some all) (Some (r ∷ rest)) after count p fields kind at tracks few is next text said =
-    explained all kind at _ (cut_short all (r ∷ rest) count p tracks (omega (arith, few)) at is) (subst (λ x. Explains kind (row_fault p (next_row (trimmed x)))) next.1 said)
+refused None left after count p row kind at tracks few is next said = tt
+refused (Some all) None after count p row kind at tracks few is next said = absurd tracks
+refused (Some all) (Some []) after count p row kind at tracks few is next said = absurd (true≢false next.next)
+refused (Some all) (Some (r ∷ rest)) after count p row kind at tracks few is next said =
+    explained all kind at _ (cut_short all (r ∷ rest) count p tracks (omega (arith, few)) at is) (subst (λ x. Explains kind (row_fault p (next_row x))) (next.row_is ∙ ap trimmed next.next.1) said)
     (λ k found.
     first_at all (r ∷ rest) count p tracks (omega (arith, few)) at is k
-    (ap (λ t. cond (not t) (Some kinds.NotText) (cond (count == most_records) (Some kinds.TooManyRecords) (row_fault p (next_row (trimmed r))))) (test-from_AllText r (subst AllText next.1 text))
+    (ap (λ t. cond (not t) (Some kinds.NotText) (cond (count == most_records) (Some kinds.TooManyRecords) (row_fault p (next_row (trimmed r))))) (test-from_AllText r (subst AllText next.next.1 next.text))
     ∙ ap (λ t. cond t (Some kinds.TooManyRecords) (row_fault p (next_row (trimmed r)))) (ne_eqb count most_records (λ e. absurd (omega (arith, e, few)))) ∙ found))
 
 -- one record too many
-pub too_many : (all left after : Option (List Fields)) (p : Position) (fields : Fields) → Tracks all left most_records p → IsNext left after true fields → AllText fields → IfSome all (λ records. IsFaultAt records kinds.TooManyRecords (most_records + 1))
-too_many None left after p fields tracks next text = tt
-too_many (Some all) None after p fields tracks next text = absurd tracks
-too_many (Some all) (Some []) after p fields tracks next text = absurd (true≢false next)
-too_many (Some all) (Some (r ∷ rest)) after p fields tracks next text =
+pub too_many : (all left after : Option (List Fields)) (p : Position) (row : Fields) → Tracks all left most_records p → IsNextRow left after true row → IfSome all (λ records. IsFaultAt records kinds.TooManyRecords (most_records + 1))
+too_many None left after p row tracks next = tt
+too_many (Some all) None after p row tracks next = absurd tracks
+too_many (Some all) (Some []) after p row tracks next = absurd (true≢false next.next)
+too_many (Some all) (Some (r ∷ rest)) after p row tracks next =
     first_at all (r ∷ rest) most_records p tracks (omega arith) (most_records + 1) refl kinds.TooManyRecords
-    (ap (λ t. cond (not t) (Some kinds.NotText) (cond (most_records == most_records) (Some kinds.TooManyRecords) (row_fault p (next_row (trimmed r))))) (test-from_AllText r (subst AllText next.1 text)))
+    (ap (λ t. cond (not t) (Some kinds.NotText) (cond (most_records == most_records) (Some kinds.TooManyRecords) (row_fault p (next_row (trimmed r))))) (test-from_AllText r (subst AllText next.next.1 next.text)))
 
 -- no record is left
-pub has_ended : (all left after : Option (List Fields)) (count : ℕ) (p : Position) (fields : Fields) (at : ℕ) → Tracks all left count p → count ≤ most_records → at ≡ count + 1 → IsNext left after false fields → HasEnded all at p
-has_ended None left after count p fields at tracks few is next = tt
-has_ended (Some all) None after count p fields at tracks few is next = absurd tracks
-has_ended (Some all) (Some (r ∷ rest)) after count p fields at tracks few is next = absurd (false≢true next.0)
-has_ended (Some all) (Some []) after count p fields at tracks few is next = record { count = count; at_is = is; few = few; come = tracks }
+pub has_ended : (all left after : Option (List Fields)) (count : ℕ) (p : Position) (row : Fields) (at : ℕ) → Tracks all left count p → count ≤ most_records → at ≡ count + 1 → IsNextRow left after false row → HasEnded all at p
+has_ended None left after count p row at tracks few is next = tt
+has_ended (Some all) None after count p row at tracks few is next = absurd tracks
+has_ended (Some all) (Some (r ∷ rest)) after count p row at tracks few is next = absurd (false≢true next.next.0)
+has_ended (Some all) (Some []) after count p row at tracks few is next = record { count = count; at_is = is; few = few; come = tracks }
 
 -- the file stands for the election that was read
 pub ended : (all : Option (List Fields)) (at : ℕ) (p : Position) (e : ElectionView) → HasEnded all at p → EndsWith p e → IfSome all (λ records. StandsFor records e)

@@ -1,5 +1,5 @@
 -- How far the reader has come, as a position; private contracts speak of it.
-use Rattle.std.specs.Prelude.{◌≡◌, ◌≤◌, ℕ, List, [], Option, Some, Ok}
+use Rattle.std.specs.Prelude.{◌≡◌, ◌≤◌, ℕ, List, [], Option, None, Some, Ok}
 use Rattle.pb_core.specs.Election.{ElectionView}
 use Rattle.pb_core.specs.Money.{largest_money}
 use Rattle.pb_read.specs.declared.meta.Meta.{Meta}
@@ -7,20 +7,21 @@ use Rattle.pb_rows.specs.Reading.{Fields, NextIsNoText}
 use Rattle.pb_read.specs.declared.fault.ReadKind.{ReadKind}
 use Rattle.pb_read.specs.declared.fault.ReadKind.TheVariants.{ReadFailed, NotText, NoMemory}
 use Rattle.pb_read.specs.Drafts.{IsTied}
-use Rattle.pb_read.specs.Positions.{Position, start, meta_head, in_meta, projects_head, in_projects, votes_head, in_votes}
+use Rattle.pb_read.specs.Machine.{Explains, advance, row_fault}
+use Rattle.pb_read.specs.Positions.{Next, Position, start, meta_head, in_meta, projects_head, in_projects, votes_head, in_votes}
 use Rattle.pb_read.specs.declared.columns.VoteColumns.{VoteColumns}
 use Rattle.pb_read.specs.declared.progress.Progress.{Progress}
 use Rattle.pb_read.specs.declared.progress.Stage.{Stage}
 use Rattle.pb_read.specs.declared.progress.Stage.TheVariants.{Start, MetaHead, InMeta, ProjectsHead, InProjects, VotesHead, InVotes}
 
-abbrev pub position_of : Stage → ElectionView → Position
-position_of Start e = start
-position_of MetaHead e = meta_head
-position_of (InMeta meta) e = in_meta meta
-position_of ProjectsHead e = projects_head e
-position_of (InProjects columns) e = in_projects columns e
-position_of VotesHead e = votes_head e
-position_of (InVotes columns) e = in_votes columns e
+abbrev pub at_stage : Stage → ElectionView → Position
+at_stage Start e = start
+at_stage MetaHead e = meta_head
+at_stage (InMeta meta) e = in_meta meta
+at_stage ProjectsHead e = projects_head e
+at_stage (InProjects columns) e = in_projects columns e
+at_stage VotesHead e = votes_head e
+at_stage (InVotes columns) e = in_votes columns e
 
 -- a budget that was read is in range
 abbrev pub IsRead : Meta → Type 0
@@ -36,6 +37,17 @@ IsKept _ e = Unit {0}
 pub record IsReady (progress : Progress) : Type 0 where
   pub tied : IsTied progress.draft
   pub kept : IsKept progress.stage progress.draft.election
+
+abbrev pub position_of : Progress → Position
+position_of progress = at_stage progress.stage progress.draft.election
+
+-- what comes next is read without fault
+abbrev pub Advances : Progress → Next → Progress → Type 0
+Advances old next new = (row_fault (position_of old) next ≡ None) × (position_of new ≡ advance (position_of old) next) × IsReady new
+
+-- what comes next is refused: a kind is the first fault there, unless memory was refused
+abbrev pub Refuses : Progress → Next → ReadKind → Type 0
+Refuses old next kind = Explains kind (row_fault (position_of old) next)
 
 -- a file may end here, with this election
 abbrev pub EndsWith : Position → ElectionView → Type 0

@@ -1,10 +1,10 @@
 -- How much of a file was read; private contracts speak of it.
-use Rattle.std.specs.Prelude.{◌≡◌, ◌≤◌, ◌+◌, ℕ, List, [], ◌++◌, length, Option, Some, None}
+use Rattle.std.specs.Prelude.{◌≡◌, ◌≤◌, ◌+◌, ℕ, Bool, List, [], ◌++◌, length, Option, Some, None}
 use Rattle.std.specs.List.{AllByRecursion}
 use Rattle.csv.specs.Records.{AllText}
-use Rattle.pb_rows.specs.Reading.{Fields}
+use Rattle.pb_rows.specs.Reading.{Fields, IsNext}
 use Rattle.pb_read.specs.Positions.{IsAt, IsSound, Position}
-use Rattle.pb_read.specs.Rows.{rows_of}
+use Rattle.pb_read.specs.Rows.{rows_of, trimmed}
 use Rattle.pb_read.specs.StandsFor.{most_records}
 
 -- the records are text, and were read to this position without fault
@@ -13,7 +13,14 @@ pub record Reached (done : List Fields) (p : Position) : Type 0 where
   pub at : IsAt (rows_of done) p
   pub sound : IsSound p
 
--- so many of all records were read to a position, and these are left
+-- the next record, as a row; or none is left
+pub record IsNextRow (left after : Option (List Fields)) (found : Bool) (row : Fields) : Type 0 where
+  pub fields : Fields
+  pub next : IsNext left after found fields
+  pub text : AllText fields
+  pub row_is : row ≡ trimmed fields
+
+-- this many of all records were read to a position, and these are left
 pub record HasCome (all left : List Fields) (count : ℕ) (p : Position) : Type 0 where
   pub done : List Fields
   pub cut : all ≡ done ++ left

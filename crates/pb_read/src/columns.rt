@@ -1,8 +1,7 @@
 // Where the columns of PROJECTS and VOTES stand.
 
 use crate::fault::ReadKind;
-use crate::row::{column, field};
-use csv::StringRecord;
+use crate::row::Row;
 use pb_core::money::Money;
 
 /// The places of the columns of PROJECTS, from 0.
@@ -24,41 +23,40 @@ impl ProjectColumns {
     ghost use Rattle.std.specs.Prelude.{◌≡◌, Ok, IsErrAnd, MatchResult};
     ghost use Rattle.pb_core.specs.Money.{money_of};
     ghost use Rattle.pb_read.specs.Kinds.{kind_of_money};
-    ghost use Rattle.csv.specs.Records.{fields_of};
     ghost use Rattle.pb_read.specs.Columns.{has_project_fields, name_field, project_columns};
-    ghost use Rattle.pb_read.specs.Rows.{field, trimmed};
+    ghost use Rattle.pb_read.specs.Rows.{field};
 
     /// The columns that a header row of PROJECTS names: `project_id` and `cost` are needed.
-    pub(crate) fn of(header: &StringRecord) -> Option<ProjectColumns>
-        ensures { result ≡ project_columns (trimmed (fields_of header.now)) }
+    pub(crate) fn of(header: &Row) -> Option<ProjectColumns>
+        ensures { result ≡ project_columns header.now }
     {
-        let id = column("project_id", header)?;
-        let cost = column("cost", header)?;
-        let name = column("name", header);
+        let id = header.column("project_id")?;
+        let cost = header.column("cost")?;
+        let name = header.column("name");
         Some(ProjectColumns { id, cost, name })
     }
 
     /// Whether a row has a field in each needed column.
-    pub(crate) fn are_in(&self, row: &StringRecord) -> bool
-        ensures { result ≡ has_project_fields self.now (trimmed (fields_of row.now)) }
+    pub(crate) fn are_in(&self, row: &Row) -> bool
+        ensures { result ≡ has_project_fields self.now row.now }
     {
-        self.id < row.len() && self.cost < row.len()
+        row.has_field(self.id) && row.has_field(self.cost)
     }
 
     /// The cost in a row.
-    pub(crate) fn cost(&self, row: &StringRecord) -> Result<Money, ReadKind>
-        ensures { MatchResult result (λ cost. money_of (field (trimmed (fields_of row.now)) self.now.cost) ≡ Ok cost)
-            (λ kind. IsErrAnd (money_of (field (trimmed (fields_of row.now)) self.now.cost)) (λ fault. kind ≡ kind_of_money fault)) }
+    pub(crate) fn cost(&self, row: &Row) -> Result<Money, ReadKind>
+        ensures { MatchResult result (λ cost. money_of (field row.now self.now.cost) ≡ Ok cost)
+            (λ kind. IsErrAnd (money_of (field row.now self.now.cost)) (λ fault. kind ≡ kind_of_money fault)) }
     {
-        Money::read(field(row, self.cost)).map_err(ReadKind::from)
+        Money::read(row.field(self.cost)).map_err(ReadKind::from)
     }
 
     /// The name in a row: empty where there is no such column, or the row ends before it.
-    pub(crate) fn name<'r>(&self, row: &'r StringRecord) -> &'r str
-        ensures { result.now ≡ name_field self.now (trimmed (fields_of row.now)) }
+    pub(crate) fn name<'r>(&self, row: &'r Row) -> &'r str
+        ensures { result.now ≡ name_field self.now row.now }
     {
         match self.name {
-            Some(place) => field(row, place),
+            Some(place) => row.field(place),
             None => "",
         }
     }
@@ -66,23 +64,21 @@ impl ProjectColumns {
 
 impl VoteColumns {
     ghost use Rattle.std.specs.Prelude.{◌≡◌};
-    ghost use Rattle.csv.specs.Records.{fields_of};
     ghost use Rattle.pb_read.specs.Columns.{has_vote_fields, vote_columns};
-    ghost use Rattle.pb_read.specs.Rows.{trimmed};
 
     /// The columns that a header row of VOTES names: `voter_id` and `vote`, both needed.
-    pub(crate) fn of(header: &StringRecord) -> Option<VoteColumns>
-        ensures { result ≡ vote_columns (trimmed (fields_of header.now)) }
+    pub(crate) fn of(header: &Row) -> Option<VoteColumns>
+        ensures { result ≡ vote_columns header.now }
     {
-        let voter = column("voter_id", header)?;
-        let vote = column("vote", header)?;
+        let voter = header.column("voter_id")?;
+        let vote = header.column("vote")?;
         Some(VoteColumns { voter, vote })
     }
 
     /// Whether a row has a field in each needed column.
-    pub(crate) fn are_in(&self, row: &StringRecord) -> bool
-        ensures { result ≡ has_vote_fields self.now (trimmed (fields_of row.now)) }
+    pub(crate) fn are_in(&self, row: &Row) -> bool
+        ensures { result ≡ has_vote_fields self.now row.now }
     {
-        self.voter < row.len() && self.vote < row.len()
+        row.has_field(self.voter) && row.has_field(self.vote)
     }
 }

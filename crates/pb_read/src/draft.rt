@@ -1,18 +1,15 @@
 // The election as far as its rows were read.
 
 ghost use Rattle.std.specs.Prelude.{◌≡◌, ◌≤◌, [], IfErr, OnOk, None};
-ghost use Rattle.csv.specs.Records.{fields_of};
 ghost use Rattle.pb_core.specs.Money.{largest_money};
 ghost use Rattle.pb_read.specs.Drafts.{IsTied};
 ghost use Rattle.pb_read.specs.Machine.{Explains, project_row_checks, vote_row_checks, with_project, with_voter};
-ghost use Rattle.pb_read.specs.Rows.{trimmed};
 ghost use Rattle.pb_read.specs.StandsFor.{opening};
 
 use crate::columns::{ProjectColumns, VoteColumns};
 use crate::fault::ReadKind;
 use crate::ids::Ids;
-use crate::row::field;
-use csv::StringRecord;
+use crate::row::Row;
 use pb_core::ballot::Ballot;
 use pb_core::election::{Election, MOST_PROJECTS, MOST_VOTERS};
 use pb_core::money::Money;
@@ -51,16 +48,12 @@ impl Draft {
     }
 
     /// Adds the project of a row of PROJECTS, or answers why it gives none.
-    pub(crate) fn add_project(
-        &mut self,
-        columns: ProjectColumns,
-        row: &StringRecord,
-    ) -> Result<(), ReadKind>
+    pub(crate) fn add_project(&mut self, columns: ProjectColumns, row: &Row) -> Result<(), ReadKind>
         requires tied { IsTied self.old }
         requires no_voter { self.old.election.voters ≡ [] }
-        ensures ok { OnOk result ((project_row_checks columns (trimmed (fields_of row.now)) self.old.election ≡ None)
-            × (self.new.election ≡ with_project columns (trimmed (fields_of row.now)) self.old.election) × IsTied self.new) }
-        ensures err { IfErr result (λ kind. Explains kind (project_row_checks columns (trimmed (fields_of row.now)) self.old.election)) }
+        ensures ok { OnOk result ((project_row_checks columns row.now self.old.election ≡ None)
+            × (self.new.election ≡ with_project columns row.now self.old.election) × IsTied self.new) }
+        ensures err { IfErr result (λ kind. Explains kind (project_row_checks columns row.now self.old.election)) }
     {
         if !columns.are_in(row) {
             return Err(ReadKind::MissingField);
@@ -72,7 +65,7 @@ impl Draft {
         if cost.0 == 0 {
             return Err(ReadKind::ZeroCost);
         }
-        let id = field(row, columns.id);
+        let id = row.field(columns.id);
         if id.is_empty() {
             return Err(ReadKind::EmptyId);
         }
@@ -89,27 +82,23 @@ impl Draft {
     }
 
     /// Adds the voter of a row of VOTES, or answers why it gives none.
-    pub(crate) fn add_voter(
-        &mut self,
-        columns: VoteColumns,
-        row: &StringRecord,
-    ) -> Result<(), ReadKind>
+    pub(crate) fn add_voter(&mut self, columns: VoteColumns, row: &Row) -> Result<(), ReadKind>
         requires { IsTied self.old }
-        ensures ok { OnOk result ((vote_row_checks columns (trimmed (fields_of row.now)) self.old.election ≡ None)
-            × (self.new.election ≡ with_voter columns (trimmed (fields_of row.now)) self.old.election) × IsTied self.new) }
-        ensures err { IfErr result (λ kind. Explains kind (vote_row_checks columns (trimmed (fields_of row.now)) self.old.election)) }
+        ensures ok { OnOk result ((vote_row_checks columns row.now self.old.election ≡ None)
+            × (self.new.election ≡ with_voter columns row.now self.old.election) × IsTied self.new) }
+        ensures err { IfErr result (λ kind. Explains kind (vote_row_checks columns row.now self.old.election)) }
     {
         if !columns.are_in(row) {
             return Err(ReadKind::MissingField);
         }
-        let Some(id) = VoterId::new(self.alloc, field(row, columns.voter))? else {
+        let Some(id) = VoterId::new(self.alloc, row.field(columns.voter))? else {
             return Err(ReadKind::EmptyId);
         };
         if !self.voter_ids.add(self.alloc, id.text())? {
             return Err(ReadKind::RepeatedVoter);
         }
         let is_full = self.election.voters().len() >= MOST_VOTERS;
-        let vote = field(row, columns.vote);
+        let vote = row.field(columns.vote);
         if !self.project_ids.places(vote, &mut self.places)? {
             return Err(ReadKind::UnknownProject);
         }

@@ -2,8 +2,7 @@
 
 use crate::fault::ReadKind;
 use crate::length::read_max_length;
-use crate::row::{field, is_word};
-use csv::StringRecord;
+use crate::row::{Row, is_word};
 use pb_core::money::Money;
 use pb_core::money_fault::MoneyFault;
 
@@ -20,10 +19,8 @@ pub(crate) struct Meta {
 
 impl Meta {
     ghost use Rattle.std.specs.Prelude.{◌≡◌, [], Some, Ok, None, MatchResult};
-    ghost use Rattle.csv.specs.Records.{fields_of};
     ghost use Rattle.pb_read.specs.Machine.{head_checks, with_row};
     ghost use Rattle.pb_read.specs.MetaRows.{meta_of};
-    ghost use Rattle.pb_read.specs.Rows.{trimmed};
 
     /// META without rows.
     pub(crate) fn new() -> Meta
@@ -37,11 +34,11 @@ impl Meta {
     }
 
     /// One more row: a key and its value.
-    pub(crate) fn note(&mut self, row: &StringRecord)
-        ensures { self.new ≡ with_row self.old (trimmed (fields_of row.now)) }
+    pub(crate) fn note(&mut self, row: &Row)
+        ensures { self.new ≡ with_row self.old row.now }
     {
-        let key = field(row, 0);
-        let value = field(row, 1);
+        let key = row.field(0);
+        let value = row.field(1);
         if is_word("budget", key) {
             self.budget = Some(Money::read(value));
         }

@@ -1,21 +1,17 @@
 // How far a file was read.
 
 ghost use Rattle.std.specs.Prelude.{◌≡◌, None, Some, IfErr, OnOk, MatchResult};
-ghost use Rattle.csv.specs.Records.{fields_of};
-ghost use Rattle.pb_core.specs.Election.{ElectionView};
 ghost use Rattle.pb_read.specs.Positions.{head, next_row, plain, projects_head, start, the_end};
-ghost use Rattle.pb_read.specs.Machine.{Explains, advance, budget_of, head_checks, limit_of, row_fault};
-ghost use Rattle.pb_read.specs.Progresses.{EndsWith, IsRead, IsReady, position_of};
-ghost use Rattle.pb_read.specs.Rows.{trimmed};
+ghost use Rattle.pb_read.specs.Machine.{budget_of, head_checks, limit_of};
+ghost use Rattle.pb_read.specs.Progresses.{Advances, EndsWith, IsRead, IsReady, Refuses, position_of};
 ghost use Rattle.pb_read.specs.StandsFor.{opening};
 
 use crate::columns::{ProjectColumns, VoteColumns};
 use crate::draft::Draft;
 use crate::fault::ReadKind;
 use crate::meta::Meta;
-use crate::row::is_blank;
+use crate::row::Row;
 use crate::section::Section;
-use csv::StringRecord;
 use pb_core::election::Election;
 use pb_core::money::Money;
 use std::alloc::Global;
@@ -49,7 +45,7 @@ pub(crate) struct Progress {
 impl Progress {
     /// Nothing was read yet.
     pub(crate) fn new(alloc: Global) -> Progress
-        ensures start { position_of result.stage result.draft.election ≡ start }
+        ensures start { position_of result ≡ start }
         ensures ready { IsReady result }
     {
         Progress {
@@ -59,13 +55,12 @@ impl Progress {
     }
 
     /// Reads a record, or answers the lowest fault that applies to it.
-    pub(crate) fn read(&mut self, row: &StringRecord) -> Result<(), ReadKind>
+    pub(crate) fn read(&mut self, row: &Row) -> Result<(), ReadKind>
         requires { IsReady self.old }
-        ensures ok { OnOk result ((row_fault (position_of self.old.stage self.old.draft.election) (next_row (trimmed (fields_of row.now))) ≡ None)
-            × (position_of self.new.stage self.new.draft.election ≡ advance (position_of self.old.stage self.old.draft.election) (next_row (trimmed (fields_of row.now)))) × IsReady self.new) }
-        ensures err { IfErr result (λ kind. Explains kind (row_fault (position_of self.old.stage self.old.draft.election) (next_row (trimmed (fields_of row.now))))) }
+        ensures ok { OnOk result (Advances self.old (next_row row.now) self.new) }
+        ensures err { IfErr result (Refuses self.old (next_row row.now)) }
     {
-        if is_blank(row) {
+        if row.is_blank() {
             return Ok(());
         }
         match Section::headed_by(row) {
@@ -78,9 +73,8 @@ impl Progress {
     #[tactic(auto, unfolding(crate::specs::Machine::row_fault))]
     fn open(&mut self, section: Section) -> Result<(), ReadKind>
         requires { IsReady self.old }
-        ensures ok { OnOk result ((row_fault (position_of self.old.stage self.old.draft.election) (head section) ≡ None)
-            × (position_of self.new.stage self.new.draft.election ≡ advance (position_of self.old.stage self.old.draft.election) (head section)) × IsReady self.new) }
-        ensures err { IfErr result (λ kind. Explains kind (row_fault (position_of self.old.stage self.old.draft.election) (head section))) }
+        ensures ok { OnOk result (Advances self.old (head section) self.new) }
+        ensures err { IfErr result (Refuses self.old (head section)) }
     {
         match self.stage {
             Stage::Start => match section {
@@ -107,7 +101,7 @@ impl Progress {
     fn open_projects(&mut self, meta: Meta) -> Result<(), ReadKind>
         requires { IsRead meta }
         ensures ok { OnOk result ((head_checks meta.budget meta.approval meta.max_length ≡ None)
-            × (position_of self.new.stage self.new.draft.election
+            × (position_of self.new
             ≡ projects_head (opening (budget_of meta.budget) (limit_of meta.max_length))) × IsReady self.new) }
         ensures err { IfErr result (λ kind. head_checks meta.budget meta.approval meta.max_length ≡ Some kind) }
     {
@@ -122,11 +116,10 @@ impl Progress {
 
     /// Reads a row that is no section's head.
     #[tactic(auto, unfolding(crate::specs::Machine::row_fault))]
-    fn read_plain(&mut self, row: &StringRecord) -> Result<(), ReadKind>
+    fn read_plain(&mut self, row: &Row) -> Result<(), ReadKind>
         requires { IsReady self.old }
-        ensures ok { OnOk result ((row_fault (position_of self.old.stage self.old.draft.election) (plain (trimmed (fields_of row.now))) ≡ None)
-            × (position_of self.new.stage self.new.draft.election ≡ advance (position_of self.old.stage self.old.draft.election) (plain (trimmed (fields_of row.now)))) × IsReady self.new) }
-        ensures err { IfErr result (λ kind. Explains kind (row_fault (position_of self.old.stage self.old.draft.election) (plain (trimmed (fields_of row.now))))) }
+        ensures ok { OnOk result (Advances self.old (plain row.now) self.new) }
+        ensures err { IfErr result (Refuses self.old (plain row.now)) }
     {
         match self.stage {
             Stage::Start => return Err(ReadKind::NoSection),
@@ -152,8 +145,7 @@ impl Progress {
     /// The election, where the file may end here.
     #[tactic(auto, unfolding(crate::specs::Machine::row_fault))]
     pub(crate) fn finish(self) -> Result<Election, ReadKind>
-        ensures { MatchResult result (λ election. EndsWith (position_of self.stage self.draft.election) election)
-            (λ kind. Explains kind (row_fault (position_of self.stage self.draft.election) the_end)) }
+        ensures { MatchResult result (EndsWith (position_of self)) (Refuses self the_end) }
     {
         match self.stage {
             Stage::InVotes(_) => Ok(self.draft.election),

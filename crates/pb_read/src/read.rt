@@ -1,20 +1,17 @@
 // The reader of a whole file.
 
 ghost use Rattle.std.specs.Prelude.{◌≡◌, ◌+◌, ◌≤◌, None, IfOk, IfErr, IfSome, OnOk, MatchResult};
-ghost use Rattle.csv.specs.Records.{AllText, fields_of};
 ghost use Rattle.pb_core.specs.Election.{ElectionView};
-ghost use Rattle.pb_rows.specs.Reading.{IsNext, records_of};
+ghost use Rattle.pb_rows.specs.Reading.{records_of};
 ghost use Rattle.pb_read.specs.Positions.{next_row, start, the_end};
 ghost use Rattle.pb_read.specs.FirstFault.{IsFaultAt, IsFromOutside};
-ghost use Rattle.pb_read.specs.Machine.{Explains, advance, row_fault};
-ghost use Rattle.pb_read.specs.Progresses.{EndsWith, IsReady, StopsReading, position_of};
-ghost use Rattle.pb_read.specs.Rows.{trimmed};
+ghost use Rattle.pb_read.specs.Progresses.{Advances, EndsWith, IsReady, Refuses, StopsReading, position_of};
 ghost use Rattle.pb_read.specs.StandsFor.{StandsFor};
-ghost use Rattle.pb_read.specs.Tracking.{HasEnded};
+ghost use Rattle.pb_read.specs.Tracking.{HasEnded, IsNextRow};
 
 use crate::fault::{ReadFault, ReadKind};
 use crate::progress::Progress;
-use csv::StringRecord;
+use crate::row::Row;
 use pb_core::election::Election;
 use pb_rows::Records;
 use std::alloc::Global;
@@ -49,7 +46,7 @@ fn read_records<R: Read>(alloc: Global, records: &mut Records<R>) -> Result<Elec
     ensures ok { IfSome records.old.left (λ all. IfOk result (λ e. StandsFor all e)) }
     ensures fault { IfSome records.old.left (λ all. IfErr result (λ fault. IsFaultAt all fault.kind fault.at)) }
 {
-    let mut row = StringRecord::new(alloc);
+    let mut row = Row::new(alloc);
     let mut progress = Progress::new(alloc);
     match read_rows(records, &mut row, &mut progress) {
         Ok(end) => finish(progress, end),
@@ -60,12 +57,12 @@ fn read_records<R: Read>(alloc: Global, records: &mut Records<R>) -> Result<Elec
 /// Reads all records, one after another, and answers the number one past the last.
 fn read_rows<R: Read>(
     records: &mut Records<R>,
-    row: &mut StringRecord,
+    row: &mut Row,
     progress: &mut Progress,
 ) -> Result<u32, ReadFault>
-    requires at_start { position_of progress.old.stage progress.old.draft.election ≡ start }
+    requires at_start { position_of progress.old ≡ start }
     requires ready { IsReady progress.old }
-    ensures ok { IfOk result (λ end. HasEnded records.old.left end (position_of progress.new.stage progress.new.draft.election)) }
+    ensures ok { IfOk result (λ end. HasEnded records.old.left end (position_of progress.new)) }
     ensures fault { IfSome records.old.left (λ all. IfErr result (λ fault. IsFaultAt all fault.kind fault.at)) }
 {
     for done in 0..MOST_RECORDS {
@@ -84,16 +81,11 @@ fn read_rows<R: Read>(
 }
 
 /// Reads the next record, number `at`, and answers whether there was one.
-fn read_row<R: Read>(
-    records: &mut Records<R>,
-    row: &mut StringRecord,
-    at: u32,
-) -> Result<bool, ReadFault>
-    ensures next { IfOk result (λ found. IsNext records.old.left records.new.left found (fields_of row.new)) }
-    ensures text { OnOk result (AllText (fields_of row.new)) }
+fn read_row<R: Read>(records: &mut Records<R>, row: &mut Row, at: u32) -> Result<bool, ReadFault>
+    ensures next { IfOk result (λ found. IsNextRow records.old.left records.new.left found row.new) }
     ensures fault { IfErr result (λ fault. (fault.at ≡ at) × StopsReading fault.kind records.old.left) }
 {
-    match records.read(row) {
+    match row.read(records) {
         Ok(found) => Ok(found),
         Err(fault) => {
             let kind = ReadKind::from(fault);
@@ -103,11 +95,10 @@ fn read_row<R: Read>(
 }
 
 /// Takes the record that was read, number `at`.
-fn take_row(progress: &mut Progress, row: &StringRecord, at: u32) -> Result<(), ReadFault>
+fn take_row(progress: &mut Progress, row: &Row, at: u32) -> Result<(), ReadFault>
     requires { IsReady progress.old }
-    ensures ok { OnOk result ((row_fault (position_of progress.old.stage progress.old.draft.election) (next_row (trimmed (fields_of row.now))) ≡ None)
-        × (position_of progress.new.stage progress.new.draft.election ≡ advance (position_of progress.old.stage progress.old.draft.election) (next_row (trimmed (fields_of row.now)))) × IsReady progress.new) }
-    ensures fault { IfErr result (λ fault. (fault.at ≡ at) × Explains fault.kind (row_fault (position_of progress.old.stage progress.old.draft.election) (next_row (trimmed (fields_of row.now))))) }
+    ensures ok { OnOk result (Advances progress.old (next_row row.now) progress.new) }
+    ensures fault { IfErr result (λ fault. (fault.at ≡ at) × Refuses progress.old (next_row row.now) fault.kind) }
 {
     match progress.read(row) {
         Ok(()) => Ok(()),
@@ -117,8 +108,8 @@ fn take_row(progress: &mut Progress, row: &StringRecord, at: u32) -> Result<(), 
 
 /// Ends the reading, where record `at` would stand.
 fn finish(progress: Progress, at: u32) -> Result<Election, ReadFault>
-    ensures { MatchResult result (λ election. EndsWith (position_of progress.stage progress.draft.election) election)
-        (λ fault. (fault.at ≡ at) × Explains fault.kind (row_fault (position_of progress.stage progress.draft.election) the_end)) }
+    ensures { MatchResult result (EndsWith (position_of progress))
+        (λ fault. (fault.at ≡ at) × Refuses progress the_end fault.kind) }
 {
     match progress.finish() {
         Ok(election) => Ok(election),

@@ -1,41 +1,99 @@
-// The fields of a record, trimmed.
+// A record of the file as its trimmed fields.
 
-ghost use Rattle.std.specs.Prelude.{◌≡◌, ℕ, List};
+ghost use Rattle.std.specs.Prelude.{◌≡◌, IfOk, length, nat_lt};
 ghost use Rattle.std.specs.Str.{trim};
 ghost use Rattle.csv.specs.Records.{fields_of};
+ghost use Rattle.pb_rows.specs.Reading.{NextIsNoText};
 ghost use Rattle.pb_read.specs.Columns.{column};
 ghost use Rattle.pb_read.specs.Rows.{field, is_blank, is_word, trimmed};
+ghost use Rattle.pb_read.specs.Tracking.{IsNextRow};
 
 use csv::StringRecord;
+use pb_rows::{Records, RecordsFault};
+use std::alloc::Global;
+use std::io::Read;
+use std::marker::Model;
 
-/// The field at a place, from 0, trimmed; the empty text where the record ends before it.
-pub(crate) fn field(row: &StringRecord, place: usize) -> &str
-    ensures field { result.now ≡ field (trimmed (fields_of row.now)) place }
-    ensures tidy { trim result.now ≡ result.now }
-{
-    whole_field(row, place).trim()
+/// A record of the file. A contract sees its fields without the white space at their ends.
+#[derive(Drop)]
+pub(crate) struct Row {
+    untrimmed: StringRecord,
 }
 
-/// The same as it stands, with the white space at its ends.
-fn whole_field(row: &StringRecord, place: usize) -> &str
-    ensures { trim result.now ≡ field (trimmed (fields_of row.now)) place }
+impl Model for Row {
+    ghost use Rattle.csv.specs.Records.{fields_of};
+    ghost use Rattle.pb_rows.specs.Reading.{Fields};
+    ghost use Rattle.pb_read.specs.Rows.{trimmed};
+
+    ghost Value = { Fields };
+
+    ghost view = { λ row. trimmed (fields_of row.untrimmed) };
+}
+
+impl Row {
+    /// A row to read records into.
+    pub(crate) fn new(alloc: Global) -> Row {
+        Row {
+            untrimmed: StringRecord::new(alloc),
+        }
+    }
+
+    /// Reads the next record, and answers whether there was one.
+    pub(crate) fn read<R: Read>(&mut self, records: &mut Records<R>) -> Result<bool, RecordsFault>
+        ensures next { IfOk result (λ found. IsNextRow records.old.left records.new.left found self.new) }
+        ensures not_text { result ≡ Err RecordsFault.NotText → NextIsNoText records.old.left }
+    {
+        records.read(&mut self.untrimmed)
+    }
+
+    /// Whether the record has a field at a place, from 0.
+    pub(crate) fn has_field(&self, place: usize) -> bool
+        ensures { result ≡ nat_lt place (length self.now) }
+    {
+        place < self.untrimmed.len()
+    }
+
+    /// The field at a place, from 0; the empty text where the record ends before it.
+    pub(crate) fn field(&self, place: usize) -> &str
+        ensures field { result.now ≡ field self.now place }
+        ensures tidy { trim result.now ≡ result.now }
+    {
+        whole_field(&self.untrimmed, place).trim()
+    }
+
+    /// Whether all fields are empty.
+    pub(crate) fn is_blank(&self) -> bool
+        ensures { result ≡ is_blank self.now }
+    {
+        for place in 0..self.untrimmed.len() {
+            if !self.field(place).is_empty() {
+                return false;
+            }
+        }
+        true
+    }
+
+    /// The first place, from 0, at which this header row names a column.
+    pub(crate) fn column(&self, name: &str) -> Option<usize>
+        ensures { result ≡ column name.now self.now }
+    {
+        for place in 0..self.untrimmed.len() {
+            if is_word(name, self.field(place)) {
+                return Some(place);
+            }
+        }
+        None
+    }
+}
+
+/// The field at a place as it stands, with the white space at its ends.
+fn whole_field(untrimmed: &StringRecord, place: usize) -> &str
+    ensures { trim result.now ≡ field (trimmed (fields_of untrimmed.now)) place }
 {
-    match row.get(place) {
+    match untrimmed.get(place) {
         Some(text) => text,
         None => "",
     }
-}
-
-/// Whether all fields of a record are empty once they are trimmed.
-pub(crate) fn is_blank(row: &StringRecord) -> bool
-    ensures { result ≡ is_blank (trimmed (fields_of row.now)) }
-{
-    for place in 0..row.len() {
-        if !field(row, place).is_empty() {
-            return false;
-        }
-    }
-    true
 }
 
 /// Whether a text is this word, upper and lower case of ASCII aside.
@@ -43,16 +101,4 @@ pub(crate) fn is_word(word: &str, text: &str) -> bool
     ensures { result ≡ is_word word.now text.now }
 {
     word.eq_ignore_ascii_case(text)
-}
-
-/// The first place, from 0, at which a header row names a column.
-pub(crate) fn column(name: &str, header: &StringRecord) -> Option<usize>
-    ensures { result ≡ column name.now (trimmed (fields_of header.now)) }
-{
-    for place in 0..header.len() {
-        if is_word(name, field(header, place)) {
-            return Some(place);
-        }
-    }
-    None
 }

@@ -1,7 +1,6 @@
 // The three sections of a file.
 
-use crate::row::{field, is_word};
-use csv::StringRecord;
+use crate::row::{Row, is_word};
 
 /// A section of a file, in the order in which sections come.
 #[derive(Clone, Copy, PartialEq, Eq, Debug)]
@@ -13,15 +12,14 @@ pub(crate) enum Section {
 
 impl Section {
     ghost use Rattle.std.specs.Prelude.{◌≡◌};
-    ghost use Rattle.csv.specs.Records.{fields_of};
-    ghost use Rattle.pb_read.specs.Rows.{head_of, trimmed};
+    ghost use Rattle.pb_read.specs.Rows.{head_of};
 
     #[tactic(auto, unfolding(crate::specs::Rows::head_of))]
     /// The section whose head a record is: its first field decides.
-    pub(crate) fn headed_by(row: &StringRecord) -> Option<Section>
-        ensures { result ≡ head_of (trimmed (fields_of row.now)) }
+    pub(crate) fn headed_by(row: &Row) -> Option<Section>
+        ensures { result ≡ head_of row.now }
     {
-        let word = field(row, 0);
+        let word = row.field(0);
         if is_word("META", word) {
             Some(Section::Meta)
         } else if is_word("PROJECTS", word) {

@@ -522,8 +522,8 @@ fn numbers_and_names_the_kinds(rt: HostRuntime) -> Result<(), Fail> {
         assert_eq!(rt; (kind.number(), kind.name()), (number, name));
         assert_eq!(rt; (fault.number(), fault.name()), (number, name));
         assert_eq!(rt; format!(in alloc; "{kind}")?.as_str(), text);
-        let line = format!(in alloc; "record 7: {text}")?;
-        assert_eq!(rt; format!(in alloc; "{fault}")?, line);
+        let line = format!(in alloc; "{fault}")?;
+        assert_eq!(rt; line.as_str().strip_prefix("record 7: "), Some(text));
     }
     Ok(())
 }

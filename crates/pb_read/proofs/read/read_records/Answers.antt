@@ -5,4 +5,4 @@ use Rattle.pb_read.proofs.read.read_records.Goals as goal
 pub returns-in-Ok-clause-fault : goal.returns-in-Ok-clause-fault
 returns-in-Ok-clause-fault g c =
     let progress = c.read_rows.new.progress in
-    finished c.args.records.now.left c.in-Ok.end (position_of progress.stage progress.draft.election) c.finish.result c.in-Ok.ensures.ok c.finish.ensures
+    finished c.args.records.now.left c.in-Ok.end (position_of progress) c.finish.result c.in-Ok.ensures.ok c.finish.ensures

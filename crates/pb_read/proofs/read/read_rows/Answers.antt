@@ -1,57 +1,51 @@
 use Rattle.std.proofs.Common.{◌≡◌, ◌≤◌, ◌+◌, arith, subst}
 use Rattle.std.proofs.lemmas.Result.{err_from_is_err_and}
 use Rattle.pb_read.proofs.Tracking.{refused, stopped, too_many, tracks_more}
-use Rattle.csv.specs.Records.{fields_of}
-use Rattle.pb_rows.specs.Reading.{IsNext}
 use Rattle.pb_read.specs.Progresses.{position_of}
 use Rattle.pb_read.specs.StandsFor.{most_records}
-use Rattle.pb_read.specs.Tracking.{Tracks}
+use Rattle.pb_read.specs.Tracking.{IsNextRow, Tracks}
 use Rattle.pb_read.proofs.read.read_rows.Goals as goal
 
 pub returns-in_err-read_row-clause-fault : goal.returns-in_err-read_row-clause-fault
 returns-in_err-read_row-clause-fault g c =
     let p = err_from_is_err_and c.from_residual.result c.from_residual.ensures.1 in
-    let at = position_of c.loop-done.progress.stage c.loop-done.progress.draft.election in
     let fault = c.in_err-read_row.field-0.0 in
-    rw (p.1, p.2) (stopped c.args.records.now.left c.loop-done.records.left c.loop-done.done at fault.kind fault.at c.loop-done.invariant.tracks (omega arith) c.in_err-read_row.ensures.fault.0 c.in_err-read_row.ensures.fault.1)
+    let said = c.in_err-read_row.ensures.fault in
+    rw (p.1, p.2) (stopped c.args.records.now.left c.loop-done.records.left c.loop-done.done (position_of c.loop-done.progress) fault.kind fault.at c.loop-done.invariant.tracks (omega arith) said.0 said.1)
 
 pub returns-in_err-take_row-clause-fault : goal.returns-in_err-take_row-clause-fault
 returns-in_err-take_row-clause-fault g c =
     let p = err_from_is_err_and c.from_residual-in_err-take_row.result c.from_residual-in_err-take_row.ensures.1 in
-    let at = position_of c.loop-done.progress.stage c.loop-done.progress.draft.election in
     let fault = c.in_err-take_row.field-0.0 in
-    let fields = fields_of c.read_row.new.row in
-    let next = subst (λ found. IsNext c.loop-done.records.left c.read_row.new.records.left found fields) c.if-not-branch.false c.in_ok-read_row.ensures.next in
+    let row = c.read_row.new.row in
+    let next = subst (λ found. IsNextRow c.loop-done.records.left c.read_row.new.records.left found row) c.if-not-branch.false c.in_ok-read_row.ensures.next in
     let said = c.in_err-take_row.ensures.fault in
-    rw (p.1, p.2) (refused c.args.records.now.left c.loop-done.records.left c.read_row.new.records.left c.loop-done.done at fields fault.kind fault.at c.loop-done.invariant.tracks (omega arith) said.0 next c.in_ok-read_row.ensures.text said.1)
+    rw (p.1, p.2) (refused c.args.records.now.left c.loop-done.records.left c.read_row.new.records.left c.loop-done.done (position_of c.loop-done.progress) row fault.kind fault.at c.loop-done.invariant.tracks (omega arith) said.0 next said.1)
 
 pub loop-done-preserved : goal.loop-done-preserved
 loop-done-preserved g c =
-    let at = position_of c.loop-done.progress.stage c.loop-done.progress.draft.election in
-    let after = position_of c.take_row.new.progress.stage c.take_row.new.progress.draft.election in
-    let fields = fields_of c.read_row.new.row in
-    let next = subst (λ found. IsNext c.loop-done.records.left c.read_row.new.records.left found fields) c.if-not-branch.false c.in_ok-read_row.ensures.next in
+    let row = c.read_row.new.row in
+    let next = subst (λ found. IsNextRow c.loop-done.records.left c.read_row.new.records.left found row) c.if-not-branch.false c.in_ok-read_row.ensures.next in
     let step = c.in_ok-take_row.ensures.ok in
     record {
-      tracks = tracks_more c.args.records.now.left c.loop-done.records.left c.read_row.new.records.left c.loop-done.done at after fields c.loop-done.invariant.tracks next c.in_ok-read_row.ensures.text step.0 step.1;
+      tracks = tracks_more c.args.records.now.left c.loop-done.records.left c.read_row.new.records.left c.loop-done.done (position_of c.loop-done.progress) (position_of c.take_row.new.progress) row c.loop-done.invariant.tracks next step.0 step.1;
       ready = step.2;
     }
 
 pub returns-in_err-read_row-2-clause-fault : goal.returns-in_err-read_row-2-clause-fault
 returns-in_err-read_row-2-clause-fault g c =
     let p = err_from_is_err_and c.from_residual-in_err-read_row-2.result c.from_residual-in_err-read_row-2.ensures.1 in
-    let at = position_of c.loop-done.progress.stage c.loop-done.progress.draft.election in
     let fault = c.in_err-read_row-2.field-0.0 in
     let said = c.in_err-read_row-2.ensures.fault in
     let few : c.loop-done.done ≤ most_records = omega arith in
     let is : fault.at ≡ c.loop-done.done + 1 = omega (arith, said.0) in
-    rw (p.1, p.2) (stopped c.args.records.now.left c.loop-done.records.left c.loop-done.done at fault.kind fault.at c.loop-done.invariant.tracks few is said.1)
+    rw (p.1, p.2) (stopped c.args.records.now.left c.loop-done.records.left c.loop-done.done (position_of c.loop-done.progress) fault.kind fault.at c.loop-done.invariant.tracks few is said.1)
 
 pub returns-then-branch-clause-fault : goal.returns-then-branch-clause-fault
 returns-then-branch-clause-fault g c =
-    let at = position_of c.loop-done.progress.stage c.loop-done.progress.draft.election in
-    let fields = fields_of c.read_row-2.new.row in
-    let next = subst (λ found. IsNext c.loop-done.records.left c.read_row-2.new.records.left found fields) c.if-branch.true c.in_ok-read_row-2.ensures.next in
+    let at = position_of c.loop-done.progress in
+    let row = c.read_row-2.new.row in
+    let next = subst (λ found. IsNextRow c.loop-done.records.left c.read_row-2.new.records.left found row) c.if-branch.true c.in_ok-read_row-2.ensures.next in
     let all : c.loop-done.done ≡ most_records = omega arith in
     let tracks = subst (λ n. Tracks c.args.records.now.left c.loop-done.records.left n at) all c.loop-done.invariant.tracks in
-    too_many c.args.records.now.left c.loop-done.records.left c.read_row-2.new.records.left at fields tracks next c.in_ok-read_row-2.ensures.text
+    too_many c.args.records.now.left c.loop-done.records.left c.read_row-2.new.records.left at row tracks next

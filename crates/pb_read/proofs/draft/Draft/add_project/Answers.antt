@@ -1,29 +1,28 @@
 use Rattle.std.proofs.Common.{◌∷◌, [], ◌++◌, refl, ap, sym, ◌∙◌, arith, length}
 use Rattle.std.proofs.lemmas.Bool.{ne_eqb, eq-eqb, le-leb, lt-leb}
-use Rattle.csv.specs.Records.{fields_of}
 use Rattle.pb_core.specs.Election.{most_projects, project_ids, voter_ids}
 use Rattle.pb_read.proofs.DraftFacts.{explains, ids_behind, project_found, project_ids-push, project_lacks, project_unread, same_project, was_new, was_there}
 use Rattle.pb_read.proofs.Keeps.{money_of-le, not_among}
 use Rattle.pb_read.proofs.ListFacts.{length-is_empty}
 use Rattle.pb_read.specs.Machine.{amount_of, project_of}
-use Rattle.pb_read.specs.Rows.{field, is_empty, trimmed}
+use Rattle.pb_read.specs.Rows.{field, is_empty}
 use Rattle.pb_read.specs.Voting.{is_among}
 use Rattle.pb_read.proofs.draft.Draft.add_project.Goals as goal
 
 pub returns-then-not-are_in-clause-err : goal.returns-then-not-are_in-clause-err
 returns-then-not-are_in-clause-err c =
-    project_lacks c.args.columns (trimmed (fields_of c.args.row.now)) c.args.self.now.election (sym c.are_in.ensures ∙ c.if-not-are_in.true)
+    project_lacks c.args.columns c.args.row.now c.args.self.now.election (sym c.are_in.ensures ∙ c.if-not-are_in.true)
 
 pub returns-in-Err-clause-err : goal.returns-in-Err-clause-err
 returns-in-Err-clause-err c =
-    let row = trimmed (fields_of c.args.row.now) in
+    let row = c.args.row.now in
     let e = c.args.self.now.election in
     let whole = sym c.are_in.ensures ∙ c.if-not-are_in.false in
     explains c.in-Err.kind _ (project_unread c.args.columns row e whole c.in-Err.kind c.in-Err.ensures)
 
 pub returns-then-cost-eq0-clause-err : goal.returns-then-cost-eq0-clause-err
 returns-then-cost-eq0-clause-err c =
-    let row = trimmed (fields_of c.args.row.now) in
+    let row = c.args.row.now in
     let e = c.args.self.now.election in
     let whole = sym c.are_in.ensures ∙ c.if-not-are_in.false in
     let free = eq-eqb c.in-Ok.cost 0 (sym c.cost-2.view_is ∙ c.if-cost-eq0.true) in
@@ -31,7 +30,7 @@ returns-then-cost-eq0-clause-err c =
 
 pub returns-then-is_empty-clause-err : goal.returns-then-is_empty-clause-err
 returns-then-is_empty-clause-err c =
-    let row = trimmed (fields_of c.args.row.now) in
+    let row = c.args.row.now in
     let e = c.args.self.now.election in
     let whole = sym c.are_in.ensures ∙ c.if-not-are_in.false in
     let free = ne_eqb c.in-Ok.cost 0 (λ z. c.if-cost-eq0.false (c.cost-2.view_is ∙ z)) in
@@ -40,7 +39,7 @@ returns-then-is_empty-clause-err c =
 
 pub returns-then-not-branch-clause-err : goal.returns-then-not-branch-clause-err
 returns-then-not-branch-clause-err c =
-    let row = trimmed (fields_of c.args.row.now) in
+    let row = c.args.row.now in
     let e = c.args.self.now.election in
     let whole = sym c.are_in.ensures ∙ c.if-not-are_in.false in
     let free = ne_eqb c.in-Ok.cost 0 (λ z. c.if-cost-eq0.false (c.cost-2.view_is ∙ z)) in
@@ -50,7 +49,7 @@ returns-then-not-branch-clause-err c =
 
 pub returns-then-projects-ge-MOST_PROJECTS-clause-err : goal.returns-then-projects-ge-MOST_PROJECTS-clause-err
 returns-then-projects-ge-MOST_PROJECTS-clause-err c =
-    let row = trimmed (fields_of c.args.row.now) in
+    let row = c.args.row.now in
     let e = c.args.self.now.election in
     let whole = sym c.are_in.ensures ∙ c.if-not-are_in.false in
     let free = ne_eqb c.in-Ok.cost 0 (λ z. c.if-cost-eq0.false (c.cost-2.view_is ∙ z)) in
@@ -60,11 +59,11 @@ returns-then-projects-ge-MOST_PROJECTS-clause-err c =
     project_found c.args.columns row e whole c.in-Ok.ensures free no_id among full
 
 pub new-requires-clause-affordable : goal.new-requires-clause-affordable
-new-requires-clause-affordable c = money_of-le (field (trimmed (fields_of c.args.row.now)) c.args.columns.cost) c.in-Ok.cost c.in-Ok.ensures
+new-requires-clause-affordable c = money_of-le (field c.args.row.now c.args.columns.cost) c.in-Ok.cost c.in-Ok.ensures
 
 pub add_project-requires-clause-new_id : goal.add_project-requires-clause-new_id
 add_project-requires-clause-new_id c =
-    let row = trimmed (fields_of c.args.row.now) in
+    let row = c.args.row.now in
     let e = c.args.self.now.election in
     let among = was_new c.args.self.now.project_ids (project_ids e) c.field-id.result.now (field row c.args.columns.id) c.in_ok-add.field-0 c.requires.tied.project_ids_are c.field-id.ensures.field c.in_ok-add.ensures.new c.if-not-branch.false in
     let same = sym c.field-id.ensures.field ∙ sym c.in_ok-id.ensures.ok ∙ sym c.new.ensures.id in
@@ -72,7 +71,7 @@ add_project-requires-clause-new_id c =
 
 pub returns-clause-ok : goal.returns-clause-ok
 returns-clause-ok c =
-    let row = trimmed (fields_of c.args.row.now) in
+    let row = c.args.row.now in
     let e = c.args.self.now.election in
     let whole = sym c.are_in.ensures ∙ c.if-not-are_in.false in
     let free = ne_eqb c.in-Ok.cost 0 (λ z. c.if-cost-eq0.false (c.cost-2.view_is ∙ z)) in

@@ -3,23 +3,22 @@ use Rattle.std.specs.Str.{trim}
 use Rattle.std.proofs.lemmas.Bool.{le-leb, lt-leb}
 use Rattle.std.proofs.lemmas.List.{length-map}
 use Rattle.std.proofs.lemmas.Option.{MatchOption-at_some, MatchOption-at_none}
-use Rattle.csv.specs.Records.{fields_of}
 use Rattle.pb_core.specs.Election.{ProjectView, most_voters, project_ids, voter_ids}
 use Rattle.pb_read.proofs.Ballots.{ballot_from}
 use Rattle.pb_read.proofs.DraftFacts.{ids_behind, not_trimmed_away, same_voter, vote_found, vote_lacks, voter_ids-push, was_new, was_there}
 use Rattle.pb_read.proofs.Keeps.{ballot_of-below, not_among}
 use Rattle.pb_read.specs.Machine.{voter_of}
-use Rattle.pb_read.specs.Rows.{field, is_empty, trimmed}
+use Rattle.pb_read.specs.Rows.{field, is_empty}
 use Rattle.pb_read.specs.Voting.{ballot_of, is_among, names_only}
 use Rattle.pb_read.proofs.draft.Draft.add_voter.Goals as goal
 
 pub returns-then-not-are_in-clause-err : goal.returns-then-not-are_in-clause-err
 returns-then-not-are_in-clause-err c =
-    vote_lacks c.args.columns (trimmed (fields_of c.args.row.now)) c.args.self.now.election (sym c.are_in.ensures ∙ c.if-not-are_in.true)
+    vote_lacks c.args.columns c.args.row.now c.args.self.now.election (sym c.are_in.ensures ∙ c.if-not-are_in.true)
 
 pub returns-in_default-clause-err : goal.returns-in_default-clause-err
 returns-in_default-clause-err c =
-    let row = trimmed (fields_of c.args.row.now) in
+    let row = c.args.row.now in
     let e = c.args.self.now.election in
     let whole = sym c.are_in.ensures ∙ c.if-not-are_in.false in
     let nothing = MatchOption-at_none (trim c.field.result.now ≡ []) _ c.in_default.is c.in_ok-id.ensures in
@@ -28,7 +27,7 @@ returns-in_default-clause-err c =
 
 pub returns-then-not-branch-clause-err : goal.returns-then-not-branch-clause-err
 returns-then-not-branch-clause-err c =
-    let row = trimmed (fields_of c.args.row.now) in
+    let row = c.args.row.now in
     let e = c.args.self.now.election in
     let whole = sym c.are_in.ensures ∙ c.if-not-are_in.false in
     let said = MatchOption-at_some _ (λ id. (trim c.field.result.now ≢ []) × (id ≡ trim c.field.result.now)) c.in-Some.id c.in-Some.is c.in_ok-id.ensures in
@@ -44,7 +43,7 @@ places-requires c =
 
 pub returns-then-not-branch-2-clause-err : goal.returns-then-not-branch-2-clause-err
 returns-then-not-branch-2-clause-err c =
-    let row = trimmed (fields_of c.args.row.now) in
+    let row = c.args.row.now in
     let e = c.args.self.now.election in
     let whole = sym c.are_in.ensures ∙ c.if-not-are_in.false in
     let said = MatchOption-at_some _ (λ id. (trim c.field.result.now ≢ []) × (id ≡ trim c.field.result.now)) c.in-Some.id c.in-Some.is c.in_ok-id.ensures in
@@ -56,7 +55,7 @@ returns-then-not-branch-2-clause-err c =
 
 pub returns-then-is_full-clause-err : goal.returns-then-is_full-clause-err
 returns-then-is_full-clause-err c =
-    let row = trimmed (fields_of c.args.row.now) in
+    let row = c.args.row.now in
     let e = c.args.self.now.election in
     let whole = sym c.are_in.ensures ∙ c.if-not-are_in.false in
     let said = MatchOption-at_some _ (λ id. (trim c.field.result.now ≢ []) × (id ≡ trim c.field.result.now)) c.in-Some.id c.in-Some.is c.in_ok-id.ensures in
@@ -69,7 +68,7 @@ returns-then-is_full-clause-err c =
 
 pub add_voter-requires-clause-new_id : goal.add_voter-requires-clause-new_id
 add_voter-requires-clause-new_id c =
-    let row = trimmed (fields_of c.args.row.now) in
+    let row = c.args.row.now in
     let e = c.args.self.now.election in
     let whole = sym c.are_in.ensures ∙ c.if-not-are_in.false in
     let said = MatchOption-at_some _ (λ id. (trim c.field.result.now ≢ []) × (id ≡ trim c.field.result.now)) c.in-Some.id c.in-Some.is c.in_ok-id.ensures in
@@ -80,7 +79,7 @@ add_voter-requires-clause-new_id c =
 
 pub add_voter-requires-clause-known : goal.add_voter-requires-clause-known
 add_voter-requires-clause-known c =
-    let row = trimmed (fields_of c.args.row.now) in
+    let row = c.args.row.now in
     let e = c.args.self.now.election in
     let names = ap (λ ids. names_only ids (field row c.args.columns.vote)) (sym c.requires.project_ids_are) ∙ ap (names_only c.args.self.now.project_ids) (sym c.field-vote.ensures.field) ∙ sym c.in_ok-places.ensures.known ∙ c.if-not-branch-2.false in
     let vote = field row c.args.columns.vote in
@@ -91,7 +90,7 @@ add_voter-requires-clause-known c =
 
 pub returns-clause-ok : goal.returns-clause-ok
 returns-clause-ok c =
-    let row = trimmed (fields_of c.args.row.now) in
+    let row = c.args.row.now in
     let e = c.args.self.now.election in
     let whole = sym c.are_in.ensures ∙ c.if-not-are_in.false in
     let said = MatchOption-at_some _ (λ id. (trim c.field.result.now ≢ []) × (id ≡ trim c.field.result.now)) c.in-Some.id c.in-Some.is c.in_ok-id.ensures in
