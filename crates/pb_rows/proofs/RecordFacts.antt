@@ -1,5 +1,5 @@
 -- How the records that are left follow a read of the next one.
-use Rattle.std.proofs.Common.{◌≡◌, ◌∙◌, ◌+◌, ◌<◌, ℕ, zero, suc, List, [], ◌∷◌, length, Option, Some, None, Bool, true, false, refl, sym, ap, arith, add-one, ◌⊎◌, inl, inr}
+use Rattle.std.proofs.Common.{◌≡◌, ◌∙◌, ◌+◌, ◌<◌, ℕ, zero, suc, List, [], ◌∷◌, length, Option, Some, None, Bool, true, false, not, refl, sym, ap, arith, add-one, ◌⊎◌, inl, inr}
 use Rattle.std.specs.Prelude.{option_map}
 use Rattle.csv.specs.Machine.{Read, ends_at_end, field_after, fields_after, is_end, next_record, step}
 use Rattle.csv.specs.Reading.{ExplainsRead, NextIs, ReadRecord, ReadsNext, has_failed, pending_of, source_of, records_from, records_next}
@@ -7,7 +7,7 @@ use Rattle.csv.specs.declared.parser.Config.{Config}
 use Rattle.csv.specs.declared.parser.State.{State}
 use Rattle.csv.specs.declared.parser.State.TheVariants as st
 use Rattle.csv.specs.declared.reader.Reader.{Reader}
-use Rattle.pb_rows.specs.Reading.{Fields, IsNext, IsSetUp, NextIsNoText, fault_of_kind, left_of, pb_config}
+use Rattle.pb_rows.specs.Reading.{Fields, IsNext, IsSetUp, NextIsNoText, fault_of_kind, left_of, left_until, pb_config}
 use Rattle.pb_rows.specs.declared.fault.RecordsFault.TheVariants.{NotText}
 use Rattle.csv.specs.declared.error.ErrorKind.{ErrorKind}
 use Rattle.csv.specs.declared.error.ErrorKind.TheVariants as kind
@@ -109,3 +109,10 @@ no_text_read remaining old new kind.OutOfMemory is named h = cc named
 no_text_read remaining old new (kind.UnequalLengths pos expected len) is named h = cc named
 no_text_read remaining old new (kind.Serialize text) is named h = cc named
 no_text_read remaining old new (kind.Deserialize pos err) is named h = cc named
+
+-- the next record, where an end is remembered
+pub next_until : (left after : Option (List Fields)) (found : Bool) (fields : Fields) → IsNext left after found fields → IsNext left (left_until None (not found) after) found fields
+next_until left after true fields next = next
+next_until None after false fields next = tt
+next_until (Some []) after false fields next = refl
+next_until (Some (first ∷ rest)) after false fields next = cc next.0

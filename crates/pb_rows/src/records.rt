@@ -5,7 +5,7 @@ ghost use Rattle.csv.specs.Records.{AllText, fields_of};
 ghost use Rattle.pb_rows.specs.Reading.{IsNext, NextIsNoText, records_of};
 
 use crate::fault::RecordsFault;
-use csv::{Reader, ReaderBuilder, StringRecord};
+use csv::{ByteRecord, Reader, ReaderBuilder, StringRecord};
 use std::alloc::Global;
 use std::io::Read;
 use std::marker::Model;
@@ -83,6 +83,35 @@ impl<R: Read> Records<R> {
             }
             Err(error) => {
                 let fault = RecordsFault::from(error);
+                self.fault = Some(fault);
+                Err(fault)
+            }
+        }
+    }
+
+    /// Reads the next record into `row` as bytes, which need not be text, and answers whether there was one.
+    ///
+    /// At the end of the text and after a fault it is as `read`.
+    pub fn read_bytes(&mut self, row: &mut ByteRecord) -> Result<bool, RecordsFault>
+        ensures next { IfOk result (λ found. IsNext self.old.left self.new.left found (fields_of row.new)) }
+        ensures end { IfOk result (λ found. found ≡ false → self.new.left ≡ Some []) }
+        ensures goes_on { OnOk result (self.new.fault ≡ None) }
+        ensures stops { IfErr result (λ fault. self.new.fault ≡ Some fault) }
+        ensures again { IfSome self.old.fault (λ fault. result ≡ Err fault) }
+    {
+        if let Some(earlier) = self.fault {
+            return Err(earlier);
+        }
+        if self.has_ended {
+            return Ok(false);
+        }
+        match self.reader.read_byte_record(row) {
+            Ok(is_record) => {
+                self.has_ended = !is_record;
+                Ok(is_record)
+            }
+            Err(refused) => {
+                let fault = RecordsFault::from(refused);
                 self.fault = Some(fault);
                 Err(fault)
             }

@@ -1,16 +1,9 @@
-use Rattle.std.proofs.Common.{◌≡◌, ◌∙◌, ◌∷◌, Bool, true, false, not, List, [], Option, Some, None, refl, sym}
+use Rattle.std.proofs.Common.{◌≡◌, ◌∙◌, ◌∷◌, [], sym}
 use Rattle.csv.specs.Reading.{error_kind}
 use Rattle.csv.specs.Records.{AllText}
-use Rattle.pb_rows.specs.Reading.{Fields, IsNext, left_until}
-use Rattle.pb_rows.proofs.RecordFacts.{no_text_read, read_leaves}
+use Rattle.pb_rows.specs.Reading.{Fields}
+use Rattle.pb_rows.proofs.RecordFacts.{next_until, no_text_read, read_leaves}
 use Rattle.pb_rows.proofs.records.Records.read.Goals as goal
-
--- the next record, where an end is remembered
-next_until : (left after : Option (List Fields)) (found : Bool) (fields : Fields) → IsNext left after found fields → IsNext left (left_until None (not found) after) found fields
-next_until left after true fields next = next
-next_until None after false fields next = tt
-next_until (Some []) after false fields next = refl
-next_until (Some (first ∷ rest)) after false fields next = cc next.0
 
 all_text : (fields : Fields) → fields ≡ [] → AllText fields
 unfolding AllText
