@@ -11,3 +11,4 @@ pub mod Audits
 pub mod Closings
 pub mod RowLaws
 pub mod AuditLaws
+pub mod VersionRows

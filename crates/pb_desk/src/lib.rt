@@ -23,19 +23,28 @@
 //! row's end, which is a shorter legal one, nor whether a clerk wrote down what a voter wanted.
 #![tactic(auto)]
 
-pub mod audit;
-pub mod audit_fault;
+mod audit_fault;
 mod ballot_box;
-pub mod desk;
-pub mod desk_fault;
-pub mod into_fault;
+mod desk;
+mod desk_fault;
+mod entry_writer;
+mod into_fault;
+mod journal_audit;
+mod journal_rows;
 pub mod laws;
 mod row_reader;
-mod row_writer;
-pub mod start_fault;
+mod start_fault;
+mod version;
+mod write_fault;
+
+pub use audit_fault::AuditFault;
+pub use desk::{Desk, MOST_CLERKS};
+pub use desk_fault::DeskFault;
+pub use into_fault::IntoFault;
+pub use journal_audit::audit;
+pub use start_fault::StartFault;
+pub use version::Version;
+pub use write_fault::WriteFault;
+
 #[cfg(test)]
 mod tests;
-mod version;
-pub mod write_fault;
-
-pub use version::Version;

@@ -1,9 +1,4 @@
-use crate::audit::audit;
-use crate::audit_fault::AuditFault;
-use crate::desk::Desk;
-use crate::desk_fault::DeskFault;
-use crate::into_fault::IntoFault;
-use crate::write_fault::WriteFault;
+use crate::{AuditFault, Desk, DeskFault, IntoFault, WriteFault, audit};
 use pb_core::answer::Answer;
 use pb_core::ballot::Ballot;
 use pb_core::election::Election;
