@@ -23,19 +23,19 @@
 //! row's end, which is a shorter legal one, nor whether a clerk wrote down what a voter wanted.
 #![tactic(auto)]
 
-mod audit_fault;
+pub mod audit_fault;
 mod ballot_box;
-mod desk;
-mod desk_fault;
+pub mod desk;
+pub mod desk_fault;
 mod entry_writer;
-mod into_fault;
+pub mod into_fault;
 mod journal_audit;
 mod journal_rows;
 pub mod laws;
 mod row_reader;
-mod start_fault;
+pub mod start_fault;
 mod version;
-mod write_fault;
+pub mod write_fault;
 
 pub use audit_fault::AuditFault;
 pub use desk::{Desk, MOST_CLERKS};
