@@ -1,6 +1,7 @@
 -- What the steps of a call come to for its clerk.
-use Rattle.std.proofs.Common.{◌≡◌, ℕ, zero, suc, ◌+◌, ◌<◌, ◌≤◌, List, [], ◌∷◌, ◌++◌, length, drop, Result, Ok, Err, IfOk, IfErr, Some, slice_get, refl, ap, ◌∙◌, subst, arith, append_assoc}
+use Rattle.std.proofs.Common.{◌≡◌, ℕ, zero, suc, ◌+◌, ◌<◌, ◌≤◌, List, [], ◌∷◌, ◌++◌, length, drop, Result, Ok, Err, IfOk, IfErr, Option, Some, unwrap_or, slice_get, slice_index_or, refl, ap, ◌∙◌, subst, arith, append_assoc}
 use Rattle.std.proofs.Math.Seq.{drop-append_seam}
+use Rattle.std.proofs.lemmas.Option.{none-some}
 use Rattle.std.proofs.lemmas.List.Elements.{All-append, All-cons, All-nil}
 use Rattle.atomic_table.specs.Seated.{TableId}
 use Rattle.pb_core.specs.Request.{EntryView, RequestView}
@@ -87,3 +88,8 @@ module _ {X : Type 0} where
   slice_get-before [] ys n lt = absurd (omega arith)
   slice_get-before (y ∷ xs) ys zero lt = refl
   slice_get-before (y ∷ xs) ys (suc n) lt = slice_get-before xs ys n (omega arith)
+
+  pub slice_get-is : (xs : List X) (k : ℕ) (d x : X) → slice_get xs k ≡ Some x → slice_index_or xs k d ≡ x
+  slice_get-is [] k d x e = absurd (none-some x e)
+  slice_get-is (y ∷ xs) zero d x e = ap (λ o. unwrap_or o y) e
+  slice_get-is (y ∷ xs) (suc k) d x e = slice_get-is xs k d x e

@@ -1,5 +1,5 @@
 -- The steps, as the calls make them.
-use Rattle.std.proofs.Common.{◌≡◌, ℕ, ◌+◌, ◌<◌, ◌≤◌, ◌==◌, true, List, [], ◌∷◌, ◌++◌, length, Some, None, slice_get, sym, refl, ap, ◌∙◌, subst, arith}
+use Rattle.std.proofs.Common.{◌≡◌, ℕ, ◌+◌, ◌<◌, ◌≤◌, ◌==◌, true, List, [], ◌∷◌, ◌++◌, length, Some, None, slice_get, All, sym, refl, ap, ◌∙◌, subst, arith}
 use mathlib.Core.Logic.{dite}
 use native.Mathlib.Decide.{ℕ_discrete}
 use prog.Atomic.{either}
@@ -17,7 +17,7 @@ use Rattle.pb_shared.specs.declared.seat_view.Role.TheVariants.{Clerk, Stock}
 use Rattle.pb_shared.specs.declared.seat_view.SeatView.{SeatView}
 use Rattle.pb_shared.proofs.LockSteps.{S, locks, frees_home, frees_out, stores}
 use Rattle.pb_shared.proofs.SeatSteps.{deals, starts}
-use Rattle.pb_shared.proofs.Calls.{slice_get-last, slice_get-before}
+use Rattle.pb_shared.proofs.Calls.{slice_get-is, slice_get-last, slice_get-before}
 
 -- a clerk of this desk has a seat at its table
 pub clerk_sits : (id its : TableId) (a : About) (m : Sitter) (c : ClerkView) (d : SharedView) → clerk_view its m ≡ c → c.desk ≡ d → shared_view id a ≡ d → its ≡ id
@@ -81,3 +81,7 @@ comes_next d clerks c number count before next k below =
     dite (ℕ_discrete k number)
     (λ same. slice_get-last clerks c k (same ∙ sym count) ∙ (ap Some next ∙ ap (λ n. Some (newcomer d n)) (sym same)))
     (λ other. slice_get-before clerks (c ∷ []) k (omega arith) ∙ before k (omega arith))
+
+-- newcomers are of their desk
+pub of_newcomers : (d : SharedView) (clerks : List ClerkView) (number : ℕ) → length clerks ≡ number → ((k : ℕ) → k < number → slice_get clerks k ≡ Some (newcomer d k)) → All (λ c. c.desk ≡ d) clerks
+of_newcomers d clerks number count all k e inside = ap (λ c. c.desk) (slice_get-is clerks k e (newcomer d k) (all k (omega arith)))

@@ -47,6 +47,10 @@ newcomer d number = record { desk = d; number = number; seen = d.start.journal; 
 abbrev pub AreNewcomers : SharedView → List ClerkView → Type 0
 AreNewcomers d clerks = (length clerks ≡ d.clerks) × ((number : ℕ) → number < d.clerks → slice_get clerks number ≡ Some (newcomer d number))
 
+-- the same clerk: no call changes its desk or its number
+abbrev pub IsSame : ClerkView → ClerkView → Type 0
+IsSame c c' = (c'.desk ≡ c.desk) × (c'.number ≡ c.number)
+
 -- another clerk of the same desk has this number
 abbrev pub IsAnother : ClerkView → ℕ → Type 0
 IsAnother c number = (number < c.desk.clerks) × (number ≢ c.number)

@@ -1,6 +1,6 @@
 ghost use Rattle.std.specs.Prelude.{◌≡◌, [], ◌∷◌, IfOk, IfErr};
 ghost use Rattle.std.specs.Fn.{FnOnceReturnsAt};
-ghost use Rattle.pb_shared.specs.Clerk.{desk_with, Reads, Sees, TurnsAway};
+ghost use Rattle.pb_shared.specs.Clerk.{desk_with, IsSame, Reads, Sees, TurnsAway};
 
 use super::SharedDesk;
 use crate::busy::Busy;
@@ -14,6 +14,7 @@ impl SharedDesk {
     pub fn look<T, F: FnOnce(&Desk) -> T>(&self, clerk: &mut Clerk, f: F) -> Result<T, Busy>
         requires own { clerk.old.desk ≡ self.now }
         requires f { F.IsAlwaysCallable f }
+        ensures same { IsSame clerk.old clerk.new }
         ensures ok { IfOk result (λ answer. Sees clerk.old clerk.new.seen (0 ∷ []) clerk.new × FnOnceReturnsAt F.FnOnce f (desk_with self.now clerk.new.seen) answer) }
         ensures err { IfErr result (λ busy. TurnsAway clerk.old busy.0 [] clerk.new) }
     {
@@ -26,7 +27,8 @@ impl SharedDesk {
     /// The number of entries that stand, by one load without the lock. The clerk has then seen them.
     pub fn front(&self, clerk: &mut Clerk) -> u32
         requires own { clerk.old.desk ≡ self.now }
-        ensures { Reads clerk.old result clerk.new }
+        ensures same { IsSame clerk.old clerk.new }
+        ensures front { Reads clerk.old result clerk.new }
     {
         self.table.shared.load::<Read>(&mut clerk.seat, FRONT) as u32
     }

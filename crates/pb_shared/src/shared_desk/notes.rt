@@ -1,5 +1,5 @@
 ghost use Rattle.std.specs.Prelude.{◌≡◌, length};
-ghost use Rattle.pb_shared.specs.Clerk.{Begins, Reads};
+ghost use Rattle.pb_shared.specs.Clerk.{Begins, IsSame, Reads};
 
 use super::SharedDesk;
 use crate::clerk::Clerk;
@@ -23,6 +23,7 @@ impl SharedDesk {
     pub fn meet(&self, clerk: &mut Clerk, note: Note)
         requires own { clerk.old.desk ≡ self.now }
         requires note { note.desk ≡ self.now }
+        ensures same { IsSame clerk.old clerk.new }
         ensures clerk { Reads clerk.old (length clerk.new.seen) clerk.new }
         ensures note { Begins note.seen clerk.new.seen }
     {

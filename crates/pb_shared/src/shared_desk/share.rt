@@ -1,4 +1,4 @@
-ghost use Rattle.std.specs.Prelude.{◌≡◌, ◌<◌, ◌≤◌, IfOk, IfErr};
+ghost use Rattle.std.specs.Prelude.{◌≡◌, ◌<◌, ◌≤◌, All, IfOk, IfErr};
 ghost use Rattle.pb_shared.specs.Clerk.{AreNewcomers};
 ghost use Rattle.pb_shared.specs.Refusal.{HandsBack};
 ghost use Rattle.pb_shared.specs.Seats.{IsLaid};
@@ -22,6 +22,7 @@ impl SharedDesk {
         clerks: u32,
     ) -> Result<(SharedDesk, Vec<Clerk>), ShareFault>
         ensures ok { IfOk result (λ shared. (shared.0.start ≡ desk) × (shared.0.clerks ≡ clerks) × AreNewcomers shared.0 shared.1.items) }
+        ensures own { IfOk result (λ shared. All (λ clerk. clerk.desk ≡ shared.0) shared.1.items) }
         ensures err { IfErr result (λ fault. HandsBack desk clerks fault) }
     {
         if clerks == 0 || clerks > MOST_CLERKS {

@@ -4,7 +4,7 @@ use Rattle.pb_shared.specs.Rule.{blank, seated}
 use Rattle.pb_shared.specs.Plays.{dealt_left, dealt_right}
 use Rattle.pb_shared.specs.Seats.{clerk_view, shared_view}
 use Rattle.pb_shared.specs.declared.seat_view.Role.TheVariants.{Stock}
-use Rattle.pb_shared.proofs.Offers.{deals_at, comes_next}
+use Rattle.pb_shared.proofs.Offers.{deals_at, comes_next, of_newcomers}
 use Rattle.pb_shared.proofs.shared_desk.SharedDesk.share.Goals as goal
 
 pub split_seat-seat-requires : goal.split_seat-seat-requires
@@ -30,3 +30,9 @@ loop-number-preserved c =
       (let room = so_far.3 in let same = c.push_reserved.ensures.capacity in omega arith),
       λ k below. ap (λ l. slice_get l k) items ∙ comes_next (shared_view t.table_id t.key) c.loop-number.seated.items _ n so_far.2 so_far.4 next k below,
     )
+
+pub returns-clause-own : goal.returns-clause-own
+returns-clause-own c =
+    let so_far = c.loop-number.invariant in
+    let t = c.in-Ok-lay_table.laid.0.shared in
+    of_newcomers (shared_view t.table_id t.key) c.loop-number.seated.items c.loop-number.number so_far.2 so_far.4
