@@ -55,9 +55,9 @@ was_there ids known text id new same_ids same_text added e = (λ i. is_among (sy
 pub was_new : (ids known : List (List ℕ)) (text id : List ℕ) (new : Bool) → ids ≡ known → text ≡ id → new ≡ not (is_among ids text) → new ≡ true → is_among known id ≡ false
 was_new ids known text id new same_ids same_text added e = (λ i. is_among (sym same_ids i) (sym same_text i)) ∙ not-true (is_among ids text) (sym added ∙ e)
 
--- the ids behind an addition
-pub ids_behind : (old new known : List (List ℕ)) (text id : List ℕ) (fresh : Bool) → old ≡ known → text ≡ id → fresh ≡ true → new ≡ cond fresh (old ++ text ∷ []) old → new ≡ known ++ id ∷ []
-ids_behind old new known text id fresh same_ids same_text is e = e ∙ (λ i. cond (is i) (same_ids i ++ same_text i ∷ []) (same_ids i))
+-- the ids after an addition
+pub ids_after : (old new known : List (List ℕ)) (text id : List ℕ) (fresh : Bool) → old ≡ known → text ≡ id → fresh ≡ true → new ≡ cond fresh (old ++ text ∷ []) old → new ≡ known ++ id ∷ []
+ids_after old new known text id fresh same_ids same_text is e = e ∙ (λ i. cond (is i) (same_ids i ++ same_text i ∷ []) (same_ids i))
 
 pub same_project : (p q : ProjectView) → p.id ≡ q.id → p.name ≡ q.name → p.cost ≡ q.cost → p ≡ q
 same_project p q id name cost = λ i. record { id = id i; name = name i; cost = cost i }

@@ -1,4 +1,4 @@
--- Records that were read without fault may go on to stand for an election; behind a fault nothing helps.
+-- Records that were read without fault may go on to stand for an election; after a fault nothing helps.
 use Rattle.std.proofs.Common.{◌≡◌, ◌≤◌, ◌+◌, ◌==◌, Bool, true, false, cond, not, List, [], ◌∷◌, ◌++◌, length, map, filter, Option, Some, None, Ok, refl, ap, sym, ◌∙◌, subst, arith, append_assoc, length-append}
 use Rattle.std.specs.Prelude.{codes}
 use Rattle.std.specs.List.{AllByRecursion, list_all}
@@ -15,7 +15,7 @@ use Rattle.pb_read.proofs.LowestKind.{lowest_applies}
 use Rattle.pb_read.proofs.Keeps.{IsTidy, IsTidy-trimmed, kept, next_follows}
 use Rattle.pb_read.proofs.ListFacts.{some≢none, ok≢err, same_Ok, AllByRecursion-append, AllByRecursion-left, AllByRecursion-right}
 use Rattle.pb_read.proofs.Runs.{AreFull, run_fault, run_onto, run_row, runs}
-use Rattle.pb_read.specs.Positions.{Position, start, meta_head, in_meta, projects_head, in_projects, votes_head, in_votes, the_end, blank, next_row, IsAt, IsSound}
+use Rattle.pb_read.specs.Stages.{Stage, Start, MetaHeader, InMeta, ProjectsHeader, InProjects, VotesHeader, InVotes, the_end, blank, next_row, IsAt, IsSound}
 use Rattle.pb_read.specs.FirstFault.{MayGoOn, HasNoFault, IsAtFault, IsFirstFault}
 use Rattle.pb_read.specs.Machine.{advance, run, step, row_fault, lowest_kind}
 use Rattle.pb_read.specs.Tracking.{Reached}
@@ -76,7 +76,7 @@ are_text (r ∷ records) e =
     let parts = and_parts (list_all is_utf8 r) (list_all (list_all is_utf8) records) e in
     (AllText-from_test r parts.0, are_text records parts.1)
 
--- rows that complete a file from each position
+-- rows that complete a file from each stage
 abbrev vote_header : List Fields
 vote_header = (codes "voter_id" ∷ codes "vote" ∷ []) ∷ []
 
@@ -92,47 +92,47 @@ meta_rows = (codes "budget" ∷ codes "0" ∷ []) ∷ (codes "vote_type" ∷ cod
 abbrev meta_header : List Fields
 meta_header = (codes "key" ∷ codes "value" ∷ []) ∷ meta_rows
 
-abbrev completion : Position → List Fields
-completion start = (codes "META" ∷ []) ∷ meta_header
-completion meta_head = meta_header
-completion (in_meta meta) = meta_rows
-completion (projects_head e) = project_header
-completion (in_projects columns e) = votes
-completion (votes_head e) = vote_header
-completion (in_votes columns e) = []
+abbrev completion : Stage → List Fields
+completion Start = (codes "META" ∷ []) ∷ meta_header
+completion MetaHeader = meta_header
+completion (InMeta meta) = meta_rows
+completion (ProjectsHeader e) = project_header
+completion (InProjects columns e) = votes
+completion (VotesHeader e) = vote_header
+completion (InVotes columns e) = []
 
-completes : (p : Position) → (columns : VoteColumns) × (e : ElectionView) × (run p (completion p) ≡ Ok (in_votes columns e))
+completes : (p : Stage) → (columns : VoteColumns) × (e : ElectionView) × (run p (completion p) ≡ Ok (InVotes columns e))
 unfolding step row_fault head_of
-completes start = (_, _, refl)
-completes meta_head = (_, _, refl)
-completes (in_meta meta) = (_, _, refl)
-completes (projects_head e) = (_, _, refl)
-completes (in_projects columns e) = (_, _, refl)
-completes (votes_head e) = (_, _, refl)
-completes (in_votes columns e) = (columns, e, refl)
+completes Start = (_, _, refl)
+completes MetaHeader = (_, _, refl)
+completes (InMeta meta) = (_, _, refl)
+completes (ProjectsHeader e) = (_, _, refl)
+completes (InProjects columns e) = (_, _, refl)
+completes (VotesHeader e) = (_, _, refl)
+completes (InVotes columns e) = (columns, e, refl)
 
-completion_rows : (p : Position) → rows_of (completion p) ≡ completion p
+completion_rows : (p : Stage) → rows_of (completion p) ≡ completion p
 unfolding trim_start trim_end chars encode
-completion_rows start = refl
-completion_rows meta_head = refl
-completion_rows (in_meta meta) = refl
-completion_rows (projects_head e) = refl
-completion_rows (in_projects columns e) = refl
-completion_rows (votes_head e) = refl
-completion_rows (in_votes columns e) = refl
+completion_rows Start = refl
+completion_rows MetaHeader = refl
+completion_rows (InMeta meta) = refl
+completion_rows (ProjectsHeader e) = refl
+completion_rows (InProjects columns e) = refl
+completion_rows (VotesHeader e) = refl
+completion_rows (InVotes columns e) = refl
 
-completion_text : (p : Position) → list_all (list_all is_utf8) (completion p) ≡ true
+completion_text : (p : Stage) → list_all (list_all is_utf8) (completion p) ≡ true
 unfolding is_utf8 chars encode
-completion_text start = refl
-completion_text meta_head = refl
-completion_text (in_meta meta) = refl
-completion_text (projects_head e) = refl
-completion_text (in_projects columns e) = refl
-completion_text (votes_head e) = refl
-completion_text (in_votes columns e) = refl
+completion_text Start = refl
+completion_text MetaHeader = refl
+completion_text (InMeta meta) = refl
+completion_text (ProjectsHeader e) = refl
+completion_text (InProjects columns e) = refl
+completion_text (VotesHeader e) = refl
+completion_text (InVotes columns e) = refl
 
 -- rows without fault, one after another
-run_keeps : (p q : Position) (rows more : List Fields) → AreFull more → AllByRecursion IsTidy more → IsAt rows p → IsSound p → run p more ≡ Ok q → IsAt (rows ++ more) q × IsSound q
+run_keeps : (p q : Stage) (rows more : List Fields) → AreFull more → AllByRecursion IsTidy more → IsAt rows p → IsSound p → run p more ≡ Ok q → IsAt (rows ++ more) q × IsSound q
 run_keeps p q rows [] full tidy at sound e =
     let same : p ≡ q = cc in
     subst (λ x. IsAt (rows ++ []) x × IsSound x) same (subst (λ xs. IsAt xs p) (sym (append-nil rows)) at, sound)
@@ -146,33 +146,33 @@ run_keeps p q rows (row ∷ more) full tidy at sound e = go (run_keeps (advance 
         let rest = later next.0 next.1 (sym (run_row p row more (next_row row) refl f) ∙ e) in
         (subst (λ xs. IsAt xs q) (append_assoc rows (row ∷ []) more) rest.0, rest.1)
 
-pub blank_passes : (p : Position) → row_fault p blank ≡ None
+pub blank_passes : (p : Stage) → row_fault p blank ≡ None
 unfolding row_fault
-blank_passes start = refl
-blank_passes meta_head = refl
-blank_passes (in_meta meta) = refl
-blank_passes (projects_head e) = refl
-blank_passes (in_projects columns e) = refl
-blank_passes (votes_head e) = refl
-blank_passes (in_votes columns e) = refl
+blank_passes Start = refl
+blank_passes MetaHeader = refl
+blank_passes (InMeta meta) = refl
+blank_passes (ProjectsHeader e) = refl
+blank_passes (InProjects columns e) = refl
+blank_passes (VotesHeader e) = refl
+blank_passes (InVotes columns e) = refl
 
-pub advance-blank : (p : Position) → advance p blank ≡ p
-advance-blank start = refl
-advance-blank meta_head = refl
-advance-blank (in_meta meta) = refl
-advance-blank (projects_head e) = refl
-advance-blank (in_projects columns e) = refl
-advance-blank (votes_head e) = refl
-advance-blank (in_votes columns e) = refl
+pub advance-blank : (p : Stage) → advance p blank ≡ p
+advance-blank Start = refl
+advance-blank MetaHeader = refl
+advance-blank (InMeta meta) = refl
+advance-blank (ProjectsHeader e) = refl
+advance-blank (InProjects columns e) = refl
+advance-blank (VotesHeader e) = refl
+advance-blank (InVotes columns e) = refl
 
-pub reached_start : Reached [] start
+pub reached_start : Reached [] Start
 reached_start = record { text = tt; at = refl; sound = tt }
 
 pub next_row-blank : (row : Fields) → is_blank row ≡ true → next_row row ≡ blank
 next_row-blank row none = rw none refl
 
 -- one record without fault
-pub reached_next : (done : List Fields) (p : Position) (r : Fields) → Reached done p → AllText r → row_fault p (next_row (trimmed r)) ≡ None → Reached (done ++ r ∷ []) (advance p (next_row (trimmed r)))
+pub reached_next : (done : List Fields) (p : Stage) (r : Fields) → Reached done p → AllText r → row_fault p (next_row (trimmed r)) ≡ None → Reached (done ++ r ∷ []) (advance p (next_row (trimmed r)))
 reached_next done p r so_far text none = go (is_blank (trimmed r)) refl
   where
     all_text : AllByRecursion AllText (done ++ r ∷ [])
@@ -189,13 +189,13 @@ reached_next done p r so_far text none = go (is_blank (trimmed r)) refl
         record { text = all_text; at = subst (λ xs. IsAt xs (advance p (next_row (trimmed r)))) (sym rows) next.0; sound = next.1 }
 
 -- where a file has come without fault, some records complete it
-pub goes_on : (done : List Fields) (p : Position) → Reached done p → MayGoOn done
+pub goes_on : (done : List Fields) (p : Stage) → Reached done p → MayGoOn done
 goes_on done p so_far =
     let q = completes p in
     let more : List Fields = completion p in
     let text : AllByRecursion AllText more = are_text more (completion_text p) in
-    let ran : run p (rows_of more) ≡ Ok (in_votes q.0 q.1) = ap (run p) (completion_rows p) ∙ q.2 in
-    let all = run_keeps p (in_votes q.0 q.1) (rows_of done) (rows_of more) (rows_of-are_full more) (rows_of-are_tidy more text) so_far.at so_far.sound ran in
+    let ran : run p (rows_of more) ≡ Ok (InVotes q.0 q.1) = ap (run p) (completion_rows p) ∙ q.2 in
+    let all = run_keeps p (InVotes q.0 q.1) (rows_of done) (rows_of more) (rows_of-are_full more) (rows_of-are_tidy more text) so_far.at so_far.sound ran in
     record {
       more = more;
       election = q.1;
@@ -207,62 +207,62 @@ goes_on done p so_far =
       };
     }
 
--- behind a record that is no text nothing helps
+-- after a record that is no text nothing helps
 pub no_text_ends : (done : List Fields) (r : Fields) → ¬ AllText r → ¬ MayGoOn (done ++ r ∷ [])
 no_text_ends done r none way =
     let all : AllByRecursion AllText (done ++ r ∷ []) = AllByRecursion-left AllText (done ++ r ∷ []) way.more way.describes.text in
     none (AllByRecursion-right AllText done (r ∷ []) all).0
 
-run_from_start : (done : List Fields) (p : Position) → Reached done p → run start (rows_of done) ≡ Ok p
+run_from_start : (done : List Fields) (p : Stage) → Reached done p → run Start (rows_of done) ≡ Ok p
 run_from_start done p so_far = runs p (rows_of done) (rows_of-are_full done) so_far.at so_far.sound
 
--- behind a record at fault nothing helps
-pub fault_ends : (done : List Fields) (p : Position) (r : Fields) (kind : ReadKind) → Reached done p → row_fault p (next_row (trimmed r)) ≡ Some kind → ¬ MayGoOn (done ++ r ∷ [])
+-- after a record at fault nothing helps
+pub fault_ends : (done : List Fields) (p : Stage) (r : Fields) (kind : ReadKind) → Reached done p → row_fault p (next_row (trimmed r)) ≡ Some kind → ¬ MayGoOn (done ++ r ∷ [])
 fault_ends done p r kind so_far fault way = go (is_blank (trimmed r)) refl
   where
     records : List Fields
     records = (done ++ r ∷ []) ++ way.more
 
-    whole : run start (rows_of ((done ++ r ∷ []) ++ way.more)) ≡ Ok (in_votes way.describes.columns way.election)
-    whole = runs (in_votes way.describes.columns way.election) (rows_of ((done ++ r ∷ []) ++ way.more)) (rows_of-are_full ((done ++ r ∷ []) ++ way.more)) way.describes.rows way.describes.is_election
+    whole : run Start (rows_of ((done ++ r ∷ []) ++ way.more)) ≡ Ok (InVotes way.describes.columns way.election)
+    whole = runs (InVotes way.describes.columns way.election) (rows_of ((done ++ r ∷ []) ++ way.more)) (rows_of-are_full ((done ++ r ∷ []) ++ way.more)) way.describes.rows way.describes.is_election
 
     go : (no_field : Bool) → is_blank (trimmed r) ≡ no_field → ⊥
     go true e = some≢none (sym fault ∙ ap (row_fault p) (next_row-blank (trimmed r) e) ∙ blank_passes p)
     go false e =
         let rows : rows_of ((done ++ r ∷ []) ++ way.more) ≡ rows_of done ++ trimmed r ∷ rows_of way.more =
         ap rows_of (append_assoc done (r ∷ []) way.more) ∙ rows_of-append done (r ∷ way.more) ∙ ap (λ xs. rows_of done ++ xs) (rows_of-full r way.more e) in
-        ok≢err (sym whole ∙ ap (run start) rows ∙ run_onto start p (rows_of done) (trimmed r ∷ rows_of way.more) (run_from_start done p so_far) ∙ run_fault p (trimmed r) (rows_of way.more) kind fault)
+        ok≢err (sym whole ∙ ap (run Start) rows ∙ run_onto Start p (rows_of done) (trimmed r ∷ rows_of way.more) (run_from_start done p so_far) ∙ run_fault p (trimmed r) (rows_of way.more) kind fault)
 
-votes_end : (columns : VoteColumns) (e : ElectionView) → row_fault (in_votes columns e) the_end ≡ None
+votes_end : (columns : VoteColumns) (e : ElectionView) → row_fault (InVotes columns e) the_end ≡ None
 unfolding row_fault
 votes_end columns e = refl
 
 -- where the file ends at fault, it stands for nothing
-pub end_ends : (done : List Fields) (p : Position) (kind : ReadKind) → Reached done p → row_fault p the_end ≡ Some kind → (e : ElectionView) → ¬ StandsFor done e
+pub end_ends : (done : List Fields) (p : Stage) (kind : ReadKind) → Reached done p → row_fault p the_end ≡ Some kind → (e : ElectionView) → ¬ StandsFor done e
 end_ends done p kind so_far fault e stands =
-    let whole : run start (rows_of done) ≡ Ok (in_votes stands.describes.columns e) =
-    runs (in_votes stands.describes.columns e) (rows_of done) (rows_of-are_full done) stands.describes.rows stands.describes.is_election in
-    let same : p ≡ in_votes stands.describes.columns e = same_Ok (sym (run_from_start done p so_far) ∙ whole) in
+    let whole : run Start (rows_of done) ≡ Ok (InVotes stands.describes.columns e) =
+    runs (InVotes stands.describes.columns e) (rows_of done) (rows_of-are_full done) stands.describes.rows stands.describes.is_election in
+    let same : p ≡ InVotes stands.describes.columns e = same_Ok (sym (run_from_start done p so_far) ∙ whole) in
     some≢none (sym fault ∙ ap (λ x. row_fault x the_end) same ∙ votes_end stands.describes.columns e)
 
 -- where the file ends without fault, it stands for the election
-pub end_stands : (done : List Fields) (columns : VoteColumns) (e : ElectionView) → length done ≤ most_records → Reached done (in_votes columns e) → StandsFor done e
+pub end_stands : (done : List Fields) (columns : VoteColumns) (e : ElectionView) → length done ≤ most_records → Reached done (InVotes columns e) → StandsFor done e
 end_stands done columns e few so_far = record {
   few = few;
   describes = record { text = so_far.text; columns = columns; rows = so_far.at; is_election = so_far.sound };
 }
 
-pub no_fault_so_far : (done : List Fields) (p : Position) → length done ≤ most_records → Reached done p → HasNoFault done
+pub no_fault_so_far : (done : List Fields) (p : Stage) → length done ≤ most_records → Reached done p → HasNoFault done
 no_fault_so_far done p few so_far = record { few = few; goes_on = goes_on done p so_far }
 
 -- the lowest kind that applies is the first fault
-pub first_fault : (done left : List Fields) (p : Position) (kind : ReadKind) → length done ≤ most_records → Reached done p → lowest_kind (length done) p left ≡ Some kind → IsFirstFault (done ++ left) kind (length done + 1)
+pub first_fault : (done left : List Fields) (p : Stage) (kind : ReadKind) → length done ≤ most_records → Reached done p → lowest_kind (length done) p left ≡ Some kind → IsFirstFault (done ++ left) kind (length done + 1)
 first_fault done left p kind few so_far lowest =
     let found = lowest_applies (length done) p left kind lowest in
     record {
       reached = record { done = done; left = left; cut = refl; at_is = refl; no_fault_before = no_fault_so_far done p few so_far };
       at_fault = at_fault left lowest;
-      position = p;
+      stage = p;
       so_far = so_far.at;
       sound = so_far.sound;
       applies = found.0;

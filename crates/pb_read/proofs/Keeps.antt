@@ -1,4 +1,4 @@
--- What runs stands: behind each row without fault, the rows have come as far as the machine says.
+-- What runs stands: after each row without fault, the rows have come as far as the machine says.
 use Rattle.std.proofs.Common.{◌≡◌, ◌≢◌, ◌<◌, ◌≤◌, ◌+◌, ℕ, zero, suc, Bool, true, false, cond, not, List, [], ◌∷◌, ◌++◌, length, All, Contains, Option, Some, None, Result, Ok, Err, refl, ap, sym, ◌∙◌, subst, arith, get_or, append_assoc}
 use Rattle.std.specs.Option.{option_map_or}
 use Rattle.std.specs.Prelude.{is_none, option_map, codes, nat_le}
@@ -25,7 +25,7 @@ use Rattle.pb_rows.specs.Reading.{Fields}
 use Rattle.pb_read.proofs.ListFacts.{some≢none, ok≢err, AllZip-push, AllByRecursion-append, is_among-Contains}
 use Rattle.pb_read.proofs.MachineLaws.{meta_of-push, passes_project, passes_vote, passes_head, PassesProject, PassesVote}
 use Rattle.pb_read.specs.Columns.{project_columns, vote_columns}
-use Rattle.pb_read.specs.Positions.{Position, start, meta_head, in_meta, projects_head, in_projects, votes_head, in_votes, Next, the_end, blank, head, plain, next_row, IsAt, IsSound}
+use Rattle.pb_read.specs.Stages.{Stage, Start, MetaHeader, InMeta, ProjectsHeader, InProjects, VotesHeader, InVotes, Next, the_end, blank, head, plain, next_row, IsAt, IsSound}
 use Rattle.pb_read.specs.Machine.{advance, budget_of, limit_of, amount_of, project_of, voter_of, with_project, with_voter, with_row, row_fault}
 use Rattle.pb_read.specs.MetaRows.{meta_of, value_of}
 use Rattle.pb_read.specs.Rows.{field, head_of, is_blank, is_empty, trimmed}
@@ -120,11 +120,11 @@ some_column : {A : Type 0} (o : Option A) → cond (is_none o) (Some kind.Missin
 some_column None f = absurd (some≢none f)
 some_column (Some c) f = (c, refl)
 
-project_columns_found : (e : ElectionView) (header : Fields) → row_fault (projects_head e) (plain header) ≡ None → (c : ProjectColumns) × (project_columns header ≡ Some c)
+project_columns_found : (e : ElectionView) (header : Fields) → row_fault (ProjectsHeader e) (plain header) ≡ None → (c : ProjectColumns) × (project_columns header ≡ Some c)
 unfolding row_fault
 project_columns_found e header f = some_column (project_columns header) f
 
-vote_columns_found : (e : ElectionView) (header : Fields) → row_fault (votes_head e) (plain header) ≡ None → (c : VoteColumns) × (vote_columns header ≡ Some c)
+vote_columns_found : (e : ElectionView) (header : Fields) → row_fault (VotesHeader e) (plain header) ≡ None → (c : VoteColumns) × (vote_columns header ≡ Some c)
 unfolding row_fault
 vote_columns_found e header f = some_column (vote_columns header) f
 
@@ -135,7 +135,7 @@ budget_le rows budget = go (value_of (codes "budget") rows)
     go None e = absurd (some≢none (sym e))
     go (Some text) e = money_of-le text budget (same_Some _ _ e)
 
--- the election behind a project row, and behind a vote row
+-- the election after a project row, and after a vote row
 pub with_project_is_election : (columns : ProjectColumns) (row : Fields) (e : ElectionView) → IsElection e → e.voters ≡ [] → PassesProject columns row e → IsElection (with_project columns row e)
 with_project_is_election columns row e is no_voter p =
     IsElection-push_project e (project_of columns row) is (record {
@@ -170,7 +170,7 @@ section_headed : (name : Section) (Says : Fields → List Fields → Type 0) (ro
 section_headed name Says rows row at is says =
     record { head = at.head; header = row; body = []; cut = ap (λ xs. xs ++ row ∷ []) at.cut; opens = at.opens; plain = (is, tt); says = says }
 
--- one row more behind a part
+-- one row more after a part
 then_push : (First Second Third : List Fields → Type 0) (rows : List Fields) (row : Fields) → (at : Then First Second rows) → Third (at.back ++ row ∷ []) → Then First Third (rows ++ row ∷ [])
 then_push First Second Third rows row at third =
     record { front = at.front; back = at.back ++ row ∷ []; cut = ap (λ xs. xs ++ row ∷ []) at.cut ∙ append_assoc at.front at.back (row ∷ []); first = at.first; second = third }
@@ -179,21 +179,21 @@ then_head : (First : List Fields → Type 0) (name : Section) (rows : List Field
 then_head First name rows row at opens = record { front = rows; back = row ∷ []; cut = refl; first = at; second = record { head = row; cut = refl; opens = opens } }
 
 -- one row without fault
-pub kept : (p : Position) (n : Next) (rows : List Fields) (row : Fields) → Follows n row → IsTidy row → row_fault p n ≡ None → IsAt rows p → IsSound p →
+pub kept : (p : Stage) (n : Next) (rows : List Fields) (row : Fields) → Follows n row → IsTidy row → row_fault p n ≡ None → IsAt rows p → IsSound p →
     IsAt (rows ++ row ∷ []) (advance p n) × IsSound (advance p n)
 unfolding row_fault
 kept p the_end rows row follows tidy none at sound = absurd follows
 kept p blank rows row follows tidy none at sound = absurd follows
-kept start (head section.Meta) rows row follows tidy none at sound =
+kept Start (head section.Meta) rows row follows tidy none at sound =
     (record { head = row; cut = ap (λ xs. xs ++ row ∷ []) at; opens = follows }, tt)
-kept start (head section.Projects) rows row follows tidy none at sound = absurd (some≢none none)
-kept start (head section.Votes) rows row follows tidy none at sound = absurd (some≢none none)
-kept start (plain r) rows row follows tidy none at sound = absurd (some≢none none)
-kept meta_head (head name) rows row follows tidy none at sound = absurd (some≢none none)
-kept meta_head (plain r) rows row follows tidy none at sound =
+kept Start (head section.Projects) rows row follows tidy none at sound = absurd (some≢none none)
+kept Start (head section.Votes) rows row follows tidy none at sound = absurd (some≢none none)
+kept Start (plain r) rows row follows tidy none at sound = absurd (some≢none none)
+kept MetaHeader (head name) rows row follows tidy none at sound = absurd (some≢none none)
+kept MetaHeader (plain r) rows row follows tidy none at sound =
     (section_headed section.Meta (λ header body. meta_of [] ≡ meta_of body) rows row at follows.1 refl, tt)
-kept (in_meta meta) (head section.Meta) rows row follows tidy none at sound = absurd (some≢none none)
-kept (in_meta meta) (head section.Projects) rows row follows tidy none at sound =
+kept (InMeta meta) (head section.Meta) rows row follows tidy none at sound = absurd (some≢none none)
+kept (InMeta meta) (head section.Projects) rows row follows tidy none at sound =
     let passed = passes_head meta none in
     let budget : passed.budget ≡ budget_of meta.budget = ap budget_of (sym passed.budget_is) in
     let limit : passed.max_length ≡ limit_of meta.max_length = ap limit_of (sym passed.limit) in
@@ -204,23 +204,23 @@ kept (in_meta meta) (head section.Projects) rows row follows tidy none at sound 
       (then_head (GivesTerms (budget_of meta.budget) (limit_of meta.max_length)) section.Projects rows row (subst (λ m. IsMeta m rows) says at) follows, refl),
       (opening_is_election (budget_of meta.budget) (limit_of meta.max_length) (subst (λ b. b ≤ largest_money) budget few), refl),
     )
-kept (in_meta meta) (head section.Votes) rows row follows tidy none at sound = absurd (some≢none none)
-kept (in_meta meta) (plain r) rows row follows tidy none at sound = (
+kept (InMeta meta) (head section.Votes) rows row follows tidy none at sound = absurd (some≢none none)
+kept (InMeta meta) (plain r) rows row follows tidy none at sound = (
   section_push section.Meta (λ header body. meta ≡ meta_of body) (λ header body. with_row meta r ≡ meta_of body) rows row at follows.1
       (ap (with_row meta) follows.0 ∙ ap (λ m. with_row m row) at.says ∙ sym (meta_of-push at.body row)),
   tt,
 )
-kept (projects_head e) (head name) rows row follows tidy none at sound = absurd (some≢none none)
-kept (projects_head e) (plain header) rows row follows tidy none at sound =
+kept (ProjectsHeader e) (head name) rows row follows tidy none at sound = absurd (some≢none none)
+kept (ProjectsHeader e) (plain header) rows row follows tidy none at sound =
     let found = project_columns_found e header none in
     let no_project : e.projects ≡ [] = ap (λ (x : ElectionView). x.projects) at.1 in
     let says : (project_columns row ≡ Some found.0) × AllZip (GivesProject found.0) [] e.projects = (ap project_columns (sym follows.0) ∙ found.1, subst (λ ps. AllZip (GivesProject found.0) [] ps) (sym no_project) tt) in
     rw found.1 (then_push _ _ (GivesProjects found.0 e.projects) rows row at.0 (section_headed section.Projects _ at.0.back row at.0.second follows.1 says), sound)
-kept (in_projects columns e) (head section.Meta) rows row follows tidy none at sound = absurd (some≢none none)
-kept (in_projects columns e) (head section.Projects) rows row follows tidy none at sound = absurd (some≢none none)
-kept (in_projects columns e) (head section.Votes) rows row follows tidy none at sound =
+kept (InProjects columns e) (head section.Meta) rows row follows tidy none at sound = absurd (some≢none none)
+kept (InProjects columns e) (head section.Projects) rows row follows tidy none at sound = absurd (some≢none none)
+kept (InProjects columns e) (head section.Votes) rows row follows tidy none at sound =
     ((columns, then_head (GivesAllButVoters columns e) section.Votes rows row at follows), sound)
-kept (in_projects columns e) (plain r) rows row follows tidy none at sound =
+kept (InProjects columns e) (plain r) rows row follows tidy none at sound =
     let passed : PassesProject columns row e = subst (λ x. PassesProject columns x e) follows.0 (passes_project columns r e none) in
     let gives : GivesProject columns row (project_of columns row) = record {
       whole = passed.whole;
@@ -235,8 +235,8 @@ kept (in_projects columns e) (plain r) rows row follows tidy none at sound =
       then_push _ _ (GivesProjects columns (e.projects ++ project_of columns row ∷ [])) rows row at (section_push section.Projects _ _ at.back row part follows.1 says),
       (with_project_is_election columns row e sound.0 sound.1 passed, sound.1),
     )
-kept (votes_head e) (head name) rows row follows tidy none at sound = absurd (some≢none none)
-kept (votes_head e) (plain header) rows row follows tidy none at sound =
+kept (VotesHeader e) (head name) rows row follows tidy none at sound = absurd (some≢none none)
+kept (VotesHeader e) (plain header) rows row follows tidy none at sound =
     let found = vote_columns_found e header none in
     let says : (vote_columns row ≡ Some found.0) × AllZip (GivesVoter found.0 (project_ids e)) [] e.voters = (ap vote_columns (sym follows.0) ∙ found.1, subst (λ vs. AllZip (GivesVoter found.0 (project_ids e)) [] vs) (sym sound.1) tt) in
     rw found.1 (
@@ -246,8 +246,8 @@ kept (votes_head e) (plain header) rows row follows tidy none at sound =
       },
       sound.0,
     )
-kept (in_votes columns e) (head name) rows row follows tidy none at sound = absurd (some≢none none)
-kept (in_votes columns e) (plain r) rows row follows tidy none at sound =
+kept (InVotes columns e) (head name) rows row follows tidy none at sound = absurd (some≢none none)
+kept (InVotes columns e) (plain r) rows row follows tidy none at sound =
     let passed : PassesVote columns row e = subst (λ x. PassesVote columns x e) follows.0 (passes_vote columns r e none) in
     let gives : GivesVoter columns (project_ids e) row (voter_of columns (project_ids e) row) = record { whole = passed.whole; id = refl; known = passed.known; ballot = refl } in
     let part = at.sections.second in

@@ -11,7 +11,7 @@ use Rattle.pb_rows.specs.Reading.{Fields}
 use Rattle.pb_read.proofs.ListFacts.{cond_none, some≢none}
 use Rattle.pb_read.specs.Columns.{has_project_fields, has_vote_fields}
 use Rattle.pb_read.specs.Faults.{is_zero, fails_by}
-use Rattle.pb_read.specs.Positions.{Position, in_meta, in_projects, in_votes, head, plain, next_row}
+use Rattle.pb_read.specs.Stages.{Stage, InMeta, InProjects, InVotes, head, plain, next_row}
 use Rattle.pb_read.specs.Machine.{with_row, step, bind, run, head_checks, project_checks, vote_checks, row_fault}
 use Rattle.pb_read.specs.Lengths.{max_length_of}
 use Rattle.pb_read.specs.MetaRows.{meta_of, value_of}
@@ -24,15 +24,15 @@ use Rattle.pb_read.specs.declared.fault.ReadKind.TheVariants as kind
 use Rattle.pb_read.specs.declared.meta.Meta.{Meta}
 use Rattle.pb_read.specs.declared.section.Section.TheVariants as section
 
-bind_bind : (r : Result Position ReadKind) (f g : Position → Result Position ReadKind) → bind (bind r f) g ≡ bind r (λ p. bind (f p) g)
+bind_bind : (r : Result Stage ReadKind) (f g : Stage → Result Stage ReadKind) → bind (bind r f) g ≡ bind r (λ p. bind (f p) g)
 bind_bind (Ok p) f g = refl
 bind_bind (Err kind) f g = refl
 
-bind_same : (r : Result Position ReadKind) (f g : Position → Result Position ReadKind) → ((p : Position) → f p ≡ g p) → bind r f ≡ bind r g
+bind_same : (r : Result Stage ReadKind) (f g : Stage → Result Stage ReadKind) → ((p : Stage) → f p ≡ g p) → bind r f ≡ bind r g
 bind_same (Ok p) f g h = h p
 bind_same (Err kind) f g h = refl
 
-pub run-append : (p : Position) (xs ys : List Fields) → run p (xs ++ ys) ≡ bind (run p xs) (λ q. run q ys)
+pub run-append : (p : Stage) (xs ys : List Fields) → run p (xs ++ ys) ≡ bind (run p xs) (λ q. run q ys)
 run-append p [] ys = refl
 run-append p (x ∷ xs) ys =
     bind_same (step p (next_row x)) _ _ (λ q. run-append q xs ys) ∙ sym (bind_bind (step p (next_row x)) (λ q. run q xs) (λ q. run q ys))
@@ -71,12 +71,12 @@ meta_of-push rows row = λ i. record { budget = budget i; approval = approval i;
         ap (λ o. option_map_or max_length_of o (Ok None)) (value_of-push (codes "max_length") rows row)
         ∙ option_map_or_cond max_length_of (is_word (codes "max_length") (field row 0)) (field row 1) (value_of (codes "max_length") rows) (Ok None)
 
-pub head_fault : (meta : Meta) → row_fault (in_meta meta) (head section.Projects) ≡ head_checks meta.budget meta.approval meta.max_length
+pub head_fault : (meta : Meta) → row_fault (InMeta meta) (head section.Projects) ≡ head_checks meta.budget meta.approval meta.max_length
 unfolding row_fault
 head_fault meta = go meta.budget meta.approval meta.max_length
   where
     go : (budget : Option (Result ℕ MoneyFault)) (approval : Option Bool) (max_length : Result (Option ℕ) ReadKind) →
-        row_fault (in_meta (record { budget = budget; approval = approval; max_length = max_length })) (head section.Projects) ≡ head_checks budget approval max_length
+        row_fault (InMeta (record { budget = budget; approval = approval; max_length = max_length })) (head section.Projects) ≡ head_checks budget approval max_length
     go None approval max_length = refl
     go (Some budget) None max_length = refl
     go (Some (Ok amount)) (Some true) (Ok max_length) = refl
@@ -109,14 +109,14 @@ found_is_checks true (Err money.MoneyTooFine) no_id repeated full = refl
 found_is_checks true (Err money.MoneyTooLarge) no_id repeated full = refl
 
 pub project_fault : (columns : ProjectColumns) (row : Fields) (e : ElectionView) →
-    row_fault (in_projects columns e) (plain row)
+    row_fault (InProjects columns e) (plain row)
     ≡ project_checks (has_project_fields columns row) (money_of (field row columns.cost)) (is_empty (field row columns.id)) (is_among (project_ids e) (field row columns.id)) (nat_le most_projects (length e.projects))
 unfolding row_fault
 project_fault columns row e =
     found_is_checks (has_project_fields columns row) (money_of (field row columns.cost)) (is_empty (field row columns.id)) (is_among (project_ids e) (field row columns.id)) (nat_le most_projects (length e.projects))
 
 pub vote_fault : (columns : VoteColumns) (row : Fields) (e : ElectionView) →
-    row_fault (in_votes columns e) (plain row)
+    row_fault (InVotes columns e) (plain row)
     ≡ vote_checks (has_vote_fields columns row) (is_empty (field row columns.voter)) (is_among (voter_ids e) (field row columns.voter)) (names_only (project_ids e) (field row columns.vote)) (nat_le most_voters (length e.voters))
 unfolding row_fault
 vote_fault columns row e = refl
@@ -131,7 +131,7 @@ pub record PassesProject (columns : ProjectColumns) (row : Fields) (e : Election
   pub new_id : is_among (project_ids e) (field row columns.id) ≡ false
   pub room : length e.projects < most_projects
 
-pub passes_project : (columns : ProjectColumns) (row : Fields) (e : ElectionView) → row_fault (in_projects columns e) (plain row) ≡ None → PassesProject columns row e
+pub passes_project : (columns : ProjectColumns) (row : Fields) (e : ElectionView) → row_fault (InProjects columns e) (plain row) ≡ None → PassesProject columns row e
 passes_project columns row e none =
     go (has_project_fields columns row) refl (money_of (field row columns.cost)) refl (sym (project_fault columns row e) ∙ none)
   where
@@ -154,7 +154,7 @@ passes_project columns row e none =
         let below = leb-false most_projects (length e.projects) few.0 in
         record { cost = cost; whole = w; reads = m; costs = omega (arith, some_cost); has_id = has_id.0; new_id = new_id.0; room = below }
 
-pub project_passes : (columns : ProjectColumns) (row : Fields) (e : ElectionView) → PassesProject columns row e → row_fault (in_projects columns e) (plain row) ≡ None
+pub project_passes : (columns : ProjectColumns) (row : Fields) (e : ElectionView) → PassesProject columns row e → row_fault (InProjects columns e) (plain row) ≡ None
 project_passes columns row e p =
     project_fault columns row e ∙ go _ _ _ _ _ p.whole p.reads p.has_id p.new_id (lt-leb most_projects (length e.projects) p.room)
   where
@@ -172,7 +172,7 @@ pub record PassesVote (columns : VoteColumns) (row : Fields) (e : ElectionView) 
   pub known : names_only (project_ids e) (field row columns.vote) ≡ true
   pub room : length e.voters < most_voters
 
-pub passes_vote : (columns : VoteColumns) (row : Fields) (e : ElectionView) → row_fault (in_votes columns e) (plain row) ≡ None → PassesVote columns row e
+pub passes_vote : (columns : VoteColumns) (row : Fields) (e : ElectionView) → row_fault (InVotes columns e) (plain row) ≡ None → PassesVote columns row e
 passes_vote columns row e none =
     let whole = cond_none _ _ _ (sym (vote_fault columns row e) ∙ none) in
     let has_id = cond_none _ _ _ whole.1 in
@@ -181,7 +181,7 @@ passes_vote columns row e none =
     let few = cond_none _ _ _ known.1 in
     record { whole = not-false _ whole.0; has_id = has_id.0; new_id = new_id.0; known = not-false _ known.0; room = leb-false most_voters (length e.voters) few.0 }
 
-pub vote_passes : (columns : VoteColumns) (row : Fields) (e : ElectionView) → PassesVote columns row e → row_fault (in_votes columns e) (plain row) ≡ None
+pub vote_passes : (columns : VoteColumns) (row : Fields) (e : ElectionView) → PassesVote columns row e → row_fault (InVotes columns e) (plain row) ≡ None
 vote_passes columns row e p =
     vote_fault columns row e ∙ go _ _ _ _ _ p.whole p.has_id p.new_id p.known (lt-leb most_voters (length e.voters) p.room)
   where
@@ -196,7 +196,7 @@ pub record PassesHead (meta : Meta) : Type 0 where
   pub approval : meta.approval ≡ Some true
   pub limit : meta.max_length ≡ Ok max_length
 
-pub passes_head : (meta : Meta) → row_fault (in_meta meta) (head section.Projects) ≡ None → PassesHead meta
+pub passes_head : (meta : Meta) → row_fault (InMeta meta) (head section.Projects) ≡ None → PassesHead meta
 passes_head meta none = go meta.budget meta.approval meta.max_length refl refl refl (sym (head_fault meta) ∙ none)
   where
     go : (budget : Option (Result ℕ MoneyFault)) (approval : Option Bool) (max_length : Result (Option ℕ) ReadKind) → meta.budget ≡ budget → meta.approval ≡ approval → meta.max_length ≡ max_length →
@@ -211,5 +211,5 @@ passes_head meta none = go meta.budget meta.approval meta.max_length refl refl r
     go (Some (Err money.MoneyTooLarge)) (Some true) max_length b a l f = absurd (some≢none f)
 
 pub head_passes : (meta : Meta) (budget : ℕ) (max_length : Option ℕ) → meta.budget ≡ Some (Ok budget) → meta.approval ≡ Some true → meta.max_length ≡ Ok max_length →
-    row_fault (in_meta meta) (head section.Projects) ≡ None
+    row_fault (InMeta meta) (head section.Projects) ≡ None
 head_passes meta budget max_length b a l = head_fault meta ∙ rw (b, a, l) refl

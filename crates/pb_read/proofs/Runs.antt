@@ -12,7 +12,7 @@ use Rattle.pb_rows.specs.Reading.{Fields}
 use Rattle.pb_read.proofs.ListFacts.{Contains-is_among, AllByRecursion-left, AllByRecursion-right}
 use Rattle.pb_read.proofs.MachineLaws.{run-append, meta_of-push, head_passes, project_passes, vote_passes, PassesProject, PassesVote}
 use Rattle.pb_read.specs.Columns.{project_columns, vote_columns}
-use Rattle.pb_read.specs.Positions.{Position, start, meta_head, in_meta, projects_head, in_projects, votes_head, in_votes, Next, head, plain, next_row, IsAt, IsSound}
+use Rattle.pb_read.specs.Stages.{Stage, Start, MetaHeader, InMeta, ProjectsHeader, InProjects, VotesHeader, InVotes, Next, head, plain, next_row, IsAt, IsSound}
 use Rattle.pb_read.specs.Machine.{advance, amount_of, project_of, voter_of, run, bind, step, step_or, row_fault}
 use Rattle.pb_read.specs.MetaRows.{meta_of}
 use Rattle.pb_read.specs.Rows.{field, head_of, is_blank, is_empty}
@@ -29,22 +29,22 @@ use Rattle.pb_read.specs.declared.section.Section.TheVariants as section
 abbrev pub AreFull : List Fields → Type 0
 AreFull rows = AllByRecursion (λ row. is_blank row ≡ false) rows
 
-abbrev Runs : Position → List Fields → Position → Type 0
+abbrev Runs : Stage → List Fields → Stage → Type 0
 Runs p rows q = run p rows ≡ Ok q
 
 -- one row without fault
-pub run_row : (p : Position) (row : Fields) (rest : List Fields) (n : Next) → next_row row ≡ n → row_fault p n ≡ None → run p (row ∷ rest) ≡ run (advance p n) rest
+pub run_row : (p : Stage) (row : Fields) (rest : List Fields) (n : Next) → next_row row ≡ n → row_fault p n ≡ None → run p (row ∷ rest) ≡ run (advance p n) rest
 unfolding step
 run_row p row rest n is none =
     ap (λ m. bind (step p m) (λ q. run q rest)) is ∙ ap (λ r. bind (step_or r (advance p n)) (λ q. run q rest)) none
 
 -- one row at fault
-pub run_fault : (p : Position) (row : Fields) (rest : List Fields) (kind : ReadKind) → row_fault p (next_row row) ≡ Some kind → run p (row ∷ rest) ≡ Err kind
+pub run_fault : (p : Stage) (row : Fields) (rest : List Fields) (kind : ReadKind) → row_fault p (next_row row) ≡ Some kind → run p (row ∷ rest) ≡ Err kind
 unfolding step
 run_fault p row rest kind fault = ap (λ r. bind (step_or r (advance p (next_row row))) (λ q. run q rest)) fault
 
--- rows behind others
-pub run_onto : (p q : Position) (front rest : List Fields) → run p front ≡ Ok q → run p (front ++ rest) ≡ run q rest
+-- rows after others
+pub run_onto : (p q : Stage) (front rest : List Fields) → run p front ≡ Ok q → run p (front ++ rest) ≡ run q rest
 run_onto p q front rest e = run-append p front rest ∙ ap (λ r. bind r (λ x. run x rest)) e
 
 next_plain : (row : Fields) → is_blank row ≡ false → IsPlain row → next_row row ≡ plain row
@@ -53,51 +53,51 @@ next_plain row full is = rw (full, is) refl
 next_head : (row : Fields) (name : Section) → is_blank row ≡ false → head_of row ≡ Some name → next_row row ≡ head name
 next_head row name full is = rw (full, is) refl
 
-meta_opens : row_fault start (head section.Meta) ≡ None
+meta_opens : row_fault Start (head section.Meta) ≡ None
 unfolding row_fault
 meta_opens = refl
 
-header_passes : (r : Fields) → row_fault meta_head (plain r) ≡ None
+header_passes : (r : Fields) → row_fault MetaHeader (plain r) ≡ None
 unfolding row_fault
 header_passes r = refl
 
-pub meta_row_passes : (meta : Meta) (r : Fields) → row_fault (in_meta meta) (plain r) ≡ None
+pub meta_row_passes : (meta : Meta) (r : Fields) → row_fault (InMeta meta) (plain r) ≡ None
 unfolding row_fault
 meta_row_passes meta r = refl
 
-project_header_passes : (e : ElectionView) (header : Fields) (columns : ProjectColumns) → project_columns header ≡ Some columns → row_fault (projects_head e) (plain header) ≡ None
+project_header_passes : (e : ElectionView) (header : Fields) (columns : ProjectColumns) → project_columns header ≡ Some columns → row_fault (ProjectsHeader e) (plain header) ≡ None
 unfolding row_fault
 project_header_passes e header columns c = ap (λ o. cond (is_none o) (Some kind.MissingColumn) None) c
 
-vote_header_passes : (e : ElectionView) (header : Fields) (columns : VoteColumns) → vote_columns header ≡ Some columns → row_fault (votes_head e) (plain header) ≡ None
+vote_header_passes : (e : ElectionView) (header : Fields) (columns : VoteColumns) → vote_columns header ≡ Some columns → row_fault (VotesHeader e) (plain header) ≡ None
 unfolding row_fault
 vote_header_passes e header columns c = ap (λ o. cond (is_none o) (Some kind.MissingColumn) None) c
 
-votes_open : (columns : ProjectColumns) (e : ElectionView) → row_fault (in_projects columns e) (head section.Votes) ≡ None
+votes_open : (columns : ProjectColumns) (e : ElectionView) → row_fault (InProjects columns e) (head section.Votes) ≡ None
 unfolding row_fault
 votes_open columns e = refl
 
-run_meta_body : (done body : List Fields) → AllByRecursion IsPlain body → AreFull body → Runs (in_meta (meta_of done)) body (in_meta (meta_of (done ++ body)))
-run_meta_body done [] plain_rows full = ap (λ rows. Ok (in_meta (meta_of rows))) (sym (append-nil done))
+run_meta_body : (done body : List Fields) → AllByRecursion IsPlain body → AreFull body → Runs (InMeta (meta_of done)) body (InMeta (meta_of (done ++ body)))
+run_meta_body done [] plain_rows full = ap (λ rows. Ok (InMeta (meta_of rows))) (sym (append-nil done))
 run_meta_body done (row ∷ body) plain_rows full =
-    run_row (in_meta (meta_of done)) row body (plain row) (next_plain row full.0 plain_rows.0) (meta_row_passes (meta_of done) row)
-    ∙ ap (λ m. run (in_meta m) body) (sym (meta_of-push done row))
+    run_row (InMeta (meta_of done)) row body (plain row) (next_plain row full.0 plain_rows.0) (meta_row_passes (meta_of done) row)
+    ∙ ap (λ m. run (InMeta m) body) (sym (meta_of-push done row))
     ∙ run_meta_body (done ++ row ∷ []) body plain_rows.1 full.1
-    ∙ ap (λ rows. Ok (in_meta (meta_of rows))) (append_assoc done (row ∷ []) body)
+    ∙ ap (λ rows. Ok (InMeta (meta_of rows))) (append_assoc done (row ∷ []) body)
 
-run_meta : (rows : List Fields) (meta : Meta) → AreFull rows → IsMeta meta rows → Runs start rows (in_meta meta)
+run_meta : (rows : List Fields) (meta : Meta) → AreFull rows → IsMeta meta rows → Runs Start rows (InMeta meta)
 run_meta rows meta full at =
     let whole : AreFull (at.head ∷ at.header ∷ at.body) = subst AreFull at.cut full in
-    ap (run start) at.cut
-    ∙ run_row start at.head (at.header ∷ at.body) (head section.Meta) (next_head at.head section.Meta whole.0 at.opens) meta_opens
-    ∙ run_row meta_head at.header at.body (plain at.header) (next_plain at.header whole.1.0 at.plain.0) (header_passes at.header)
+    ap (run Start) at.cut
+    ∙ run_row Start at.head (at.header ∷ at.body) (head section.Meta) (next_head at.head section.Meta whole.0 at.opens) meta_opens
+    ∙ run_row MetaHeader at.header at.body (plain at.header) (next_plain at.header whole.1.0 at.plain.0) (header_passes at.header)
     ∙ run_meta_body [] at.body at.plain.1 whole.1.1
-    ∙ ap (λ m. Ok (in_meta m)) (sym at.says)
+    ∙ ap (λ m. Ok (InMeta m)) (sym at.says)
 
--- rows of which the first part runs to a position
-run_then : (First Second : List Fields → Type 0) (p : Position) (rows back : List Fields) → (at : Then First Second rows) → at.back ≡ back → Runs start at.front p → run start rows ≡ run p back
+-- rows of which the first part runs to a stage
+run_then : (First Second : List Fields → Type 0) (p : Stage) (rows back : List Fields) → (at : Then First Second rows) → at.back ≡ back → Runs Start at.front p → run Start rows ≡ run p back
 run_then First Second p rows back at is front =
-    ap (run start) (at.cut ∙ ap (λ xs. at.front ++ xs) is) ∙ run_onto start p at.front back front
+    ap (run Start) (at.cut ∙ ap (λ xs. at.front ++ xs) is) ∙ run_onto Start p at.front back front
 
 full_front : (First Second : List Fields → Type 0) (rows : List Fields) → (at : Then First Second rows) → AreFull rows → AreFull at.front
 full_front First Second rows at full = AllByRecursion-left _ at.front at.back (subst AreFull at.cut full)
@@ -106,12 +106,12 @@ full_back : (First Second : List Fields → Type 0) (rows back : List Fields) �
 full_back First Second rows back at is full = subst AreFull is (AllByRecursion-right _ at.front at.back (subst AreFull at.cut full))
 
 run_terms : (budget : ℕ) (max_length : Option ℕ) (row : Fields) (rest : List Fields) → is_blank row ≡ false → head_of row ≡ Some section.Projects →
-    run (in_meta (record { budget = Some (Ok budget); approval = Some true; max_length = Ok max_length })) (row ∷ rest) ≡ run (projects_head (opening budget max_length)) rest
+    run (InMeta (record { budget = Some (Ok budget); approval = Some true; max_length = Ok max_length })) (row ∷ rest) ≡ run (ProjectsHeader (opening budget max_length)) rest
 run_terms budget max_length row rest full opens =
-    run_row (in_meta (record { budget = Some (Ok budget); approval = Some true; max_length = Ok max_length })) row rest (head section.Projects) (next_head row section.Projects full opens)
+    run_row (InMeta (record { budget = Some (Ok budget); approval = Some true; max_length = Ok max_length })) row rest (head section.Projects) (next_head row section.Projects full opens)
     (head_passes (record { budget = Some (Ok budget); approval = Some true; max_length = Ok max_length }) budget max_length refl refl refl)
 
-run_projects_head : (rows : List Fields) (budget : ℕ) (max_length : Option ℕ) → AreFull rows → Then (GivesTerms budget max_length) (IsHead section.Projects) rows → Runs start rows (projects_head (opening budget max_length))
+run_projects_head : (rows : List Fields) (budget : ℕ) (max_length : Option ℕ) → AreFull rows → Then (GivesTerms budget max_length) (IsHead section.Projects) rows → Runs Start rows (ProjectsHeader (opening budget max_length))
 run_projects_head rows budget max_length full at =
     let back : AreFull (at.second.head ∷ []) = full_back _ _ rows (at.second.head ∷ []) at at.second.cut full in
     run_then _ _ _ rows (at.second.head ∷ []) at at.second.cut (run_meta at.front _ (full_front _ _ rows at full) at.first)
@@ -156,34 +156,34 @@ passes_at columns e qs ps p row given is =
 
 run_projects_body : (columns : ProjectColumns) (e : ElectionView) (qs ps : List ProjectView) (body : List Fields) → AllZip (GivesProject columns) body ps → AllByRecursion IsPlain body → AreFull body →
     IsElection (record e { projects = qs ++ ps; voters = [] }) →
-    Runs (in_projects columns (record e { projects = qs; voters = [] })) body (in_projects columns (record e { projects = qs ++ ps; voters = [] }))
-run_projects_body columns e qs [] [] zip plain_rows full is = ap (λ ps. Ok (in_projects columns (record e { projects = ps; voters = [] }))) (sym (append-nil qs))
+    Runs (InProjects columns (record e { projects = qs; voters = [] })) body (InProjects columns (record e { projects = qs ++ ps; voters = [] }))
+run_projects_body columns e qs [] [] zip plain_rows full is = ap (λ ps. Ok (InProjects columns (record e { projects = ps; voters = [] }))) (sym (append-nil qs))
 run_projects_body columns e qs (p ∷ ps) [] zip plain_rows full is = absurd zip
 run_projects_body columns e qs [] (row ∷ body) zip plain_rows full is = absurd zip
 run_projects_body columns e qs (p ∷ ps) (row ∷ body) zip plain_rows full is =
     let given : GivesProject columns row p = zip.0 in
     let same : project_of columns row ≡ p = λ i. record { id = sym given.id i; name = sym given.name i; cost = ap amount_of given.cost i } in
-    run_row (in_projects columns (record e { projects = qs; voters = [] })) row body (plain row) (next_plain row full.0 plain_rows.0) (project_passes columns row (record e { projects = qs; voters = [] }) (passes_at columns e qs ps p row given is))
-    ∙ ap (λ x. run (in_projects columns (record e { projects = qs ++ x ∷ []; voters = [] })) body) same
+    run_row (InProjects columns (record e { projects = qs; voters = [] })) row body (plain row) (next_plain row full.0 plain_rows.0) (project_passes columns row (record e { projects = qs; voters = [] }) (passes_at columns e qs ps p row given is))
+    ∙ ap (λ x. run (InProjects columns (record e { projects = qs ++ x ∷ []; voters = [] })) body) same
     ∙ run_projects_body columns e (qs ++ p ∷ []) ps body zip.1 plain_rows.1 full.1 (subst (λ xs. IsElection (record e { projects = xs; voters = [] })) (sym (append_assoc qs (p ∷ []) ps)) is)
-    ∙ ap (λ xs. Ok (in_projects columns (record e { projects = xs; voters = [] }))) (append_assoc qs (p ∷ []) ps)
+    ∙ ap (λ xs. Ok (InProjects columns (record e { projects = xs; voters = [] }))) (append_assoc qs (p ∷ []) ps)
 
-run_projects : (rows : List Fields) (columns : ProjectColumns) (e : ElectionView) → AreFull rows → GivesAllButVoters columns e rows → e.voters ≡ [] → IsElection e → Runs start rows (in_projects columns e)
+run_projects : (rows : List Fields) (columns : ProjectColumns) (e : ElectionView) → AreFull rows → GivesAllButVoters columns e rows → e.voters ≡ [] → IsElection e → Runs Start rows (InProjects columns e)
 run_projects rows columns e full at no_voter is =
     let part = at.second in
     let back : AreFull (part.head ∷ part.header ∷ part.body) = full_back _ _ rows (part.head ∷ part.header ∷ part.body) at part.cut full in
     run_then _ _ _ rows (part.head ∷ part.header ∷ part.body) at part.cut (run_meta at.front _ (full_front _ _ rows at full) at.first)
     ∙ run_terms e.budget e.max_length part.head (part.header ∷ part.body) back.0 part.opens
-    ∙ run_row (projects_head (opening e.budget e.max_length)) part.header part.body (plain part.header) (next_plain part.header back.1.0 part.plain.0) (project_header_passes (opening e.budget e.max_length) part.header columns part.says.0)
-    ∙ ap (λ o. run (option_map_or (λ c. in_projects c (opening e.budget e.max_length)) o start) part.body) part.says.0
+    ∙ run_row (ProjectsHeader (opening e.budget e.max_length)) part.header part.body (plain part.header) (next_plain part.header back.1.0 part.plain.0) (project_header_passes (opening e.budget e.max_length) part.header columns part.says.0)
+    ∙ ap (λ o. run (option_map_or (λ c. InProjects c (opening e.budget e.max_length)) o Start) part.body) part.says.0
     ∙ run_projects_body columns e [] e.projects part.body part.says.1 part.plain.1 back.1.1 (subst (λ vs. IsElection (record e { voters = vs })) no_voter is)
-    ∙ ap (λ vs. Ok (in_projects columns (record e { voters = vs }))) (sym no_voter)
+    ∙ ap (λ vs. Ok (InProjects columns (record e { voters = vs }))) (sym no_voter)
 
-run_votes_head : (rows : List Fields) (columns : ProjectColumns) (e : ElectionView) → AreFull rows → Then (GivesAllButVoters columns e) (IsHead section.Votes) rows → e.voters ≡ [] → IsElection e → Runs start rows (votes_head e)
+run_votes_head : (rows : List Fields) (columns : ProjectColumns) (e : ElectionView) → AreFull rows → Then (GivesAllButVoters columns e) (IsHead section.Votes) rows → e.voters ≡ [] → IsElection e → Runs Start rows (VotesHeader e)
 run_votes_head rows columns e full at no_voter is =
     let back : AreFull (at.second.head ∷ []) = full_back _ _ rows (at.second.head ∷ []) at at.second.cut full in
-    run_then _ _ (in_projects columns e) rows (at.second.head ∷ []) at at.second.cut (run_projects at.front columns e (full_front _ _ rows at full) at.first no_voter is)
-    ∙ run_row (in_projects columns e) at.second.head [] (head section.Votes) (next_head at.second.head section.Votes back.0 at.second.opens) (votes_open columns e)
+    run_then _ _ (InProjects columns e) rows (at.second.head ∷ []) at at.second.cut (run_projects at.front columns e (full_front _ _ rows at full) at.first no_voter is)
+    ∙ run_row (InProjects columns e) at.second.head [] (head section.Votes) (next_head at.second.head section.Votes back.0 at.second.opens) (votes_open columns e)
 
 vote_passes_at : (columns : VoteColumns) (e : ElectionView) (us vs : List VoterView) (v : VoterView) (row : Fields) → GivesVoter columns (project_ids e) row v → IsElection (record e { voters = us ++ v ∷ vs }) →
     PassesVote columns row (record e { voters = us })
@@ -200,17 +200,17 @@ vote_passes_at columns e us vs v row given is =
 
 run_votes_body : (columns : VoteColumns) (e : ElectionView) (us vs : List VoterView) (body : List Fields) → AllZip (GivesVoter columns (project_ids e)) body vs → AllByRecursion IsPlain body → AreFull body →
     IsElection (record e { voters = us ++ vs }) →
-    Runs (in_votes columns (record e { voters = us })) body (in_votes columns (record e { voters = us ++ vs }))
-run_votes_body columns e us [] [] zip plain_rows full is = ap (λ xs. Ok (in_votes columns (record e { voters = xs }))) (sym (append-nil us))
+    Runs (InVotes columns (record e { voters = us })) body (InVotes columns (record e { voters = us ++ vs }))
+run_votes_body columns e us [] [] zip plain_rows full is = ap (λ xs. Ok (InVotes columns (record e { voters = xs }))) (sym (append-nil us))
 run_votes_body columns e us (v ∷ vs) [] zip plain_rows full is = absurd zip
 run_votes_body columns e us [] (row ∷ body) zip plain_rows full is = absurd zip
 run_votes_body columns e us (v ∷ vs) (row ∷ body) zip plain_rows full is =
     let given : GivesVoter columns (project_ids e) row v = zip.0 in
     let same : voter_of columns (project_ids e) row ≡ v = λ i. record { id = sym given.id i; ballot = sym given.ballot i } in
-    run_row (in_votes columns (record e { voters = us })) row body (plain row) (next_plain row full.0 plain_rows.0) (vote_passes columns row (record e { voters = us }) (vote_passes_at columns e us vs v row given is))
-    ∙ ap (λ x. run (in_votes columns (record e { voters = us ++ x ∷ [] })) body) same
+    run_row (InVotes columns (record e { voters = us })) row body (plain row) (next_plain row full.0 plain_rows.0) (vote_passes columns row (record e { voters = us }) (vote_passes_at columns e us vs v row given is))
+    ∙ ap (λ x. run (InVotes columns (record e { voters = us ++ x ∷ [] })) body) same
     ∙ run_votes_body columns e (us ++ v ∷ []) vs body zip.1 plain_rows.1 full.1 (subst (λ xs. IsElection (record e { voters = xs })) (sym (append_assoc us (v ∷ []) vs)) is)
-    ∙ ap (λ xs. Ok (in_votes columns (record e { voters = xs }))) (append_assoc us (v ∷ []) vs)
+    ∙ ap (λ xs. Ok (InVotes columns (record e { voters = xs }))) (append_assoc us (v ∷ []) vs)
 
 pub without_voters_is_election : (e : ElectionView) → IsElection e → IsElection (record e { voters = [] })
 without_voters_is_election e is = record {
@@ -223,27 +223,27 @@ without_voters_is_election e is = record {
   voters_differ = λ i j d above below. absurd (omega (arith, below));
 }
 
-run_votes : (rows : List Fields) (columns : VoteColumns) (e : ElectionView) → AreFull rows → GivesAll columns e rows → IsElection e → Runs start rows (in_votes columns e)
+run_votes : (rows : List Fields) (columns : VoteColumns) (e : ElectionView) → AreFull rows → GivesAll columns e rows → IsElection e → Runs Start rows (InVotes columns e)
 run_votes rows columns e full all is =
     let at = all.sections in
     let part = at.second in
     let before : ElectionView = record e { voters = [] } in
     let back : AreFull (part.head ∷ part.header ∷ part.body) = full_back _ _ rows (part.head ∷ part.header ∷ part.body) at part.cut full in
-    run_then _ _ (in_projects all.project_columns before) rows (part.head ∷ part.header ∷ part.body) at part.cut
+    run_then _ _ (InProjects all.project_columns before) rows (part.head ∷ part.header ∷ part.body) at part.cut
     (run_projects at.front all.project_columns before (full_front _ _ rows at full) at.first refl (without_voters_is_election e is))
-    ∙ run_row (in_projects all.project_columns before) part.head (part.header ∷ part.body) (head section.Votes) (next_head part.head section.Votes back.0 part.opens) (votes_open all.project_columns before)
-    ∙ run_row (votes_head before) part.header part.body (plain part.header) (next_plain part.header back.1.0 part.plain.0) (vote_header_passes before part.header columns part.says.0)
-    ∙ ap (λ o. run (option_map_or (λ c. in_votes c before) o start) part.body) part.says.0
+    ∙ run_row (InProjects all.project_columns before) part.head (part.header ∷ part.body) (head section.Votes) (next_head part.head section.Votes back.0 part.opens) (votes_open all.project_columns before)
+    ∙ run_row (VotesHeader before) part.header part.body (plain part.header) (next_plain part.header back.1.0 part.plain.0) (vote_header_passes before part.header columns part.says.0)
+    ∙ ap (λ o. run (option_map_or (λ c. InVotes c before) o Start) part.body) part.says.0
     ∙ run_votes_body columns e [] e.voters part.body part.says.1 part.plain.1 back.1.1 is
 
 -- what stands runs, wherever a file has come to
-pub runs : (p : Position) (rows : List Fields) → AreFull rows → IsAt rows p → IsSound p → Runs start rows p
-runs start rows full at sound = ap (run start) at
-runs meta_head rows full at sound =
+pub runs : (p : Stage) (rows : List Fields) → AreFull rows → IsAt rows p → IsSound p → Runs Start rows p
+runs Start rows full at sound = ap (run Start) at
+runs MetaHeader rows full at sound =
     let whole : AreFull (at.head ∷ []) = subst AreFull at.cut full in
-    ap (run start) at.cut ∙ run_row start at.head [] (head section.Meta) (next_head at.head section.Meta whole.0 at.opens) meta_opens
-runs (in_meta meta) rows full at sound = run_meta rows meta full at
-runs (projects_head e) rows full at sound = run_projects_head rows e.budget e.max_length full at.0 ∙ ap (λ x. Ok (projects_head x)) (sym at.1)
-runs (in_projects columns e) rows full at sound = run_projects rows columns e full at sound.1 sound.0
-runs (votes_head e) rows full at sound = run_votes_head rows at.0 e full at.1 sound.1 sound.0
-runs (in_votes columns e) rows full at sound = run_votes rows columns e full at sound
+    ap (run Start) at.cut ∙ run_row Start at.head [] (head section.Meta) (next_head at.head section.Meta whole.0 at.opens) meta_opens
+runs (InMeta meta) rows full at sound = run_meta rows meta full at
+runs (ProjectsHeader e) rows full at sound = run_projects_head rows e.budget e.max_length full at.0 ∙ ap (λ x. Ok (ProjectsHeader x)) (sym at.1)
+runs (InProjects columns e) rows full at sound = run_projects rows columns e full at sound.1 sound.0
+runs (VotesHeader e) rows full at sound = run_votes_head rows at.0 e full at.1 sound.1 sound.0
+runs (InVotes columns e) rows full at sound = run_votes rows columns e full at sound

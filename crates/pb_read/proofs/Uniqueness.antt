@@ -11,7 +11,7 @@ use Rattle.pb_read.proofs.ListFacts.{same_Ok}
 use Rattle.pb_read.proofs.Runs.{runs}
 use Rattle.pb_read.specs.Faults.{applies_after}
 use Rattle.pb_read.specs.Kinds.{number_of}
-use Rattle.pb_read.specs.Positions.{Position, start, in_votes}
+use Rattle.pb_read.specs.Stages.{Stage, Start, InVotes}
 use Rattle.pb_read.specs.FirstFault.{HasNoFault, IsAtFault, IsFaultAt, IsFirstFault, IsFromOutside, IsReachedAt}
 use Rattle.pb_read.specs.Machine.{run}
 use Rattle.pb_read.specs.Rows.{rows_of}
@@ -19,16 +19,16 @@ use Rattle.pb_read.specs.StandsFor.{Describes, StandsFor}
 use Rattle.pb_read.specs.declared.fault.ReadKind.{ReadKind}
 use Rattle.pb_read.specs.declared.fault.ReadKind.TheVariants as kinds
 
-election_at : Position → ElectionView → ElectionView
-election_at (in_votes columns e) other = e
+election_at : Stage → ElectionView → ElectionView
+election_at (InVotes columns e) other = e
 election_at _ other = other
 
 pub one_election : (records : List Fields) (e f : ElectionView) → StandsFor records e → StandsFor records f → e ≡ f
 unfolding election_at
 one_election records e f se sf =
-    let here = runs (in_votes se.describes.columns e) (rows_of records) (rows_of-are_full records) se.describes.rows se.describes.is_election in
-    let there = runs (in_votes sf.describes.columns f) (rows_of records) (rows_of-are_full records) sf.describes.rows sf.describes.is_election in
-    let same : in_votes se.describes.columns e ≡ in_votes sf.describes.columns f = same_Ok (sym here ∙ there) in
+    let here = runs (InVotes se.describes.columns e) (rows_of records) (rows_of-are_full records) se.describes.rows se.describes.is_election in
+    let there = runs (InVotes sf.describes.columns f) (rows_of records) (rows_of-are_full records) sf.describes.rows sf.describes.is_election in
+    let same : InVotes se.describes.columns e ≡ InVotes sf.describes.columns f = same_Ok (sym here ∙ there) in
     ap (λ p. election_at p e) same
 
 -- what stands has no fault
@@ -116,14 +116,14 @@ one_first_fault records k l a b f g = go (cases_order (length f.reached.done) (l
     go (inl same) =
         let done : f.reached.done ≡ g.reached.done = same_front f.reached.done g.reached.done f.reached.left g.reached.left (sym f.reached.cut ∙ g.reached.cut) same in
         let left : f.reached.left ≡ g.reached.left = same_rest f.reached.done f.reached.left g.reached.left (sym f.reached.cut ∙ g.reached.cut ∙ ap (λ xs. xs ++ g.reached.left) (sym done)) in
-        let here = runs f.position (rows_of f.reached.done) (rows_of-are_full f.reached.done) f.so_far f.sound in
-        let there = runs g.position (rows_of g.reached.done) (rows_of-are_full g.reached.done) g.so_far g.sound in
-        let position : f.position ≡ g.position = same_Ok (sym here ∙ ap (λ xs. run start (rows_of xs)) done ∙ there) in (
-          by_number (λ kind i. applies_after (length (done i)) (position i) (left i) kind) (cases_order (number_of k) (number_of l)),
+        let here = runs f.stage (rows_of f.reached.done) (rows_of-are_full f.reached.done) f.so_far f.sound in
+        let there = runs g.stage (rows_of g.reached.done) (rows_of-are_full g.reached.done) g.so_far g.sound in
+        let stage : f.stage ≡ g.stage = same_Ok (sym here ∙ ap (λ xs. run Start (rows_of xs)) done ∙ there) in (
+          by_number (λ kind i. applies_after (length (done i)) (stage i) (left i) kind) (cases_order (number_of k) (number_of l)),
           f.reached.at_is ∙ ap (λ n. n + 1) same ∙ sym g.reached.at_is,
         )
       where
-        by_number : ((kind : ReadKind) → applies_after (length f.reached.done) f.position f.reached.left kind ≡ applies_after (length g.reached.done) g.position g.reached.left kind) →
+        by_number : ((kind : ReadKind) → applies_after (length f.reached.done) f.stage f.reached.left kind ≡ applies_after (length g.reached.done) g.stage g.reached.left kind) →
             (number_of k ≡ number_of l) ⊎ ((number_of k < number_of l) ⊎ (number_of l < number_of k)) → k ≡ l
         by_number same (inl numbers) = same_number k l numbers
         by_number same (inr (inl lower)) = absurd (true≢false (sym f.applies ∙ same k ∙ g.lowest k lower))

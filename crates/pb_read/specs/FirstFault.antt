@@ -4,7 +4,7 @@ use Rattle.pb_core.specs.Election.{ElectionView}
 use Rattle.pb_rows.specs.Reading.{Fields}
 use Rattle.pb_read.specs.Faults.{applies_after}
 use Rattle.pb_read.specs.Kinds.{number_of}
-use Rattle.pb_read.specs.Positions.{Position, IsAt, IsSound}
+use Rattle.pb_read.specs.Stages.{Stage, IsAt, IsSound}
 use Rattle.pb_read.specs.Rows.{rows_of}
 use Rattle.pb_read.specs.StandsFor.{Describes, StandsFor, most_records}
 use Rattle.pb_read.specs.declared.fault.ReadKind.{ReadKind}
@@ -39,13 +39,15 @@ pub record IsReachedAt (records : List Fields) (at : ℕ) : Type 0 where
 pub record IsFirstFault (records : List Fields) (kind : ReadKind) (at : ℕ) : Type 0 where
   pub reached : IsReachedAt records at
   pub at_fault : IsAtFault reached.done reached.left
-  pub position : Position
-  pub so_far : IsAt (rows_of reached.done) position
-  pub sound : IsSound position
-  pub applies : applies_after (length reached.done) position reached.left kind ≡ true
-  pub lowest : (other : ReadKind) → number_of other < number_of kind → applies_after (length reached.done) position reached.left other ≡ false
+  pub stage : Stage
+  pub so_far : IsAt (rows_of reached.done) stage
+  pub sound : IsSound stage
+  pub applies : applies_after (length reached.done) stage reached.left kind ≡ true
+  pub lowest : (other : ReadKind) → number_of other < number_of kind →
+      applies_after (length reached.done) stage reached.left other ≡ false
 
--- a fault is the first one; where the reader failed or memory was refused, no record up to it is known to be at fault
+-- a fault is the first one; of a failed reader and of refused memory no clause can say at which record they came,
+-- but the records before that number have no fault
 abbrev pub IsFaultAt : List Fields → ReadKind → ℕ → Type 0
 IsFaultAt records ReadFailed at = IsReachedAt records at
 IsFaultAt records NoMemory at = IsReachedAt records at

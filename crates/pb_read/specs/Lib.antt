@@ -6,7 +6,7 @@ pub mod Kinds
 pub mod Lengths
 pub mod Machine
 pub mod MetaRows
-pub mod Positions
+pub mod Stages
 pub mod Progresses
 pub mod Rows
 pub mod StandsFor

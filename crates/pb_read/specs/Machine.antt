@@ -13,7 +13,7 @@ use Rattle.pb_read.specs.Faults.{applies, is_zero}
 use Rattle.pb_read.specs.Kinds.{kind_of_money}
 use Rattle.pb_read.specs.Lengths.{max_length_of}
 use Rattle.pb_read.specs.MetaRows.{meta_of}
-use Rattle.pb_read.specs.Positions.{Position, start, meta_head, in_meta, projects_head, in_projects, votes_head, in_votes, Next, head, plain, the_end, next_row}
+use Rattle.pb_read.specs.Stages.{Stage, Start, MetaHeader, InMeta, ProjectsHeader, InProjects, VotesHeader, InVotes, Next, head, plain, the_end, next_row}
 use Rattle.pb_read.specs.Rows.{field, is_empty, is_word, trimmed}
 use Rattle.pb_read.specs.StandsFor.{most_records, opening}
 use Rattle.pb_read.specs.Voting.{ballot_of, is_among, names_only}
@@ -55,17 +55,17 @@ voter_of columns ids row = record { id = field row columns.voter; ballot = ballo
 abbrev pub with_voter : VoteColumns → Fields → ElectionView → ElectionView
 with_voter columns row e = record e { voters = e.voters ++ voter_of columns (project_ids e) row ∷ [] }
 
--- the position behind what comes next, where that is no fault
-abbrev pub advance : Position → Next → Position
-advance start (head name) = meta_head
-advance meta_head (plain row) = in_meta (meta_of [])
-advance (in_meta meta) (head name) = projects_head (opening (budget_of meta.budget) (limit_of meta.max_length))
-advance (in_meta meta) (plain row) = in_meta (with_row meta row)
-advance (projects_head e) (plain header) = option_map_or (λ columns. in_projects columns e) (project_columns header) start
-advance (in_projects columns e) (head name) = votes_head e
-advance (in_projects columns e) (plain row) = in_projects columns (with_project columns row e)
-advance (votes_head e) (plain header) = option_map_or (λ columns. in_votes columns e) (vote_columns header) start
-advance (in_votes columns e) (plain row) = in_votes columns (with_voter columns row e)
+-- the stage after what comes next, where that is no fault
+abbrev pub advance : Stage → Next → Stage
+advance Start (head name) = MetaHeader
+advance MetaHeader (plain row) = InMeta (meta_of [])
+advance (InMeta meta) (head name) = ProjectsHeader (opening (budget_of meta.budget) (limit_of meta.max_length))
+advance (InMeta meta) (plain row) = InMeta (with_row meta row)
+advance (ProjectsHeader e) (plain header) = option_map_or (λ columns. InProjects columns e) (project_columns header) Start
+advance (InProjects columns e) (head name) = VotesHeader e
+advance (InProjects columns e) (plain row) = InProjects columns (with_project columns row e)
+advance (VotesHeader e) (plain header) = option_map_or (λ columns. InVotes columns e) (vote_columns header) Start
+advance (InVotes columns e) (plain row) = InVotes columns (with_voter columns row e)
 advance p n = p
 
 -- the kinds that depend on how far the rows have come, and all kinds, each in rising number
@@ -81,30 +81,30 @@ all_kinds =
     ∷ ZeroCost ∷ EmptyId ∷ RepeatedProject ∷ RepeatedVoter ∷ UnknownProject ∷ TooManyProjects ∷ TooManyVoters ∷ NoMemory ∷ BadLength ∷ []
 
 -- the first of them that applies
-unfoldable pub row_fault : Position → Next → Option ReadKind
+unfoldable pub row_fault : Stage → Next → Option ReadKind
 row_fault p n = find (λ kind. applies kind p n) row_kinds
 
 -- the first of all that applies after this many records
-abbrev pub lowest_kind : ℕ → Position → List Fields → Option ReadKind
+abbrev pub lowest_kind : ℕ → Stage → List Fields → Option ReadKind
 lowest_kind done p [] = row_fault p the_end
 lowest_kind done p (next ∷ rest) =
     if not (list_all is_utf8 next) then Some NotText
     else if done == most_records then Some TooManyRecords
     else row_fault p (next_row (trimmed next))
 
-abbrev pub step_or : Option ReadKind → Position → Result Position ReadKind
+abbrev pub step_or : Option ReadKind → Stage → Result Stage ReadKind
 step_or None q = Ok q
 step_or (Some kind) q = Err kind
 
-unfoldable pub step : Position → Next → Result Position ReadKind
+unfoldable pub step : Stage → Next → Result Stage ReadKind
 step p n = step_or (row_fault p n) (advance p n)
 
-abbrev pub bind : Result Position ReadKind → (Position → Result Position ReadKind) → Result Position ReadKind
+abbrev pub bind : Result Stage ReadKind → (Stage → Result Stage ReadKind) → Result Stage ReadKind
 bind (Ok p) f = f p
 bind (Err kind) f = Err kind
 
 -- rows that are read one after another
-abbrev pub run : Position → List Fields → Result Position ReadKind
+abbrev pub run : Stage → List Fields → Result Stage ReadKind
 run p [] = Ok p
 run p (row ∷ rows) = bind (step p (next_row row)) (λ q. run q rows)
 

@@ -65,12 +65,14 @@ GivesTerms budget max_length rows =
 -- PROJECTS with these columns, and a row for each project
 abbrev pub GivesProjects : ProjectColumns → List ProjectView → List Fields → Type 0
 GivesProjects columns projects rows =
-    IsSection section.Projects (λ header body. (project_columns header ≡ Some columns) × AllZip (GivesProject columns) body projects) rows
+    IsSection section.Projects (λ header body.
+    (project_columns header ≡ Some columns) × AllZip (GivesProject columns) body projects) rows
 
 -- VOTES with these columns, and a row for each voter
 abbrev pub GivesVoters : VoteColumns → List (List ℕ) → List VoterView → List Fields → Type 0
 GivesVoters columns ids voters rows =
-    IsSection section.Votes (λ header body. (vote_columns header ≡ Some columns) × AllZip (GivesVoter columns ids) body voters) rows
+    IsSection section.Votes (λ header body.
+    (vote_columns header ≡ Some columns) × AllZip (GivesVoter columns ids) body voters) rows
 
 -- rows of one form, and then rows of another
 pub record Then (First Second : List Fields → Type 0) (rows : List Fields) : Type 0 where

@@ -18,4 +18,5 @@ names_only ids vote = list_all (is_among ids) (pieces_of vote)
 
 -- the places, rising from 0, of the ids that a vote names
 abbrev pub ballot_of : List (List ℕ) → List ℕ → List ℕ
-ballot_of ids vote = filter (λ place. is_among (pieces_of vote) (slice_index_or ids place [])) (range_with_len 0 (length ids))
+ballot_of ids vote =
+    filter (λ place. is_among (pieces_of vote) (slice_index_or ids place [])) (range_with_len 0 (length ids))

@@ -3,6 +3,8 @@
 use crate::fault::ReadKind;
 use crate::row::Row;
 use pb_core::money::Money;
+use pb_core::voter_id::VoterId;
+use std::alloc::Global;
 
 /// The places of the columns of PROJECTS, from 0.
 #[derive(Clone, Copy, Debug)]
@@ -20,9 +22,12 @@ pub(crate) struct VoteColumns {
 }
 
 impl ProjectColumns {
-    ghost use Rattle.std.specs.Prelude.{◌≡◌, Ok, IsErrAnd, MatchResult};
+    ghost use Rattle.std.specs.Prelude.{◌≡◌, Ok, IfErr, IfOk, IsErrAnd, MatchResult};
+    ghost use Rattle.pb_core.specs.Election.{ElectionView};
     ghost use Rattle.pb_core.specs.Money.{money_of};
     ghost use Rattle.pb_read.specs.Kinds.{kind_of_money};
+    ghost use Rattle.pb_read.specs.Drafts.{HasProject};
+    ghost use Rattle.pb_read.specs.Machine.{Explains, project_row_checks};
     ghost use Rattle.pb_read.specs.Columns.{has_project_fields, name_field, project_columns};
     ghost use Rattle.pb_read.specs.Rows.{field};
 
@@ -37,18 +42,40 @@ impl ProjectColumns {
     }
 
     /// Whether a row has a field in each needed column.
-    pub(crate) fn are_in(&self, row: &Row) -> bool
+    fn are_in(&self, row: &Row) -> bool
         ensures { result ≡ has_project_fields self.now row.now }
     {
         row.has_field(self.id) && row.has_field(self.cost)
     }
 
     /// The cost in a row.
-    pub(crate) fn cost(&self, row: &Row) -> Result<Money, ReadKind>
+    fn cost(&self, row: &Row) -> Result<Money, ReadKind>
         ensures { MatchResult result (λ cost. money_of (field row.now self.now.cost) ≡ Ok cost)
             (λ kind. IsErrAnd (money_of (field row.now self.now.cost)) (λ fault. kind ≡ kind_of_money fault)) }
     {
         Money::read(row.field(self.cost)).map_err(ReadKind::from)
+    }
+
+    /// The id and the cost of the project in a row, or why it has none.
+    pub(crate) fn id_and_cost<'r>(&self, row: &'r Row) -> Result<(&'r str, Money), ReadKind>
+        ensures ok { IfOk result (λ found. HasProject self.now row.now found.0.now found.1) }
+        ensures err { IfErr result (λ kind. (e : ElectionView) → Explains kind (project_row_checks self.now row.now e)) }
+    {
+        if !self.are_in(row) {
+            return Err(ReadKind::MissingField);
+        }
+        let cost = match self.cost(row) {
+            Ok(cost) => cost,
+            Err(kind) => return Err(kind),
+        };
+        if cost.0 == 0 {
+            return Err(ReadKind::ZeroCost);
+        }
+        let id = row.field(self.id);
+        if id.is_empty() {
+            return Err(ReadKind::EmptyId);
+        }
+        Ok((id, cost))
     }
 
     /// The name in a row: empty where there is no such column, or the row ends before it.
@@ -63,7 +90,10 @@ impl ProjectColumns {
 }
 
 impl VoteColumns {
-    ghost use Rattle.std.specs.Prelude.{◌≡◌};
+    ghost use Rattle.std.specs.Prelude.{◌≡◌, IfErr, IfOk};
+    ghost use Rattle.pb_core.specs.Election.{ElectionView};
+    ghost use Rattle.pb_read.specs.Drafts.{HasVoter};
+    ghost use Rattle.pb_read.specs.Machine.{Explains, vote_row_checks};
     ghost use Rattle.pb_read.specs.Columns.{has_vote_fields, vote_columns};
 
     /// The columns that a header row of VOTES names: `voter_id` and `vote`, both needed.
@@ -76,9 +106,23 @@ impl VoteColumns {
     }
 
     /// Whether a row has a field in each needed column.
-    pub(crate) fn are_in(&self, row: &Row) -> bool
+    fn are_in(&self, row: &Row) -> bool
         ensures { result ≡ has_vote_fields self.now row.now }
     {
         row.has_field(self.voter) && row.has_field(self.vote)
+    }
+
+    /// The voter's id in a row, or why it has none.
+    pub(crate) fn voter_id(&self, alloc: Global, row: &Row) -> Result<VoterId, ReadKind>
+        ensures ok { IfOk result (HasVoter self.now row.now) }
+        ensures err { IfErr result (λ kind. (e : ElectionView) → Explains kind (vote_row_checks self.now row.now e)) }
+    {
+        if !self.are_in(row) {
+            return Err(ReadKind::MissingField);
+        }
+        let Some(id) = VoterId::new(alloc, row.field(self.voter))? else {
+            return Err(ReadKind::EmptyId);
+        };
+        Ok(id)
     }
 }

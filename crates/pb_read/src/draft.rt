@@ -15,7 +15,6 @@ use pb_core::election::{Election, MOST_PROJECTS, MOST_VOTERS};
 use pb_core::money::Money;
 use pb_core::project::Project;
 use pb_core::voter::Voter;
-use pb_core::voter_id::VoterId;
 use std::alloc::Global;
 
 /// An election as far as its rows were read, with its ids by hash.
@@ -55,20 +54,10 @@ impl Draft {
             × (self.new.election ≡ with_project columns row.now self.old.election) × IsTied self.new) }
         ensures err { IfErr result (λ kind. Explains kind (project_row_checks columns row.now self.old.election)) }
     {
-        if !columns.are_in(row) {
-            return Err(ReadKind::MissingField);
-        }
-        let cost = match columns.cost(row) {
-            Ok(cost) => cost,
+        let (id, cost) = match columns.id_and_cost(row) {
+            Ok(found) => found,
             Err(kind) => return Err(kind),
         };
-        if cost.0 == 0 {
-            return Err(ReadKind::ZeroCost);
-        }
-        let id = row.field(columns.id);
-        if id.is_empty() {
-            return Err(ReadKind::EmptyId);
-        }
         if !self.project_ids.add(self.alloc, id)? {
             return Err(ReadKind::RepeatedProject);
         }
@@ -88,11 +77,9 @@ impl Draft {
             × (self.new.election ≡ with_voter columns row.now self.old.election) × IsTied self.new) }
         ensures err { IfErr result (λ kind. Explains kind (vote_row_checks columns row.now self.old.election)) }
     {
-        if !columns.are_in(row) {
-            return Err(ReadKind::MissingField);
-        }
-        let Some(id) = VoterId::new(self.alloc, row.field(columns.voter))? else {
-            return Err(ReadKind::EmptyId);
+        let id = match columns.voter_id(self.alloc, row) {
+            Ok(id) => id,
+            Err(kind) => return Err(kind),
         };
         if !self.voter_ids.add(self.alloc, id.text())? {
             return Err(ReadKind::RepeatedVoter);

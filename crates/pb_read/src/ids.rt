@@ -43,7 +43,7 @@ impl Ids {
         self.texts.get_index_of(id)
     }
 
-    /// Puts an id behind the others, and answers whether it was new.
+    /// Puts an id after the others, and answers whether it was new.
     pub(crate) fn add(&mut self, alloc: Global, id: &str) -> Result<bool, NoMemory>
         ensures new { IfOk result (λ new. new ≡ not (is_among self.old id.now)) }
         ensures ids { IfOk result (λ new. self.new ≡ (if new then self.old ++ id.now ∷ [] else self.old)) }
@@ -57,7 +57,8 @@ impl Ids {
     pub(crate) fn places(&self, vote: &str, places: &mut Vec<u32>) -> Result<bool, NoMemory>
         requires { length self.now < 2 ^ 32 }
         ensures known { IfOk result (λ known. known ≡ names_only self.now vote.now) }
-        ensures places { IfOk result (λ known. known ≡ true → places.new.items ≡ places_in self.now (pieces_of vote.now)) }
+        ensures places { IfOk result (λ known.
+            known ≡ true → places.new.items ≡ places_in self.now (pieces_of vote.now)) }
     {
         places.clear();
         for piece in vote.split(',') {

@@ -7,13 +7,14 @@ ghost use Rattle.pb_read.specs.FirstFault.{HasNoFault, IsFaultAt, IsFromOutside}
 ghost use Rattle.pb_read.specs.StandsFor.{StandsFor};
 ghost use Rattle.pb_read.specs.declared.fault.ReadKind.{ReadKind};
 
-/// Records stand for one election at most, are refused by one fault at most, and never both, a failed reader and
-/// refused memory aside. The fault's record is the first that the records before it can't go on with.
+/// Records stand for one election at most, are refused by one fault at most, and never both; a failed reader and
+/// refused memory stand aside.
 pub fn one_answer()
     ensures one_election { (records : List Fields) (e f : ElectionView) →
         StandsFor records e → StandsFor records f → e ≡ f }
     ensures one_fault { (records : List Fields) (k l : ReadKind) (a b : ℕ) →
-        IsFaultAt records k a → IsFaultAt records l b → ¬ IsFromOutside k → ¬ IsFromOutside l → (k ≡ l) × (a ≡ b) }
+        IsFaultAt records k a → IsFaultAt records l b → ¬ IsFromOutside k → ¬ IsFromOutside l →
+        (k ≡ l) × (a ≡ b) }
     ensures not_both { (records : List Fields) (e : ElectionView) (kind : ReadKind) (at : ℕ) →
         StandsFor records e → IsFaultAt records kind at → IsFromOutside kind }
 

@@ -1,9 +1,9 @@
 // How far a file was read.
 
 ghost use Rattle.std.specs.Prelude.{◌≡◌, None, Some, IfErr, OnOk, MatchResult};
-ghost use Rattle.pb_read.specs.Positions.{head, next_row, plain, projects_head, start, the_end};
+ghost use Rattle.pb_read.specs.Stages.{head, next_row, plain, ProjectsHeader, Start, the_end};
 ghost use Rattle.pb_read.specs.Machine.{budget_of, head_checks, limit_of};
-ghost use Rattle.pb_read.specs.Progresses.{Advances, EndsWith, IsRead, IsReady, Refuses, position_of};
+ghost use Rattle.pb_read.specs.Progresses.{Advances, EndsWith, IsRead, IsReady, Refuses, stage_of};
 ghost use Rattle.pb_read.specs.StandsFor.{opening};
 
 use crate::columns::{ProjectColumns, VoteColumns};
@@ -22,15 +22,15 @@ pub(crate) enum Stage {
     /// META's head.
     Start,
     /// META's header row.
-    MetaHead,
+    MetaHeader,
     /// A row of META, or PROJECTS' head.
     InMeta(Meta),
     /// PROJECTS' header row.
-    ProjectsHead,
+    ProjectsHeader,
     /// A row of PROJECTS, or VOTES' head.
     InProjects(ProjectColumns),
     /// VOTES' header row.
-    VotesHead,
+    VotesHeader,
     /// A row of VOTES, or the end of the file.
     InVotes(VoteColumns),
 }
@@ -45,7 +45,7 @@ pub(crate) struct Progress {
 impl Progress {
     /// Nothing was read yet.
     pub(crate) fn new(alloc: Global) -> Progress
-        ensures start { position_of result ≡ start }
+        ensures start { stage_of result ≡ Start }
         ensures ready { IsReady result }
     {
         Progress {
@@ -78,7 +78,7 @@ impl Progress {
     {
         match self.stage {
             Stage::Start => match section {
-                Section::Meta => self.stage = Stage::MetaHead,
+                Section::Meta => self.stage = Stage::MetaHeader,
                 Section::Projects | Section::Votes => return Err(ReadKind::SectionOrder),
             },
             Stage::InMeta(meta) => match section {
@@ -86,23 +86,23 @@ impl Progress {
                 Section::Meta | Section::Votes => return Err(ReadKind::SectionOrder),
             },
             Stage::InProjects(_) => match section {
-                Section::Votes => self.stage = Stage::VotesHead,
+                Section::Votes => self.stage = Stage::VotesHeader,
                 Section::Meta | Section::Projects => return Err(ReadKind::SectionOrder),
             },
             Stage::InVotes(_) => return Err(ReadKind::SectionOrder),
-            Stage::MetaHead | Stage::ProjectsHead | Stage::VotesHead => {
+            Stage::MetaHeader | Stage::ProjectsHeader | Stage::VotesHeader => {
                 return Err(ReadKind::NoHeader);
             }
         }
         Ok(())
     }
 
-    /// Reads PROJECTS' head behind META.
+    /// Reads PROJECTS' head after META.
     fn open_projects(&mut self, meta: Meta) -> Result<(), ReadKind>
         requires { IsRead meta }
         ensures ok { OnOk result ((head_checks meta.budget meta.approval meta.max_length ≡ None)
-            × (position_of self.new
-            ≡ projects_head (opening (budget_of meta.budget) (limit_of meta.max_length))) × IsReady self.new) }
+            × (stage_of self.new
+            ≡ ProjectsHeader (opening (budget_of meta.budget) (limit_of meta.max_length))) × IsReady self.new) }
         ensures err { IfErr result (λ kind. head_checks meta.budget meta.approval meta.max_length ≡ Some kind) }
     {
         let (budget, max_length) = match meta.terms() {
@@ -110,7 +110,7 @@ impl Progress {
             Err(kind) => return Err(kind),
         };
         self.draft = Draft::new(self.draft.alloc, budget, max_length);
-        self.stage = Stage::ProjectsHead;
+        self.stage = Stage::ProjectsHeader;
         Ok(())
     }
 
@@ -123,17 +123,17 @@ impl Progress {
     {
         match self.stage {
             Stage::Start => return Err(ReadKind::NoSection),
-            Stage::MetaHead => self.stage = Stage::InMeta(Meta::new()),
+            Stage::MetaHeader => self.stage = Stage::InMeta(Meta::new()),
             Stage::InMeta(mut meta) => {
                 meta.note(row);
                 self.stage = Stage::InMeta(meta);
             }
-            Stage::ProjectsHead => match ProjectColumns::of(row) {
+            Stage::ProjectsHeader => match ProjectColumns::of(row) {
                 Some(columns) => self.stage = Stage::InProjects(columns),
                 None => return Err(ReadKind::MissingColumn),
             },
             Stage::InProjects(columns) => return self.draft.add_project(columns, row),
-            Stage::VotesHead => match VoteColumns::of(row) {
+            Stage::VotesHeader => match VoteColumns::of(row) {
                 Some(columns) => self.stage = Stage::InVotes(columns),
                 None => return Err(ReadKind::MissingColumn),
             },
@@ -145,11 +145,13 @@ impl Progress {
     /// The election, where the file may end here.
     #[tactic(auto, unfolding(crate::specs::Machine::row_fault))]
     pub(crate) fn finish(self) -> Result<Election, ReadKind>
-        ensures { MatchResult result (EndsWith (position_of self)) (Refuses self the_end) }
+        ensures { MatchResult result (EndsWith (stage_of self)) (Refuses self the_end) }
     {
         match self.stage {
             Stage::InVotes(_) => Ok(self.draft.election),
-            Stage::MetaHead | Stage::ProjectsHead | Stage::VotesHead => Err(ReadKind::NoHeader),
+            Stage::MetaHeader | Stage::ProjectsHeader | Stage::VotesHeader => Err(
+                ReadKind::NoHeader,
+            ),
             Stage::Start | Stage::InMeta(_) | Stage::InProjects(_) => Err(ReadKind::NoSection),
         }
     }

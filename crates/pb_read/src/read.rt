@@ -3,9 +3,9 @@
 ghost use Rattle.std.specs.Prelude.{◌≡◌, ◌+◌, ◌≤◌, None, IfOk, IfErr, IfSome, OnOk, MatchResult};
 ghost use Rattle.pb_core.specs.Election.{ElectionView};
 ghost use Rattle.pb_rows.specs.Reading.{records_of};
-ghost use Rattle.pb_read.specs.Positions.{next_row, start, the_end};
+ghost use Rattle.pb_read.specs.Stages.{Start, next_row, the_end};
 ghost use Rattle.pb_read.specs.FirstFault.{IsFaultAt, IsFromOutside};
-ghost use Rattle.pb_read.specs.Progresses.{Advances, EndsWith, IsReady, Refuses, StopsReading, position_of};
+ghost use Rattle.pb_read.specs.Progresses.{Advances, EndsWith, IsReady, Refuses, StopsReading, stage_of};
 ghost use Rattle.pb_read.specs.StandsFor.{StandsFor};
 ghost use Rattle.pb_read.specs.Tracking.{HasEnded, IsNextRow};
 
@@ -31,7 +31,8 @@ pub const MOST_RECORDS: u32 = 2_000_000;
 pub fn read_pb<R: Read + Drop>(alloc: Global, reader: R) -> Result<Election, ReadFault>
     // What is answered is what the records stand for, and a refusal is their first fault.
     ensures ok { IfSome (R.remaining reader) (λ bytes. IfOk result (λ e. StandsFor (records_of bytes) e)) }
-    ensures fault { IfSome (R.remaining reader) (λ bytes. IfErr result (λ fault. IsFaultAt (records_of bytes) fault.kind fault.at)) }
+    ensures fault { IfSome (R.remaining reader) (λ bytes.
+        IfErr result (λ fault. IsFaultAt (records_of bytes) fault.kind fault.at)) }
 
     // A file that stands for an election is refused only where memory or the reader failed.
     ensures accepts { IfSome (R.remaining reader) (λ bytes. (e : ElectionView) → StandsFor (records_of bytes) e →
@@ -60,9 +61,9 @@ fn read_rows<R: Read>(
     row: &mut Row,
     progress: &mut Progress,
 ) -> Result<u32, ReadFault>
-    requires at_start { position_of progress.old ≡ start }
+    requires at_start { stage_of progress.old ≡ Start }
     requires ready { IsReady progress.old }
-    ensures ok { IfOk result (λ end. HasEnded records.old.left end (position_of progress.new)) }
+    ensures ok { IfOk result (λ end. HasEnded records.old.left end (stage_of progress.new)) }
     ensures fault { IfSome records.old.left (λ all. IfErr result (λ fault. IsFaultAt all fault.kind fault.at)) }
 {
     for done in 0..MOST_RECORDS {
@@ -108,7 +109,7 @@ fn take_row(progress: &mut Progress, row: &Row, at: u32) -> Result<(), ReadFault
 
 /// Ends the reading, where record `at` would stand.
 fn finish(progress: Progress, at: u32) -> Result<Election, ReadFault>
-    ensures { MatchResult result (EndsWith (position_of progress))
+    ensures { MatchResult result (EndsWith (stage_of progress))
         (λ fault. (fault.at ≡ at) × Refuses progress the_end fault.kind) }
 {
     match progress.finish() {

@@ -5,13 +5,13 @@ use std::io;
 use std::io::{ErrorKind, Read};
 use std::test::Fail;
 
-// Three voters and two projects, in 117 bytes and 13 records.
+/// Three voters and two projects, in 117 bytes and 13 records.
 const SMALL: &str =
     "META\nkey;value\nbudget;100\nvote_type;approval\nPROJECTS\nproject_id;cost\na;30\nb;60\nVOTES\nvoter_id;vote\nv1;a\nv2;a,b\nv3;b\n";
 
 const SHOWN: &str = "10000;a,,3000;b,,6000;|v1 0;v2 0 1;v3 1;";
 
-// The small file with one of its lines, from 1, replaced; an empty line is no record.
+/// The small file with one of its lines, from 1, replaced; an empty line is no record.
 fn with_line(alloc: Global, line: usize, text: &str) -> Result<String, AllocError> {
     let mut whole = String::new(alloc);
     for (i, old) in SMALL.lines().enumerate() {
@@ -21,7 +21,7 @@ fn with_line(alloc: Global, line: usize, text: &str) -> Result<String, AllocErro
     Ok(whole)
 }
 
-// Budget and projects, and the voters behind a bar.
+/// Budget and projects, and the voters after a bar.
 fn shown(alloc: Global, election: &Election) -> Result<String, AllocError> {
     let mut text = String::new(alloc);
     write!(text, "{};", election.budget().0)?;
@@ -40,7 +40,7 @@ fn shown(alloc: Global, election: &Election) -> Result<String, AllocError> {
     Ok(text)
 }
 
-// What the reader answers: the election, or the fault's number and record.
+/// What the reader answers: the election, or the fault's number and record.
 fn answer(alloc: Global, text: &[u8]) -> Result<String, AllocError> {
     match read_pb(alloc, text) {
         Ok(election) => shown(alloc, &election),
@@ -250,7 +250,7 @@ fn names_the_first_fault(rt: HostRuntime) -> Result<(), Fail> {
         // A fault before and one after: the first is answered.
         (7, "a;x\nc;0", "11 7"),
         (7, "c;0\na;x", "14 7"),
-        // A blank record is passed over and keeps its number.
+        // A blank record is skipped and keeps its number.
         (7, " ;\na;10.005", "12 8"),
         (1, ";\n;;;\nMETA\n\"\"\nkey;value\nMETA", "5 6"),
     ];
@@ -284,7 +284,7 @@ fn refuses_what_is_no_text(rt: HostRuntime) -> Result<(), Fail> {
 #[test]
 fn reads_what_is_cut_off(rt: HostRuntime) -> Result<(), Fail> {
     let alloc = rt.alloc();
-    // How many bytes are there at most, and the answer; behind the bar the voters.
+    // How many bytes are there at most, and the answer; after the bar the voters.
     let cuts = [
         (3, "4 1"),
         (5, "6 2"),
@@ -329,7 +329,7 @@ fn reads_what_is_cut_off(rt: HostRuntime) -> Result<(), Fail> {
     Ok(())
 }
 
-// Gives some bytes, and then fails.
+/// Gives some bytes, and then fails.
 #[derive(Drop)]
 struct Failing<'a> {
     bytes: &'a [u8],

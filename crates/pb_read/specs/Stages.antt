@@ -12,31 +12,33 @@ use Rattle.pb_read.specs.declared.section.Section.{Section}
 use Rattle.pb_read.specs.declared.section.Section.TheVariants as section
 
 -- how far the rows of a file have come
-pub data Position : Type 0 where
-  start : Position
-  meta_head : Position
-  in_meta : Meta → Position
-  projects_head : ElectionView → Position
-  in_projects : ProjectColumns → ElectionView → Position
-  votes_head : ElectionView → Position
-  in_votes : VoteColumns → ElectionView → Position
+pub data Stage : Type 0 where
+  Start : Stage
+  MetaHeader : Stage
+  InMeta : Meta → Stage
+  ProjectsHeader : ElectionView → Stage
+  InProjects : ProjectColumns → ElectionView → Stage
+  VotesHeader : ElectionView → Stage
+  InVotes : VoteColumns → ElectionView → Stage
 
 -- the rows have come so far: the election has the projects and voters of the rows up to here
-abbrev pub IsAt : List Fields → Position → Type 0
-IsAt rows start = rows ≡ []
-IsAt rows meta_head = IsHead section.Meta rows
-IsAt rows (in_meta meta) = IsMeta meta rows
-IsAt rows (projects_head e) = Then (GivesTerms e.budget e.max_length) (IsHead section.Projects) rows × (e ≡ opening e.budget e.max_length)
-IsAt rows (in_projects columns e) = GivesAllButVoters columns e rows
-IsAt rows (votes_head e) = (columns : ProjectColumns) × Then (GivesAllButVoters columns e) (IsHead section.Votes) rows
-IsAt rows (in_votes columns e) = GivesAll columns e rows
+abbrev pub IsAt : List Fields → Stage → Type 0
+IsAt rows Start = rows ≡ []
+IsAt rows MetaHeader = IsHead section.Meta rows
+IsAt rows (InMeta meta) = IsMeta meta rows
+IsAt rows (ProjectsHeader e) =
+    Then (GivesTerms e.budget e.max_length) (IsHead section.Projects) rows × (e ≡ opening e.budget e.max_length)
+IsAt rows (InProjects columns e) = GivesAllButVoters columns e rows
+IsAt rows (VotesHeader e) =
+    (columns : ProjectColumns) × Then (GivesAllButVoters columns e) (IsHead section.Votes) rows
+IsAt rows (InVotes columns e) = GivesAll columns e rows
 
 -- what was read so far is an election: its ids differ, its amounts are in range, and so on
-abbrev pub IsSound : Position → Type 0
-IsSound (projects_head e) = IsElection e × (e.voters ≡ [])
-IsSound (in_projects columns e) = IsElection e × (e.voters ≡ [])
-IsSound (votes_head e) = IsElection e × (e.voters ≡ [])
-IsSound (in_votes columns e) = IsElection e
+abbrev pub IsSound : Stage → Type 0
+IsSound (ProjectsHeader e) = IsElection e × (e.voters ≡ [])
+IsSound (InProjects columns e) = IsElection e × (e.voters ≡ [])
+IsSound (VotesHeader e) = IsElection e × (e.voters ≡ [])
+IsSound (InVotes columns e) = IsElection e
 IsSound p = Unit {0}
 
 -- what comes next: the end of the file, a blank record, a section's head, or a plain row
