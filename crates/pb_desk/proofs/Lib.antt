@@ -12,3 +12,4 @@ pub mod Closings
 pub mod RowLaws
 pub mod AuditLaws
 pub mod VersionRows
+pub mod WrittenLaws

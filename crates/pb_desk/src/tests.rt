@@ -1,6 +1,7 @@
-use crate::{AuditFault, Desk, DeskFault, IntoFault, WriteFault, audit};
+use crate::{AuditFault, Desk, DeskFault, IntoFault, Version, WriteFault, audit};
 use pb_core::answer::Answer;
 use pb_core::ballot::Ballot;
+use pb_core::devices::{FailsAfter, FailsAt};
 use pb_core::election::Election;
 use pb_core::money::Money;
 use pb_core::project::Project;
@@ -56,6 +57,13 @@ fn three_voters(rt: &impl Abort, alloc: Global) -> Result<Election, Fail> {
     add_voter(rt, alloc, &mut election, "v1", &[0])?;
     add_voter(rt, alloc, &mut election, "v2", &[0, 1])?;
     add_voter(rt, alloc, &mut election, "v3", &[1])?;
+    Ok(election)
+}
+
+/// The same, with a limit on a ballot's length.
+fn limited(rt: &impl Abort, alloc: Global, limit: Option<u32>) -> Result<Election, Fail> {
+    let mut election = three_voters(rt, alloc)?;
+    election.set_max_length(limit);
     Ok(election)
 }
 
@@ -288,7 +296,7 @@ fn is_voter(rt: &impl Abort, voter: &Voter, id: &str, places: &[u32]) {
 #[test]
 fn a_shut_desk_leaves_its_election(rt: HostRuntime) -> Result<(), Fail> {
     let alloc = rt.alloc();
-    let mut desk = desk_with_room(&rt, alloc, 10)?;
+    let mut desk = Desk::start(alloc, limited(&rt, alloc, Some(1))?, 10)?;
     asks(&rt, alloc, &mut desk, "withdraw", "v1", &[], Answer::Done)?;
     asks(&rt, alloc, &mut desk, "cast", "v1", &[1], Answer::Done)?;
     let mut desk = match desk.into_election() {
@@ -297,9 +305,16 @@ fn a_shut_desk_leaves_its_election(rt: HostRuntime) -> Result<(), Fail> {
         Ok(_) => panic!(rt; "the desk is not shut"),
     };
     assert_eq!(rt; desk.entries(), 2);
+    has_text(
+        &rt,
+        alloc,
+        &desk,
+        "journal;2\n1;0;withdraw;v1;;done\n2;0;cast;v1;1;done\n",
+    )?;
     asks(&rt, alloc, &mut desk, "shut", "", &[], Answer::Done)?;
     let election = desk.into_election()?;
     assert_eq!(rt; election.budget(), Money(10_000));
+    assert_eq!(rt; election.max_length(), Some(1));
     let projects = election.projects();
     assert_eq!(rt; projects.len(), 2);
     is_project(&rt, &projects[0], "a", 3_000);
@@ -425,28 +440,50 @@ fn a_quoted_id_reads_back(rt: HostRuntime) -> Result<(), Fail> {
     )
 }
 
-/// A reader that gives its bytes, and then fails.
-#[derive(Drop)]
-struct BreaksOff<'a> {
-    left: &'a [u8],
-}
-
-impl<'a> io::Read for BreaksOff<'a> {
-    fn read(&mut self, buf: &mut [u8]) -> io::Result<usize> {
-        if self.left.is_empty() {
-            return Err(io::Error::from(io::ErrorKind::Other));
+#[test]
+fn a_failed_device_is_named(rt: HostRuntime) -> Result<(), Fail> {
+    let alloc = rt.alloc();
+    for (text, row) in [
+        ("", 1),
+        ("journ", 1),
+        ("journal;2", 1),
+        ("journal;2\n1;0;ca", 1),
+        ("1;0;cast;ann;0;done\n2;0;ca", 2),
+    ] {
+        match audit(
+            alloc,
+            three_voters(&rt, alloc)?,
+            10,
+            FailsAfter::new(text.as_bytes()),
+        ) {
+            Ok(_) => panic!(&rt; "the reader failed"),
+            Err(fault) => assert_eq!(rt; fault, AuditFault::ReadFailed(row), "at {text}"),
         }
-        self.left.read(buf)
     }
+    let mut desk = desk_with_room(&rt, alloc, 10)?;
+    asks(&rt, alloc, &mut desk, "shut", "", &[], Answer::Done)?;
+    for writes in 0..2 {
+        let mut writer = FailsAt::new(Vec::new(alloc), writes);
+        assert_eq!(rt;
+            desk.write_journal(alloc, &mut writer),
+            Err(WriteFault::WriteFailed),
+            "at {writes}"
+        );
+    }
+    assert_eq!(rt;
+        desk.write_journal(alloc, &mut NoRoom),
+        Err(WriteFault::NoMemory)
+    );
+    Ok(())
 }
 
-/// A writer that takes nothing.
+/// A writer in memory without room.
 #[derive(Drop)]
-struct Refuses;
+struct NoRoom;
 
-impl io::Write for Refuses {
+impl io::Write for NoRoom {
     fn write(&mut self, _buf: &[u8]) -> io::Result<usize> {
-        Err(io::Error::from(io::ErrorKind::Other))
+        Err(io::Error::from(io::ErrorKind::OutOfMemory))
     }
 
     fn flush(&mut self) -> io::Result<()> {
@@ -454,21 +491,173 @@ impl io::Write for Refuses {
     }
 }
 
-#[test]
-fn a_failed_device_is_named(rt: HostRuntime) -> Result<(), Fail> {
-    let alloc = rt.alloc();
-    let reader = BreaksOff {
-        left: b"1;0;cast;ann;0;done\n2;0;ca",
-    };
-    match audit(alloc, three_voters(&rt, alloc)?, 10, reader) {
-        Ok(_) => panic!(rt; "the reader failed"),
-        Err(fault) => assert_eq!(rt; fault, AuditFault::ReadFailed(2)),
+/// Serves each row's request to a new desk with this limit, whose journal is then this text; an audit
+/// accepts it, and its desk writes the same text again.
+fn serves_and_audits(
+    rt: &impl Abort,
+    alloc: Global,
+    limit: Option<u32>,
+    text: &str,
+    ballots: u32,
+) -> Result<(), Fail> {
+    let mut desk = Desk::start(alloc, limited(rt, alloc, limit)?, 10)?;
+    for row in text.lines().skip(1) {
+        let mut fields = row.split(';').skip(1);
+        let clerk = fields.next().expect(rt, "a clerk");
+        let word = fields.next().expect(rt, "a word");
+        let id = fields.next().expect(rt, "a voter");
+        let mut places = Vec::new(alloc);
+        for place in fields.next().expect(rt, "places").split(',') {
+            if let Ok(place) = place.parse::<u32>() {
+                places.push(place)?;
+            }
+        }
+        let request = request(rt, alloc, word, id, places.as_slice())?;
+        let clerk = if clerk == "63" { 63 } else { 0 };
+        let _answer = desk.serve(clerk, &request);
     }
-    let mut desk = desk_with_room(&rt, alloc, 10)?;
-    asks(&rt, alloc, &mut desk, "shut", "", &[], Answer::Done)?;
-    assert_eq!(rt;
-        desk.write_journal(alloc, &mut Refuses),
-        Err(WriteFault::WriteFailed)
-    );
+    has_text(rt, alloc, &desk, text)?;
+    assert_eq!(rt; desk.ballots(), ballots, "at {text}");
+    assert_eq!(rt; desk.version(), Version::Two);
+    let audited = audit(alloc, limited(rt, alloc, limit)?, 10, text.as_bytes())?;
+    assert_eq!(rt; audited.version(), Version::Two);
+    assert_eq!(rt; audited.ballots(), ballots, "at {text}");
+    has_text(rt, alloc, &audited, text)
+}
+
+#[test]
+fn a_limit_on_a_ballots_length(rt: HostRuntime) -> Result<(), Fail> {
+    let alloc = rt.alloc();
+    for (limit, text, ballots) in [
+        (
+            None,
+            "journal;2\n1;0;cast;ann;0,1;done\n2;63;cast;bob;;done\n3;0;replace;bob;0;done\n",
+            5,
+        ),
+        (
+            Some(0),
+            "journal;2\n1;0;cast;ann;;done\n2;0;cast;bob;0;too-long\n3;0;replace;v2;0,1;too-long\n4;0;replace;v2;;done\n",
+            4,
+        ),
+        (
+            Some(1),
+            "journal;2\n1;0;replace;v1;0,1;too-long\n2;0;replace;v9;0,1;too-long\n3;0;replace;v9;0;no-ballot\n4;0;withdraw;v2;;done\n",
+            2,
+        ),
+        (
+            Some(1),
+            "journal;2\n1;0;cast;ann;0,1;too-long\n2;0;cast;ann;0,5;unknown-place 5\n3;0;cast;v1;0,1;too-long\n4;0;cast;v1;0;already-cast\n",
+            3,
+        ),
+        (
+            Some(2),
+            "journal;2\n1;0;cast;ann;0,1;done\n2;0;shut;;;done\n3;0;cast;bob;0,1;desk-shut\n",
+            4,
+        ),
+    ] {
+        serves_and_audits(&rt, alloc, limit, text, ballots)?;
+    }
+    Ok(())
+}
+
+/// What an audit answers to a text on the election with a limit of one place.
+fn is_audited(
+    rt: &impl Abort,
+    alloc: Global,
+    text: &[u8],
+    fault: Option<AuditFault>,
+    version: Version,
+    entries: u32,
+) -> Result<(), Fail> {
+    match audit(alloc, limited(rt, alloc, Some(1))?, 10, text) {
+        Ok(desk) => {
+            assert_eq!(rt; fault, None);
+            assert_eq!(rt; desk.version(), version);
+            assert_eq!(rt; desk.entries(), entries);
+            let mut written = Vec::new(alloc);
+            desk.write_journal(alloc, &mut written)?;
+            let mut again = audit(alloc, limited(rt, alloc, Some(1))?, 10, written.as_slice())?;
+            assert_eq!(rt; again.version(), version);
+            let long = if version == Version::One {
+                Answer::Done
+            } else {
+                Answer::TooLong
+            };
+            asks(rt, alloc, &mut again, "cast", "eve", &[0, 1], long)
+        }
+        Err(found) => {
+            assert_eq!(rt; Some(found), fault);
+            Ok(())
+        }
+    }
+}
+
+#[test]
+fn a_text_says_its_version(rt: HostRuntime) -> Result<(), Fail> {
+    let alloc = rt.alloc();
+    let row = b"journal;2\n".as_slice();
+    for k in 0..11usize {
+        let cut = &row[..k];
+        let (fault, version) = match k {
+            0 => (None, Version::One),
+            1..=6 => (Some(AuditFault::BadRow(1)), Version::One),
+            7 | 8 => (Some(AuditFault::BadRow(0)), Version::One),
+            _ => (None, Version::Two),
+        };
+        is_audited(&rt, alloc, cut, fault, version, 0)?;
+    }
+    for (text, fault, version, entries) in [
+        (
+            b"\"journal\";2\n1;0;withdraw;v1;;done\n".as_slice(),
+            None,
+            Version::Two,
+            1,
+        ),
+        (
+            b"journal;3\n".as_slice(),
+            Some(AuditFault::BadRow(0)),
+            Version::One,
+            0,
+        ),
+        (
+            b"journal;2;\n".as_slice(),
+            Some(AuditFault::BadRow(0)),
+            Version::One,
+            0,
+        ),
+        (
+            b"journal;\xff\n".as_slice(),
+            Some(AuditFault::BadRow(0)),
+            Version::One,
+            0,
+        ),
+        (
+            b"Journal;2\n".as_slice(),
+            Some(AuditFault::BadRow(1)),
+            Version::One,
+            0,
+        ),
+        (
+            b"journal;2\njournal;2\n".as_slice(),
+            Some(AuditFault::BadRow(1)),
+            Version::Two,
+            0,
+        ),
+        (
+            b"journal;2\n1;0;cast;ann;0,1;done\n".as_slice(),
+            Some(AuditFault::WrongAnswer(1)),
+            Version::Two,
+            0,
+        ),
+        (b"1;0;cast;ann;0,1;done\n".as_slice(), None, Version::One, 1),
+        (
+            b"1;0;cast;ann;0,1;too-long\n".as_slice(),
+            Some(AuditFault::WrongAnswer(1)),
+            Version::One,
+            0,
+        ),
+    ] {
+        is_audited(&rt, alloc, text, fault, version, entries)?;
+    }
     Ok(())
 }

@@ -22,7 +22,7 @@ where
     Ok(Project::new(id, name, project.cost()))
 }
 
-// Gives copies of the projects to an election that has none yet.
+/// Gives copies of the projects to an election that has none yet.
 fn add_projects<A: Allocator>(
     alloc: A,
     election: &mut Election<A>,
