@@ -39,7 +39,7 @@ fn main(rt: HostRuntime) -> ExitCode {
 /// text is printed.
 fn run<R>(rt: &R) -> Result<ExitCode, AppFault>
 where
-    R: Env + Files + Input + Print + Eprint + AllocGlobal + Threads,
+    R: Env + Files + Input + Print + Eprint + AllocGlobal + Threads + Sync,
 {
     let arguments: Vec<String> = match env::args(rt) {
         Ok(arguments) => arguments.collect(rt.alloc())?,

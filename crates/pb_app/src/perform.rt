@@ -12,7 +12,7 @@ use std::{fs, io};
 /// any is read.
 pub(crate) fn perform<R>(rt: &R, task: &Task<'_>) -> Result<(), AppFault>
 where
-    R: Files + Input + Print + AllocGlobal + Threads,
+    R: Files + Input + Print + AllocGlobal + Threads + Sync,
 {
     let alloc = rt.alloc();
     let mut out = io::writer(rt);

@@ -30,7 +30,7 @@ const ROOM: u32 = 4_294_967_295;
 /// The file is refused before the journal, and the journal before the options. Nothing is written but
 /// the whole text. Where the fault is `Write` some of it may have gone out; on any other fault the writer
 /// is as it was.
-pub fn run_audit<T: Threads, P: Read + Drop, J: Read + Drop, W: Write>(
+pub fn run_audit<T: Threads + Sync, P: Read + Drop, J: Read + Drop, W: Write>(
     rt: &T,
     alloc: Global,
     file: P,
@@ -68,7 +68,7 @@ pub fn run_audit<T: Threads, P: Read + Drop, J: Read + Drop, W: Write>(
 }
 
 /// Writes what is said of a desk.
-fn put_desk<T: Threads>(
+fn put_desk<T: Threads + Sync>(
     rt: &T,
     alloc: Global,
     rows: &mut RowsWriter,

@@ -23,7 +23,7 @@ use std::thread::Threads;
 ///
 /// The file is refused before the options are looked at, and nothing is written but the whole report.
 /// Where the fault is `Write` some of the report may have gone out; on any other fault the writer is as it was.
-pub fn run_count<T: Threads, R: Read + Drop, W: Write>(
+pub fn run_count<T: Threads + Sync, R: Read + Drop, W: Write>(
     rt: &T,
     alloc: Global,
     reader: R,
@@ -54,7 +54,7 @@ pub fn run_count<T: Threads, R: Read + Drop, W: Write>(
 }
 
 /// Counts an election, and puts the report after the rows that stand there.
-pub(crate) fn put_count<T: Threads>(
+pub(crate) fn put_count<T: Threads + Sync>(
     rt: &T,
     alloc: Global,
     rows: &mut RowsWriter,

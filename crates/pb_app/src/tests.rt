@@ -74,7 +74,7 @@ fn expect_fault(
     Ok(())
 }
 
-fn count<R: Threads + Abort>(
+fn count<R: Threads + Sync + Abort>(
     rt: &R,
     alloc: Global,
     file: &str,
@@ -86,7 +86,7 @@ fn count<R: Threads + Abort>(
     expect_text(rt, ran, text.as_slice(), wanted);
 }
 
-fn count_fails<R: Threads + Abort>(
+fn count_fails<R: Threads + Sync + Abort>(
     rt: &R,
     alloc: Global,
     file: &str,

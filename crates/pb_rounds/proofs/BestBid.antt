@@ -10,6 +10,7 @@ use Rattle.pb_price.specs.Supporters.{SupportView}
 use Rattle.pb_price.specs.Price.{price_at}
 use Rattle.pb_rounds.specs.declared.measure.Measure.{Measure}
 use Rattle.pb_rounds.specs.Bid.{is_before, first_least, better_of, Bid}
+use Rattle.pb_rounds.specs.Queue.{IsIn}
 use Rattle.pb_rounds.specs.Run.{bid, bid_at, bids_at, best_of, is_listed}
 use Rattle.pb_rounds.proofs.Best.{no_bid, first_least-push}
 
@@ -119,3 +120,46 @@ module _ (m : Measure) (s : SupportView) (rests left : List ℕ) (i : ℕ) (belo
 
   pub best_step_none : answer ≡ None → after ≡ best → after ≡ best_of m s rests (take (i + 1) left)
   best_step_none none after_is = after_is ∙ best_more_none m s rests left i below best best_is (sym none ∙ answered)
+
+-- the bids of projects, as elements
+bid_from_by : (m : Measure) (s : SupportView) (rests : List ℕ) (first : ℕ) (left : List ℕ) (b : Bid) → (IsIn b (bids_at m s rests left) → IsBid m s rests left b)
+    → (o : Option ℕ) → price_at s rests first ≡ o → IsIn b (cons_option (option_map (bid m s first) o) (bids_at m s rests left)) → IsBid m s rests (first ∷ left) b
+bid_from_by m s rests first left b later None e i =
+    let found = later i in
+    record { is_left = or_right (first == b.place) _ found.is_left; is_price = found.is_price; is_bid = found.is_bid }
+bid_from_by m s rests first left b later (Some p) e (inl same) =
+    let at : b.place ≡ first = ap (λ (c : Bid). c.place) same in
+    let for : b.price ≡ p = ap (λ (c : Bid). c.price) same in
+    record {
+      is_left = or_left (first == b.place) _ (eq-eqb first b.place (sym at));
+      is_price = ap (price_at s rests) at ∙ e ∙ ap (λ n. Some n) (sym for);
+      is_bid = same ∙ ap (λ n. bid m s n p) (sym at) ∙ ap (bid m s b.place) (sym for);
+    }
+bid_from_by m s rests first left b later (Some p) e (inr i) =
+    let found = later i in
+    record { is_left = or_right (first == b.place) _ found.is_left; is_price = found.is_price; is_bid = found.is_bid }
+
+pub bid_from : (m : Measure) (s : SupportView) (rests left : List ℕ) (b : Bid) → IsIn b (bids_at m s rests left) → IsBid m s rests left b
+bid_from m s rests [] b i = absurd i
+bid_from m s rests (first ∷ left) b i = bid_from_by m s rests first left b (bid_from m s rests left b) (price_at s rests first) refl i
+
+bid_in_by : (m : Measure) (s : SupportView) (rests : List ℕ) (place price first : ℕ) (left : List ℕ)
+    → (is_listed left place ≡ true → IsIn (bid m s place price) (bids_at m s rests left)) → is_listed (first ∷ left) place ≡ true → price_at s rests place ≡ Some price
+    → (o : Option ℕ) → price_at s rests first ≡ o → IsIn (bid m s place price) (cons_option (option_map (bid m s first) o) (bids_at m s rests left))
+bid_in_by m s rests place price first left later listed priced None e = elim (or_cases (first == place) _ listed) [
+  | inl here ↦ absurd (none-some price (sym e ∙ ap (price_at s rests) (eqb-true first place here) ∙ priced))
+  | inr others ↦ later others
+]
+bid_in_by m s rests place price first left later listed priced (Some p) e = elim (or_cases (first == place) _ listed) [
+  | inl here ↦
+      let same = eqb-true first place here in
+      let at : price ≡ p = same_Some _ _ (sym priced ∙ ap (price_at s rests) (sym same) ∙ e) in
+      inl (ap (bid m s place) at ∙ ap (λ n. bid m s n p) (sym same))
+  | inr others ↦ inr (later others)
+]
+
+pub bid_in : (m : Measure) (s : SupportView) (rests : List ℕ) (place price : ℕ) (left : List ℕ) → is_listed left place ≡ true → price_at s rests place ≡ Some price
+    → IsIn (bid m s place price) (bids_at m s rests left)
+bid_in m s rests place price [] listed priced = absurd (true≢false (sym listed))
+bid_in m s rests place price (first ∷ left) listed priced =
+    bid_in_by m s rests place price first left (λ later. bid_in m s rests place price left later priced) listed priced (price_at s rests first) refl

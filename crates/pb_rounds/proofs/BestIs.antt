@@ -1,21 +1,19 @@
 -- What the best project of a round is: a bid of a project that is left, which no other such bid comes before.
-use Rattle.std.proofs.Common.{◌≡◌, ◌≢◌, ℕ, ◌*◌, ◌<◌, ◌≤◌, List, [], ◌∷◌, Option, Some, None, Bool, true, false, cond, not, refl, sym, ◌∙◌, ap, inl, inr, arith}
-use Rattle.std.specs.Prelude.{◌==◌, ◌⊎◌, find, option_map}
-use Rattle.std.specs.Cmp.{ranks}
+use Rattle.std.proofs.Common.{◌≡◌, ℕ, List, [], ◌∷◌, Option, Some, None, Bool, true, false, cond, not, refl, sym, ◌∙◌, ap, inl, inr}
+use Rattle.std.specs.Prelude.{◌==◌, find, option_map}
 use Rattle.std.specs.List.{list_all, cons_option}
-use Rattle.std.specs.Ordering.{is_lt, nat_cmp, ordering_then, ordering_reverse}
+use Rattle.std.specs.Ordering.{is_lt, ordering_reverse}
 use Rattle.std.specs.declared.cmp.Ordering.{Ordering}
 use Rattle.std.specs.declared.cmp.Ordering.TheVariants.{Less, Equal, Greater}
 use Rattle.std.proofs.lemmas.Bool.{true≢false, not-true, and_parts, eqb-true, or_cases}
 use Rattle.std.proofs.lemmas.Option.{none-some, same_Some}
-use Rattle.pb_price.specs.Supporters.{SupportView, cost_at}
+use Rattle.pb_price.specs.Supporters.{SupportView}
 use Rattle.pb_price.specs.Price.{price_at}
 use Rattle.pb_rounds.specs.declared.measure.Measure.{Measure}
-use Rattle.pb_rounds.specs.declared.measure.Measure.TheVariants.{Votes, Cost}
-use Rattle.pb_rounds.specs.Bid.{Bid, bid_cmp, is_before, first_least}
+use Rattle.pb_rounds.specs.Bid.{Bid, bid_cmp, is_before}
 use Rattle.pb_rounds.specs.BidOrder.{bid_cmp-total, tied_bids}
-use Rattle.pb_rounds.specs.Run.{bid, bid_at, bids_at, best_of, is_listed}
-use Rattle.pb_rounds.proofs.BestBid.{IsBid, best_is_bid, no_price_without_best}
+use Rattle.pb_rounds.specs.Run.{bid, bids_at, best_of, is_listed}
+use Rattle.pb_rounds.proofs.BestBid.{best_is_bid, no_price_without_best}
 
 -- what `find` gives passes its test
 found_by : {X : Type 0} (test : X → Bool) (xs : List X) (y x : X) → (find test xs ≡ Some x → test x ≡ true)

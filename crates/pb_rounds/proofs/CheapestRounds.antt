@@ -1,5 +1,5 @@
 -- Each project that a run elects was the cheapest of its round.
-use Rattle.std.proofs.Common.{◌≡◌, ◌≢◌, ℕ, zero, suc, ◌+◌, ◌*◌, ◌<◌, ◌≤◌, List, [], ◌∷◌, ◌++◌, length, Option, Some, None, true, false, refl, sym, subst, ◌∙◌, ap, inl, inr, arith}
+use Rattle.std.proofs.Common.{◌≡◌, ◌≢◌, ℕ, zero, suc, ◌*◌, ◌<◌, List, [], ◌∷◌, ◌++◌, length, Option, Some, None, true, false, refl, sym, subst, ◌∙◌, ap, inl, inr, arith}
 use Rattle.std.specs.Prelude.{All, ◌⊎◌, max, replicate}
 use Rattle.std.specs.Cmp.{ranks}
 use Rattle.std.specs.List.{range_with_len}
@@ -15,7 +15,7 @@ use Rattle.pb_price.specs.Supporters.{SupportView, IsSupport, cost_at, support_o
 use Rattle.pb_rounds.specs.declared.measure.Measure.{Measure}
 use Rattle.pb_rounds.specs.declared.measure.Measure.TheVariants.{Votes, Cost}
 use Rattle.pb_rounds.specs.Bid.{Bid, is_before}
-use Rattle.pb_rounds.specs.Cheapest.{IsCheaper, IsAsCheap, WasCheapest, EachWasCheapest, rests_after}
+use Rattle.pb_rounds.specs.Cheapest.{IsCheaper, IsAsCheap, EachWasCheapest, rests_after}
 use Rattle.pb_rounds.specs.Outcome.{OutcomeView, Settled, settled, settled_by}
 use Rattle.pb_rounds.specs.Run.{ElectedView, RunView, bid, best_of, charged, elected_by, is_listed, run_from, run_of, then_run, without}
 use Rattle.pb_rounds.proofs.BestBid.{best_is_bid}

@@ -1,6 +1,6 @@
 -- How many raises the completion decides on.
-use Rattle.std.proofs.Common.{◌≡◌, ℕ, ◌+◌, ◌-◌, ◌*◌, ◌/◌, ◌<◌, ◌≤◌, length, Option, Some, None, Bool, true, false, refl, sym, ◌∙◌, ap, inl, inr, arith}
-use Rattle.std.specs.Prelude.{IfOk, Result, Ok, Err, List, option_map, if◌then◌else◌, MatchOption, ◌==◌}
+use Rattle.std.proofs.Common.{◌≡◌, ℕ, ◌+◌, ◌-◌, ◌*◌, ◌/◌, ◌<◌, ◌≤◌, length, Option, Some, None, Bool, true, false, refl, sym, subst, ◌∙◌, ap, inl, inr, arith}
+use Rattle.std.specs.Prelude.{IfOk, OnOk, Result, Ok, Err, List, option_map, if◌then◌else◌, MatchOption, nat_lt, ◌==◌}
 use Rattle.std.proofs.lemmas.Option.{none-some, same_Some}
 use Rattle.std.proofs.lemmas.Bool.{cases_Bool, true≢false, or_left, or_right, or_from, or_parts, cond-true, cond-false, cases_eq, eq-eqb, ne_eqb, ltb-false}
 use Rattle.pb_core.specs.Election.{ElectionView}
@@ -11,9 +11,11 @@ use Rattle.pb_rounds.specs.Count.{spent_on, is_over, is_exhausted, is_over_after
 use Rattle.pb_rounds.specs.Outcome.{OutcomeView, Settled, settled, settled_by}
 use Rattle.pb_rounds.specs.Run.{run_of, ElectedView}
 use Rattle.pb_rounds.specs.PriceSystem.{HasPriceSystem}
+use Rattle.pb_rounds.specs.PricingRecord.{HasPricing}
+use Rattle.pb_rounds.specs.Queue.{AreMarked, IsWholeRun, is_above}
 use Rattle.pb_rounds.specs.Cheapest.{EachWasCheapest}
 use Rattle.pb_rounds.proofs.CheapestRounds.{settled_was_cheapest}
-use Rattle.pb_rounds.proofs.Exhausted.{over_from_within}
+use Rattle.pb_rounds.proofs.Exhausted.{over_from_more, over_from_within}
 use Rattle.pb_rounds.proofs.Explained.{run_within_shares, run_has_price_system}
 
 -- the voters' shares together are within the budget
@@ -86,35 +88,74 @@ settled_next m e step raises s same opening opening_is share share_is o is =
     let at : share ≡ share_after e step raises = share_is ∙ ap (λ n. n + raises * step) opening_is in
     is ∙ ap (λ sh. settled_by sh raises (run_of m s sh)) at ∙ ap (λ t. settled_by (share_after e step raises) raises (run_of m t (share_after e step raises))) same
 
--- where the outcome at the opening share is not exhausted, it is no end
-pub opening_no_end : (m : Measure) (e : ElectionView) → IsSupport (support_of e) → (step : ℕ) → is_exhausted_after m e step 0 ≡ false
-    → (raises : ℕ) → raises < 1 → is_decisive m e step raises ≡ false
-opening_no_end m e h step more raises first =
-    let none : raises ≡ 0 = omega arith in
-    rw none (or_from _ _ (opening_not_over m e h step) more)
-
--- one raise as the code makes it: after is the supporters' view after the run, over and exhausted what the tests answered of the next outcome
+-- One raise as the code makes it. share is what it runs at; all but the first begin with the outcome of the raise before.
 module _ (m : Measure) (e : ElectionView) (step limit raised : ℕ) (within : raised ≤ limit) (tried : (j : ℕ) → j < raised → is_decisive m e step j ≡ false)
-    (s : SupportView) (same : s ≡ support_of e) (after : SupportView) (after_is : after ≡ s) (opening : ℕ) (opening_is : opening ≡ opening_share e)
-    (share : ℕ) (share_is : share ≡ opening + raised * step) (next : OutcomeView) (next_is : settled next ≡ settled_by share raised (run_of m s share))
-    (budget : ℕ) (budget_is : budget ≡ e.budget) (over : Bool) (over_says : over ≡ is_over after budget next.elected) where
-  next_settled : settled next ≡ settled_after m e step raised
-  next_settled = settled_next m e step raised s same opening opening_is share share_is next next_is
+    (s : SupportView) (same : s ≡ support_of e) (h : IsSupport s) (opening : ℕ) (opening_is : opening ≡ opening_share e)
+    (share : ℕ) (share_is : share ≡ opening + raised * step) (budget : ℕ) (budget_is : budget ≡ e.budget) where
+  share_at : share ≡ share_after e step raised
+  share_at = share_is ∙ ap (λ n. n + raised * step) opening_is
 
-  over_found : over ≡ is_over_after m e step raised
-  over_found = over_says ∙ over_is m e step raised after (after_is ∙ same) budget budget_is next next_settled
+  -- a raise that ends over the budget
+  module _ (over : budget < spent_on s (run_of m s share).elected) where
+    found_over : is_over_after m e step raised ≡ true
+    found_over = over_from_more (support_of e) e.budget (elected_after m e step raised)
+        (subst (λ (t : SupportView). e.budget < spent_on t (run_of m t (share_after e step raised)).elected) same
+        (subst (λ n. e.budget < spent_on s (run_of m s n).elected) share_at
+        (subst (λ n. n < spent_on s (run_of m s share).elected) budget_is over)))
 
-  pub raised_over : over ≡ true → (last : OutcomeView) → settled last ≡ settled_after m e step (raised - 1) → add1_of m e step limit ≡ Some last.raised
-  raised_over yes_over last last_is =
-      decided_before m e step limit raised within tried (sym over_found ∙ yes_over)
-      ∙ ap (λ n. Some n) (sym (ap (λ (x : Settled). x.raised) last_is))
+    pub raised_once : 0 < raised
+    raised_once = elim (cases_eq raised 0) [
+      | inl none ↦ absurd (true≢false (sym found_over ∙ rw none (opening_not_over m e (rw same at h) step)))
+      | inr some ↦ omega arith
+    ]
 
-  pub raised_exhausted : over ≡ false → (exhausted : Bool) → exhausted ≡ is_exhausted after budget next.elected → exhausted ≡ true
-      → add1_of m e step limit ≡ Some next.raised
-  raised_exhausted not_over exhausted says yes_exhausted =
-      decided_here m e step limit raised within tried (sym over_found ∙ not_over)
-      (sym (exhausted_is m e step raised after (after_is ∙ same) budget budget_is next next_settled) ∙ sym says ∙ yes_exhausted)
-      ∙ ap (λ n. Some n) (sym (ap (λ (x : Settled). x.raised) next_settled))
+    module _ (last : OutcomeView) (last_is : 0 < raised → settled last ≡ settled_after m e step (raised - 1)) where
+      last_raised : last.raised ≡ raised - 1
+      last_raised = ap (λ (x : Settled). x.raised) (last_is raised_once)
+
+      pub over_decides : add1_of m e step limit ≡ Some last.raised
+      over_decides = decided_before m e step limit raised within tried found_over ∙ ap (λ n. Some n) (sym last_raised)
+
+      pub over_settled : settled last ≡ settled_after m e step last.raised
+      over_settled = last_is raised_once ∙ ap (settled_after m e step) (sym last_raised)
+
+  -- a raise that ends within it
+  module _ (workers : ℕ) (next : OutcomeView) (marks : List Bool) (spent : ℕ) (whole : IsWholeRun m s workers share raised next marks spent)
+      (spent_within : is_above (Some budget) spent ≡ false) where
+    pub next_settled : settled next ≡ settled_after m e step raised
+    next_settled = settled_next m e step raised s same opening opening_is share share_is next whole.settled_is
+
+    next_raised : next.raised ≡ raised
+    next_raised = ap (λ (x : Settled). x.raised) next_settled
+
+    not_over : is_over s budget next.elected ≡ false
+    unfolding is_over
+    not_over = ap (nat_lt budget) (sym whole.spent_is) ∙ spent_within
+
+    found_within : is_over_after m e step raised ≡ false
+    found_within = sym (over_is m e step raised s same budget budget_is next next_settled) ∙ not_over
+
+    pub next_priced : HasPricing m (support_of e) workers next.share next.priced
+    next_priced = subst (λ n. HasPricing m (support_of e) workers n next.priced) (sym (ap (λ (x : Settled). x.share) whole.settled_is))
+        (subst (λ (t : SupportView). HasPricing m t workers share next.priced) same whole.priced)
+
+    -- what the test of the outcome answered
+    module _ (exhausted : Bool) (says : (elected : List ElectedView) → AreMarked s elected marks → spent ≡ spent_on s elected → exhausted ≡ is_exhausted s budget elected) where
+      found_exhausted : exhausted ≡ is_exhausted_after m e step raised
+      found_exhausted = says next.elected whole.marked whole.spent_is ∙ exhausted_is m e step raised s same budget budget_is next next_settled
+
+      pub exhausted_decides : exhausted ≡ true → add1_of m e step limit ≡ Some next.raised
+      exhausted_decides yes_exhausted =
+          decided_here m e step limit raised within tried found_within (sym found_exhausted ∙ yes_exhausted) ∙ ap (λ n. Some n) (sym next_raised)
+
+      pub exhausted_settled : settled next ≡ settled_after m e step next.raised
+      exhausted_settled = next_settled ∙ ap (settled_after m e step) (sym next_raised)
+
+      pub goes_on : exhausted ≡ false → (j : ℕ) → j < raised + 1 → is_decisive m e step j ≡ false
+      goes_on not_exhausted j below = elim (cases_eq j raised) [
+        | inl here ↦ ap (is_decisive m e step) here ∙ or_from _ _ found_within (sym found_exhausted ∙ not_exhausted)
+        | inr before ↦ tried j (omega arith)
+      ]
 
 -- the outcome that the completion decides on is not over
 decided_not_over : (m : Measure) (e : ElectionView) → IsSupport (support_of e) → (step high : ℕ) → (o : Option ℕ)
@@ -155,21 +196,21 @@ settled_priced m e h step raises o is =
     (run_has_price_system m (support_of e) h (share_after e step raises))
 
 -- the same of a result
-module _ (m : Measure) (e : ElectionView) (h : IsSupport (support_of e)) (step limit : ℕ) {F : Type 0} where
-  pub all_within : (r : Result OutcomeView F) → IfOk r (λ o. add1_of m e step limit ≡ Some o.raised) → IfOk r (λ o. settled o ≡ settled_after m e step o.raised)
-      → IfOk r (λ o. spent_on (support_of e) o.elected ≤ e.budget)
-  all_within (Ok o) decided is = settled_within m e step o.raised (add1_not_over m e h step limit o.raised decided) o is
-  all_within (Err fault) decided is = tt
+module _ (m : Measure) (e : ElectionView) (s : SupportView) (same : s ≡ support_of e) (step limit : ℕ) {F : Type 0} where
+  pub all_within : (r : Result OutcomeView F) → OnOk r (IsSupport s) → IfOk r (λ o. add1_of m e step limit ≡ Some o.raised)
+      → IfOk r (λ o. settled o ≡ settled_after m e step o.raised) → IfOk r (λ o. spent_on (support_of e) o.elected ≤ e.budget)
+  all_within (Ok o) h decided is = settled_within m e step o.raised (add1_not_over m e (rw same at h) step limit o.raised decided) o is
+  all_within (Err fault) h decided is = tt
 
-  pub all_priced_well : (r : Result OutcomeView F) → IfOk r (λ o. settled o ≡ settled_after m e step o.raised)
+  pub all_priced_well : (r : Result OutcomeView F) → OnOk r (IsSupport s) → IfOk r (λ o. settled o ≡ settled_after m e step o.raised)
       → IfOk r (λ o. HasPriceSystem (support_of e) o.share o.elected o.rests)
-  all_priced_well (Ok o) is = settled_priced m e h step o.raised o is
-  all_priced_well (Err fault) is = tt
+  all_priced_well (Ok o) h is = settled_priced m e (rw same at h) step o.raised o is
+  all_priced_well (Err fault) h is = tt
 
-  pub all_cheapest : (r : Result OutcomeView F) → IfOk r (λ o. settled o ≡ settled_after m e step o.raised)
+  pub all_cheapest : (r : Result OutcomeView F) → OnOk r (IsSupport s) → IfOk r (λ o. settled o ≡ settled_after m e step o.raised)
       → IfOk r (λ o. EachWasCheapest m (support_of e) o.share o.elected)
-  all_cheapest (Ok o) is = settled_was_cheapest m e (support_of e) refl h (share_after e step o.raised) o.raised o is
-  all_cheapest (Err fault) is = tt
+  all_cheapest (Ok o) h is = settled_was_cheapest m e (support_of e) refl (rw same at h) (share_after e step o.raised) o.raised o is
+  all_cheapest (Err fault) h is = tt
 
 -- the outcome at the opening share
 module _ (m : Measure) (e : ElectionView) (step : ℕ) (s : SupportView) (same : s ≡ support_of e) (h : IsSupport s)
@@ -188,17 +229,3 @@ module _ (m : Measure) (e : ElectionView) (step : ℕ) (s : SupportView) (same :
 
   pub first_priced : HasPriceSystem (support_of e) o.share o.elected o.rests
   first_priced = settled_priced m e support_is step 0 o first_settled
-
--- the outcome at the opening share as the code has it: exhausted is what the test answered of it
-module _ (m : Measure) (e : ElectionView) (step limit : ℕ) (s : SupportView) (same : s ≡ support_of e) (h : IsSupport s) (budget : ℕ) (budget_is : budget ≡ e.budget)
-    (first : OutcomeView) (first_is : settled first ≡ settled_after m e step 0) (exhausted : Bool) (exhausted_says : exhausted ≡ is_exhausted s budget first.elected) where
-  found_exhausted : exhausted ≡ is_exhausted_after m e step 0
-  found_exhausted = exhausted_says ∙ exhausted_is m e step 0 s same budget budget_is first first_is
-
-  pub first_decides : exhausted ≡ true → add1_of m e step limit ≡ Some first.raised
-  first_decides yes_exhausted =
-      decided_here m e step limit 0 (omega arith) (λ j below. absurd (omega arith)) (opening_not_over m e (rw same at h) step) (sym found_exhausted ∙ yes_exhausted)
-      ∙ ap (λ n. Some n) (sym (raised_is m e step 0 s same budget budget_is first first_is))
-
-  pub first_goes_on : exhausted ≡ false → (raises : ℕ) → raises < 1 → is_decisive m e step raises ≡ false
-  first_goes_on not_exhausted = opening_no_end m e (rw same at h) step (sym found_exhausted ∙ not_exhausted)

@@ -1,4 +1,8 @@
 pub mod Progress
+pub mod QueueLists
+pub mod QueueRound
+pub mod QueueSteps
+pub mod RunQueue
 pub mod Settled
 pub mod Exhausted
 mod ThreeVoters

@@ -1,6 +1,6 @@
 -- The completion in the words of its rule.
 use Rattle.std.proofs.Common.{◌≡◌, ◌≢◌, ℕ, ◌+◌, ◌-◌, ◌<◌, List, length, get_or, Option, Some, None, true, false, sym, ◌∙◌, ap, inl, inr, arith}
-use Rattle.std.specs.Prelude.{All, ◌==◌, MatchOption, option_map, IfOk, Result, Ok, Err, if◌then◌else◌}
+use Rattle.std.specs.Prelude.{All, ◌==◌, MatchOption, option_map, IfOk, OnOk, Result, Ok, Err, if◌then◌else◌}
 use Rattle.std.specs.List.{range_with_len}
 use Rattle.std.proofs.lemmas.Bool.{true≢false, not-true, not_from_false, and_parts, and_from, and_cases, or_parts, or_cases, cases_Bool, cases_eq, cond-true, cond-false, false_from_ne_true, lt-ltb, ltb-true, leb-true, leb-false, eq-eqb, ne_eqb}
 use Rattle.std.proofs.lemmas.List.Folds.{list_any_at, list_any_none}
@@ -117,7 +117,8 @@ unfolding first_decisive
 add1_completed m e h step limit raises is =
     decided_completed m e h step (limit + 1) _ (find-range_with_len (is_decisive m e step) (limit + 1) 0 (limit + 1) (omega arith)) raises is
 
-pub all_completed : (m : Measure) (e : ElectionView) → IsSupport (support_of e) → (step limit : ℕ) → (completion : Completion) → {F : Type 0} → (r : Result OutcomeView F)
+pub all_completed : (m : Measure) (e : ElectionView) (s : SupportView) → s ≡ support_of e → (step limit : ℕ) → (completion : Completion) → {F : Type 0}
+    → (r : Result OutcomeView F) → OnOk r (IsSupport s)
     → IfOk r (λ o. add1_of m e step limit ≡ Some o.raised) → IfOk r (λ o. completion ≡ Add1 → IsCompleted m e step o.raised)
-all_completed m e h step limit completion (Ok o) decided = λ _. add1_completed m e h step limit o.raised decided
-all_completed m e h step limit completion (Err fault) decided = tt
+all_completed m e s same step limit completion (Ok o) h decided = λ _. add1_completed m e (rw same at h) step limit o.raised decided
+all_completed m e s same step limit completion (Err fault) h decided = tt

@@ -1,5 +1,5 @@
 -- That the order of bids is an order.
-use Rattle.std.proofs.Common.{◌≡◌, ℕ, ◌+◌, ◌*◌, ◌<◌, ◌≤◌, true, refl, sym, ◌∙◌, ap, inl, inr, arith}
+use Rattle.std.proofs.Common.{◌≡◌, ℕ, ◌*◌, ◌<◌, true, refl, sym, ◌∙◌, ap, inl, inr, arith}
 use Rattle.std.specs.Prelude.{◌==◌, ◌&&◌, max}
 use Rattle.std.specs.Cmp.{IsTotalOrder, Equal-is, both_ways, then_total, on_total, nat_cmp_total, ranks, tied_itself}
 use Rattle.std.specs.Ordering.{is_eq, nat_cmp, ordering_then}
@@ -12,7 +12,7 @@ use Rattle.pb_rounds.specs.Bid.{Bid, bid_cmp, ratio_cmp}
 less_from : (x y : ℕ) → x < y → nat_cmp x y ≡ Less
 less_from x y h = rw (lt-ltb x y h) refl
 
-greater_from : (x y : ℕ) → y < x → nat_cmp x y ≡ Greater
+pub greater_from : (x y : ℕ) → y < x → nat_cmp x y ≡ Greater
 greater_from x y h =
     let other : x ≡ y → ⊥ = λ e. omega (arith, e) in
     rw (le-ltb x y (omega arith), ne_eqb x y other) refl

@@ -85,9 +85,9 @@ IsCountFault e options RaisesSpent = (refusal_of options ≡ None) × (count_of 
 IsCountFault e options NoMemory = refusal_of options ≡ None
 
 -- when each fault of a completion by raises comes
-abbrev pub IsCompletionFault : ElectionView → CountOptions → CountFault → Type 0
-IsCompletionFault e options WorkerCount = ⊥
-IsCompletionFault e options StepRange = ⊥
-IsCompletionFault e options RaisesRange = ⊥
-IsCompletionFault e options RaisesSpent = add1_of options.measure e options.step options.max_raises ≡ None
-IsCompletionFault e options NoMemory = Unit {0}
+abbrev pub IsCompletionFault : Measure → ElectionView → ℕ → ℕ → CountFault → Type 0
+IsCompletionFault m e step limit WorkerCount = ⊥
+IsCompletionFault m e step limit StepRange = ⊥
+IsCompletionFault m e step limit RaisesRange = ⊥
+IsCompletionFault m e step limit RaisesSpent = add1_of m e step limit ≡ None
+IsCompletionFault m e step limit NoMemory = Unit {0}

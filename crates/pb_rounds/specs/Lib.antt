@@ -6,4 +6,6 @@ pub mod Count
 pub mod CountFault
 pub mod Outcome
 pub mod PriceSystem
+pub mod PricingRecord
+pub mod Queue
 pub mod Run

@@ -1,5 +1,4 @@
-use Rattle.std.specs.Prelude.{ℕ, List, ◌-◌, map}
-use Rattle.std.specs.List.{range_with_len}
+use Rattle.std.specs.Prelude.{ℕ, List}
 use Rattle.pb_rounds.specs.Run.{ElectedView, RunView}
 
 -- what contracts see of an outcome
@@ -20,10 +19,6 @@ pub record Settled : Type 0 where
 abbrev pub settled : OutcomeView → Settled
 settled o = record { share = o.share; raised = o.raised; elected = o.elected; rests = o.rests }
 
--- the run at this share, after so many raises, as an outcome
+-- the run at this share, after this many raises, as an outcome
 abbrev pub settled_by : ℕ → ℕ → RunView → Settled
 settled_by share raised run = record { share = share; raised = raised; elected = run.elected; rests = run.rests }
-
--- so many projects and rounds, each of which prices every project that is left
-abbrev pub all_priced : ℕ → ℕ → List ℕ
-all_priced projects rounds = map (λ round. projects - round) (range_with_len 0 rounds)

@@ -1,4 +1,4 @@
-use Rattle.std.specs.Prelude.{◌≡◌, ◌<◌, All, ℕ, zero, suc, Bool, Option, List, [], ◌∷◌, ◌-◌, ◌==◌, not, min, map, filter, filter_map, length, option_map, slice_index, replicate, if◌then◌else◌}
+use Rattle.std.specs.Prelude.{ℕ, zero, suc, Bool, Option, List, [], ◌∷◌, ◌-◌, ◌==◌, not, min, map, filter, filter_map, length, option_map, slice_index, replicate, if◌then◌else◌}
 use Rattle.std.specs.List.{list_any, range_with_len}
 use Rattle.std.specs.Option.{option_map_or}
 use Rattle.pb_core.specs.Election.{ElectionView}
@@ -80,9 +80,3 @@ outcome_of m e share = run_of m (support_of e) share
 
 abbrev pub is_elected : List ElectedView → ℕ → Bool
 is_elected elected place = list_any (λ w. w.place == place) elected
-
--- the projects left after a run: all that are not elected
-pub record IsLeft (s : SupportView) (elected : List ElectedView) (left : List ℕ) : Type 0 where
-  pub known : All (λ place. place < length s.costs) left
-  pub elected_known : All (λ w. w.place < length s.costs) elected
-  pub not_elected : (place : ℕ) → place < length s.costs → is_listed left place ≡ not (is_elected elected place)

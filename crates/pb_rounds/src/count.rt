@@ -1,4 +1,4 @@
-ghost use Rattle.std.specs.Prelude.{◌≡◌, ◌+◌, ◌*◌, ◌≤◌, length, Some, IfOk, IfErr, MatchBool, MatchOption, IsOkUnless, ⊤};
+ghost use Rattle.std.specs.Prelude.{◌≡◌, ◌+◌, ◌*◌, ◌≤◌, length, Some, IfOk, IfErr, OnOk, MatchBool, MatchOption, IsOkUnless, ⊤, true};
 ghost use Rattle.pb_core.specs.Money.{largest_money};
 ghost use Rattle.pb_price.specs.Price.{largest_share};
 ghost use Rattle.pb_price.specs.Supporters.{IsSupport, support_of};
@@ -6,23 +6,27 @@ ghost use Rattle.pb_rounds.specs.Cheapest.{EachWasCheapest};
 ghost use Rattle.pb_rounds.specs.Completed.{IsCompleted};
 ghost use Rattle.pb_rounds.specs.Count.{add1_of, count_of, opening_share, settled_after, spent_on, IsCountFault, IsCompletionFault};
 ghost use Rattle.pb_rounds.specs.CountFault.{is_worker_count, refusal_of};
-ghost use Rattle.pb_rounds.specs.Outcome.{all_priced, settled, settled_by};
+ghost use Rattle.pb_rounds.specs.Outcome.{settled, settled_by};
 ghost use Rattle.pb_rounds.specs.PriceSystem.{HasPriceSystem};
-ghost use Rattle.pb_rounds.specs.Run.{outcome_of, IsLeft};
+ghost use Rattle.pb_rounds.specs.PricingRecord.{HasPricing};
+ghost use Rattle.pb_rounds.specs.Run.{outcome_of};
 
 use crate::count_fault::CountFault;
 use crate::measure::Measure;
 use crate::options::{Completion, CountOptions};
 use crate::outcome::Outcome;
-use crate::rounds::Rounds;
+use crate::pricing::Pricing;
+use crate::run::Run;
+use crate::run_end::RunEnd;
 use pb_core::election::Election;
 use pb_core::money::Money;
-use pb_price::gate::Gate;
+use pb_price::gate::{Gate, NoGate};
+use pb_price::supporters::Supporters;
 use std::alloc::Allocator;
 use std::mem::swap;
 use std::thread::Threads;
 
-/// Whether so many workers may be asked for.
+/// Whether this many workers may be asked for.
 fn is_worker_count(workers: u32) -> bool
     ensures { result ≡ is_worker_count workers }
 {
@@ -57,7 +61,7 @@ fn opening_share<B: Allocator>(election: &Election<B>) -> Money
     Money(election.budget().0 / voters)
 }
 
-/// The share after so many raises.
+/// The share after this many raises.
 fn raised_share(opening: Money, raised: u32, step: Money) -> Money
     requires opening { opening ≤ largest_money }
     requires raised { raised ≤ 1000000 }
@@ -69,34 +73,51 @@ fn raised_share(opening: Money, raised: u32, step: Money) -> Money
 }
 
 /// The method of equal shares at one share (Peters, Pierczynski and Skowron 2021, with whole payments): while a project
-/// that is left has a price, the one with the least price is elected, the earliest in the file among equals, and each of
-/// its supporters pays the price, or all that is left to them where that is less.
+/// that is left has a price, the one with the least price is elected, under measure cost the one with the least price over
+/// cost, the earliest in the file among equals, and each of its supporters pays the price, or all that is left to them
+/// where that is less.
 ///
-/// Every project that is left is priced in each round. The workers and the gate do not matter yet.
-pub fn equal_shares<R: Threads, G: Gate, A: Allocator, B: Allocator>(
-    _rt: &R,
+/// The first round prices every project, the later ones those whose last known price could still be the best. The workers
+/// price side by side, each project a piece, and meet the gate before each piece; what is elected is the same for any
+/// number of them.
+///
+/// The share is at most 2 * 10^15 hundredths. WorkerCount is answered where the number of workers is not 1 to 64, and
+/// NoMemory where an allocation was refused.
+pub fn equal_shares<R: Threads + Sync, G: Gate, A: Allocator + Send + Sync, B: Allocator>(
+    rt: &R,
     alloc: A,
     election: &Election<B>,
     share: Money,
     workers: u32,
     measure: Measure,
-    _gate: &G,
+    gate: &G,
 ) -> Result<Outcome<A>, CountFault>
 where
     A: Copy,
     requires { share ≤ largest_share }
-    ensures workers { MatchBool (is_worker_count workers) (IsOkUnless result CountFault.NoMemory) (result ≡ Err CountFault.WorkerCount) }
+    // which refusals come
+    ensures workers { MatchBool (is_worker_count workers)
+        (IsOkUnless result CountFault.NoMemory) (result ≡ Err CountFault.WorkerCount) }
+    // what is answered
     ensures outcome { IfOk result (λ o. settled o ≡ settled_by share 0 (outcome_of measure election.now share)) }
-    ensures priced { IfOk result (λ o. o.priced ≡ all_priced (length election.now.projects) (length o.elected + 1)) }
+    ensures priced { IfOk result (λ o. HasPricing measure (support_of election.now) workers share o.priced) }
     ensures cheapest { IfOk result (λ o. EachWasCheapest measure (support_of election.now) share o.elected) }
     ensures price_system { IfOk result (λ o. HasPriceSystem (support_of election.now) share o.elected o.rests) }
 {
     if !is_worker_count(workers) {
         return Err(CountFault::WorkerCount);
     }
-    let mut rounds = Rounds::new(alloc, election, measure)?;
+    let supporters = Supporters::build(alloc, election)?;
+    let pricing = Pricing {
+        rt,
+        gate,
+        alloc,
+        workers,
+        measure,
+        supporters: &supporters,
+    };
     let mut outcome = Outcome::unfilled(alloc);
-    rounds.run(share, 0, &mut outcome)?;
+    Run::new(alloc).run(&pricing, share, 0, None, &mut outcome)?;
     Ok(outcome)
 }
 
@@ -104,72 +125,83 @@ where
 /// last one before the first that is over the budget.
 ///
 /// The options are checked first, workers, step and raises in this order, whatever the completion.
-pub fn count<R: Threads, A: Allocator, B: Allocator>(
-    _rt: &R,
+pub fn count<R: Threads + Sync, A: Allocator + Send + Sync, B: Allocator>(
+    rt: &R,
     alloc: A,
     election: &Election<B>,
     options: &CountOptions,
 ) -> Result<Outcome<A>, CountFault>
 where
     A: Copy,
+    // which refusals come
     ensures refused { MatchOption (refusal_of options.now) ⊤ (λ fault. result ≡ Err fault) }
     ensures faults { IfErr result (IsCountFault election.now options.now) }
+    // what is answered
     ensures counted { IfOk result (λ o. count_of election.now options.now ≡ Some (settled o)) }
-    ensures priced { IfOk result (λ o. o.priced ≡ all_priced (length election.now.projects) (length o.elected + 1)) }
+    ensures priced { IfOk result (λ o.
+        HasPricing options.now.measure (support_of election.now) options.now.workers o.share o.priced) }
     ensures within_budget { IfOk result (λ o. spent_on (support_of election.now) o.elected ≤ election.now.budget) }
-    ensures completed { IfOk result (λ o. options.now.completion ≡ Completion.Add1 → IsCompleted options.now.measure election.now options.now.step o.raised) }
-    ensures cheapest { IfOk result (λ o. EachWasCheapest options.now.measure (support_of election.now) o.share o.elected) }
+    ensures completed { IfOk result (λ o. options.now.completion ≡ Completion.Add1
+        → IsCompleted options.now.measure election.now options.now.step o.raised) }
+    ensures cheapest { IfOk result (λ o.
+        EachWasCheapest options.now.measure (support_of election.now) o.share o.elected) }
     ensures price_system { IfOk result (λ o. HasPriceSystem (support_of election.now) o.share o.elected o.rests) }
 {
     if let Some(fault) = refusal_of(options) {
         return Err(fault);
     }
-    let mut rounds = Rounds::new(alloc, election, options.measure)?;
-    let mut first = Outcome::unfilled(alloc);
-    rounds.run(opening_share(election), 0, &mut first)?;
+    let supporters = Supporters::build(alloc, election)?;
+    let pricing = Pricing {
+        rt,
+        gate: &NoGate,
+        alloc,
+        workers: options.workers,
+        measure: options.measure,
+        supporters: &supporters,
+    };
     match options.completion {
-        Completion::Plain => Ok(first),
-        Completion::Add1 => complete(&mut rounds, alloc, election, options, first),
+        Completion::Plain => {
+            let mut outcome = Outcome::unfilled(alloc);
+            let share = opening_share(election);
+            Run::new(alloc).run(&pricing, share, 0, None, &mut outcome)?;
+            Ok(outcome)
+        }
+        Completion::Add1 => complete(&pricing, election, options.step, options.max_raises),
     }
 }
 
-/// Completes a count by raises, from its outcome at the opening share.
-fn complete<A: Allocator, B: Allocator>(
-    rounds: &mut Rounds<A>,
-    alloc: A,
+/// Counts with completion by raises. A raise whose elected cost more than the budget runs no further.
+fn complete<R: Threads + Sync, G: Gate, A: Allocator + Copy + Send + Sync, B: Allocator>(
+    pricing: &Pricing<R, G, A>,
     election: &Election<B>,
-    options: &CountOptions,
-    first: Outcome<A>,
+    step: Money,
+    max_raises: u32,
 ) -> Result<Outcome<A>, CountFault>
-where
-    A: Copy,
-    requires step { options.now.step ≤ 1000000000 }
-    requires raises { options.now.max_raises ≤ 1000000 }
-    requires supporters { rounds.old.supporters ≡ support_of election.now }
-    requires measure { rounds.old.measure ≡ options.now.measure }
-    requires is_support { IsSupport rounds.old.supporters }
-    requires settled { settled first ≡ settled_after options.now.measure election.now options.now.step 0 }
-    requires priced { first.priced ≡ all_priced (length election.now.projects) (length first.elected + 1) }
-    requires left { IsLeft rounds.old.supporters first.elected rounds.old.left.items }
-    ensures decided { IfOk result (λ o. add1_of options.now.measure election.now options.now.step options.now.max_raises ≡ Some o.raised) }
-    ensures settled { IfOk result (λ o. settled o ≡ settled_after options.now.measure election.now options.now.step o.raised) }
-    ensures priced { IfOk result (λ o. o.priced ≡ all_priced (length election.now.projects) (length o.elected + 1)) }
-    ensures faults { IfErr result (IsCompletionFault election.now options.now) }
+    requires workers { is_worker_count pricing.now.workers ≡ true }
+    requires step { step ≤ 1000000000 }
+    requires raises { max_raises ≤ 1000000 }
+    requires supporters { pricing.now.supporters.now ≡ support_of election.now }
+    ensures decided { IfOk result (λ o. add1_of pricing.now.measure election.now step max_raises ≡ Some o.raised) }
+    ensures settled { IfOk result (λ o.
+        settled o ≡ settled_after pricing.now.measure election.now step o.raised) }
+    ensures priced { IfOk result (λ o.
+        HasPricing pricing.now.measure (support_of election.now) pricing.now.workers o.share o.priced) }
+    ensures faults { IfErr result (IsCompletionFault pricing.now.measure election.now step max_raises) }
+    ensures is_support { OnOk result (IsSupport pricing.now.supporters.now) }
 {
     let budget = election.budget();
     let opening = opening_share(election);
-    let mut last = first;
-    if rounds.is_exhausted(budget, &last) {
-        return Ok(last);
-    }
-    let mut next = Outcome::unfilled(alloc);
-    for raised in 1..options.max_raises + 1 {
-        let share = raised_share(opening, raised, options.step);
-        rounds.run(share, raised, &mut next)?;
-        if rounds.is_over(budget, &next) {
-            return Ok(last);
+    let mut run = Run::new(pricing.alloc);
+    let mut last = Outcome::unfilled(pricing.alloc);
+    let mut next = Outcome::unfilled(pricing.alloc);
+    for raised in 0..max_raises + 1 {
+        let share = raised_share(opening, raised, step);
+        let end = run.run(pricing, share, raised, Some(budget), &mut next)?;
+        match end {
+            RunEnd::OverLimit => return Ok(last),
+            RunEnd::Whole => {}
         }
-        if rounds.is_exhausted(budget, &next) {
+        if run.is_exhausted(pricing.supporters, budget) {
             return Ok(next);
         }
         swap(&mut last, &mut next);

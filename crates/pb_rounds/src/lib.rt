@@ -7,8 +7,11 @@ pub mod key;
 pub mod measure;
 pub mod options;
 pub mod outcome;
+mod pricing;
+mod queue;
 mod round;
-mod rounds;
+mod run;
+mod run_end;
 mod standing;
 #[cfg(test)]
 mod tests;

@@ -1,76 +1,138 @@
-ghost use Rattle.std.specs.Prelude.{◌≡◌, ◌+◌, ◌∷◌, ◌++◌, [], ◌<◌, ◌≤◌, ◌^◌, All, length, Some, IfOk, OnOk};
+ghost use Rattle.std.specs.Prelude.{◌≡◌, ◌+◌, ◌∷◌, ◌++◌, [], ◌<◌, ◌≤◌, ◌^◌, All, length, min, true, IfOk, OnOk, Some};
 ghost use Rattle.std.specs.List.Sorted.{IsStrictlyIncreasing};
 ghost use Rattle.pb_core.specs.Election.{most_projects};
-ghost use Rattle.pb_price.specs.Price.{paid_at, price_at, AreRests};
+ghost use Rattle.pb_price.specs.Price.{paid_at, price_at, AreRests, largest_count};
 ghost use Rattle.pb_price.specs.Supporters.{supporters_at};
-ghost use Rattle.pb_rounds.specs.Bid.{better_of};
-ghost use Rattle.pb_rounds.specs.Run.{best_of, charged, elected_by, without};
+ghost use Rattle.pb_rounds.specs.Bid.{Bid, better_of, first_least, is_before};
+ghost use Rattle.pb_rounds.specs.CountFault.{is_worker_count};
+ghost use Rattle.pb_rounds.specs.Queue.{IsDone, IsIn, PricesHeads};
+ghost use Rattle.pb_rounds.specs.Run.{bids_at, charged, elected_by};
 
 use crate::key::Key;
-use crate::measure::Measure;
 use crate::outcome::{Elected, Outcome};
+use crate::pricing::{Pricing, workers_for};
+use crate::queue::take_heads;
 use pb_core::money::Money;
 use pb_core::no_memory::NoMemory;
-use pb_price::price::price_with;
+use pb_price::gate::Gate;
+use pb_price::price_all;
 use pb_price::supporters::Supporters;
 use pb_price::tally::Tally;
 use std::alloc::Allocator;
+use std::collections::BTreeSet;
+use std::thread::Threads;
 
 /// The key that comes first.
-fn better(best: Option<Key>, key: Key) -> Key
-    ensures { result ≡ better_of best key }
+fn better(best: &Option<Key>, key: Key) -> Key
+    ensures { result ≡ better_of best.now key }
 {
     match best {
-        Some(best) if key >= best => best,
+        Some(best) if key >= *best => *best,
         _ => key,
     }
 }
 
-/// Prices each project that is left, once, and gives the best: the least price, and the earliest in the file among equals.
-/// How many prices that took goes behind the outcome's other counts.
-pub(crate) fn price_left<A: Allocator>(
-    supporters: &Supporters<A>,
-    measure: Measure,
-    left: &[u32],
-    buffer: &mut Vec<u64, A>,
+/// Prices these projects, and puts the keys of those that have a price after the fresh ones; the best is the first of all.
+fn price_heads<R: Threads + Sync, G: Gate, A: Allocator + Copy + Send + Sync>(
+    pricing: &Pricing<R, G, A>,
+    rests: &[Money],
+    heads: &[u32],
+    fresh: &mut Vec<Key, A>,
+    best: &mut Option<Key>,
+    tally: &mut Tally,
+) -> Result<(), NoMemory>
+    requires workers { is_worker_count pricing.now.workers ≡ true }
+    requires rests { AreRests pricing.now.supporters.now.voters rests.now }
+    requires known { All (λ place. place < length pricing.now.supporters.now.costs) heads.now }
+    requires few { length heads.now ≤ most_projects }
+    requires best { best.old ≡ first_least is_before fresh.old.items }
+    ensures fresh { OnOk result (fresh.new.items
+        ≡ fresh.old.items ++ bids_at pricing.now.measure pricing.now.supporters.now rests.now heads.now) }
+    ensures best { OnOk result (best.new ≡ first_least is_before fresh.new.items) }
+    ensures counted { OnOk result (tally.new ≡ min (tally.old + length heads.now) largest_count) }
+{
+    let workers = workers_for(pricing.workers, pricing.supporters, heads);
+    let priced = price_all(
+        pricing.rt,
+        pricing.alloc,
+        workers,
+        pricing.gate,
+        heads,
+        pricing.supporters,
+        rests,
+        tally,
+    );
+    let Ok(answers) = priced else {
+        return Err(NoMemory);
+    };
+    for (i, place) in heads.iter().enumerate() {
+        if let Some(price) = answers[i] {
+            let weight = pricing.measure.weight(pricing.supporters, *place);
+            let key = Key::new(price, weight, *place);
+            fresh.push(key)?;
+            *best = Some(better(best, key));
+        }
+    }
+    Ok(())
+}
+
+/// Prices the heads of the queue, in batches of at most this many, until the best that was priced comes before the head,
+/// and gives that best. The places that were priced and the fresh keys are those of this round alone; how many prices it
+/// took goes after the outcome's other counts.
+pub(crate) fn price_round<R: Threads + Sync, G: Gate, A: Allocator + Copy + Send + Sync>(
+    pricing: &Pricing<R, G, A>,
+    most: u32,
+    queue: &mut BTreeSet<Key, A>,
+    places: &mut Vec<u32, A>,
+    fresh: &mut Vec<Key, A>,
     outcome: &mut Outcome<A>,
 ) -> Result<Option<Key>, NoMemory>
-    requires rests { AreRests supporters.now.voters outcome.old.rests }
-    requires known { All (λ place. place < length supporters.now.costs) left.now }
-    requires few { length left.now ≤ most_projects }
-    ensures best { IfOk result (λ best. best ≡ best_of measure supporters.now outcome.old.rests left.now) }
-    ensures priced { OnOk result (outcome.new ≡ record outcome.old { priced = outcome.old.priced ++ length left.now ∷ [] }) }
+    requires workers { is_worker_count pricing.now.workers ≡ true }
+    requires most { 0 < most }
+    requires rests { AreRests pricing.now.supporters.now.voters outcome.old.rests }
+    requires known { (b : Bid) → IsIn b queue.old.keys → b.place < length pricing.now.supporters.now.costs }
+    requires few { length queue.old.keys ≤ most_projects }
+    ensures priced { IfOk result (PricesHeads pricing.now.measure pricing.now.supporters.now outcome.old.rests most
+        queue.old.keys queue.new.keys places.new.items fresh.new.items) }
+    ensures done { IfOk result (λ best. IsDone best queue.new.keys) }
+    ensures outcome { OnOk result (outcome.new
+        ≡ record outcome.old { priced = outcome.old.priced ++ length places.new.items ∷ [] }) }
 {
-    let mut tally = Tally::new();
+    places.clear();
+    fresh.clear();
     let mut best = None;
-    for place in left {
-        let rests = outcome.rests.as_slice();
-        if let Some(price) = price_with(buffer, supporters, rests, *place, &mut tally)? {
-            let key = Key::new(price, measure.weight(supporters, *place), *place);
-            best = Some(better(best, key));
+    let mut tally = Tally::new();
+    loop {
+        let before = places.len();
+        take_heads(queue, &best, most, places)?;
+        if places.len() == before {
+            break;
         }
+        let heads = &places[before..];
+        let rests = outcome.rests.as_slice();
+        price_heads(pricing, rests, heads, fresh, &mut best, &mut tally)?;
     }
     outcome.priced.push(tally.count())?;
     Ok(best)
 }
 
-/// Elects the project of this key: its supporters pay, and it is left no longer.
+/// Elects the project of this key: its supporters pay.
 pub(crate) fn elect<A: Allocator>(
     supporters: &Supporters<A>,
     best: Key,
-    left: &mut Vec<u32, A>,
     outcome: &mut Outcome<A>,
 ) -> Result<(), NoMemory>
     requires rests { AreRests supporters.now.voters outcome.old.rests }
     requires known { best.place < length supporters.now.costs }
     requires price { price_at supporters.now outcome.old.rests best.place ≡ Some best.price }
-    ensures elected { OnOk result (outcome.new ≡ record outcome.old { elected = outcome.old.elected ++ elected_by supporters.now outcome.old.rests best ∷ []; rests = charged (supporters_at supporters.now best.place) best.price outcome.old.rests }) }
-    ensures left { OnOk result (left.new.items ≡ without best.place left.old.items) }
+    ensures { OnOk result (outcome.new ≡ record outcome.old {
+      elected = outcome.old.elected ++ elected_by supporters.now outcome.old.rests best ∷ [];
+      rests = charged (supporters_at supporters.now best.place) best.price outcome.old.rests;
+    }) }
 {
     let place = best.place();
     let price = best.price();
     let collected = charge(supporters.of(place), price, &mut outcome.rests);
-    left.retain(|other| *other != place);
     outcome.elected.push(Elected {
         place,
         price,

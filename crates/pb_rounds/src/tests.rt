@@ -10,9 +10,10 @@ use pb_core::money::Money;
 use pb_core::project::Project;
 use pb_core::voter::Voter;
 use pb_core::voter_id::VoterId;
-use pb_price::gate::NoGate;
+use pb_price::gate::{Gate, NoGate};
 use std::alloc::Global;
 use std::process::Abort;
+use std::sync::atomic::{AtomicU32, Ordering};
 use std::test::Fail;
 use std::thread::Threads;
 
@@ -89,7 +90,7 @@ fn plain() -> CountOptions {
 
 /// Counts the election, and compares the outcome.
 fn counts_as(
-    rt: &(impl Abort + Threads),
+    rt: &(impl Abort + Threads + Sync),
     alloc: Global,
     election: &Election,
     options: &CountOptions,
@@ -106,7 +107,7 @@ fn counts_as(
 
 /// The fault that a count gives, if it gives one.
 fn fault_of(
-    rt: &impl Threads,
+    rt: &(impl Threads + Sync),
     alloc: Global,
     election: &Election,
     options: &CountOptions,
@@ -131,7 +132,13 @@ fn counts_three_voters(rt: HostRuntime) -> Result<(), Fail> {
     };
     let both = [elected(0, 1500, 3000), elected(1, 3667, 6000)];
     let three = three_voters(&rt, alloc)?;
-    counts_as(&rt, alloc, &three, &standard, 3833, 5, &both)?;
+    for workers in [1, 2, 3, 64] {
+        let options = CountOptions {
+            workers,
+            ..standard
+        };
+        counts_as(&rt, alloc, &three, &options, 3833, 5, &both)?;
+    }
     counts_as(&rt, alloc, &three, &just_enough, 3833, 5, &both)?;
     counts_as(&rt, alloc, &three, &larger_steps, 3833, 2, &both)?;
     counts_as(&rt, alloc, &three, &plain(), 3333, 0, &both[..1])?;
@@ -212,8 +219,126 @@ fn spends_the_raises(rt: HostRuntime) -> Result<(), Fail> {
     Ok(())
 }
 
+/// Four voters and four projects: p1 costs 12.00 (v1, v2, v3), p2 19.00 (v1, v2, v4), p3 6.50 and p4 9.90 (v4).
+fn four_voters(rt: &impl Abort, alloc: Global) -> Result<Election, Fail> {
+    election(
+        rt,
+        alloc,
+        4000,
+        &[1200, 1900, 650, 990],
+        &[&[0, 1], &[0, 1], &[0], &[1, 2, 3]],
+    )
+}
+
+/// Counts how often it is met.
+#[derive(Drop)]
+struct CountingGate {
+    met: AtomicU32,
+}
+
+impl Gate for CountingGate {
+    fn at(&self, _worker: u32, _piece: u32) {
+        self.met.fetch_add(1, Ordering::SeqCst);
+    }
+}
+
 #[test]
-fn runs_at_a_share(rt: HostRuntime) -> Result<(), Fail> {
+fn prices_the_heads_of_the_queue(rt: HostRuntime) -> Result<(), Fail> {
+    let alloc = rt.alloc();
+    let four = four_voters(&rt, alloc)?;
+    let winners = [elected(0, 400, 1200), elected(2, 650, 650)];
+    let cases: [(u32, [u64; 3], u32); 4] = [
+        (1, [4, 2, 2], 8),
+        (2, [4, 2, 2], 8),
+        (3, [4, 3, 2], 9),
+        (64, [4, 3, 2], 9),
+    ];
+    for (workers, priced, met) in cases {
+        let gate = CountingGate {
+            met: AtomicU32::new(0),
+        };
+        let outcome = equal_shares(
+            &rt,
+            alloc,
+            &four,
+            Money(1000),
+            workers,
+            Measure::Votes,
+            &gate,
+        )?;
+        assert_eq!(rt; outcome.share, Money(1000));
+        assert_eq!(rt; outcome.raised, 0);
+        assert_eq!(rt; outcome.elected.as_slice(), winners.as_slice());
+        assert_eq!(rt; outcome.priced.as_slice(), priced.as_slice());
+        assert_eq!(rt; gate.met.load(Ordering::SeqCst), met);
+        let options = CountOptions { workers, ..plain() };
+        let same = count(&rt, alloc, &four, &options)?;
+        assert_eq!(rt; same.elected.as_slice(), winners.as_slice());
+        assert_eq!(rt; same.rests.as_slice(), outcome.rests.as_slice());
+        assert_eq!(rt; same.priced.as_slice(), priced.as_slice());
+    }
+    Ok(())
+}
+
+/// An election, and by each measure whom a plain count elects and how many prices each round takes with one worker.
+#[derive(Drop)]
+struct Measured<'a> {
+    budget: u64,
+    costs: &'a [u64],
+    ballots: &'a [&'a [u32]],
+    votes: (&'a [Elected], &'a [u64]),
+    cost: (&'a [Elected], &'a [u64]),
+}
+
+#[test]
+fn counts_by_both_measures(rt: HostRuntime) -> Result<(), Fail> {
+    let alloc = rt.alloc();
+    let both: [&[u32]; 2] = [&[0, 1], &[0, 1]];
+    let cases = [
+        Measured {
+            budget: 4000,
+            costs: &[1000, 3000],
+            ballots: &[&[0, 1], &[0, 1], &[1], &[1]],
+            votes: (&[elected(0, 500, 1000), elected(1, 1000, 3000)], &[2, 1, 0]),
+            cost: (&[elected(1, 750, 3000)], &[2, 1]),
+        },
+        Measured {
+            budget: 600,
+            costs: &[100, 300],
+            ballots: &[&[0, 1], &[0, 1], &[0, 1]],
+            votes: (&[elected(0, 34, 102), elected(1, 100, 300)], &[2, 1, 0]),
+            cost: (&[elected(1, 100, 300), elected(0, 34, 102)], &[2, 1, 0]),
+        },
+        Measured {
+            budget: 6000,
+            costs: &[1000, 2000],
+            ballots: &both,
+            votes: (&[elected(0, 500, 1000), elected(1, 1000, 2000)], &[2, 1, 0]),
+            cost: (&[elected(0, 500, 1000), elected(1, 1000, 2000)], &[2, 1, 0]),
+        },
+        Measured {
+            budget: 6000,
+            costs: &[2000, 1000],
+            ballots: &both,
+            votes: (&[elected(1, 500, 1000), elected(0, 1000, 2000)], &[2, 1, 0]),
+            cost: (&[elected(0, 1000, 2000), elected(1, 500, 1000)], &[2, 1, 0]),
+        },
+    ];
+    for case in cases {
+        let election = election(&rt, alloc, case.budget, case.costs, case.ballots)?;
+        let by_measure = [(Measure::Votes, case.votes), (Measure::Cost, case.cost)];
+        for (measure, (winners, priced)) in by_measure {
+            let options = CountOptions { measure, ..plain() };
+            let outcome = count(&rt, alloc, &election, &options)?;
+            assert_eq!(rt; outcome.elected.as_slice(), winners);
+            assert_eq!(rt; outcome.priced.as_slice(), priced);
+        }
+    }
+    Ok(())
+}
+
+#[test]
+fn leaves_rests(rt: HostRuntime) -> Result<(), Fail> {
     let three = three_voters(&rt, rt.alloc())?;
     let outcome = count(&rt, rt.alloc(), &three, &plain())?;
     assert_eq!(rt;
@@ -221,32 +346,6 @@ fn runs_at_a_share(rt: HostRuntime) -> Result<(), Fail> {
         [Money(1833), Money(1833), Money(3333)].as_slice()
     );
     assert_eq!(rt; outcome.priced.as_slice(), [2, 1].as_slice());
-    let four = election(
-        &rt,
-        rt.alloc(),
-        4000,
-        &[1200, 1900, 650, 990],
-        &[&[0, 1], &[0, 1], &[0], &[1, 2, 3]],
-    )?;
-    let outcome = equal_shares(
-        &rt,
-        rt.alloc(),
-        &four,
-        Money(1000),
-        1,
-        Measure::Votes,
-        &NoGate,
-    )?;
-    assert_eq!(rt; outcome.share, Money(1000));
-    assert_eq!(rt; outcome.raised, 0);
-    assert_eq!(rt;
-        outcome.elected.as_slice(),
-        [elected(0, 400, 1200), elected(2, 650, 650)].as_slice()
-    );
-    assert_eq!(rt; outcome.priced.as_slice(), [4, 3, 2].as_slice());
-    let same = count(&rt, rt.alloc(), &four, &plain())?;
-    assert_eq!(rt; same.elected.as_slice(), outcome.elected.as_slice());
-    assert_eq!(rt; same.priced.as_slice(), outcome.priced.as_slice());
     Ok(())
 }
 
@@ -282,11 +381,16 @@ fn refuses_options(rt: HostRuntime) -> Result<(), Fail> {
         &NoGate,
     );
     assert!(rt; matches!(refused, Err(CountFault::WorkerCount)));
-    let most = CountOptions {
-        workers: 64,
-        ..plain
-    };
-    assert_eq!(rt; fault_of(&rt, rt.alloc(), &election, &most), None);
+    let ends = [(1, 1, 0), (64, 1_000_000_000, 1_000_000)];
+    for (workers, step, max_raises) in ends {
+        let options = CountOptions {
+            workers,
+            step: Money(step),
+            max_raises,
+            ..plain
+        };
+        assert_eq!(rt; fault_of(&rt, rt.alloc(), &election, &options), None);
+    }
     Ok(())
 }
 

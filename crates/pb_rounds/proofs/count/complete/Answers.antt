@@ -1,38 +1,95 @@
-use Rattle.std.proofs.Common.{arith}
-use Rattle.pb_rounds.proofs.Completion.{first_decides, first_goes_on, raises_spent, raised_over, raised_exhausted}
+use Rattle.std.proofs.Common.{◌≡◌, ◌∙◌, ◌+◌, ◌-◌, ℕ, ap, subst, sym, arith}
+use Rattle.pb_price.specs.Supporters.{support_of}
+use Rattle.pb_rounds.specs.Count.{settled_after}
+use Rattle.pb_rounds.specs.Outcome.{OutcomeView, settled}
+use Rattle.pb_rounds.specs.PricingRecord.{HasPricing}
+use Rattle.pb_rounds.proofs.Completion.{exhausted_decides, exhausted_settled, goes_on, next_priced, next_settled, over_decides, over_settled, raised_once, raises_spent}
+use Rattle.pb_rounds.proofs.RunQueue.{over_from_end, whole_from_end}
 use Rattle.pb_rounds.proofs.count.complete.Goals as goal
+
+raise_back : (n : ℕ) → n ≡ n + 1 - 1
+raise_back n = omega arith
+
+pub returns-in-OverLimit-clause-decided : goal.returns-in-OverLimit-clause-decided
+returns-in-OverLimit-clause-decided g c =
+    over_decides c.args.pricing.now.measure c.args.election.now c.args.step c.args.max_raises c.loop-raised.raised (omega (arith, c.loop-raised-test.true)) c.loop-raised.invariant.tried
+    c.args.pricing.now.supporters.now c.requires.supporters c.in_ok-end.ensures.is_support c.opening_share-opening.result c.opening_share-opening.ensures.share
+    c.raised_share-share.result c.raised_share-share.ensures.share c.budget-budget.result c.budget-budget.ensures.budget
+    (over_from_end c.args.pricing.now.measure c.args.pricing.now.supporters.now c.args.pricing.now.workers c.raised_share-share.result c.loop-raised.raised c.run.new.outcome c.run.new.self.marks.items c.run.new.self.spent c.budget-budget.result c.in_ok-end.end c.in-OverLimit.is c.in_ok-end.ensures.ended)
+    c.loop-raised.last c.loop-raised.invariant.last
+
+pub returns-in-OverLimit-clause-settled : goal.returns-in-OverLimit-clause-settled
+returns-in-OverLimit-clause-settled g c =
+    over_settled c.args.pricing.now.measure c.args.election.now c.args.step c.args.max_raises c.loop-raised.raised (omega (arith, c.loop-raised-test.true)) c.loop-raised.invariant.tried
+    c.args.pricing.now.supporters.now c.requires.supporters c.in_ok-end.ensures.is_support c.opening_share-opening.result c.opening_share-opening.ensures.share
+    c.raised_share-share.result c.raised_share-share.ensures.share c.budget-budget.result c.budget-budget.ensures.budget
+    (over_from_end c.args.pricing.now.measure c.args.pricing.now.supporters.now c.args.pricing.now.workers c.raised_share-share.result c.loop-raised.raised c.run.new.outcome c.run.new.self.marks.items c.run.new.self.spent c.budget-budget.result c.in_ok-end.end c.in-OverLimit.is c.in_ok-end.ensures.ended)
+    c.loop-raised.last c.loop-raised.invariant.last
+
+pub returns-in-OverLimit-clause-priced : goal.returns-in-OverLimit-clause-priced
+returns-in-OverLimit-clause-priced g c =
+    c.loop-raised.invariant.priced (raised_once c.args.pricing.now.measure c.args.election.now c.args.step c.args.max_raises c.loop-raised.raised (omega (arith, c.loop-raised-test.true)) c.loop-raised.invariant.tried
+    c.args.pricing.now.supporters.now c.requires.supporters c.in_ok-end.ensures.is_support c.opening_share-opening.result c.opening_share-opening.ensures.share
+    c.raised_share-share.result c.raised_share-share.ensures.share c.budget-budget.result c.budget-budget.ensures.budget
+    (over_from_end c.args.pricing.now.measure c.args.pricing.now.supporters.now c.args.pricing.now.workers c.raised_share-share.result c.loop-raised.raised c.run.new.outcome c.run.new.self.marks.items c.run.new.self.spent c.budget-budget.result c.in_ok-end.end c.in-OverLimit.is c.in_ok-end.ensures.ended))
+
+pub is_exhausted-requires : goal.is_exhausted-requires
+is_exhausted-requires g c = (whole_from_end c.args.pricing.now.measure c.args.pricing.now.supporters.now c.args.pricing.now.workers c.raised_share-share.result c.loop-raised.raised c.run.new.outcome c.run.new.self.marks.items c.run.new.self.spent c.budget-budget.result c.in_ok-end.end c.in-Whole.is c.in_ok-end.ensures.ended).0.marked.one_each
 
 pub returns-then-is_exhausted-clause-decided : goal.returns-then-is_exhausted-clause-decided
 returns-then-is_exhausted-clause-decided g c =
-    first_decides c.args.options.now.measure c.args.election.now c.args.options.now.step c.args.options.now.max_raises c.args.rounds.now.supporters c.requires.supporters c.requires.is_support
-    c.budget-budget.result c.budget-budget.ensures.budget c.args.first c.requires.settled c.is_exhausted.result c.is_exhausted.ensures c.if-is_exhausted.true
+    exhausted_decides c.args.pricing.now.measure c.args.election.now c.args.step c.args.max_raises c.loop-raised.raised (omega (arith, c.loop-raised-test.true)) c.loop-raised.invariant.tried
+    c.args.pricing.now.supporters.now c.requires.supporters c.in_ok-end.ensures.is_support c.opening_share-opening.result c.opening_share-opening.ensures.share
+    c.raised_share-share.result c.raised_share-share.ensures.share c.budget-budget.result c.budget-budget.ensures.budget
+    c.args.pricing.now.workers c.run.new.outcome c.run.new.self.marks.items c.run.new.self.spent
+    (whole_from_end c.args.pricing.now.measure c.args.pricing.now.supporters.now c.args.pricing.now.workers c.raised_share-share.result c.loop-raised.raised c.run.new.outcome c.run.new.self.marks.items c.run.new.self.spent c.budget-budget.result c.in_ok-end.end c.in-Whole.is c.in_ok-end.ensures.ended).0
+    (whole_from_end c.args.pricing.now.measure c.args.pricing.now.supporters.now c.args.pricing.now.workers c.raised_share-share.result c.loop-raised.raised c.run.new.outcome c.run.new.self.marks.items c.run.new.self.spent c.budget-budget.result c.in_ok-end.end c.in-Whole.is c.in_ok-end.ensures.ended).1
+    c.is_exhausted.result c.is_exhausted.ensures c.if-is_exhausted.true
 
-pub loop-raised-init : goal.loop-raised-init
-loop-raised-init g c = record {
-  measure = c.requires.measure;
-  supporters = c.requires.supporters;
-  tried = first_goes_on c.args.options.now.measure c.args.election.now c.args.options.now.step c.args.options.now.max_raises c.args.rounds.now.supporters c.requires.supporters c.requires.is_support
-      c.budget-budget.result c.budget-budget.ensures.budget c.args.first c.requires.settled c.is_exhausted.result c.is_exhausted.ensures c.if-is_exhausted.false;
-  last = c.requires.settled;
-  priced = c.requires.priced;
+pub returns-then-is_exhausted-clause-settled : goal.returns-then-is_exhausted-clause-settled
+returns-then-is_exhausted-clause-settled g c =
+    exhausted_settled c.args.pricing.now.measure c.args.election.now c.args.step c.args.max_raises c.loop-raised.raised (omega (arith, c.loop-raised-test.true)) c.loop-raised.invariant.tried
+    c.args.pricing.now.supporters.now c.requires.supporters c.in_ok-end.ensures.is_support c.opening_share-opening.result c.opening_share-opening.ensures.share
+    c.raised_share-share.result c.raised_share-share.ensures.share c.budget-budget.result c.budget-budget.ensures.budget
+    c.args.pricing.now.workers c.run.new.outcome c.run.new.self.marks.items c.run.new.self.spent
+    (whole_from_end c.args.pricing.now.measure c.args.pricing.now.supporters.now c.args.pricing.now.workers c.raised_share-share.result c.loop-raised.raised c.run.new.outcome c.run.new.self.marks.items c.run.new.self.spent c.budget-budget.result c.in_ok-end.end c.in-Whole.is c.in_ok-end.ensures.ended).0
+    (whole_from_end c.args.pricing.now.measure c.args.pricing.now.supporters.now c.args.pricing.now.workers c.raised_share-share.result c.loop-raised.raised c.run.new.outcome c.run.new.self.marks.items c.run.new.self.spent c.budget-budget.result c.in_ok-end.end c.in-Whole.is c.in_ok-end.ensures.ended).1
+    c.is_exhausted.result c.is_exhausted.ensures
+
+pub returns-then-is_exhausted-clause-priced : goal.returns-then-is_exhausted-clause-priced
+returns-then-is_exhausted-clause-priced g c =
+    next_priced c.args.pricing.now.measure c.args.election.now c.args.step c.args.max_raises c.loop-raised.raised (omega (arith, c.loop-raised-test.true)) c.loop-raised.invariant.tried
+    c.args.pricing.now.supporters.now c.requires.supporters c.in_ok-end.ensures.is_support c.opening_share-opening.result c.opening_share-opening.ensures.share
+    c.raised_share-share.result c.raised_share-share.ensures.share c.budget-budget.result c.budget-budget.ensures.budget
+    c.args.pricing.now.workers c.run.new.outcome c.run.new.self.marks.items c.run.new.self.spent
+    (whole_from_end c.args.pricing.now.measure c.args.pricing.now.supporters.now c.args.pricing.now.workers c.raised_share-share.result c.loop-raised.raised c.run.new.outcome c.run.new.self.marks.items c.run.new.self.spent c.budget-budget.result c.in_ok-end.end c.in-Whole.is c.in_ok-end.ensures.ended).0
+    (whole_from_end c.args.pricing.now.measure c.args.pricing.now.supporters.now c.args.pricing.now.workers c.raised_share-share.result c.loop-raised.raised c.run.new.outcome c.run.new.self.marks.items c.run.new.self.spent c.budget-budget.result c.in_ok-end.end c.in-Whole.is c.in_ok-end.ensures.ended).1
+
+pub loop-raised-preserved : goal.loop-raised-preserved
+loop-raised-preserved g c = record {
+  tried = goes_on c.args.pricing.now.measure c.args.election.now c.args.step c.args.max_raises c.loop-raised.raised (omega (arith, c.loop-raised-test.true)) c.loop-raised.invariant.tried
+      c.args.pricing.now.supporters.now c.requires.supporters c.in_ok-end.ensures.is_support c.opening_share-opening.result c.opening_share-opening.ensures.share
+      c.raised_share-share.result c.raised_share-share.ensures.share c.budget-budget.result c.budget-budget.ensures.budget
+      c.args.pricing.now.workers c.run.new.outcome c.run.new.self.marks.items c.run.new.self.spent
+      (whole_from_end c.args.pricing.now.measure c.args.pricing.now.supporters.now c.args.pricing.now.workers c.raised_share-share.result c.loop-raised.raised c.run.new.outcome c.run.new.self.marks.items c.run.new.self.spent c.budget-budget.result c.in_ok-end.end c.in-Whole.is c.in_ok-end.ensures.ended).0
+      (whole_from_end c.args.pricing.now.measure c.args.pricing.now.supporters.now c.args.pricing.now.workers c.raised_share-share.result c.loop-raised.raised c.run.new.outcome c.run.new.self.marks.items c.run.new.self.spent c.budget-budget.result c.in_ok-end.end c.in-Whole.is c.in_ok-end.ensures.ended).1
+      c.is_exhausted.result c.is_exhausted.ensures c.if-is_exhausted.false;
+  last = λ _. ap settled c.swap.ensures.x_after ∙ next_settled c.args.pricing.now.measure c.args.election.now c.args.step c.args.max_raises c.loop-raised.raised (omega (arith, c.loop-raised-test.true)) c.loop-raised.invariant.tried
+      c.args.pricing.now.supporters.now c.requires.supporters c.in_ok-end.ensures.is_support c.opening_share-opening.result c.opening_share-opening.ensures.share
+      c.raised_share-share.result c.raised_share-share.ensures.share c.budget-budget.result c.budget-budget.ensures.budget
+      c.args.pricing.now.workers c.run.new.outcome c.run.new.self.marks.items c.run.new.self.spent
+      (whole_from_end c.args.pricing.now.measure c.args.pricing.now.supporters.now c.args.pricing.now.workers c.raised_share-share.result c.loop-raised.raised c.run.new.outcome c.run.new.self.marks.items c.run.new.self.spent c.budget-budget.result c.in_ok-end.end c.in-Whole.is c.in_ok-end.ensures.ended).0
+      (whole_from_end c.args.pricing.now.measure c.args.pricing.now.supporters.now c.args.pricing.now.workers c.raised_share-share.result c.loop-raised.raised c.run.new.outcome c.run.new.self.marks.items c.run.new.self.spent c.budget-budget.result c.in_ok-end.end c.in-Whole.is c.in_ok-end.ensures.ended).1
+      ∙ ap (settled_after c.args.pricing.now.measure c.args.election.now c.args.step) (raise_back c.loop-raised.raised);
+  priced = λ _. subst (λ (x : OutcomeView). HasPricing c.args.pricing.now.measure (support_of c.args.election.now) c.args.pricing.now.workers x.share x.priced) (sym c.swap.ensures.x_after)
+      (next_priced c.args.pricing.now.measure c.args.election.now c.args.step c.args.max_raises c.loop-raised.raised (omega (arith, c.loop-raised-test.true)) c.loop-raised.invariant.tried
+      c.args.pricing.now.supporters.now c.requires.supporters c.in_ok-end.ensures.is_support c.opening_share-opening.result c.opening_share-opening.ensures.share
+      c.raised_share-share.result c.raised_share-share.ensures.share c.budget-budget.result c.budget-budget.ensures.budget
+      c.args.pricing.now.workers c.run.new.outcome c.run.new.self.marks.items c.run.new.self.spent
+      (whole_from_end c.args.pricing.now.measure c.args.pricing.now.supporters.now c.args.pricing.now.workers c.raised_share-share.result c.loop-raised.raised c.run.new.outcome c.run.new.self.marks.items c.run.new.self.spent c.budget-budget.result c.in_ok-end.end c.in-Whole.is c.in_ok-end.ensures.ended).0
+      (whole_from_end c.args.pricing.now.measure c.args.pricing.now.supporters.now c.args.pricing.now.workers c.raised_share-share.result c.loop-raised.raised c.run.new.outcome c.run.new.self.marks.items c.run.new.self.spent c.budget-budget.result c.in_ok-end.end c.in-Whole.is c.in_ok-end.ensures.ended).1);
 }
-
-pub returns-then-is_over-clause-decided : goal.returns-then-is_over-clause-decided
-returns-then-is_over-clause-decided g c =
-    raised_over c.args.options.now.measure c.args.election.now c.args.options.now.step c.args.options.now.max_raises c.loop-raised.raised (omega (arith, c.loop-raised-test.true))
-    c.loop-raised.invariant.tried c.loop-raised.rounds.supporters c.loop-raised.invariant.supporters c.run.new.self.supporters c.in_ok-run.ensures.supporters
-    c.opening_share-opening.result c.opening_share-opening.ensures.share c.raised_share-share.result c.raised_share-share.ensures.share
-    c.run.new.outcome (rw c.loop-raised.invariant.measure at c.in_ok-run.ensures.settled) c.budget-budget.result c.budget-budget.ensures.budget c.is_over.result c.is_over.ensures
-    c.if-is_over.true c.loop-raised.last c.loop-raised.invariant.last
-
-pub returns-then-is_exhausted-2-clause-decided : goal.returns-then-is_exhausted-2-clause-decided
-returns-then-is_exhausted-2-clause-decided g c =
-    raised_exhausted c.args.options.now.measure c.args.election.now c.args.options.now.step c.args.options.now.max_raises c.loop-raised.raised (omega (arith, c.loop-raised-test.true))
-    c.loop-raised.invariant.tried c.loop-raised.rounds.supporters c.loop-raised.invariant.supporters c.run.new.self.supporters c.in_ok-run.ensures.supporters
-    c.opening_share-opening.result c.opening_share-opening.ensures.share c.raised_share-share.result c.raised_share-share.ensures.share
-    c.run.new.outcome (rw c.loop-raised.invariant.measure at c.in_ok-run.ensures.settled) c.budget-budget.result c.budget-budget.ensures.budget c.is_over.result c.is_over.ensures
-    c.if-is_over.false c.is_exhausted-in-loop-raised.result c.is_exhausted-in-loop-raised.ensures c.if-is_exhausted-2.true
 
 pub returns-clause-faults : goal.returns-clause-faults
 returns-clause-faults g c =
-    raises_spent c.args.options.now.measure c.args.election.now c.args.options.now.step c.args.options.now.max_raises c.loop-raised.raised (omega (arith, c.loop-raised-test.false)) c.loop-raised.invariant.tried
+    raises_spent c.args.pricing.now.measure c.args.election.now c.args.step c.args.max_raises c.loop-raised.raised (omega (arith, c.loop-raised-test.false)) c.loop-raised.invariant.tried

@@ -1,14 +1,13 @@
-use Rattle.std.proofs.Common.{◌≡◌, ◌+◌, ◌-◌, ◌<◌, ℕ, false, length}
+use Rattle.std.proofs.Common.{◌≡◌, ◌-◌, ◌<◌, ℕ, false}
 use Rattle.pb_price.specs.Supporters.{support_of}
 use Rattle.pb_rounds.specs.Count.{is_decisive, settled_after}
-use Rattle.pb_rounds.specs.Outcome.{all_priced, settled}
+use Rattle.pb_rounds.specs.Outcome.{settled}
+use Rattle.pb_rounds.specs.PricingRecord.{HasPricing}
 use Rattle.pb_rounds.proofs.count.complete.Given as goal
 
 abbrev pub invariant-loop-raised : goal.invariant-loop-raised
 invariant-loop-raised g l = record {
-  measure : l.rounds.measure ≡ l.options.measure;
-  supporters : l.rounds.supporters ≡ support_of l.election;
-  tried : (raises : ℕ) → raises < l.raised → is_decisive l.options.measure l.election l.options.step raises ≡ false;
-  last : settled l.last ≡ settled_after l.options.measure l.election l.options.step (l.raised - 1);
-  priced : l.last.priced ≡ all_priced (length l.election.projects) (length l.last.elected + 1);
+  tried : (raises : ℕ) → raises < l.raised → is_decisive l.pricing.measure l.election l.step raises ≡ false;
+  last : 0 < l.raised → settled l.last ≡ settled_after l.pricing.measure l.election l.step (l.raised - 1);
+  priced : 0 < l.raised → HasPricing l.pricing.measure (support_of l.election) l.pricing.workers l.last.share l.last.priced;
 }

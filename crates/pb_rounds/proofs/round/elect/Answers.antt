@@ -1,6 +1,3 @@
-use Rattle.std.proofs.Common.{rules, ◌∙◌, ap}
-use Rattle.std.proofs.lemmas.Fn.{filter_same}
-use Rattle.pb_rounds.specs.Run.{without}
 use Rattle.pb_rounds.proofs.Collected.{fits_at}
 use Rattle.pb_rounds.proofs.round.elect.Goals as goal
 
@@ -8,7 +5,3 @@ pub charge-collected-requires-clause-fits : goal.charge-collected-requires-claus
 charge-collected-requires-clause-fits g c =
     fits_at c.args.supporters.now c.of.ensures.is_support c.outcome.inside.rests.items c.args.best.place c.args.best.price c.requires.known
     (rw (← c.outcome.view_is) at c.requires.price) _ (rw c.place-place.ensures at c.of.ensures.supporters) _ c.deref_mut.ensures.value _ c.price-price.ensures
-
-pub returns-clause-left : goal.returns-clause-left
-returns-clause-left g c =
-    filter_same _ _ _ (λ x b f' k. search rules) _ _ c.retain.ensures.filtered ∙ ap (λ place. without place c.args.left.now.items) c.place-place.ensures

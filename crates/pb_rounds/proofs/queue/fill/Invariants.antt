@@ -1,0 +1,5 @@
+use Rattle.pb_rounds.specs.Queue.{IsFull}
+use Rattle.pb_rounds.proofs.queue.fill.Given as goal
+
+abbrev pub invariant-loop-place : goal.invariant-loop-place
+invariant-loop-place g l = IsFull l.measure l.supporters l.place l.queue.keys

@@ -1,0 +1,40 @@
+use Rattle.std.proofs.Common.{◌∙◌, ◌++◌, sym, ap, get_or}
+use Rattle.std.proofs.lemmas.List.{take_all}
+use Rattle.pb_price.specs.Price.{price_at}
+use Rattle.pb_rounds.specs.Bid.{first_least, is_before}
+use Rattle.pb_rounds.specs.Run.{bids_at}
+use Rattle.pb_rounds.proofs.QueueSteps.{answer_at, best_more, fresh_none, fresh_some}
+use Rattle.pb_rounds.proofs.round.price_heads.Goals as goal
+use Rattle.pb_rounds.proofs.round.price_heads.Goals.{in-Some+in_ok-push, in_default-index}
+
+pub loop-i-preserved : goal.loop-i-preserved
+loop-i-preserved g c =
+    let m = c.args.pricing.now.measure in
+    let s = c.args.pricing.now.supporters.now in
+    let rests = c.args.rests.now in
+    let heads = c.args.heads.now in
+    let i = c.loop-i.i in
+    let answered = answer_at (price_at s rests) heads i c.loop-i-test.true c.in-Ok.answers.items c.in-Ok.ensures.prices c.index.result.now c.index.ensures in
+    record {
+      fresh = elim c.match-index.branch [
+        | in-Some+in_ok-push w ↦ rw w.fresh-is (w.in_ok-push.ensures.items
+            ∙ fresh_some m s rests heads i c.loop-i-test.true c.args.fresh.now.items c.loop-i.fresh.items c.loop-i.invariant.fresh c.index.result.now answered
+            w.in-Some.price w.in-Some.is w.new-key.result
+            (w.new-key.ensures ∙ ap (λ n. record { price = w.in-Some.price; weight = n; place = get_or heads i 0 }) w.weight-weight.ensures.weight))
+        | in_default-index w ↦ rw w.fresh-is
+            (fresh_none m s rests heads i c.loop-i-test.true c.args.fresh.now.items c.loop-i.fresh.items c.loop-i.invariant.fresh c.index.result.now answered
+            w.in_default-index.is)
+      ];
+      best = elim c.match-index.branch [
+        | in-Some+in_ok-push w ↦ rw (w.fresh-is, w.best-is)
+            (best_more c.loop-i.fresh.items c.loop-i.best c.loop-i.invariant.best w.new-key.result w.better.result w.better.ensures
+            ∙ ap (first_least is_before) (sym w.in_ok-push.ensures.items))
+        | in_default-index w ↦ rw (w.fresh-is, w.best-is) c.loop-i.invariant.best
+      ];
+    }
+
+pub returns-clause-fresh : goal.returns-clause-fresh
+returns-clause-fresh g c =
+    c.loop-i.invariant.fresh
+    ∙ ap (λ xs. c.args.fresh.now.items ++ bids_at c.args.pricing.now.measure c.args.pricing.now.supporters.now c.args.rests.now xs)
+    (take_all c.loop-i.i c.args.heads.now c.loop-i-test.false)

@@ -1,0 +1,10 @@
+use Rattle.std.proofs.Common.{◌≡◌, ◌++◌, take}
+use Rattle.pb_rounds.specs.Bid.{first_least, is_before}
+use Rattle.pb_rounds.specs.Run.{bids_at}
+use Rattle.pb_rounds.proofs.round.price_heads.Given as goal
+
+abbrev pub invariant-loop-i : goal.invariant-loop-i
+invariant-loop-i g l = record {
+  fresh : l.fresh.items ≡ l.fn.fresh.items ++ bids_at l.pricing.measure l.pricing.supporters.now l.rests (take l.i l.heads);
+  best : l.best ≡ first_least is_before l.fresh.items;
+}

@@ -1,0 +1,41 @@
+ghost use Rattle.std.specs.Prelude.{◌≡◌, ◌<◌, All, length, true};
+ghost use Rattle.pb_rounds.specs.CountFault.{is_worker_count};
+
+use crate::measure::Measure;
+use pb_price::supporters::Supporters;
+use std::alloc::Allocator;
+
+/// From this many approvals on it pays to start threads.
+const MANY_APPROVALS: u64 = 50_000;
+
+/// What all rounds of a count price by.
+#[derive(Drop)]
+pub(crate) struct Pricing<'a, R, G, A: Allocator> {
+    pub(crate) rt: &'a R,
+    pub(crate) gate: &'a G,
+    pub(crate) alloc: A,
+    /// How many workers price side by side: 1 to 64.
+    pub(crate) workers: u32,
+    pub(crate) measure: Measure,
+    pub(crate) supporters: &'a Supporters<A>,
+}
+
+/// How many of the workers price these projects: one alone where there is little to do.
+pub(crate) fn workers_for<A: Allocator>(
+    workers: u32,
+    supporters: &Supporters<A>,
+    places: &[u32],
+) -> u32
+    requires known { All (λ place. place < length supporters.now.costs) places.now }
+    requires workers { is_worker_count workers ≡ true }
+    ensures { is_worker_count result ≡ true }
+{
+    let mut approvals: u64 = 0;
+    for place in places {
+        approvals = approvals.saturating_add(supporters.of(*place).len() as u64);
+    }
+    if approvals < MANY_APPROVALS {
+        return 1;
+    }
+    workers
+}

@@ -1,0 +1,154 @@
+ghost use Rattle.std.specs.Prelude.{◌≡◌, ◌<◌, ◌≤◌, [], List, false, true, length, replicate, slice_set, IfOk, OnOk};
+ghost use Rattle.pb_price.specs.Price.{largest_share};
+ghost use Rattle.pb_price.specs.Supporters.{IsSupport};
+ghost use Rattle.pb_rounds.specs.Count.{is_exhausted, spent_on};
+ghost use Rattle.pb_rounds.specs.CountFault.{is_worker_count};
+ghost use Rattle.pb_rounds.specs.Queue.{AreMarked, IsRunEnd, is_above};
+ghost use Rattle.pb_rounds.specs.Run.{ElectedView};
+
+use crate::key::Key;
+use crate::outcome::Outcome;
+use crate::pricing::Pricing;
+use crate::queue::{fill, put_back};
+use crate::round::{elect, price_round};
+use crate::run_end::RunEnd;
+use crate::standing::is_exhausted;
+use pb_core::money::Money;
+use pb_core::no_memory::NoMemory;
+use pb_price::gate::Gate;
+use pb_price::supporters::Supporters;
+use std::alloc::{Allocator, Global};
+use std::collections::BTreeSet;
+use std::thread::Threads;
+
+/// What a run keeps beside its outcome, used again from run to run.
+#[derive(Drop)]
+pub(crate) struct Run<A: Allocator = Global> {
+    /// The projects that may still be paid, with the price that each had when it was last priced in this run.
+    queue: BTreeSet<Key, A>,
+    /// The projects priced in this round, by place.
+    places: Vec<u32, A>,
+    /// The keys of those that have a price.
+    fresh: Vec<Key, A>,
+    /// For each project whether it is elected.
+    marks: Vec<bool, A>,
+    /// What the elected cost together, in hundredths.
+    spent: u128,
+}
+
+impl<A: Allocator> Run<A> {
+    pub(crate) fn new(alloc: A) -> Run<A>
+    where
+        A: Copy,
+    {
+        Run {
+            queue: BTreeSet::new(alloc),
+            places: Vec::new(alloc),
+            fresh: Vec::new(alloc),
+            marks: Vec::new(alloc),
+            spent: 0,
+        }
+    }
+
+    /// Runs at this share, into an outcome whose lists are used again. The run goes no further once its elected cost more
+    /// than the limit, where there is one.
+    pub(crate) fn run<R: Threads + Sync, G: Gate>(
+        &mut self,
+        pricing: &Pricing<R, G, A>,
+        share: Money,
+        raised: u32,
+        limit: Option<Money>,
+        outcome: &mut Outcome<A>,
+    ) -> Result<RunEnd, NoMemory>
+    where
+        A: Copy + Send + Sync,
+        requires share { share ≤ largest_share }
+        requires workers { is_worker_count pricing.now.workers ≡ true }
+        ensures ended { IfOk result (λ end.
+            IsRunEnd end pricing.now.measure pricing.now.supporters.now pricing.now.workers limit share raised
+            outcome.new self.new.marks.items self.new.spent) }
+        ensures is_support { IsSupport pricing.now.supporters.now }
+    {
+        let supporters = pricing.supporters;
+        let projects = supporters.projects();
+        fill(&mut self.queue, pricing.measure, supporters)?;
+        open(outcome, share, raised, supporters.voters())?;
+        clear_marks(&mut self.marks, projects)?;
+        self.spent = 0;
+        let mut most = projects.max(1);
+        while let Some(best) = price_round(
+            pricing,
+            most,
+            &mut self.queue,
+            &mut self.places,
+            &mut self.fresh,
+            outcome,
+        )? {
+            let place = best.place();
+            elect(supporters, best, outcome)?;
+            mark(&mut self.marks, place);
+            self.spent += u128::from(supporters.cost(place).0);
+            if exceeds(self.spent, &limit) {
+                return Ok(RunEnd::OverLimit);
+            }
+            put_back(&mut self.queue, self.fresh.as_slice(), place)?;
+            most = pricing.workers;
+        }
+        Ok(RunEnd::Whole)
+    }
+
+    /// Whether the elected of the last run, which was whole, are within the budget, and no other project could be added.
+    pub(crate) fn is_exhausted(&self, supporters: &Supporters<A>, budget: Money) -> bool
+        requires { length self.now.marks.items ≡ length supporters.now.costs }
+        ensures { (elected : List ElectedView) → AreMarked supporters.now elected self.now.marks.items
+            → self.now.spent ≡ spent_on supporters.now elected → result ≡ is_exhausted supporters.now budget elected }
+    {
+        is_exhausted(supporters, budget, self.spent, self.marks.as_slice())
+    }
+}
+
+/// Whether this is more than the limit, where there is one.
+fn exceeds(spent: u128, limit: &Option<Money>) -> bool
+    ensures { result ≡ is_above limit.now spent }
+{
+    match limit {
+        Some(money) => spent > u128::from(money.0),
+        None => false,
+    }
+}
+
+/// Marks the project at this place.
+fn mark<A: Allocator>(marks: &mut Vec<bool, A>, place: u32)
+    requires { place < length marks.old.items }
+    ensures { marks.new.items ≡ slice_set marks.old.items place true }
+{
+    marks[place as usize] = true;
+}
+
+/// A mark for each project, in place of what the list held: none is elected.
+fn clear_marks<A: Allocator>(marks: &mut Vec<bool, A>, projects: u32) -> Result<(), NoMemory>
+    ensures { OnOk result (marks.new.items ≡ replicate projects false) }
+{
+    marks.clear();
+    marks.resize(projects as usize, false)?;
+    Ok(())
+}
+
+/// Puts the opening of a run in place of what the outcome held: every rest is the share, and nobody is elected.
+fn open<A: Allocator>(
+    outcome: &mut Outcome<A>,
+    share: Money,
+    raised: u32,
+    voters: u32,
+) -> Result<(), NoMemory>
+    ensures { OnOk result (outcome.new
+        ≡ record { share = share; raised = raised; elected = []; rests = replicate voters share; priced = [] }) }
+{
+    outcome.share = share;
+    outcome.raised = raised;
+    outcome.elected.clear();
+    outcome.priced.clear();
+    outcome.rests.clear();
+    outcome.rests.resize(voters as usize, share)?;
+    Ok(())
+}

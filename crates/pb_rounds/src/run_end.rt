@@ -1,0 +1,8 @@
+/// How a run ended.
+#[derive(Clone, Copy, Debug, PartialEq, Eq)]
+pub(crate) enum RunEnd {
+    /// No project that is left has a price.
+    Whole,
+    /// The elected cost more than the limit, and no further round was made.
+    OverLimit,
+}
