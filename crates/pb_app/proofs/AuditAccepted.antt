@@ -1,13 +1,14 @@
 -- A file and a journal that have a text get it, unless a device fails or memory is refused; and they have one at most.
-use Rattle.std.proofs.Common.{◌≡◌, ◌<◌, ◌^◌, ℕ, ◌++◌, List, Option, Some, None, Bool, true, false, sym, ◌∙◌, ap, arith}
+use Rattle.std.proofs.Common.{◌≡◌, ◌<◌, ◌^◌, ℕ, ◌++◌, List, Option, Some, None, Bool, true, false, sym, ◌∙◌, ap, subst, arith}
 use Rattle.std.specs.Prelude.{All, IfSome, IsErrAnd, MatchBool, Result}
 use Rattle.std.proofs.lemmas.List.Elements.{All-nil}
 use Rattle.pb_core.specs.Election.{ElectionView}
 use Rattle.pb_core.specs.Request.{EntryView, RequestView, Cast, Replace, Withdraw, Shut}
 use Rattle.pb_desk.proofs.AuditLaws.{no_fault}
-use Rattle.pb_desk.proofs.RowLaws.{rows_from-injective}
+use Rattle.pb_desk.proofs.RowLaws.{rows_of-injective}
 use Rattle.pb_desk.specs.Audit.{IsFaultOfJournal, IsSound}
 use Rattle.pb_desk.specs.Desk.{DeskView, closed_election, standing_of}
+use Rattle.pb_desk.specs.Opening.{OpeningView}
 use Rattle.pb_desk.specs.Rows.{HasSmallNumbers, IsEntry, IsRequest, places_of, rows_of}
 use Rattle.pb_desk.specs.declared.audit_fault.AuditFault.{AuditFault}
 use Rattle.pb_desk.specs.declared.audit_fault.AuditFault.TheVariants as audit
@@ -42,14 +43,14 @@ small_numbers journal entries = λ k d below.
 -- these bytes are those of one desk at most
 one_desk : (bytes journal : List ℕ) (d other : DeskView) → IsDeskOf bytes journal d → IsDeskOf bytes journal other → d ≡ other
 one_desk bytes journal d other first second =
-    let opening = one_election (records_of bytes) d.opening other.opening first.stands second.stands in
+    let election = one_election (records_of bytes) d.opening.election other.opening.election first.stands second.stands in
     let room : d.room ≡ other.room = first.room ∙ sym second.room in
     let few : d.room ≡ 4294967295 = first.room in
     let few' : other.room ≡ 4294967295 = second.room in
     let fits = first.sound.fits in
     let fits' = second.sound.fits in
-    let same = rows_from-injective 1 d.journal other.journal (omega arith) (omega arith) (small_numbers _ first.sound.entries) (small_numbers _ second.sound.entries) (sym first.rows ∙ second.rows) in
-    λ i. record { opening = opening i; room = room i; journal = same i }
+    let same = rows_of-injective d.opening.version other.opening.version d.journal other.journal (omega arith) (omega arith) (small_numbers _ first.sound.entries) (small_numbers _ second.sound.entries) (sym first.rows ∙ second.rows) in
+    λ i. record { opening = record { election = election i; version = same.0 i }; room = room i; journal = same.1 i }
 
 pub audited_by_reader : (files journals : Option (List ℕ)) (options : CountOptions) (fault : ReadFault) (r : Result (Unit {0}) AppFault)
     → IsErrAnd r (λ app. app ≡ of_read fault)
@@ -61,14 +62,14 @@ audited_by_reader (Some bytes) (Some journal) options fault r is accepts = λ te
     given_fault IsFromOutside r (of_read fault) is (read_from_outside fault.kind fault.at (accepts writes.desk.opening writes.audited.stands))
 
 -- the rows of a sound journal have no fault, so that the fault is none of theirs
-journal_from_outside : (e : ElectionView) (journal : List EntryView) → IsSound e program_room journal
-    → (fault : AuditFault) → IsFaultOfJournal e program_room (rows_of journal) fault → IsFromOutside (of_audit fault)
-journal_from_outside e journal sound (audit.ReadFailed row) fails = tt
-journal_from_outside e journal sound (audit.BadRow row) fails = absurd (no_fault e program_room journal (audit.BadRow row) (omega arith) sound fails tt)
-journal_from_outside e journal sound (audit.WrongNumber row) fails = absurd (no_fault e program_room journal (audit.WrongNumber row) (omega arith) sound fails tt)
-journal_from_outside e journal sound (audit.JournalFull row) fails = absurd (no_fault e program_room journal (audit.JournalFull row) (omega arith) sound fails tt)
-journal_from_outside e journal sound (audit.WrongAnswer row) fails = absurd (no_fault e program_room journal (audit.WrongAnswer row) (omega arith) sound fails tt)
-journal_from_outside e journal sound audit.NoMemory fails = tt
+journal_from_outside : (o : OpeningView) (journal : List EntryView) → IsSound o program_room journal
+    → (fault : AuditFault) → IsFaultOfJournal o.election program_room (rows_of o.version journal) fault → IsFromOutside (of_audit fault)
+journal_from_outside o journal sound (audit.ReadFailed row) fails = tt
+journal_from_outside o journal sound (audit.BadRow row) fails = absurd (no_fault o program_room journal (audit.BadRow row) (omega arith) sound fails tt)
+journal_from_outside o journal sound (audit.WrongNumber row) fails = absurd (no_fault o program_room journal (audit.WrongNumber row) (omega arith) sound fails tt)
+journal_from_outside o journal sound (audit.JournalFull row) fails = absurd (no_fault o program_room journal (audit.JournalFull row) (omega arith) sound fails tt)
+journal_from_outside o journal sound (audit.WrongAnswer row) fails = absurd (no_fault o program_room journal (audit.WrongAnswer row) (omega arith) sound fails tt)
+journal_from_outside o journal sound audit.NoMemory fails = tt
 
 pub audited_by_journal : (files journals : Option (List ℕ)) (options : CountOptions) (e : ElectionView) (fault : AuditFault) (r : Result (Unit {0}) AppFault)
     → IsErrAnd r (λ app. app ≡ of_audit fault)
@@ -78,9 +79,10 @@ audited_by_journal None journals options e fault r is stands fails = tt
 audited_by_journal (Some bytes) None options e fault r is stands fails = tt
 audited_by_journal (Some bytes) (Some journal) options e fault r is stands fails = λ text writes.
     let d = writes.desk in
-    let opening = one_election (records_of bytes) d.opening e writes.audited.stands stands in
-    let sound = rw (opening, writes.audited.room) at writes.audited.sound in
-    given_fault IsFromOutside r (of_audit fault) is (journal_from_outside e d.journal sound fault (rw writes.audited.rows at fails))
+    let election = one_election (records_of bytes) e d.opening.election stands writes.audited.stands in
+    let sound = rw writes.audited.room at writes.audited.sound in
+    let P : ElectionView → Type 0 = λ e. IsFaultOfJournal e program_room (rows_of d.opening.version d.journal) fault in
+    given_fault IsFromOutside r (of_audit fault) is (journal_from_outside d.opening d.journal sound fault (subst P election (rw writes.audited.rows at fails)))
 
 -- a desk that has a text is refused from outside alone
 desk_from_outside : (d : DeskView) (options : CountOptions) (text : List ℕ) → IsTextOf d options text
@@ -93,17 +95,17 @@ desk_from_outside d options text written fault refused =
 -- what is known of a desk that an audit answered
 pub record IsAudited (files journals : Option (List ℕ)) (e : ElectionView) (d : DeskView) : Type 0 where
   pub stands : IfSome files (λ bytes. StandsFor (records_of bytes) e)
-  pub opening : d.opening ≡ e
+  pub election : d.opening.election ≡ e
   pub room : d.room ≡ program_room
-  pub sound : IsSound e program_room d.journal
-  pub rows : IfSome journals (λ journal. records_of journal ≡ rows_of d.journal)
+  pub sound : IsSound d.opening program_room d.journal
+  pub rows : IfSome journals (λ journal. records_of journal ≡ rows_of d.opening.version d.journal)
 
 pub desk_of : (bytes journal : List ℕ) (e : ElectionView) (d : DeskView) → IsAudited (Some bytes) (Some journal) e d → IsDeskOf bytes journal d
 desk_of bytes journal e d is = record {
-  stands = rw is.opening is.stands;
+  stands = rw is.election is.stands;
   room = is.room;
   rows = is.rows;
-  sound = rw (is.opening, is.room) is.sound;
+  sound = rw is.room is.sound;
 }
 
 pub audited_by_desk : (files journals : Option (List ℕ)) (options : CountOptions) (e : ElectionView) (d : DeskView) (fault : CountFault) (r : Result (Unit {0}) AppFault)

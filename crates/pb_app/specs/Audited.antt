@@ -21,12 +21,12 @@ use Rattle.pb_app.specs.declared.fault.AppFault.TheVariants.{Read, Script, Clerk
 abbrev pub program_room : ℕ
 program_room = 4294967295
 
--- these bytes, read as a file and as a journal, are those of a desk: the file stands for its opening election,
--- and the rows are its journal's
+-- these bytes, read as a file and as a journal, are those of a desk of either version: the file stands for
+-- the election that it opened with, and the rows are its journal's
 pub record IsDeskOf (bytes journal : List ℕ) (d : DeskView) : Type 0 where
-  pub stands : StandsFor (records_of bytes) d.opening
+  pub stands : StandsFor (records_of bytes) d.opening.election
   pub room : d.room ≡ program_room
-  pub rows : records_of journal ≡ rows_of d.journal
+  pub rows : records_of journal ≡ rows_of d.opening.version d.journal
   pub sound : IsSound d.opening d.room d.journal
 
 -- whether a desk is shut, as its row says it
@@ -40,9 +40,10 @@ entries_row d = codes "entries" ∷ decimal (length d.journal) ∷ state_of d �
 -- what is written of a desk: its row, and where it is shut the report of the ballots that its journal leaves
 abbrev pub IsTextOf : DeskView → CountOptions → List ℕ → Type 0
 IsTextOf d options text =
+    let row = text_of_row (entries_row d) in
     MatchBool (standing_of d).is_shut
-    ((report : List ℕ) × IsReportOf (closed_election d) options report × (text ≡ text_of_row (entries_row d) ++ report))
-    (text ≡ text_of_row (entries_row d))
+    ((report : List ℕ) × IsReportOf (closed_election d) options report × (text ≡ row ++ report))
+    (text ≡ row)
 
 -- what these bytes make a run of `audit` write
 pub record AuditWrites (bytes journal : List ℕ) (options : CountOptions) (text : List ℕ) : Type 0 where
@@ -59,10 +60,12 @@ pub record JournalFails (bytes journal : List ℕ) (fault : AuditFault) : Type 0
 -- the desk is shut, and the count of the ballots that its journal leaves is refused
 abbrev pub IsRefusedDesk : DeskView → CountOptions → CountFault → Type 0
 IsRefusedDesk d options NoMemory = ⊤
-IsRefusedDesk d options fault = ((standing_of d).is_shut ≡ true) × IsCountFault (closed_election d) options fault
+IsRefusedDesk d options fault =
+    ((standing_of d).is_shut ≡ true) × IsCountFault (closed_election d) options fault
 
 -- these bytes are those of a desk whose count is refused
-pub record DeskIsNotCounted (bytes journal : List ℕ) (options : CountOptions) (fault : CountFault) : Type 0 where
+pub record DeskIsNotCounted (bytes journal : List ℕ) (options : CountOptions) (fault : CountFault)
+    : Type 0 where
   pub desk : DeskView
   pub audited : IsDeskOf bytes journal desk
   pub refused : IsRefusedDesk desk options fault

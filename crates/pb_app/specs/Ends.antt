@@ -55,7 +55,8 @@ IsElectionFile bytes = (e : ElectionView) × StandsFor (records_of bytes) e
 abbrev pub IsFileFault : List ℕ → ReadFault → Type 0
 IsFileFault bytes fault = IsFaultAt (records_of bytes) fault.kind fault.at
 
--- the file is judged first: its first fault is the answer, and any other end but memory's says that it has none
+-- the file is judged first: its first fault is the answer, and any other end, out of memory aside, says that
+-- it has none
 abbrev pub JudgesFile : List ℕ → Result (Unit {0}) AppFault → Type 0
 JudgesFile bytes (Ok done) = IsElectionFile bytes
 JudgesFile bytes (Err (Read fault)) = IsFileFault bytes fault

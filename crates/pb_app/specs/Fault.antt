@@ -56,7 +56,8 @@ fields_of (Read fault) =
 fields_of (Script fault) =
     codes "script" ∷ decimal (script_number fault) ∷ script_name fault ∷ decimal (script_at fault) ∷ []
 fields_of ClerkCount = codes "clerks" ∷ codes "1" ∷ codes "ClerkCount" ∷ []
-fields_of (Audit fault) = codes "audit" ∷ decimal (audit_number fault) ∷ audit_name fault ∷ row_field (row_of fault)
+fields_of (Audit fault) =
+    codes "audit" ∷ decimal (audit_number fault) ∷ audit_name fault ∷ row_field (row_of fault)
 fields_of (Count fault) = codes "count" ∷ decimal (count_number fault) ∷ count_name fault ∷ []
 fields_of (Open number) = codes "open" ∷ decimal number ∷ []
 fields_of Write = codes "write" ∷ []
@@ -70,7 +71,7 @@ line fields = codes "fault" ++ (flat_map (λ field. codes ";" ++ field) fields +
 abbrev pub line_of : AppFault → List ℕ
 line_of fault = line (fields_of (merged fault))
 
--- the statuses: what was read, or its count, is refused; the arguments are; a device failed, or memory was refused
+-- the statuses: what was read, or its count, is refused; the arguments are; a device or memory failed
 abbrev pub refused : ℕ
 refused = 1
 

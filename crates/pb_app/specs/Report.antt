@@ -9,7 +9,7 @@ use Rattle.pb_rounds.specs.Run.{ElectedView}
 use Rattle.pb_rows.specs.Reading.{Fields}
 use Rattle.pb_rows.specs.Writing.{text_of_rows}
 
--- the rows above the elected projects: the budget, the number of voters, the share, and how often it was raised
+-- the rows above the elected projects: the budget, the number of voters, the share, and the number of raises
 abbrev pub opening_rows : ElectionView → Settled → List Fields
 opening_rows e o =
     (codes "budget" ∷ money_text e.budget ∷ []) ∷ (codes "voters" ∷ decimal (length e.voters) ∷ [])
@@ -21,7 +21,8 @@ id_at e place = slice_index_or (project_ids e) place []
 
 -- the row of an elected project: its id, its cost, and what each supporter paid at most
 abbrev pub elected_row : ElectionView → ElectedView → Fields
-elected_row e w = codes "elected" ∷ id_at e w.place ∷ money_text (cost_at (support_of e) w.place) ∷ money_text w.price ∷ []
+elected_row e w =
+    codes "elected" ∷ id_at e w.place ∷ money_text (cost_at (support_of e) w.place) ∷ money_text w.price ∷ []
 
 -- what was paid for the elected together
 abbrev pub collected_for : List ElectedView → ℕ

@@ -2,11 +2,15 @@
 
 use clap::{Arg, ArgAction, ArgMatches, Command, value_parser};
 use pb_core::money::Money;
+use pb_rounds::measure::Measure;
 use pb_rounds::options::{Completion, CountOptions};
 use std::alloc::{AllocError, Global};
 
 /// The program's version.
 const VERSION: &str = "1.0.0";
+
+/// The measures by their names, votes first.
+const MEASURES: &[&str] = &["votes", "cost"];
 
 /// Where a .pb file is read from.
 #[derive(Clone, Copy, PartialEq, Eq, Debug)]
@@ -73,6 +77,8 @@ fn with_options<'a>(alloc: Global, command: Command<'a>) -> Result<Command<'a>, 
     let step = "By how many hundredths a raise lifts the share, 1 to 1000000000 [default: 100]";
     let raises = "How many raises there are at most, 0 to 1000000 [default: 1000000]";
     let plain = "Lets the outcome at the opening share stand, without raises";
+    let measure =
+        "Elects the least price (votes), or the least price over cost (cost) [default: votes]";
     command
         .arg(number(alloc, "workers", "N", workers))?
         .arg(number(alloc, "step", "H", step))?
@@ -82,6 +88,14 @@ fn with_options<'a>(alloc: Global, command: Command<'a>) -> Result<Command<'a>, 
                 .long("plain")
                 .help(plain)
                 .action(ArgAction::SetTrue),
+        )?
+        .arg(
+            Arg::new(alloc, "measure")
+                .long("measure")
+                .value_name("MEASURE")
+                .help(measure)
+                .value_parser(MEASURES)
+                .action(ArgAction::Set),
         )
 }
 
@@ -121,11 +135,15 @@ fn options_of(given: &ArgMatches<'_>) -> CountOptions {
         },
         max_raises: given.get_one("raises").unwrap_or(standard.max_raises),
         workers: given.get_one("workers").unwrap_or(standard.workers),
-        measure: standard.measure,
         completion: if given.get_flag("plain") {
             Completion::Plain
         } else {
             standard.completion
+        },
+        measure: match given.get_str("measure") {
+            Some("cost") => Measure::Cost,
+            Some(_) => Measure::Votes,
+            None => standard.measure,
         },
     }
 }

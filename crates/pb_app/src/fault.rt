@@ -2,7 +2,7 @@
 
 use crate::script_fault::ScriptFault;
 use pb_core::no_memory::NoMemory;
-use pb_desk::audit_fault::AuditFault;
+use pb_desk::AuditFault;
 use pb_read::{ReadFault, ReadKind};
 use pb_rounds::count_fault::CountFault;
 use std::alloc::AllocError;

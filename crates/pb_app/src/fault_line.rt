@@ -8,7 +8,7 @@ ghost use Rattle.pb_app.specs.declared.fault.AppFault.TheVariants.{Read, Script,
 use crate::fault::AppFault;
 use crate::script_fault::ScriptFault;
 use itoa::Buffer;
-use pb_desk::audit_fault::AuditFault;
+use pb_desk::AuditFault;
 use pb_read::{ReadFault, ReadKind};
 use pb_rounds::count_fault::CountFault;
 use std::io;
@@ -72,7 +72,8 @@ impl AppFault {
 
 /// Writes the line of a refused file.
 fn write_read<W: Write>(writer: &mut W, fault: &ReadFault) -> io::Result<()>
-    ensures { OnOk result (Appends (W.contents writer.old) (W.contents writer.new) (line (fields_of (Read fault.now)))) }
+    ensures { OnOk result (Appends (W.contents writer.old) (W.contents writer.new)
+        (line (fields_of (Read fault.now)))) }
 {
     let mut number = Buffer::new();
     let mut at = Buffer::new();
@@ -87,7 +88,8 @@ fn write_read<W: Write>(writer: &mut W, fault: &ReadFault) -> io::Result<()>
 
 /// Writes the line of a refused script.
 fn write_script<W: Write>(writer: &mut W, fault: &ScriptFault) -> io::Result<()>
-    ensures { OnOk result (Appends (W.contents writer.old) (W.contents writer.new) (line (fields_of (Script fault.now)))) }
+    ensures { OnOk result (Appends (W.contents writer.old) (W.contents writer.new)
+        (line (fields_of (Script fault.now)))) }
 {
     let mut number = Buffer::new();
     let mut at = Buffer::new();
@@ -102,7 +104,8 @@ fn write_script<W: Write>(writer: &mut W, fault: &ScriptFault) -> io::Result<()>
 
 /// Writes the line of a refused journal.
 fn write_audit<W: Write>(writer: &mut W, fault: &AuditFault) -> io::Result<()>
-    ensures { OnOk result (Appends (W.contents writer.old) (W.contents writer.new) (line (fields_of (Audit fault.now)))) }
+    ensures { OnOk result (Appends (W.contents writer.old) (W.contents writer.new)
+        (line (fields_of (Audit fault.now)))) }
 {
     let mut number = Buffer::new();
     let number = number.format(fault.number());
@@ -115,7 +118,8 @@ fn write_audit<W: Write>(writer: &mut W, fault: &AuditFault) -> io::Result<()>
 
 /// Writes the line of a refused count.
 fn write_count<W: Write>(writer: &mut W, fault: &CountFault) -> io::Result<()>
-    ensures { OnOk result (Appends (W.contents writer.old) (W.contents writer.new) (line (fields_of (Count fault.now)))) }
+    ensures { OnOk result (Appends (W.contents writer.old) (W.contents writer.new)
+        (line (fields_of (Count fault.now)))) }
 {
     let mut number = Buffer::new();
     write_fields(

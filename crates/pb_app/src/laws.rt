@@ -11,5 +11,6 @@ pub fn one_report()
     ensures counted { (bytes : List ℕ) (options : CountOptions) (first second : List ℕ)
         → CountWrites bytes options first → CountWrites bytes options second → first ≡ second }
     ensures audited { (bytes journal : List ℕ) (options : CountOptions) (first second : List ℕ)
-        → AuditWrites bytes journal options first → AuditWrites bytes journal options second → first ≡ second }
+        → AuditWrites bytes journal options first → AuditWrites bytes journal options second
+        → first ≡ second }
 {}

@@ -42,7 +42,8 @@ fn put_opening(
     election: &Election,
     outcome: &Outcome,
 ) -> Result<(), NoMemory>
-    ensures { OnOk result (rows.new.text ≡ rows.old.text ++ text_of_rows (opening_rows election.now (settled outcome.now))) }
+    ensures { OnOk result (rows.new.text ≡ rows.old.text
+        ++ text_of_rows (opening_rows election.now (settled outcome.now))) }
 {
     put_amount(rows, alloc, "budget", election.budget())?;
     put_number(rows, "voters", election.voters().len() as u64)?;
@@ -59,7 +60,8 @@ fn put_elected(
     elected: &[Elected],
 ) -> Result<(), NoMemory>
     requires { All (λ w. w.place < length election.now.projects) elected.now }
-    ensures { OnOk result (rows.new.text ≡ rows.old.text ++ text_of_rows (map (elected_row election.now) elected.now)) }
+    ensures { OnOk result (rows.new.text ≡ rows.old.text
+        ++ text_of_rows (map (elected_row election.now) elected.now)) }
 {
     let projects = election.projects();
     for winner in elected {
@@ -79,7 +81,8 @@ fn put_closing(
     elected: &[Elected],
 ) -> Result<(), NoMemory>
     requires { IsPrintable election.now elected.now }
-    ensures { OnOk result (rows.new.text ≡ rows.old.text ++ text_of_rows (closing_rows election.now elected.now)) }
+    ensures { OnOk result (rows.new.text ≡ rows.old.text
+        ++ text_of_rows (closing_rows election.now elected.now)) }
 {
     let spent = spent_for(election, elected);
     let surplus = collected_for(elected).saturating_sub(spent);

@@ -10,8 +10,7 @@ use crate::fault::AppFault;
 use crate::run_count::{put_count, write_out};
 use itoa::Buffer;
 use pb_core::no_memory::NoMemory;
-use pb_desk::audit::audit;
-use pb_desk::desk::Desk;
+use pb_desk::{Desk, audit};
 use pb_read::read_pb;
 use pb_rounds::count_fault::CountFault;
 use pb_rounds::options::CountOptions;
@@ -39,16 +38,16 @@ pub fn run_audit<T: Threads + Sync, P: Read + Drop, J: Read + Drop, W: Write>(
     options: &CountOptions,
 ) -> Result<(), AppFault>
     // Where the bytes of both readers are known, they alone and the options decide what is written,
-    ensures ok { OnOk result (IfBothKnown (P.remaining file) (J.remaining journal)
-        (λ bytes rows. HasWritten (AuditWrites bytes rows options.now) (W.contents writer.old) (W.contents writer.new))) }
+    ensures ok { OnOk result (IfBothKnown (P.remaining file) (J.remaining journal) (λ bytes rows.
+        HasWritten (AuditWrites bytes rows options.now) (W.contents writer.old) (W.contents writer.new))) }
 
     // and which fault comes.
-    ensures fault { IfErr result (λ fault. IfBothKnown (P.remaining file) (J.remaining journal)
-        (λ bytes rows. AuditFails bytes rows options.now fault)) }
+    ensures fault { IfErr result (λ fault. IfBothKnown (P.remaining file) (J.remaining journal) (λ bytes rows.
+        AuditFails bytes rows options.now fault)) }
 
     // A file and a journal that have a text get it, unless a device fails or memory is refused.
-    ensures accepts { IfBothKnown (P.remaining file) (J.remaining journal)
-        (λ bytes rows. Accepts (AuditWrites bytes rows options.now) result) }
+    ensures accepts { IfBothKnown (P.remaining file) (J.remaining journal) (λ bytes rows.
+        Accepts (AuditWrites bytes rows options.now) result) }
 
     // The file is judged first, whatever is known of the journal.
     ensures file { IfSome (P.remaining file) (λ bytes. JudgesFile bytes result) }
@@ -75,7 +74,8 @@ fn put_desk<T: Threads + Sync>(
     desk: Desk,
     options: &CountOptions,
 ) -> Result<(), CountFault>
-    ensures ok { OnOk result ((text : List ℕ) × IsTextOf desk options.now text × (rows.new.text ≡ rows.old.text ++ text)) }
+    ensures ok { OnOk result ((text : List ℕ)
+        × IsTextOf desk options.now text × (rows.new.text ≡ rows.old.text ++ text)) }
     ensures fault { IfErr result (IsRefusedDesk desk options.now) }
 {
     put_entries(rows, &desk)?;

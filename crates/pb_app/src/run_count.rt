@@ -22,7 +22,8 @@ use std::thread::Threads;
 /// Reads a .pb file, counts it with these options, and writes the report.
 ///
 /// The file is refused before the options are looked at, and nothing is written but the whole report.
-/// Where the fault is `Write` some of the report may have gone out; on any other fault the writer is as it was.
+/// Where the fault is `Write` some of the report may have gone out; on any other fault the writer is as it
+/// was.
 pub fn run_count<T: Threads + Sync, R: Read + Drop, W: Write>(
     rt: &T,
     alloc: Global,
@@ -31,11 +32,12 @@ pub fn run_count<T: Threads + Sync, R: Read + Drop, W: Write>(
     options: &CountOptions,
 ) -> Result<(), AppFault>
     // Where the reader's bytes are known, they alone and the options decide what is written,
-    ensures ok { OnOk result (IfSome (R.remaining reader)
-        (λ bytes. HasWritten (CountWrites bytes options.now) (W.contents writer.old) (W.contents writer.new))) }
+    ensures ok { OnOk result (IfSome (R.remaining reader) (λ bytes.
+        HasWritten (CountWrites bytes options.now) (W.contents writer.old) (W.contents writer.new))) }
 
     // and which fault comes.
-    ensures fault { IfErr result (λ fault. IfSome (R.remaining reader) (λ bytes. CountFails bytes options.now fault)) }
+    ensures fault { IfErr result (λ fault. IfSome (R.remaining reader) (λ bytes.
+        CountFails bytes options.now fault)) }
 
     // A file that has a report gets it, unless a device fails or memory is refused.
     ensures accepts { IfSome (R.remaining reader) (λ bytes. Accepts (CountWrites bytes options.now) result) }
@@ -61,7 +63,8 @@ pub(crate) fn put_count<T: Threads + Sync>(
     election: &Election,
     options: &CountOptions,
 ) -> Result<(), CountFault>
-    ensures ok { OnOk result ((text : List ℕ) × IsReportOf election.now options.now text × (rows.new.text ≡ rows.old.text ++ text)) }
+    ensures ok { OnOk result ((text : List ℕ)
+        × IsReportOf election.now options.now text × (rows.new.text ≡ rows.old.text ++ text)) }
     ensures fault { IfErr result (IsCountFault election.now options.now) }
 {
     // What is true of every election bounds the sums of its report.

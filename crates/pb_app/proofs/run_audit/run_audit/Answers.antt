@@ -7,7 +7,7 @@ returns-clause-fault g c =
     let desk = c.in_ok-desk.ensures in
     let text = c.in_ok-put_desk.ensures.ok in
     write_fails _ _ _ c.in_ok-election.election c.in_ok-desk.desk text.0 _ c.write_out.ensures.fault
-    (record { stands = c.in_ok-election.ensures.ok; opening = desk.opening; room = desk.room; sound = desk.sound; rows = desk.rows }) text.1
+    (record { stands = c.in_ok-election.ensures.ok; election = desk.opening; room = desk.room; sound = desk.sound; rows = desk.rows }) text.1
 
 pub returns-clause-file : goal.returns-clause-file
 returns-clause-file g c = judged_by_writer _ c.in_ok-election.election _ c.write_out.ensures.fault c.in_ok-election.ensures.ok
@@ -37,13 +37,13 @@ pub returns-in_err-put_desk-clause-fault : goal.returns-in_err-put_desk-clause-f
 returns-in_err-put_desk-clause-fault g c =
     let desk = c.in_ok-desk.ensures in
     refused_by_desk _ _ c.args.options.now c.in_ok-election.election c.in_ok-desk.desk c.in_err-put_desk.field-0.0 _ c.from_residual-in_err-put_desk.ensures.1
-    (record { stands = c.in_ok-election.ensures.ok; opening = desk.opening; room = desk.room; sound = desk.sound; rows = desk.rows }) c.in_err-put_desk.ensures.fault
+    (record { stands = c.in_ok-election.ensures.ok; election = desk.opening; room = desk.room; sound = desk.sound; rows = desk.rows }) c.in_err-put_desk.ensures.fault
 
 pub returns-in_err-put_desk-clause-accepts : goal.returns-in_err-put_desk-clause-accepts
 returns-in_err-put_desk-clause-accepts g c =
     let desk = c.in_ok-desk.ensures in
     audited_by_desk _ _ c.args.options.now c.in_ok-election.election c.in_ok-desk.desk c.in_err-put_desk.field-0.0 _ c.from_residual-in_err-put_desk.ensures.1
-    (record { stands = c.in_ok-election.ensures.ok; opening = desk.opening; room = desk.room; sound = desk.sound; rows = desk.rows }) c.in_err-put_desk.ensures.fault
+    (record { stands = c.in_ok-election.ensures.ok; election = desk.opening; room = desk.room; sound = desk.sound; rows = desk.rows }) c.in_err-put_desk.ensures.fault
 
 pub returns-in_err-put_desk-clause-file : goal.returns-in_err-put_desk-clause-file
 returns-in_err-put_desk-clause-file g c =

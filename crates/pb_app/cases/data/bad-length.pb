@@ -1,0 +1,14 @@
+META
+key;value
+budget;100
+vote_type;approval
+max_length;two
+PROJECTS
+project_id;cost
+a;30
+b;60
+VOTES
+voter_id;vote
+v1;a
+v2;a,b
+v3;b

@@ -1,0 +1,12 @@
+META
+key;value
+budget;60
+vote_type;approval
+PROJECTS
+project_id;cost
+y;20
+x;10
+VOTES
+voter_id;vote
+v1;x,y
+v2;x,y

@@ -1,0 +1,12 @@
+META
+key;value
+budget;60
+vote_type;approval
+PROJECTS
+project_id;cost
+x;10
+y;20
+VOTES
+voter_id;vote
+v1;x,y
+v2;x,y

@@ -1,0 +1,16 @@
+META
+key;value
+budget;40
+vote_type;approval
+PROJECTS
+project_id;cost
+p1;12
+p2;19
+p3;6.50
+p4;9.90
+VOTES
+voter_id;vote
+v1;p1,p2
+v2;p1,p2
+v3;p1
+v4;p2,p3,p4

@@ -1,0 +1,14 @@
+META
+key;value
+budget;40
+vote_type;approval
+PROJECTS
+project_id;cost
+x;10
+y;30
+VOTES
+voter_id;vote
+v1;x,y
+v2;x,y
+v3;y
+v4;y

@@ -1,0 +1,12 @@
+META
+key;value
+budget;1
+vote_type;approval
+PROJECTS
+project_id;cost
+c;1
+VOTES
+voter_id;vote
+v1;c
+v2;c
+v3;c

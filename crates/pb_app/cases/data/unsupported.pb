@@ -1,0 +1,11 @@
+META
+key;value
+budget;10
+vote_type;approval
+PROJECTS
+project_id;cost
+u;5
+w;4
+VOTES
+voter_id;vote
+v1;w
