@@ -59,7 +59,7 @@ pub audited_by_reader : (files journals : Option (List ℕ)) (options : CountOpt
 audited_by_reader None journals options fault r is accepts = tt
 audited_by_reader (Some bytes) None options fault r is accepts = tt
 audited_by_reader (Some bytes) (Some journal) options fault r is accepts = λ text writes.
-    given_fault IsFromOutside r (of_read fault) is (read_from_outside fault.kind fault.at (accepts writes.desk.opening writes.audited.stands))
+    given_fault IsFromOutside r (of_read fault) is (read_from_outside fault.kind fault.at (accepts writes.desk.opening.election writes.audited.stands))
 
 -- the rows of a sound journal have no fault, so that the fault is none of theirs
 journal_from_outside : (o : OpeningView) (journal : List EntryView) → IsSound o program_room journal
