@@ -60,7 +60,7 @@ AddsVoter-more old lists new voter ballot i place up h e l so_far n = record {
       ];
 }
 
-range_with_len_more : (n : ℕ) → range_with_len 0 (n + 1) ≡ range_with_len 0 n ++ n ∷ []
+pub range_with_len_more : (n : ℕ) → range_with_len 0 (n + 1) ≡ range_with_len 0 n ++ n ∷ []
 range_with_len_more n = simp map-id at (map-range_with_len_more (λ x. x) 0 n n (omega arith))
 
 pub ListsSoFar-none : (e : ElectionView) (lists : List (List ℕ)) (n : ℕ) → n ≡ length e.projects → lists ≡ replicate n []

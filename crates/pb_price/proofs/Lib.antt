@@ -1,7 +1,9 @@
 pub mod BuiltLists
+pub mod ClaimSteps
 pub mod FirstInRange
 pub mod Payments
 pub mod PriceSteps
 pub mod RestsFall
 pub mod SupporterLists
 pub mod WalkedRests
+pub mod Workers

@@ -1,16 +1,23 @@
-ghost use Rattle.std.specs.Prelude.{◌≡◌, ◌+◌, ◌<◌, ◌≤◌, All, length, map, min, Err, IfOk, OnOk, OnErr, MatchBool, IsOkUnless};
+ghost use Rattle.std.specs.Prelude.{◌≡◌, ◌+◌, ◌<◌, ◌≤◌, [], All, length, map, min, Err, IfOk, OnOk, OnErr, MatchBool, IsOkUnless};
 ghost use Rattle.pb_core.specs.Election.{most_projects};
+ghost use Rattle.pb_price.specs.Claims.{drawn};
 ghost use Rattle.pb_price.specs.Price.{price_at, AreRests, largest_count};
 ghost use Rattle.pb_price.specs.PriceFault.{is_worker_count};
+ghost use Rattle.pb_price.specs.Working.{IsDone};
 
+use crate::claims::Claims;
+use crate::claims::rule::Batch;
 use crate::gate::Gate;
+use crate::gathering::{Gathered, take_in};
 use crate::price_fault::PriceFault;
 use crate::steps::price_in_steps;
 use crate::supporters::Supporters;
 use crate::tally::Tally;
+use crate::worker::{Worker, staff};
 use pb_core::money::Money;
+use pb_core::no_memory::NoMemory;
 use std::alloc::Allocator;
-use std::thread::Threads;
+use std::thread::{self, Threads};
 
 /// Whether this many workers may be asked for: 1 to 64.
 fn is_worker_count(workers: u32) -> bool
@@ -33,7 +40,7 @@ pub fn price_all<
     B: Allocator + Sync,
     G: Gate,
 >(
-    _rt: &R,
+    rt: &R,
     alloc: A,
     workers: u32,
     gate: &G,
@@ -56,11 +63,110 @@ pub fn price_all<
     if !is_worker_count(workers) {
         return Err(PriceFault::WorkerCount);
     }
-    let mut answers = Vec::with_capacity(alloc, projects.len())?;
+    let workers = workers.min(projects.len() as u32);
+    if workers < 2 {
+        let prices = price_in_turn(alloc, gate, projects, supporters, rests)?;
+        tally.add(projects.len() as u64);
+        return Ok(prices);
+    }
+    let Gathered { prices, priced } = price_side_by_side(
+        rt, alloc, workers, gate, projects, supporters, rests,
+    )?;
+    tally.add(priced);
+    Ok(prices)
+}
+
+/// The prices by one worker, on the caller's thread.
+fn price_in_turn<A: Allocator, B: Allocator, G: Gate>(
+    alloc: A,
+    gate: &G,
+    projects: &[u32],
+    supporters: &Supporters<B>,
+    rests: &[Money],
+) -> Result<Vec<Option<Money>, A>, NoMemory>
+    requires rests { AreRests supporters.now.voters rests.now }
+    requires known { All (λ place. place < length supporters.now.costs) projects.now }
+    requires few { length projects.now ≤ most_projects }
+    ensures { IfOk result (λ prices. prices.items ≡ map (price_at supporters.now rests.now) projects.now) }
+{
+    let mut prices = Vec::with_capacity(alloc, projects.len())?;
     for (piece, place) in projects.iter().enumerate() {
         gate.at(0, piece as u32);
-        answers.push(price_in_steps(supporters, rests, *place))?;
+        prices.push(price_in_steps(supporters, rests, *place))?;
     }
-    tally.add(projects.len() as u64);
-    Ok(answers)
+    Ok(prices)
+}
+
+/// The prices by this many workers side by side, who draw the pieces by claims. After the join each piece was drawn, by
+/// one worker.
+fn price_side_by_side<
+    R: Threads + Sync,
+    A: Allocator + Copy + Send + Sync,
+    B: Allocator + Sync,
+    G: Gate,
+>(
+    rt: &R,
+    alloc: A,
+    workers: u32,
+    gate: &G,
+    projects: &[u32],
+    supporters: &Supporters<B>,
+    rests: &[Money],
+) -> Result<Gathered<A>, NoMemory>
+    requires rests { AreRests supporters.now.voters rests.now }
+    requires known { All (λ place. place < length supporters.now.costs) projects.now }
+    requires few { length projects.now ≤ most_projects }
+    requires some { 0 < workers }
+    ensures prices { IfOk result (λ g. g.prices.items ≡ map (price_at supporters.now rests.now) projects.now) }
+    ensures priced { IfOk result (λ g. g.priced ≡ length projects.now) }
+{
+    let pieces = projects.len() as u32;
+    let (claims, mut stock) = Claims::open(alloc, Batch { pieces, workers })?;
+    let staff = staff(alloc, &claims, &mut stock, workers)?;
+    let mut done = work_side_by_side(rt, staff, &claims, gate, projects, supporters, rests)?;
+    let mut prices = vec![in alloc; None; projects.len()]?;
+    let mut priced = 0;
+    while let Some(worker) = done.pop() {
+        priced += take_in(&claims, &mut stock, &mut prices, worker?);
+    }
+    claims.close(stock);
+    Ok(Gathered { prices, priced })
+}
+
+/// Lets all these workers work, each in a thread of its own where one can be made, until all have stopped.
+fn work_side_by_side<
+    R: Threads + Sync,
+    A: Allocator + Copy + Send + Sync,
+    B: Allocator + Sync,
+    G: Gate,
+>(
+    rt: &R,
+    staff: Vec<Worker<A>, A>,
+    claims: &Claims<A>,
+    gate: &G,
+    projects: &[u32],
+    supporters: &Supporters<B>,
+    rests: &[Money],
+) -> Result<Vec<Result<Worker<A>, NoMemory>, A>, NoMemory>
+    requires same { All (λ w. w.claim.seat.table_id ≡ claims.now.table.shared.table_id) staff.items }
+    requires fresh { All (λ w. (w.claim.seat.me.0 ≡ drawn 1 []) × (w.answers.items ≡ [])) staff.items }
+    requires pieces { claims.now.table.shared.key.pieces ≡ length projects.now }
+    requires rests { AreRests supporters.now.voters rests.now }
+    requires known { All (λ place. place < length supporters.now.costs) projects.now }
+    requires few { length projects.now ≤ most_projects }
+    ensures all { IfOk result (λ done. length done.items ≡ length staff.items) }
+    ensures same { IfOk result (λ done. All (λ r. IfOk r (λ w. w.claim.seat.table_id ≡ claims.now.table.shared.table_id)) done.items) }
+    ensures done { IfOk result (λ done. All (λ r. IfOk r (λ w. IsDone supporters.now rests.now projects.now w.claim.seat.me.0 w.answers.items)) done.items) }
+{
+    let work = |worker: Worker<A>| -> Result<Worker<A>, NoMemory>
+        requires same { worker.claim.seat.table_id ≡ claims.now.table.shared.table_id }
+        requires fresh { (worker.claim.seat.me.0 ≡ drawn 1 []) × (worker.answers.items ≡ []) }
+        requires pieces { claims.now.table.shared.key.pieces ≡ length projects.now }
+        requires rests { AreRests supporters.now.voters rests.now }
+        requires known { All (λ place. place < length supporters.now.costs) projects.now }
+        requires few { length projects.now ≤ most_projects }
+        ensures same { IfOk result (λ w. w.claim.seat.table_id ≡ claims.entry.now.table.shared.table_id) }
+        ensures done { IfOk result (λ w. IsDone supporters.entry.now rests.entry.now projects.entry.now w.claim.seat.me.0 w.answers.items) }
+    { worker.work(claims, gate, projects, supporters, rests) };
+    Ok(thread::map_vec(rt, staff, &work)?)
 }

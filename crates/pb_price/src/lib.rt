@@ -2,11 +2,13 @@
 #![tactic(auto)]
 
 mod all_prices;
+mod answer;
+mod claims;
 pub mod gate;
+mod gathering;
 pub mod laws;
 mod least_payment;
 pub mod price;
-pub mod price_by_trial;
 mod price_fault;
 mod steps;
 pub mod supporters;
@@ -14,6 +16,7 @@ pub mod tally;
 #[cfg(test)]
 mod tests;
 mod voter_list;
+mod worker;
 
 pub use all_prices::price_all;
 pub use gate::{Gate, NoGate};

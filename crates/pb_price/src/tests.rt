@@ -1,12 +1,11 @@
-ghost use Rattle.std.specs.Prelude.{◌<◌, length};
+ghost use Rattle.std.specs.Prelude.{◌<◌, ◌≤◌, All, length};
 ghost use Rattle.std.specs.Bool.{OnTrue};
+ghost use Rattle.pb_core.specs.Election.{most_projects};
 ghost use Rattle.pb_price.specs.Price.{AreRests};
 
 use crate::gate::{Gate, NoGate};
-use crate::price::{price, price_with};
-use crate::price_by_trial::price_by_trial;
-use crate::supporters::Supporters;
-use crate::tally::Tally;
+use crate::price::price;
+use crate::{PriceFault, Supporters, Tally, price_all, price_in_steps};
 use pb_core::ballot::Ballot;
 use pb_core::election::Election;
 use pb_core::money::Money;
@@ -15,7 +14,10 @@ use pb_core::voter::Voter;
 use pb_core::voter_id::VoterId;
 use std::alloc::Global;
 use std::process::Abort;
+use std::sync::atomic::Ordering::SeqCst;
+use std::sync::atomic::{AtomicBool, AtomicU32};
 use std::test::Fail;
+use std::thread::{Threads, yield_now};
 
 /// The largest share of a voter.
 const LARGEST_SHARE: Money = Money(2_000_000_000_000_000);
@@ -52,7 +54,7 @@ fn add_voter(
     Ok(())
 }
 
-/// The supporters of one project of this cost whom all voters support, so many of them.
+/// The supporters of one project of this cost, whom this many voters all support.
 fn all_support(
     rt: &impl Abort,
     alloc: Global,
@@ -67,43 +69,50 @@ fn all_support(
     Ok(Supporters::build(alloc, &election)?)
 }
 
-/// Whether there is a rest for each voter, none above the largest share, and a project at this place.
-fn can_price(supporters: &Supporters, rests: &[Money], place: u32) -> bool
+/// Whether there is a rest for each voter, none above the largest share, and a project at each of these places.
+fn can_price(supporters: &Supporters, rests: &[Money], projects: &[u32]) -> bool
     ensures rests { OnTrue result (AreRests supporters.now.voters rests.now) }
-    ensures known { OnTrue result (place < length supporters.now.costs) }
+    ensures known { OnTrue result (All (λ place. place < length supporters.now.costs) projects.now) }
+    ensures few { OnTrue result (length projects.now ≤ most_projects) }
 {
     rests.len() == supporters.voters() as usize
-        && place < supporters.projects()
+        && projects.len() <= 10_000
+        && projects.iter().all(|place| *place < supporters.projects())
         && rests.iter().all(|rest| *rest <= LARGEST_SHARE)
 }
 
-/// The price by `price`.
+/// The price of the project at this place by `price` and by `price_in_steps`, which have to agree.
 fn priced(
     rt: &impl Abort,
     alloc: Global,
     supporters: &Supporters,
     rests: &[Money],
-    tally: &mut Tally,
-) -> Result<Option<Money>, Fail> {
-    assert!(rt; can_price(supporters, rests, 0));
-    Ok(price(alloc, supporters, rests, 0, tally)?)
-}
-
-/// The price by `price_with` and by `price_by_trial`, which have to agree.
-fn priced_both_ways(
-    rt: &impl Abort,
-    buffer: &mut Vec<u64>,
-    supporters: &Supporters,
-    rests: &[Money],
     place: u32,
 ) -> Result<Option<Money>, Fail> {
-    assert!(rt; can_price(supporters, rests, place));
+    assert!(rt; can_price(supporters, rests, &[]) && place < supporters.projects());
     let mut tally = Tally::new();
-    let by_trial = price_by_trial(supporters, rests, place, &mut tally);
-    let by_order = price_with(buffer, supporters, rests, place, &mut tally)?;
-    assert_eq!(rt; by_order, by_trial);
-    assert_eq!(rt; tally.count(), 2);
-    Ok(by_order)
+    let sorted = price(alloc, supporters, rests, place, &mut tally)?;
+    assert_eq!(rt; tally.count(), 1);
+    assert_eq!(rt; price_in_steps(supporters, rests, place), sorted);
+    Ok(sorted)
+}
+
+/// The prices of all these projects by this many workers, and how far the tally grew.
+fn all_priced<R: Threads + Abort + Sync, G: Gate>(
+    rt: &R,
+    alloc: Global,
+    workers: u32,
+    gate: &G,
+    projects: &[u32],
+    supporters: &Supporters,
+    rests: &[Money],
+) -> (Result<Vec<Option<Money>>, PriceFault>, u64) {
+    assert!(rt; can_price(supporters, rests, projects));
+    let mut tally = Tally::new();
+    let answer = price_all(
+        rt, alloc, workers, gate, projects, supporters, rests, &mut tally,
+    );
+    (answer, tally.count())
 }
 
 /// The election of the three voters: a costs 30.00, b costs 60.00; the voters approve a; a and b; b.
@@ -151,42 +160,10 @@ fn prices_by_what_is_left(rt: HostRuntime) -> Result<(), Fail> {
             Some(Money(800_000_000_000_000)),
         ),
     ];
-    let mut tally = Tally::new();
     for (cost, rests, wanted) in cases {
         let supporters = all_support(&rt, alloc, cost, rests.len())?;
-        assert_eq!(rt; priced(&rt, alloc, &supporters, rests, &mut tally)?, wanted);
+        assert_eq!(rt; priced(&rt, alloc, &supporters, rests, 0)?, wanted);
     }
-    assert_eq!(rt; tally.count(), 8);
-    Ok(())
-}
-
-#[test]
-fn prices_of_worked_elections(rt: HostRuntime) -> Result<(), Fail> {
-    let alloc = rt.alloc();
-    let mut buffer = Vec::new(alloc);
-    let supporters = three_voters(&rt, alloc)?;
-    let share = [Money(3333), Money(3333), Money(3333)];
-    let a = priced_both_ways(&rt, &mut buffer, &supporters, &share, 0)?;
-    assert_eq!(rt; a, Some(Money(1500)));
-    let b = priced_both_ways(&rt, &mut buffer, &supporters, &share, 1)?;
-    assert_eq!(rt; b, Some(Money(3000)));
-    Ok(())
-}
-
-/// Four voters, of whom all but the third approve a project that costs 19.00.
-#[test]
-fn prices_after_a_first_payment(rt: HostRuntime) -> Result<(), Fail> {
-    let alloc = rt.alloc();
-    let mut election = Election::start(alloc, Money(4000));
-    add_project(&rt, alloc, &mut election, 1900)?;
-    let ballots: [&[u32]; 4] = [&[0], &[0], &[], &[0]];
-    for places in ballots {
-        add_voter(&rt, alloc, &mut election, places)?;
-    }
-    let supporters = Supporters::build(alloc, &election)?;
-    let rests = [Money(600), Money(600), Money(600), Money(1000)];
-    let answer = priced_both_ways(&rt, &mut Vec::new(alloc), &supporters, &rests, 0)?;
-    assert_eq!(rt; answer, Some(Money(700)));
     Ok(())
 }
 
@@ -196,36 +173,176 @@ fn next(state: &mut u32) -> u32 {
     *state / 65_536
 }
 
-/// An election with one project and a few voters, and what is left to them.
-fn small_case(
-    rt: &impl Abort,
-    alloc: Global,
-    state: &mut u32,
-) -> Result<(Supporters, Vec<Money>), Fail> {
-    let mut election = Election::start(alloc, Money(0));
-    add_project(rt, alloc, &mut election, u64::from(next(state) % 60) + 1)?;
-    let mut rests = Vec::new(alloc);
-    for _ in 0..next(state) % 9 {
-        let places: &[u32] = if next(state) % 4 > 0 { &[0] } else { &[] };
-        add_voter(rt, alloc, &mut election, places)?;
-        rests.push(Money(u64::from(next(state) % 20)))?;
+/// The least payment below 100 by which these supporters cover the cost, found by trying one after the other.
+fn by_trial(cost: u64, supporters: &[u32], rests: &[Money]) -> Option<Money> {
+    for payment in 0..100 {
+        let mut paid = 0u64;
+        for voter in supporters {
+            let rest = rests.get(*voter as usize).map_or(0, |rest| rest.0);
+            paid = paid.saturating_add(rest.min(payment));
+        }
+        if paid >= cost {
+            return Some(Money(payment));
+        }
     }
-    Ok((Supporters::build(alloc, &election)?, rests))
+    None
 }
 
+/// Elections with one project and a few voters, most of whom support it, and less than 20 left to each. Their prices are
+/// those found by trial. With a large part left to each more, the sorted rests and the steps still agree.
 #[test]
 fn agrees_with_the_trials(rt: HostRuntime) -> Result<(), Fail> {
     let alloc = rt.alloc();
     let mut state = 20;
-    let mut buffer = Vec::new(alloc);
-    for _ in 0..400 {
-        let (supporters, rests) = small_case(&rt, alloc, &mut state)?;
-        priced_both_ways(&rt, &mut buffer, &supporters, &rests, 0)?;
+    for _ in 0..300 {
+        let cost = u64::from(next(&mut state) % 60) + 1;
+        let mut election = Election::start(alloc, Money(0));
+        add_project(&rt, alloc, &mut election, cost)?;
+        let mut small = Vec::new(alloc);
+        let mut large = Vec::new(alloc);
+        for _ in 0..next(&mut state) % 9 {
+            let places: &[u32] = if next(&mut state) % 4 > 0 { &[0] } else { &[] };
+            add_voter(&rt, alloc, &mut election, places)?;
+            let rest = u64::from(next(&mut state) % 20);
+            small.push(Money(rest))?;
+            large.push(Money(rest * 100_000_000_000_000))?;
+        }
+        let supporters = Supporters::build(alloc, &election)?;
+        let answer = priced(&rt, alloc, &supporters, &small, 0)?;
+        assert!(rt; 0 < supporters.projects());
+        assert_eq!(rt; answer, by_trial(cost, supporters.of(0), &small));
+        priced(&rt, alloc, &supporters, &large, 0)?;
     }
     Ok(())
 }
 
+/// Counts how often each piece came to the gate.
+#[derive(Drop)]
+struct Visits {
+    pieces: [AtomicU32; 4],
+}
+
+impl Gate for Visits {
+    fn at(&self, _worker: u32, piece: u32) {
+        if let Some(visits) = self.pieces.get(piece as usize) {
+            visits.fetch_add(1, SeqCst);
+        }
+    }
+}
+
+/// Each piece comes to the gate once, and the tally grows by the pieces, for every number of workers: the answers are
+/// those of one worker.
 #[test]
-fn opens_the_gate() {
-    NoGate.at(3, 7);
+fn prices_all_by_any_number_of_workers(rt: HostRuntime) -> Result<(), Fail> {
+    let alloc = rt.alloc();
+    let supporters = three_voters(&rt, alloc)?;
+    let share = [Money(3333), Money(3333), Money(3333)];
+    let (a, b) = (Some(Money(1500)), Some(Money(3000)));
+    let cases: [(&[u32], &[Option<Money>]); 4] = [
+        (&[], &[]),
+        (&[1], &[b]),
+        (&[0, 1], &[a, b]),
+        (&[1, 0, 1, 1], &[b, a, b, b]),
+    ];
+    for workers in [1, 2, 3, 64] {
+        for (projects, wanted) in cases {
+            let pieces = [
+                AtomicU32::new(0),
+                AtomicU32::new(0),
+                AtomicU32::new(0),
+                AtomicU32::new(0),
+            ];
+            let gate = Visits { pieces };
+            let (answer, count) = all_priced(
+                &rt,
+                alloc,
+                workers,
+                &gate,
+                projects,
+                &supporters,
+                &share,
+            );
+            assert_eq!(rt; answer?.as_slice(), wanted);
+            assert_eq!(rt; count, projects.len() as u64);
+            for (piece, visits) in gate.pieces.iter().enumerate() {
+                let once = if piece < projects.len() { 1 } else { 0 };
+                assert_eq!(rt; visits.load(SeqCst), once);
+            }
+        }
+    }
+    for workers in [0, 65, u32::MAX] {
+        let (answer, count) = all_priced(
+            &rt,
+            alloc,
+            workers,
+            &NoGate,
+            &[0, 1],
+            &supporters,
+            &share,
+        );
+        assert_eq!(rt; answer.err(), Some(PriceFault::WorkerCount));
+        assert_eq!(rt; count, 0);
+    }
+    Ok(())
+}
+
+/// Each of two pieces waits at the gate until the other has come there too, for a bounded number of turns.
+#[derive(Drop)]
+struct Meeting {
+    came: [AtomicBool; 2],
+    met: [AtomicBool; 2],
+}
+
+impl Gate for Meeting {
+    fn at(&self, _worker: u32, piece: u32) {
+        let (own, other) = if piece == 0 { (0, 1) } else { (1, 0) };
+        self.came[own].store(true, SeqCst);
+        for _ in 0..10_000_000 {
+            if self.came[other].load(SeqCst) {
+                self.met[own].store(true, SeqCst);
+                return;
+            }
+            yield_now();
+        }
+    }
+}
+
+/// The workers run side by side: of two pieces neither could be priced before the other was drawn.
+#[test]
+fn prices_side_by_side(rt: HostRuntime) -> Result<(), Fail> {
+    let alloc = rt.alloc();
+    let supporters = three_voters(&rt, alloc)?;
+    let share = [Money(3333), Money(3333), Money(3333)];
+    let gate = Meeting {
+        came: [AtomicBool::new(false), AtomicBool::new(false)],
+        met: [AtomicBool::new(false), AtomicBool::new(false)],
+    };
+    let (answer, count) = all_priced(&rt, alloc, 2, &gate, &[0, 1], &supporters, &share);
+    assert_eq!(rt;
+        answer?.as_slice(),
+        [Some(Money(1500)), Some(Money(3000))].as_slice()
+    );
+    assert_eq!(rt; count, 2);
+    assert!(rt; gate.met[0].load(SeqCst) && gate.met[1].load(SeqCst));
+    Ok(())
+}
+
+#[test]
+fn names_its_faults(rt: HostRuntime) -> Result<(), Fail> {
+    let alloc = rt.alloc();
+    let cases = [
+        (
+            PriceFault::WorkerCount,
+            1,
+            "WorkerCount",
+            "the number of workers is not 1 to 64",
+        ),
+        (PriceFault::NoMemory, 2, "NoMemory", "out of memory"),
+    ];
+    for (fault, number, name, text) in cases {
+        assert_eq!(rt; fault.number(), number);
+        assert_eq!(rt; fault.name(), name);
+        assert_eq!(rt; format!(in alloc; "{fault}")?.as_str(), text);
+    }
+    Ok(())
 }
