@@ -14,7 +14,7 @@ use Rattle.pb_core.specs.Election.{ElectionView, VoterView, IsElection}
 use Rattle.pb_price.specs.Lists.{AddsVoter}
 use Rattle.pb_price.specs.Supporters.{ballot_at, supporters_of, support_of}
 
--- so many of the voters are put in: each list has the supporters among them
+-- the first voters are put in, this many: each list has the supporters among them
 pub record ListsSoFar (e : ElectionView) (lists : List (List ℕ)) (voters : ℕ) : Type 0 where
   pub one_each : length lists ≡ length e.projects
   pub listed : (place : ℕ) → place < length e.projects

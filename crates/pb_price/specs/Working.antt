@@ -39,7 +39,8 @@ times number numbers = count_by (λ n. nat_eq n number) numbers
 abbrev pub drawn_pieces : ℕ → List ℕ → ℕ
 drawn_pieces pieces numbers = count_by (λ n. nat_lt n pieces) numbers
 
--- the answers of some workers are gathered: each piece that they drew has its price, so many were priced, and each of them has drawn a number that is no piece
+-- the answers of some workers, gathered: each piece that they drew has its price, as many were priced as pieces drawn,
+-- and each worker drew a number that is no piece
 pub record AreGathered (s : SupportView) (rests projects : List ℕ) (v : Drawn) (prices : List (Option ℕ)) (priced : ℕ) : Type 0 where
   pub one_each : length prices ≡ length projects
   pub right : (piece : ℕ) → piece < length projects → 0 < times piece v.numbers

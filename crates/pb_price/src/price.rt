@@ -13,8 +13,8 @@ use std::alloc::Allocator;
 /// where each pays this amount, or all that is left to them where that is less. There is none where all that is left
 /// to them together is below the cost. (Peters, Pierczynski and Skowron 2021, with whole payments.)
 ///
-/// `rests` has what is left to each voter. A price that was computed counts one in the tally; one that was refused for
-/// want of memory does not.
+/// `rests` has what is left to each voter. A price that was computed counts one in the tally. Where memory was refused
+/// none was computed, and the tally stays.
 pub fn price<A: Allocator, B: Allocator>(
     alloc: A,
     supporters: &Supporters<B>,

@@ -122,7 +122,7 @@ fn supporter_counts<A: Allocator, B: Allocator>(
     Ok(counts)
 }
 
-/// An empty list for each project, with room for so many supporters.
+/// An empty list for each project, with room for this many supporters.
 fn empty_lists<A: Allocator>(alloc: A, counts: &[u32]) -> Result<Vec<VoterList<A>, A>, NoMemory>
 where
     A: Copy,

@@ -142,12 +142,17 @@ fn lists_supporters(rt: HostRuntime) -> Result<(), Fail> {
 fn prices_by_what_is_left(rt: HostRuntime) -> Result<(), Fail> {
     let alloc = rt.alloc();
     let large = 1_000_000_000_000_000;
-    let cases: [(u64, &[Money], Option<Money>); 8] = [
+    let cases: [(u64, &[Money], Option<Money>); 9] = [
         (1, &[Money(5)], Some(Money(1))),
         (7, &[Money(3), Money(3), Money(3)], Some(Money(3))),
         (6, &[Money(4), Money(1), Money(4)], Some(Money(3))),
         (1000, &[Money(0), Money(1000), Money(0)], Some(Money(1000))),
         (1001, &[Money(0), Money(1000), Money(0)], None),
+        (
+            1900,
+            &[Money(600), Money(600), Money(1000)],
+            Some(Money(700)),
+        ),
         (5, &[], None),
         (
             large,

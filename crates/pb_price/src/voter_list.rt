@@ -19,7 +19,7 @@ impl<A: Allocator> Model for VoterList<A> {
 }
 
 impl<A: Allocator> VoterList<A> {
-    /// No voter yet, with room for so many.
+    /// No voter yet, with room for this many.
     pub(crate) fn with_room(alloc: A, room: usize) -> Result<VoterList<A>, NoMemory>
         ensures { IfOk result (λ list. list ≡ []) }
     {
@@ -33,7 +33,7 @@ impl<A: Allocator> VoterList<A> {
         self.voters.as_slice()
     }
 
-    /// Adds a voter behind the others.
+    /// Adds a voter after the others.
     pub(crate) fn push(&mut self, voter: u32) -> Result<(), NoMemory>
         ensures ok { OnOk result (self.new ≡ self.old ++ voter ∷ []) }
         ensures err { OnErr result (self.new ≡ self.old) }
