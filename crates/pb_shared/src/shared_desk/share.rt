@@ -1,4 +1,4 @@
-ghost use Rattle.std.specs.Prelude.{◌≡◌, ◌<◌, ◌≤◌, All, IfOk, IfErr};
+ghost use Rattle.std.specs.Prelude.{◌≡◌, ◌<◌, ◌≤◌, All, IfOk, IfErr, OnOk};
 ghost use Rattle.pb_shared.specs.Clerk.{AreNewcomers};
 ghost use Rattle.pb_shared.specs.Refusal.{HandsBack};
 ghost use Rattle.pb_shared.specs.Seats.{IsLaid};
@@ -23,6 +23,7 @@ impl SharedDesk {
     ) -> Result<(SharedDesk, Vec<Clerk>), ShareFault>
         ensures ok { IfOk result (λ shared. (shared.0.start ≡ desk) × (shared.0.clerks ≡ clerks) × AreNewcomers shared.0 shared.1.items) }
         ensures own { IfOk result (λ shared. All (λ clerk. clerk.desk ≡ shared.0) shared.1.items) }
+        ensures range { OnOk result ((0 < clerks) × (clerks ≤ 64)) }
         ensures err { IfErr result (λ fault. HandsBack desk clerks fault) }
     {
         if clerks == 0 || clerks > MOST_CLERKS {
