@@ -41,7 +41,7 @@ small_numbers journal entries = λ k d below.
     record { clerk = is.by_clerk; places = request_places _ is.request; answer = is.answer }
 
 -- these bytes are those of one desk at most
-one_desk : (bytes journal : List ℕ) (d other : DeskView) → IsDeskOf bytes journal d → IsDeskOf bytes journal other → d ≡ other
+pub one_desk : (bytes journal : List ℕ) (d other : DeskView) → IsDeskOf bytes journal d → IsDeskOf bytes journal other → d ≡ other
 one_desk bytes journal d other first second =
     let election = one_election (records_of bytes) d.opening.election other.opening.election first.stands second.stands in
     let room : d.room ≡ other.room = first.room ∙ sym second.room in

@@ -8,3 +8,7 @@ pub mod AuditAccepted
 mod ThreeVoters
 pub mod ScriptForms
 pub mod Scripts
+pub mod Servings
+pub mod DeskEntries
+pub mod DeskRuns
+pub mod Recounts

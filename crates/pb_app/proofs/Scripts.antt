@@ -1,16 +1,16 @@
 -- How a script is read, row by row.
 use Rattle.std.proofs.Common.{◌≡◌, ℕ, ◌+◌, ◌<◌, List, [], ◌∷◌, ◌++◌, length, get_or, set, replicate, Bool, true, false, subst, ◌≤◌, Option, Some, None, IfSome, refl, sym, ap, ◌∙◌, inl, inr, arith, length-append}
 use Rattle.std.specs.List.{AllZip, filter}
-use Rattle.std.specs.Prelude.{◌==◌, map, cond, IfErr, IsErrAnd, Result, Ok, Err}
+use Rattle.std.specs.Prelude.{All, ◌==◌, map, cond, IfErr, IsErrAnd, Result, Ok, Err}
 use Rattle.std.proofs.lemmas.Bool.{cases_eq, eq-eqb, ne_eqb}
-use Rattle.std.proofs.lemmas.List.{append-nil, append_assoc, map-append, length-set, length-replicate, get_or-replicate, get_or-set_same, get_or-set_other}
+use Rattle.std.proofs.lemmas.List.{append-nil, append_assoc, get_or_default, length-map, map-append, length-set, length-replicate, get_or-replicate, get_or-set_same, get_or-set_other}
 use Rattle.std.proofs.lemmas.List.Elements.{filter-append}
+use Rattle.std.proofs.lemmas.List.Sums.{count_by-le-length, length-filter}
 use Rattle.pb_core.specs.Request.{RequestView}
-use Rattle.pb_desk.specs.AuditSteps.{HaveGone, NoneLeft}
 use Rattle.pb_read.proofs.ListFacts.{AllZip-push}
 use Rattle.pb_rows.specs.Reading.{Fields, IsNext}
 use Rattle.pb_app.specs.Script.{AreAsked, IsScript, IsScriptRow, ScriptRowView, asked_by, clerks_within, most_rows}
-use Rattle.pb_app.specs.ScriptReading.{HaveAsked, IsFaultOfScript, IsNextScriptFault, SplitsScript, TakesScriptRow}
+use Rattle.pb_app.specs.ScriptReading.{HaveAsked, HaveGone, IsFaultOfScript, IsNextScriptFault, NoneLeft, SplitsScript, TakesScriptRow}
 use Rattle.pb_app.specs.declared.script_fault.ScriptFault.{ScriptFault}
 use Rattle.pb_app.specs.declared.script_fault.ScriptFault.TheVariants.{NoMemory}
 
@@ -124,3 +124,23 @@ pub error_of_memory : {A : Type 0} (clerks : ℕ) (all : Option (List Fields)) (
     IfErr r (λ fault. IfSome all (λ rows. IsFaultOfScript clerks rows fault))
 error_of_memory clerks all (Ok done) is = tt
 error_of_memory clerks all (Err fault) is = let P : ScriptFault → Type 0 = λ f. IfSome all (λ rows. IsFaultOfScript clerks rows f) in subst P (sym is) (memory_fault clerks all)
+
+-- a script has as many records as rows
+records_are_rows : (clerks : ℕ) (records : List Fields) (script : List ScriptRowView) → AllZip (IsScriptRow clerks) records script → length script ≡ length records
+records_are_rows clerks [] [] rows = refl
+records_are_rows clerks [] (x ∷ xs) rows = absurd rows
+records_are_rows clerks (r ∷ rs) [] rows = absurd rows
+records_are_rows clerks (r ∷ rs) (x ∷ xs) rows = let more = records_are_rows clerks rs xs rows.1 in omega arith
+
+-- no clerk asks more than a script has rows
+pub HaveAsked-few : (clerks : ℕ) (all left : Option (List Fields)) (count : ℕ) (lists : List (List RequestView)) → HaveAsked clerks all left count lists → count ≤ most_rows →
+    All (λ list. length list ≤ most_rows) lists
+HaveAsked-few clerks all left count lists have few = λ k d below.
+    let are = have.lists_are in
+    let size = are.one_each in
+    let list = get_or_default lists k d [] below ∙ are.asked k (omega arith) in
+    let kept = filter (λ (x : ScriptRowView). x.clerk == k) have.script in
+    let mapped = length-map kept (λ (x : ScriptRowView). x.request) in
+    let rows = records_are_rows clerks have.gone have.script have.rows in
+    let counted = have.count_is in
+    omega (arith, ap length list, length-filter {X = ScriptRowView}, count_by-le-length {X = ScriptRowView})

@@ -1,5 +1,5 @@
 -- The definitions, computed on an election of three voters.
-use Rattle.std.proofs.Common.{◌≡◌, [], ◌∷◌, codes, refl}
+use Rattle.std.proofs.Common.{◌≡◌, [], ◌∷◌, None, codes, refl}
 use Rattle.csv.specs.Writing.{escaped, fields_text, is_blank}
 use Rattle.std.specs.Fmt.{digits}
 use Rattle.pb_core.specs.Election.{ElectionView}
@@ -17,6 +17,7 @@ e = record {
   budget = 10000;
   projects = record { id = codes "a"; name = []; cost = 3000 } ∷ record { id = codes "b"; name = []; cost = 6000 } ∷ [];
   voters = record { id = codes "v1"; ballot = 0 ∷ [] } ∷ record { id = codes "v2"; ballot = 0 ∷ 1 ∷ [] } ∷ record { id = codes "v3"; ballot = 1 ∷ [] } ∷ [];
+  max_length = None;
 }
 
 -- after five raises both are elected

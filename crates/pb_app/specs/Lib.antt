@@ -7,3 +7,5 @@ pub mod Audited
 pub mod Script
 pub mod ScriptFault
 pub mod ScriptReading
+pub mod Serving
+pub mod Desked

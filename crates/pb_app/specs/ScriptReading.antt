@@ -1,9 +1,7 @@
 -- What the reader of a script answers about its records.
-use Rattle.std.specs.Prelude.{◌≡◌, ℕ, ◌+◌, ◌≤◌, ◌++◌, ⊤, true, false, List, length, Option, Some}
+use Rattle.std.specs.Prelude.{◌≡◌, ℕ, ◌+◌, ◌≤◌, ◌++◌, ⊤, true, List, [], ◌∷◌, length, Option, None, Some}
 use Rattle.std.specs.List.{AllZip}
 use Rattle.pb_core.specs.Request.{RequestView}
-use Rattle.pb_desk.specs.Audit.{NextIs}
-use Rattle.pb_desk.specs.AuditSteps.{HaveGone}
 use Rattle.pb_rows.specs.Reading.{Fields, IsNext}
 use Rattle.pb_app.specs.Script.{AreAsked, HasScriptForm, IsScript, IsScriptRow, ScriptRowView, most_rows}
 use Rattle.pb_app.specs.declared.script_fault.ScriptFault.{ScriptFault}
@@ -12,6 +10,24 @@ use Rattle.pb_app.specs.declared.script_fault.ScriptFault.TheVariants.{ReadFaile
 -- the records are a script for this many clerks, in which each asks this
 abbrev pub SplitsScript : ℕ → List Fields → List (List RequestView) → Type 0
 SplitsScript clerks records lists = (script : List ScriptRowView) × IsScript clerks records script × AreAsked clerks script lists
+
+-- where it is known which records are left, there is none
+abbrev pub NoneLeft : Option (List Fields) → Type 0
+NoneLeft None = ⊤
+NoneLeft (Some []) = ⊤
+NoneLeft (Some (fields ∷ rest)) = ⊥
+
+-- where it is known which records are left, there is one, and the first is such
+abbrev pub NextIs : Option (List Fields) → (Fields → Type 0) → Type 0
+NextIs None P = ⊤
+NextIs (Some []) P = ⊥
+NextIs (Some (fields ∷ rest)) P = P fields
+
+-- where it is known which records there were, they are those that were read, and those that are left
+abbrev pub HaveGone : Option (List Fields) → List Fields → Option (List Fields) → Type 0
+HaveGone None gone left = ⊤
+HaveGone (Some all) gone None = ⊥
+HaveGone (Some all) gone (Some rest) = all ≡ gone ++ rest
 
 -- the fault of the next record, where this many came before it: within a record a reader that fails comes first, then the limit, then the form
 abbrev pub IsNextScriptFault : ℕ → ℕ → Option (List Fields) → ScriptFault → Type 0

@@ -26,6 +26,8 @@ pub(crate) enum Source<'a> {
 pub(crate) enum Task<'a> {
     /// A count of a .pb file.
     Count(Source<'a>, CountOptions),
+    /// A run of the desk of a .pb file: this many clerks serve the script with this path.
+    Desk(Source<'a>, &'a str, u32),
     /// An audit of the journal with this path on a .pb file.
     Audit(Source<'a>, &'a str, CountOptions),
 }
@@ -36,6 +38,12 @@ pub(crate) fn commands<'a>(alloc: Global) -> Result<Command<'a>, AllocError> {
     let count = Command::new(alloc, "count")
         .about("Counts a .pb file, and prints the report")
         .arg(path(alloc, "FILE", election))?;
+    let clerks = "How many clerks serve side by side, 1 to 64 [default: 1]";
+    let desk = Command::new(alloc, "desk")
+        .about("Serves a script's requests on the desk of a .pb file, and prints the journal")
+        .arg(path(alloc, "FILE", election))?
+        .arg(path(alloc, "SCRIPT", "What each clerk asks, a row a request"))?
+        .arg(number(alloc, "clerks", "N", clerks))?;
     let audit = Command::new(alloc, "audit")
         .about("Audits a journal on a .pb file, and prints the report of a shut desk")
         .arg(path(alloc, "FILE", election))?
@@ -49,6 +57,7 @@ pub(crate) fn commands<'a>(alloc: Global) -> Result<Command<'a>, AllocError> {
         .version(VERSION)
         .about("Counts standard input by the Method of Equal Shares, where no command is given")
         .subcommand(with_options(alloc, count)?)?
+        .subcommand(desk)?
         .subcommand(with_options(alloc, audit)?)
 }
 
@@ -103,6 +112,11 @@ fn with_options<'a>(alloc: Global, command: Command<'a>) -> Result<Command<'a>, 
 pub(crate) fn task_of<'a>(matches: &ArgMatches<'a>) -> Task<'a> {
     match matches.subcommand() {
         Some(("count", given)) => Task::Count(source_of(given), options_of(given)),
+        Some(("desk", given)) => Task::Desk(
+            source_of(given),
+            path_of(given, "SCRIPT"),
+            given.get_one("clerks").unwrap_or(1),
+        ),
         Some((_, given)) => Task::Audit(
             source_of(given),
             path_of(given, "JOURNAL"),

@@ -1,9 +1,15 @@
 // Laws of the definitions.
 
-ghost use Rattle.std.specs.Prelude.{◌≡◌, ℕ, List};
+ghost use Rattle.std.specs.Prelude.{◌≡◌, ◌↔◌, ℕ, List};
+ghost use Rattle.pb_desk.specs.Audit.{IsSound};
+ghost use Rattle.pb_desk.specs.Desk.{DeskView};
+ghost use Rattle.pb_desk.specs.Rows.{journal_text};
+ghost use Rattle.pb_read.specs.StandsFor.{StandsFor};
+ghost use Rattle.pb_rows.specs.Reading.{records_of};
 ghost use Rattle.pb_rounds.specs.declared.options.CountOptions.{CountOptions};
-ghost use Rattle.pb_app.specs.Audited.{AuditWrites};
+ghost use Rattle.pb_app.specs.Audited.{AuditWrites, IsDeskOf, IsTextOf, program_room};
 ghost use Rattle.pb_app.specs.Counted.{CountWrites};
+ghost use Rattle.pb_app.specs.Desked.{DeskWrites};
 
 /// What is written is a function of the bytes that are read and of the options: a file has one report at
 /// most, and a file and a journal have one text at most.
@@ -13,4 +19,18 @@ pub fn one_report()
     ensures audited { (bytes journal : List ℕ) (options : CountOptions) (first second : List ℕ)
         → AuditWrites bytes journal options first → AuditWrites bytes journal options second
         → first ≡ second }
+{}
+
+/// The recount. For every file that stands for an election, and every legal journal of its desk that fits the
+/// room: an audit of the journal's text on the file accepts it as this desk's, and writes just what is to be
+/// written of this desk, its row and where it is shut the report of the ballots that its journal leaves. What
+/// `desk` writes is the text of such a journal. So whoever recounts what `desk` wrote gets the desk's winners.
+pub fn journals_recount()
+    ensures accepted { (bytes : List ℕ) (d : DeskView) → StandsFor (records_of bytes) d.opening.election
+        → d.room ≡ program_room → IsSound d.opening d.room d.journal
+        → IsDeskOf bytes (journal_text d.opening.version d.journal) d }
+    ensures recounted { (bytes journal : List ℕ) (d : DeskView) (options : CountOptions) (text : List ℕ)
+        → IsDeskOf bytes journal d → AuditWrites bytes journal options text ↔ IsTextOf d options text }
+    ensures written { (bytes rows : List ℕ) (clerks : ℕ) (journal : List ℕ)
+        → DeskWrites bytes rows clerks journal → (d : DeskView) × IsDeskOf bytes journal d }
 {}

@@ -3,6 +3,8 @@
 #![tactic(auto)]
 
 mod command_line;
+#[cfg(test)]
+mod desk_tests;
 mod fault;
 mod fault_line;
 mod laws;
@@ -11,8 +13,10 @@ mod report;
 mod requests;
 mod run_audit;
 mod run_count;
+mod run_desk;
 mod script;
 mod script_fault;
+mod serve_script;
 #[cfg(test)]
 mod tests;
 

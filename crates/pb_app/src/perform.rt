@@ -4,6 +4,8 @@ use crate::command_line::{Source, Task};
 use crate::fault::AppFault;
 use crate::run_audit::run_audit;
 use crate::run_count::run_count;
+use crate::run_desk::run_desk;
+use pb_price::gate::NoGate;
 use std::rt::Files;
 use std::thread::Threads;
 use std::{fs, io};
@@ -23,6 +25,15 @@ where
         Task::Count(Source::File(path), options) => {
             let file = open(rt, path, 1)?;
             run_count(rt, alloc, file, &mut out, options)
+        }
+        Task::Desk(Source::Input, script, clerks) => {
+            let script = open(rt, script, 2)?;
+            run_desk(rt, alloc, rt.reader(), script, *clerks, &NoGate, &mut out)
+        }
+        Task::Desk(Source::File(path), script, clerks) => {
+            let file = open(rt, path, 1)?;
+            let script = open(rt, script, 2)?;
+            run_desk(rt, alloc, file, script, *clerks, &NoGate, &mut out)
         }
         Task::Audit(Source::Input, journal, options) => {
             let journal = open(rt, journal, 2)?;

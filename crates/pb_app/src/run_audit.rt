@@ -20,7 +20,7 @@ use std::io::{Read, Write};
 use std::thread::Threads;
 
 /// The most entries that the journal of a desk of the program has.
-const ROOM: u32 = 4_294_967_295;
+pub(crate) const ROOM: u32 = 4_294_967_295;
 
 /// Reads a .pb file and a journal, audits the journal, and writes how many entries it has and whether
 /// its desk is shut. Where it is shut, the ballots that it leaves are counted with these options, and

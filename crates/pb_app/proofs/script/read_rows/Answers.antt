@@ -3,7 +3,7 @@ use Rattle.std.proofs.lemmas.List.{get_or_read}
 use Rattle.pb_core.specs.Request.{RequestView, asked}
 use Rattle.pb_app.specs.Script.{ScriptRowView}
 use Rattle.pb_app.specs.ScriptReading.{TakesScriptRow}
-use Rattle.pb_app.proofs.Scripts.{HaveAsked-more, HaveAsked-start, error_of_memory}
+use Rattle.pb_app.proofs.Scripts.{HaveAsked-few, HaveAsked-more, HaveAsked-start, error_of_memory}
 use Rattle.pb_app.proofs.script.read_rows.Goals as goal
 
 pub returns-in_err-lists-clause-fault : goal.returns-in_err-lists-clause-fault
@@ -28,3 +28,7 @@ rows-preserved g c =
       HaveAsked-more c.args.clerks c.args.records.now.left c.rows.records.left c.next_row.new.records.left c.rows.rows x lists _ so_far takes
           (ap (set lists x.clerk) (c.in_ok-push-in-Ok-Some.ensures ∙ ap (λ xs. xs ++ x.request ∷ []) read)),
     )
+
+pub returns-in-Ok-None-clause-few : goal.returns-in-Ok-None-clause-few
+returns-in-Ok-None-clause-few g c =
+    HaveAsked-few c.args.clerks c.args.records.now.left c.rows.records.left c.rows.rows c.rows.lists.items c.rows.invariant.1 c.rows.invariant.0
