@@ -4,6 +4,8 @@
 
 mod command_line;
 #[cfg(test)]
+mod command_line_tests;
+#[cfg(test)]
 mod desk_tests;
 mod fault;
 mod fault_line;

@@ -1,4 +1,3 @@
-use crate::command_line::{Source, Task, commands, task_of};
 use crate::fault::AppFault;
 use crate::laws::one_report;
 use crate::run_audit::run_audit;
@@ -8,7 +7,6 @@ use pb_core::money::Money;
 use pb_desk::AuditFault;
 use pb_read::{ReadFault, ReadKind};
 use pb_rounds::count_fault::CountFault;
-use pb_rounds::measure::Measure;
 use pb_rounds::options::{Completion, CountOptions};
 use std::alloc::{AllocError, Global};
 use std::io;
@@ -310,110 +308,5 @@ fn names_the_device_that_fails(rt: HostRuntime) -> Result<(), Fail> {
     assert_eq!(rt; audited, Err(AppFault::Audit(AuditFault::ReadFailed(1))));
     assert_eq!(rt; text.len(), 0);
     assert!(rt; AppFault::Write.write_line(&mut Broken).is_err());
-    Ok(())
-}
-
-#[test]
-fn asks_for_tasks(rt: HostRuntime) -> Result<(), Fail> {
-    let file = Source::File("a.pb");
-    let all = CountOptions {
-        step: Money(250),
-        max_raises: 7,
-        workers: 3,
-        completion: Completion::Plain,
-        measure: Measure::Cost,
-    };
-    let cost = CountOptions {
-        measure: Measure::Cost,
-        ..standard()
-    };
-    let cases: [(&[&str], Option<Task<'_>>); 20] = [
-        (&["pb_app"], Some(Task::Count(Source::Input, standard()))),
-        (
-            &["pb_app", "count", "a.pb"],
-            Some(Task::Count(file, standard())),
-        ),
-        (
-            &["pb_app", "count", "-"],
-            Some(Task::Count(Source::Input, standard())),
-        ),
-        (
-            &["pb_app", "count", "a.pb", "--step", "250"],
-            Some(Task::Count(file, with_step(250))),
-        ),
-        (
-            &["pb_app", "count", "a.pb", "--raises", "7"],
-            Some(Task::Count(file, with_raises(7))),
-        ),
-        (
-            &["pb_app", "count", "--workers=3", "a.pb"],
-            Some(Task::Count(file, with_workers(3))),
-        ),
-        (
-            &["pb_app", "count", "a.pb", "--plain"],
-            Some(Task::Count(file, plain())),
-        ),
-        (
-            &["pb_app", "count", "a.pb", "--measure", "cost"],
-            Some(Task::Count(file, cost)),
-        ),
-        (
-            &["pb_app", "count", "a.pb", "--measure", "votes"],
-            Some(Task::Count(file, standard())),
-        ),
-        (
-            &[
-                "pb_app",
-                "count",
-                "a.pb",
-                "--raises",
-                "7",
-                "--measure=cost",
-                "--workers",
-                "3",
-                "--plain",
-                "--step",
-                "250",
-            ],
-            Some(Task::Count(file, all)),
-        ),
-        (
-            &["pb_app", "audit", "a.pb", "a.journal"],
-            Some(Task::Audit(file, "a.journal", standard())),
-        ),
-        (
-            &["pb_app", "audit", "-", "a.journal"],
-            Some(Task::Audit(Source::Input, "a.journal", standard())),
-        ),
-        (
-            &[
-                "pb_app",
-                "audit",
-                "a.pb",
-                "a.journal",
-                "--plain",
-                "--step=250",
-                "--measure",
-                "cost",
-                "--raises=7",
-                "--workers=3",
-            ],
-            Some(Task::Audit(file, "a.journal", all)),
-        ),
-        (&["pb_app", "count"], None),
-        (&["pb_app", "audit", "a.pb"], None),
-        (&["pb_app", "count", "a.pb", "b.pb"], None),
-        (&["pb_app", "recount", "a.pb"], None),
-        (&["pb_app", "count", "a.pb", "--fast"], None),
-        (&["pb_app", "count", "a.pb", "--step", "1.5"], None),
-        (&["pb_app", "count", "a.pb", "--measure", "utility"], None),
-    ];
-    for (arguments, wanted) in cases {
-        let task = match commands(rt.alloc())?.try_get_matches_from(arguments) {
-            Ok(matches) => Some(task_of(&matches)),
-            Err(_) => None,
-        };
-        assert_eq!(rt; task, wanted, "{arguments:?}");
-    }
     Ok(())
 }
