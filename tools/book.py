@@ -1,0 +1,370 @@
+#!/usr/bin/env python3
+"""What has to be believed, as one text to read in order.
+
+    tools/book.py            print the book: crate by crate, what contracts see of each public type, the
+                             definitions that public contracts reach, and the public contracts
+    tools/book.py --count    print the lines of each crate's definitions, and of all
+    tools/book.py --check    fail where docs/what-to-believe.md lacks a word that a public contract reaches,
+                             names one that none reaches, or states another number of lines
+
+A public contract is that of a function that another crate (or `main`, in the program's crate) can call. A word
+is reached when such a contract, the model of a public type, or a reached definition names it. Words of std and of
+the toolchain's crates are not followed, nor are words that only private contracts name. A crate of tests alone has
+no contracts.
+"""
+import re
+import sys
+from dataclasses import dataclass, field
+from pathlib import Path
+
+TOP = Path(__file__).resolve().parent.parent
+PAGE = TOP / "docs" / "what-to-believe.md"
+WORD = re.compile(r"[^\W\d][\w'-]*")
+DEFINITION = re.compile(r"^(?:abbrev |unfoldable |opaque )?pub (?:record |data )?([^\s:(]+)")
+CONSTRUCTOR = re.compile(r"^  (?:pub )?([^\s:]+) :")
+IMPORT = re.compile(r"use Rattle\.(\w+)\.specs\.([\w.]+)\.\{([^}]*)\}")
+MODULE_IMPORT = re.compile(r"use Rattle\.(\w+)\.specs\.([\w.]+?) as (\w+)")
+# What an impl has to say besides its meaning: proofs that a law holds.
+PROOFS = {"laws", "total", "matches_partial_cmp", "matches_eq", "respects_eq"}
+
+
+@dataclass
+class Definition:
+    crate: str
+    file: str
+    name: str
+    comment: list
+    lines: list
+    uses: list = field(default_factory=list)
+
+    def key(self):
+        return (self.crate, self.file, self.name)
+
+
+@dataclass
+class Contract:
+    crate: str
+    title: str
+    text: list
+    names: set
+    imports: dict
+    is_model: bool = False
+
+
+def crates_in_order():
+    """The crates of crates.txt, each after those that it stands on."""
+    stands_on = {}
+    for line in (TOP / "crates.txt").read_text().splitlines():
+        line = line.split("#")[0].strip()
+        if line:
+            name, _, rest = line.partition(":")
+            stands_on[name.split()[0]] = rest.split()
+    order = []
+
+    def put(name):
+        if name in stands_on and name not in order:
+            for other in sorted(stands_on[name]):
+                put(other)
+            order.append(name)
+
+    for name in sorted(stands_on):
+        put(name)
+    return order
+
+
+def imports_of(text):
+    """The words that a text brings in from specs, each with its crate and file."""
+    found = {}
+    for crate, file, names in IMPORT.findall(text):
+        for name in names.split(","):
+            name, _, other = name.strip().partition(" as ")
+            found[(other or name).strip()] = (crate, file, name.strip())
+    for crate, file, alias in MODULE_IMPORT.findall(text):
+        found[alias + "."] = (crate, file, None)
+    return found
+
+
+def definitions_of(crate):
+    """The definitions of a crate's specs, by file and word; a constructor leads to its type."""
+    found = {}
+    specs = TOP / "crates" / crate / "specs"
+    for path in sorted(specs.glob("**/*.antt")):
+        file = ".".join(path.relative_to(specs).with_suffix("").parts)
+        text = path.read_text()
+        imports = imports_of(text)
+        comment, current = [], None
+        for line in text.splitlines():
+            if line.startswith("--"):
+                comment.append(line)
+                current = None
+            elif not line.strip():
+                comment, current = [], None
+            elif line.startswith("use ") or line.startswith("pub mod "):
+                current = None
+            elif current is not None:
+                current.lines.append(line)
+            else:
+                match = DEFINITION.match(line)
+                name = match.group(1) if match else line.split()[0]
+                current = Definition(crate, file, name, comment, [line])
+                found[(file, name)] = current
+                comment = []
+        for (other, _), definition in list(found.items()):
+            if other != file:
+                continue
+            definition.uses = imports
+            if " data " in " " + definition.lines[0]:
+                for line in definition.lines[1:]:
+                    match = CONSTRUCTOR.match(line)
+                    if match:
+                        found.setdefault((file, match.group(1)), definition)
+    return found
+
+
+def public_names(root):
+    """The public modules of a crate's root, and what it re-exports; a program's modules all count."""
+    text = root.read_text()
+    if root.name == "main.rt":
+        return set(re.findall(r"^(?:pub )?mod (\w+);", text, re.M)) - {"tests"}, set()
+    names = set()
+    for group in re.findall(r"^pub use ([^;]+);", text, re.M):
+        names |= set(re.findall(r"\w+", group.split("::", 1)[-1]))
+    return set(re.findall(r"^pub mod (\w+);", text, re.M)), names
+
+
+def items_of(text):
+    """The items of a source file that start at its margin, each with its comment, as lists of lines."""
+    lines, items, comment, i = text.splitlines(), [], [], 0
+    while i < len(lines):
+        line = lines[i]
+        if line.startswith("///") or line.startswith("#["):
+            comment.append(line)
+        elif line and not line[0].isspace() and line[0] not in "}/)":
+            start = i
+            if not line.rstrip().endswith((";", "{}")):
+                while i + 1 < len(lines) and not re.match(r"\}|\{\}|[^\s].*;$", lines[i]):
+                    i += 1
+            items.append((comment, lines[start : i + 1]))
+            comment = []
+        elif not line.strip():
+            comment = []
+        i += 1
+    return items
+
+
+def head_and_clauses(lines):
+    """A function's lines up to its body."""
+    head = []
+    for line in lines:
+        if line.strip() in ("{", "{}"):
+            return head
+        head.append(line)
+        if line.rstrip().endswith((";", "{}", "{")) and not re.match(r"\s*(requires|ensures)\b", line):
+            break
+    head[-1] = re.sub(r"\s*\{\}?$", "", head[-1])
+    return head
+
+
+def has_clause(lines):
+    return any(re.match(r"\s*(requires|ensures)\b", line) for line in lines)
+
+
+def members_of(lines):
+    """The functions and ghost items of an impl or a trait, each with its comment."""
+    members, comment, i = [], [], 1
+    while i < len(lines):
+        line = lines[i].strip()
+        if line.startswith("///") or line.startswith("#["):
+            comment.append(lines[i])
+        elif re.match(r"(pub(\(\w+\))? )?(const )?fn ", line):
+            indent = len(lines[i]) - len(lines[i].lstrip())
+            start = i
+            if not line.endswith((";", "{}")) or has_clause([line]):
+                while i + 1 < len(lines) and not re.match(r" {%d}(\}|\{\})|.*;$" % indent, lines[i]):
+                    i += 1
+            members.append(("fn", comment, lines[start : i + 1]))
+            comment = []
+        elif re.match(r"ghost \w+ = ", line):
+            start = i
+            while "".join(lines[start : i + 1]).count("{") > "".join(lines[start : i + 1]).count("}"):
+                i += 1
+            members.append(("ghost", comment, lines[start : i + 1]))
+            comment = []
+        elif not line:
+            comment = []
+        i += 1
+    return members
+
+
+def subject_of(header):
+    """The type that an impl is for, and the trait, if any."""
+    header = re.sub(r"^impl(<[^{]*?>)?\s+(?=[A-Z(&])", "", header.rstrip("{ "))
+    trait, _, rest = header.rpartition(" for ")
+    return re.match(r"&?\s*(?:mut )?(\w+)", rest or header).group(1), trait
+
+
+def contracts_of(crate):
+    """What a crate's public functions promise, and what contracts see of its public types."""
+    source = TOP / "crates" / crate / "src"
+    root = source / ("main.rt" if (source / "main.rt").exists() else "lib.rt")
+    modules, exported = public_names(root)
+    files = [p for p in sorted(source.glob("**/*.rt")) if "tests" not in p.parts and p.stem != "tests"]
+    parsed = {path: items_of(path.read_text()) for path in files}
+
+    def is_public(path, name):
+        return path.relative_to(source).parts[0].removesuffix(".rt") in modules or name in exported
+
+    types = set()
+    for path, items in parsed.items():
+        for _, lines in items:
+            match = re.match(r"pub (?:struct|enum|trait) (\w+)", lines[0])
+            if match and is_public(path, match.group(1)):
+                types.add(match.group(1))
+    found = []
+    for path, items in parsed.items():
+        imports = imports_of(path.read_text())
+
+        def put(title, comment, lines, is_model=False):
+            names = set(WORD.findall("\n".join(lines)))
+            found.append(Contract(crate, title, comment + lines, names, imports, is_model))
+
+        for comment, lines in items:
+            match = re.match(r"pub (?:const )?fn (\w+)", lines[0])
+            if match and is_public(path, match.group(1)) and has_clause(lines):
+                put(match.group(1), comment, head_and_clauses(lines))
+            match = re.match(r"pub trait (\w+)", lines[0])
+            if match and match.group(1) in types:
+                for kind, note, member in members_of(lines):
+                    if kind == "ghost" or has_clause(member):
+                        put(match.group(1), note, head_and_clauses(member) if kind == "fn" else member)
+            if lines[0].startswith("impl"):
+                subject, trait = subject_of(lines[0])
+                if subject not in types:
+                    continue
+                for kind, note, member in members_of(lines):
+                    if kind == "ghost":
+                        name = re.match(r"\s*ghost (\w+)", member[0]).group(1)
+                        if name not in PROOFS:
+                            put(subject, note, member, trait == "Model")
+                    elif has_clause(member) and (trait or member[0].strip().startswith("pub ")) and "pub(" not in member[0]:
+                        put(subject, note, head_and_clauses(member))
+    return found
+
+
+def reach(contracts, definitions):
+    """The definitions that the contracts reach, and those that these reach."""
+    reached, waiting = {}, []
+
+    def lead(names, crate, file, imports):
+        for name in names:
+            target = imports.get(name)
+            if target is None and file is not None:
+                target = (crate, file, name)
+            if target is None or target[0] not in definitions:
+                continue
+            definition = definitions[target[0]].get((target[1], target[2]))
+            if definition is not None and definition.key() not in reached:
+                reached[definition.key()] = definition
+                waiting.append(definition)
+
+    for contract in contracts:
+        lead(contract.names, contract.crate, None, contract.imports)
+    while waiting:
+        definition = waiting.pop()
+        text = "\n".join(line.split(" -- ")[0] for line in definition.lines)
+        lead(set(WORD.findall(text)), definition.crate, definition.file, definition.uses)
+    return reached
+
+
+def files_in_order(crate, reached):
+    """The files of a crate's reached definitions, each after those that it brings words in from."""
+    needs = {}
+    for definition in reached:
+        if definition.crate == crate:
+            others = {target[1] for target in definition.uses.values() if target[0] == crate}
+            needs.setdefault(definition.file, set()).update(others)
+    order = []
+
+    def put(file):
+        if file in needs and file not in order:
+            order.append(file)
+            for other in sorted(needs[file]):
+                put(other)
+            order.remove(file)
+            order.append(file)
+
+    for file in sorted(needs):
+        put(file)
+    return order
+
+
+def print_book(crates, contracts, definitions, reached):
+    for crate in crates:
+        own = [c for c in contracts if c.crate == crate]
+        if not own:
+            continue
+        print("=" * 100 + f"\n{crate}\n" + "=" * 100)
+        print("\n-- what contracts see of its types")
+        for contract in own:
+            if contract.is_model:
+                print("\n" + contract.title)
+                print("\n".join(contract.text))
+        print("\n-- definitions")
+        for file in files_in_order(crate, reached.values()):
+            print(f"\n-- {file}")
+            seen = set()
+            for definition in definitions[crate].values():
+                if definition.file == file and definition.key() in reached and definition.key() not in seen:
+                    seen.add(definition.key())
+                    print("\n" + "\n".join(definition.comment + definition.lines))
+        print("\n-- what its public functions promise")
+        for contract in own:
+            if not contract.is_model:
+                print("\n" + (f"[{contract.title}]" if contract.text[0].startswith(" ") else ""))
+                print("\n".join(contract.text))
+        print()
+
+
+def lines_of(reached, crate):
+    return sum(len(d.lines) for d in reached.values() if d.crate == crate)
+
+
+def check(crates, reached):
+    """What is wrong with the page: a line each."""
+    wrong = []
+    text = PAGE.read_text()
+    sections = re.split(r"^## ", text, flags=re.M)
+    for crate in crates:
+        words = {d.name for d in reached.values() if d.crate == crate}
+        section = next((s for s in sections if f"({crate})" in s.splitlines()[0]), "")
+        rows = [line for line in section.splitlines() if line.startswith("| `")]
+        named = set()
+        for row in rows:
+            named |= set(re.findall(r"`([^`]+)`", row.split("|")[2]))
+        wrong += [f"{crate}: the page lacks `{word}`" for word in sorted(words - named)]
+        wrong += [f"{crate}: no public contract reaches `{word}`" for word in sorted(named - words)]
+    total = sum(lines_of(reached, crate) for crate in crates)
+    if f"**{total} lines**" not in text:
+        wrong.append(f"the definitions have {total} lines, and the page doesn't say so")
+    return wrong
+
+
+def main():
+    crates = crates_in_order()
+    definitions = {crate: definitions_of(crate) for crate in crates}
+    contracts = [contract for crate in crates for contract in contracts_of(crate)]
+    reached = reach(contracts, definitions)
+    if "--count" in sys.argv:
+        for crate in crates:
+            print(f"{crate:12} {lines_of(reached, crate):5}")
+        print(f"{'all':12} {sum(lines_of(reached, crate) for crate in crates):5}")
+    elif "--check" in sys.argv:
+        wrong = check(crates, reached)
+        print("\n".join(wrong))
+        sys.exit(1 if wrong else 0)
+    else:
+        print_book(crates, contracts, definitions, reached)
+
+
+if __name__ == "__main__":
+    main()
