@@ -8,7 +8,8 @@
                              names one that none reaches, or states another number of lines
 
 A public contract is that of a function that another crate (or `main`, in the program's crate) can call. A word
-is reached when such a contract, the model of a public type, or a reached definition names it. Words of std and of
+is reached when such a contract, the model of a public type, or a reached definition names it; and so are the rules
+that hold between any two atomic steps of threads. Words of std and of
 the toolchain's crates are not followed, nor are words that only private contracts name. A crate of tests alone has
 no contracts.
 """
@@ -24,6 +25,8 @@ DEFINITION = re.compile(r"^(?:abbrev |unfoldable |opaque )?pub (?:record |data )
 CONSTRUCTOR = re.compile(r"^  (?:pub )?([^\s:]+) :")
 IMPORT = re.compile(r"use Rattle\.(\w+)\.specs\.([\w.]+)\.\{([^}]*)\}")
 MODULE_IMPORT = re.compile(r"use Rattle\.(\w+)\.specs\.([\w.]+?) as (\w+)")
+# What holds between any two atomic steps of threads: no single contract names it.
+RULES = (("pb_shared", "Rule", "DeskRule"), ("pb_price", "Claims", "ClaimRule"))
 # What an impl has to say besides its meaning: proofs that a law holds.
 PROOFS = {"laws", "total", "matches_partial_cmp", "matches_eq", "respects_eq"}
 
@@ -92,14 +95,17 @@ def definitions_of(crate):
         file = ".".join(path.relative_to(specs).with_suffix("").parts)
         text = path.read_text()
         imports = imports_of(text)
-        comment, current = [], None
+        comment, current, within = [], None, ""
         for line in text.splitlines():
+            # The definitions of a module with parameters stand two columns in.
+            within = "  " if line.startswith("module ") else within if line[:2] in ("", "  ") else ""
+            line = line.removeprefix(within)
             if line.startswith("--"):
                 comment.append(line)
                 current = None
             elif not line.strip():
                 comment, current = [], None
-            elif line.startswith("use ") or line.startswith("pub mod "):
+            elif line.startswith(("use ", "pub mod ", "module ")):
                 current = None
             elif current is not None:
                 current.lines.append(line)
@@ -267,6 +273,9 @@ def reach(contracts, definitions):
                 reached[definition.key()] = definition
                 waiting.append(definition)
 
+    for crate, file, rule in RULES:
+        if crate in definitions:
+            lead([rule], crate, file, {})
     for contract in contracts:
         lead(contract.names, contract.crate, None, contract.imports)
     while waiting:
