@@ -26,7 +26,7 @@ CONSTRUCTOR = re.compile(r"^  (?:pub )?([^\s:]+) :")
 IMPORT = re.compile(r"use Rattle\.(\w+)\.specs\.([\w.]+)\.\{([^}]*)\}")
 MODULE_IMPORT = re.compile(r"use Rattle\.(\w+)\.specs\.([\w.]+?) as (\w+)")
 # What holds between any two atomic steps of threads: no single contract names it.
-RULES = (("pb_shared", "Rule", "DeskRule"), ("pb_price", "Claims", "ClaimRule"))
+RULES = (("pb_shared", "Rule", "DeskRule"), ("pb_price", "Claims", "AreClaims"))
 # What an impl has to say besides its meaning: proofs that a law holds.
 PROOFS = {"laws", "total", "matches_partial_cmp", "matches_eq", "respects_eq"}
 

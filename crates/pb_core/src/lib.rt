@@ -27,6 +27,3 @@ pub use project::Project;
 pub use request::Request;
 pub use voter::Voter;
 pub use voter_id::VoterId;
-
-#[cfg(test)]
-mod tests;

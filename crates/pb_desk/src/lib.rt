@@ -45,6 +45,3 @@ pub use journal_audit::audit;
 pub use start_fault::StartFault;
 pub use version::Version;
 pub use write_fault::WriteFault;
-
-#[cfg(test)]
-mod tests;

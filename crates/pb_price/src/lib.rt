@@ -13,8 +13,6 @@ mod price_fault;
 mod steps;
 pub mod supporters;
 pub mod tally;
-#[cfg(test)]
-mod tests;
 mod voter_list;
 mod worker;
 

@@ -16,6 +16,3 @@ mod section;
 pub use fault::{ReadFault, ReadKind};
 pub use laws::one_answer;
 pub use read::{MOST_RECORDS, read_pb};
-
-#[cfg(test)]
-mod tests;

@@ -13,5 +13,3 @@ mod round;
 mod run;
 mod run_end;
 mod standing;
-#[cfg(test)]
-mod tests;

@@ -15,6 +15,3 @@ pub use number::read_number;
 pub use places::{read_place_list, read_places, write_places};
 pub use records::Records;
 pub use rows_writer::RowsWriter;
-
-#[cfg(test)]
-mod tests;

@@ -1,4 +1,3 @@
-use crate::{AuditFault, Desk, DeskFault, IntoFault, Version, WriteFault, audit};
 use pb_core::answer::Answer;
 use pb_core::ballot::Ballot;
 use pb_core::devices::{FailsAfter, FailsAt};
@@ -8,6 +7,7 @@ use pb_core::project::Project;
 use pb_core::request::Request;
 use pb_core::voter::Voter;
 use pb_core::voter_id::VoterId;
+use pb_desk::{AuditFault, Desk, DeskFault, IntoFault, Version, WriteFault, audit};
 use std::alloc::Global;
 use std::io;
 use std::process::Abort;

@@ -1,5 +1,5 @@
-use crate::{MOST_RECORDS, ReadFault, ReadKind, read_pb};
 use pb_core::election::Election;
+use pb_read::{MOST_RECORDS, ReadFault, ReadKind, read_pb};
 use std::alloc::{AllocError, Global};
 use std::io;
 use std::io::{ErrorKind, Read};

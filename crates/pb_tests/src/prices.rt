@@ -3,15 +3,15 @@ ghost use Rattle.std.specs.Bool.{OnTrue};
 ghost use Rattle.pb_core.specs.Election.{most_projects};
 ghost use Rattle.pb_price.specs.Price.{AreRests};
 
-use crate::gate::{Gate, NoGate};
-use crate::price::price;
-use crate::{PriceFault, Supporters, Tally, price_all, price_in_steps};
 use pb_core::ballot::Ballot;
 use pb_core::election::Election;
 use pb_core::money::Money;
 use pb_core::project::Project;
 use pb_core::voter::Voter;
 use pb_core::voter_id::VoterId;
+use pb_price::gate::{Gate, NoGate};
+use pb_price::price::price;
+use pb_price::{PriceFault, Supporters, Tally, price_all, price_in_steps};
 use std::alloc::Global;
 use std::process::Abort;
 use std::sync::atomic::Ordering::SeqCst;

@@ -1,6 +1,6 @@
-use crate::devices::{FailsAfter, FailsAt, TakesNone, TakesOne};
-use crate::laws::{money_is_what_its_text_names, money_reads_back};
-use crate::{Ballot, Election, Money, MoneyFault, NoMemory, Project, Request, Voter, VoterId};
+use pb_core::devices::{FailsAfter, FailsAt, TakesNone, TakesOne};
+use pb_core::laws::{money_is_what_its_text_names, money_reads_back};
+use pb_core::{Ballot, Election, Money, MoneyFault, NoMemory, Project, Request, Voter, VoterId};
 use std::alloc::Global;
 use std::io::{Read, Write};
 use std::process::Abort;

@@ -1,0 +1,17 @@
+//! Tests of the library crates: what no contract says, and each public call once with ample memory.
+//!
+//! They stand apart, since a crate that has tests is proved a second time with them.
+#![tactic(auto)]
+
+#[cfg(test)]
+mod counting;
+#[cfg(test)]
+mod prices;
+#[cfg(test)]
+mod reading;
+#[cfg(test)]
+mod rows;
+#[cfg(test)]
+mod serving;
+#[cfg(test)]
+mod values;
