@@ -6,6 +6,8 @@
 #[cfg(test)]
 mod counting;
 #[cfg(test)]
+mod faults;
+#[cfg(test)]
 mod prices;
 #[cfg(test)]
 mod reading;
