@@ -28,7 +28,8 @@ AreBelowOnce numbers next = (weight : ℕ → ℕ) → sum_by weight numbers ≡
 
 -- the same of the numbers in all views together
 abbrev pub AllBelowOnce : List Drawn → ℕ → Type 0
-AllBelowOnce views next = (weight : ℕ → ℕ) → sum_by (λ v. sum_by weight v.numbers) views ≡ sum_by weight (range_with_len 0 next)
+AllBelowOnce views next = (weight : ℕ → ℕ) → sum_by (λ v. sum_by weight v.numbers) views
+    ≡ sum_by weight (range_with_len 0 next)
 
 -- the state of the claims between any two steps
 pub record AreClaims {S : Type 0} (pieces workers : ℕ) (s : State S Drawn) : Type 0 where

@@ -5,4 +5,5 @@ use Rattle.pb_core.specs.Ballot.{approves}
 pub record AddsVoter (old new : List (List ℕ)) (voter : ℕ) (ballot : List ℕ) : Type 0 where
   pub same_length : length new ≡ length old
   pub added : (place : ℕ) → place < length old
-      → slice_index_or new place [] ≡ slice_index_or old place [] ++ (if approves ballot place then voter ∷ [] else [])
+      → slice_index_or new place []
+      ≡ slice_index_or old place [] ++ (if approves ballot place then voter ∷ [] else [])

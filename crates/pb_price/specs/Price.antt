@@ -19,7 +19,8 @@ largest_rest (voter ∷ others) rests = max (slice_index rests voter) (largest_r
 -- the price: the first payment, up to the largest rest, at which the supporters cover the cost
 unfoldable pub price_of : List ℕ → List ℕ → ℕ → Option ℕ
 price_of supporters rests cost =
-    find (λ p. nat_le cost (paid_at supporters rests p)) (range_with_len 0 (largest_rest supporters rests + 1))
+    find (λ p. nat_le cost (paid_at supporters rests p))
+    (range_with_len 0 (largest_rest supporters rests + 1))
 
 -- p is the least payment that covers the cost
 pub record IsLeastPayment (supporters rests : List ℕ) (cost p : ℕ) : Type 0 where

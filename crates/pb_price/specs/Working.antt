@@ -13,14 +13,16 @@ pub record IsAnswer (s : SupportView) (rests projects : List ℕ) (answer : Answ
   pub is_price : answer.price ≡ price_at s rests (slice_index projects answer.piece)
 
 -- a worker at work: it has an answer for each number that it drew
-pub record IsWorking (s : SupportView) (rests projects : List ℕ) (v : Drawn) (answers : List Answer) : Type 0 where
+pub record IsWorking (s : SupportView) (rests projects : List ℕ) (v : Drawn)
+    (answers : List Answer) : Type 0 where
   pub one_seat : v.seats ≡ 1
   pub drawn : v.numbers ≡ map (λ answer. answer.piece) answers
   pub right : All (IsAnswer s rests projects) answers
   pub few : length answers ≤ length projects
 
 -- a worker that is done: so for each number but the last, which is no piece
-pub record IsDone (s : SupportView) (rests projects : List ℕ) (v : Drawn) (answers : List Answer) : Type 0 where
+pub record IsDone (s : SupportView) (rests projects : List ℕ) (v : Drawn)
+    (answers : List Answer) : Type 0 where
   pub last : ℕ
   pub is_past_end : length projects ≤ last
   pub one_seat : v.seats ≡ 1
@@ -41,7 +43,8 @@ drawn_pieces pieces numbers = count_by (λ n. nat_lt n pieces) numbers
 
 -- the answers of some workers, gathered: each piece that they drew has its price, as many were priced as pieces drawn,
 -- and each worker drew a number that is no piece
-pub record AreGathered (s : SupportView) (rests projects : List ℕ) (v : Drawn) (prices : List (Option ℕ)) (priced : ℕ) : Type 0 where
+pub record AreGathered (s : SupportView) (rests projects : List ℕ) (v : Drawn) (prices : List (Option ℕ))
+    (priced : ℕ) : Type 0 where
   pub one_each : length prices ≡ length projects
   pub right : (piece : ℕ) → piece < length projects → 0 < times piece v.numbers
       → slice_index_or prices piece None ≡ price_at s rests (slice_index projects piece)

@@ -53,9 +53,11 @@ pub fn price_all<
     requires known { All (λ place. place < length supporters.now.costs) projects.now }
     requires few { length projects.now ≤ most_projects }
     // which refusals come
-    ensures workers { MatchBool (is_worker_count workers) (IsOkUnless result PriceFault.NoMemory) (result ≡ Err PriceFault.WorkerCount) }
+    ensures workers { MatchBool (is_worker_count workers) (IsOkUnless result PriceFault.NoMemory)
+        (result ≡ Err PriceFault.WorkerCount) }
     // what is answered
-    ensures prices { IfOk result (λ answers. answers.items ≡ map (price_at supporters.now rests.now) projects.now) }
+    ensures prices { IfOk result (λ answers.
+        answers.items ≡ map (price_at supporters.now rests.now) projects.now) }
     // what becomes of the tally
     ensures counted { OnOk result (tally.new ≡ min (tally.old + length projects.now) largest_count) }
     ensures refused { OnErr result (tally.new ≡ tally.old) }
@@ -117,7 +119,8 @@ fn price_side_by_side<
     requires known { All (λ place. place < length supporters.now.costs) projects.now }
     requires few { length projects.now ≤ most_projects }
     requires some { 0 < workers }
-    ensures prices { IfOk result (λ g. g.prices.items ≡ map (price_at supporters.now rests.now) projects.now) }
+    ensures prices { IfOk result (λ g.
+        g.prices.items ≡ map (price_at supporters.now rests.now) projects.now) }
     ensures priced { IfOk result (λ g. g.priced ≡ length projects.now) }
 {
     let pieces = projects.len() as u32;
@@ -155,8 +158,11 @@ fn work_side_by_side<
     requires known { All (λ place. place < length supporters.now.costs) projects.now }
     requires few { length projects.now ≤ most_projects }
     ensures all { IfOk result (λ done. length done.items ≡ length staff.items) }
-    ensures same { IfOk result (λ done. All (λ r. IfOk r (λ w. w.claim.seat.table_id ≡ claims.now.table.shared.table_id)) done.items) }
-    ensures done { IfOk result (λ done. All (λ r. IfOk r (λ w. IsDone supporters.now rests.now projects.now w.claim.seat.me.0 w.answers.items)) done.items) }
+    ensures same { IfOk result (λ done.
+        All (λ r. IfOk r (λ w. w.claim.seat.table_id ≡ claims.now.table.shared.table_id)) done.items) }
+    ensures done { IfOk result (λ done.
+        All (λ r. IfOk r (λ w.
+        IsDone supporters.now rests.now projects.now w.claim.seat.me.0 w.answers.items)) done.items) }
 {
     let work = |worker: Worker<A>| -> Result<Worker<A>, NoMemory>
         requires same { worker.claim.seat.table_id ≡ claims.now.table.shared.table_id }
@@ -166,7 +172,8 @@ fn work_side_by_side<
         requires known { All (λ place. place < length supporters.now.costs) projects.now }
         requires few { length projects.now ≤ most_projects }
         ensures same { IfOk result (λ w. w.claim.seat.table_id ≡ claims.entry.now.table.shared.table_id) }
-        ensures done { IfOk result (λ w. IsDone supporters.entry.now rests.entry.now projects.entry.now w.claim.seat.me.0 w.answers.items) }
+        ensures done { IfOk result (λ w.
+            IsDone supporters.entry.now rests.entry.now projects.entry.now w.claim.seat.me.0 w.answers.items) }
     { worker.work(claims, gate, projects, supporters, rests) };
     Ok(thread::map_vec(rt, staff, &work)?)
 }

@@ -47,7 +47,8 @@ impl<A: Allocator> Claims<A> {
         requires fresh { claim.old.seat.me.0.numbers ≡ [] }
         ensures same { claim.new.seat.table_id ≡ self.now.table.shared.table_id }
         ensures left { claim.new.seat.me.0 ≡ drawn (claim.old.seat.me.0.seats - 1) [] }
-        ensures worker { (result.seat.table_id ≡ self.now.table.shared.table_id) × (result.seat.me.0 ≡ drawn 1 []) }
+        ensures worker { (result.seat.table_id ≡ self.now.table.shared.table_id)
+            × (result.seat.me.0 ≡ drawn 1 []) }
     {
         let seat = self.table.shared.split_seat::<OneSeat>(&mut claim.seat);
         Claim { seat }
@@ -58,15 +59,18 @@ impl<A: Allocator> Claims<A> {
         requires same { claim.old.seat.table_id ≡ self.now.table.shared.table_id }
         requires may_draw { past_end self.now.table.shared.key.pieces claim.old.seat.me.0.numbers < claim.old.seat.me.0.seats }
         ensures same { claim.new.seat.table_id ≡ self.now.table.shared.table_id }
-        ensures drawn { claim.new.seat.me.0 ≡ drawn claim.old.seat.me.0.seats (claim.old.seat.me.0.numbers ++ result ∷ []) }
-        ensures once { (weight : ℕ → ℕ) → sum_by weight claim.new.seat.me.0.numbers ≤ sum_by weight (range_with_len 0 (result + 1)) }
+        ensures drawn { claim.new.seat.me.0 ≡ drawn claim.old.seat.me.0.seats
+            (claim.old.seat.me.0.numbers ++ result ∷ []) }
+        ensures once { (weight : ℕ → ℕ) → sum_by weight claim.new.seat.me.0.numbers
+            ≤ sum_by weight (range_with_len 0 (result + 1)) }
     {
         self.table.shared.fetch_add::<Draw>(&mut claim.seat, 0, 1)
     }
 
     /// Puts another claim's seats and numbers to this one's.
     pub(crate) fn join(&self, claim: &mut Claim, other: Claim)
-        requires same { (claim.old.seat.table_id ≡ self.now.table.shared.table_id) × (other.seat.table_id ≡ self.now.table.shared.table_id) }
+        requires same { (claim.old.seat.table_id ≡ self.now.table.shared.table_id)
+            × (other.seat.table_id ≡ self.now.table.shared.table_id) }
         ensures same { claim.new.seat.table_id ≡ self.now.table.shared.table_id }
         ensures joined { claim.new.seat.me.0 ≡ joined claim.old.seat.me.0 other.seat.me.0 }
     {

@@ -6,7 +6,8 @@ ghost use Rattle.pb_price.specs.Price.{price_of, IsPrice, NoRestRises};
 /// A price is the least payment by which the supporters cover the cost, and there is none just where all that is left to
 /// them together is below the cost.
 pub fn price_is_least_payment()
-    ensures { (supporters rests : List ℕ) (cost : ℕ) → IsPrice supporters rests cost (price_of supporters rests cost) }
+    ensures { (supporters rests : List ℕ) (cost : ℕ)
+        → IsPrice supporters rests cost (price_of supporters rests cost) }
 {}
 
 /// Where no rest rises, no price falls, and a project without a price gets none.

@@ -25,7 +25,8 @@ pub fn price<A: Allocator, B: Allocator>(
     requires rests { AreRests supporters.now.voters rests.now }
     requires known { place < length supporters.now.costs }
     ensures price { IfOk result (λ answer. answer ≡ price_at supporters.now rests.now place) }
-    ensures least { IfOk result (IsPrice (supporters_at supporters.now place) rests.now (cost_at supporters.now place)) }
+    ensures least { IfOk result (IsPrice (supporters_at supporters.now place) rests.now
+        (cost_at supporters.now place)) }
     ensures counted { OnOk result (tally.new ≡ min (tally.old + 1) largest_count) }
     ensures err { OnErr result (tally.new ≡ tally.old) }
 {
@@ -45,7 +46,8 @@ pub fn price_with<A: Allocator, B: Allocator>(
     requires rests { AreRests supporters.now.voters rests.now }
     requires known { place < length supporters.now.costs }
     ensures price { IfOk result (λ answer. answer ≡ price_at supporters.now rests.now place) }
-    ensures least { IfOk result (IsPrice (supporters_at supporters.now place) rests.now (cost_at supporters.now place)) }
+    ensures least { IfOk result (IsPrice (supporters_at supporters.now place) rests.now
+        (cost_at supporters.now place)) }
     ensures counted { OnOk result (tally.new ≡ min (tally.old + 1) largest_count) }
     ensures err { OnErr result (tally.new ≡ tally.old) }
 {

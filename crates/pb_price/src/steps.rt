@@ -27,7 +27,8 @@ pub fn price_in_steps<A: Allocator>(
     requires rests { AreRests supporters.now.voters rests.now }
     requires known { place < length supporters.now.costs }
     ensures price { result ≡ price_at supporters.now rests.now place }
-    ensures least { IsPrice (supporters_at supporters.now place) rests.now (cost_at supporters.now place) result }
+    ensures least { IsPrice (supporters_at supporters.now place) rests.now
+        (cost_at supporters.now place) result }
 {
     let list = supporters.of(place);
     let cost = supporters.cost(place).0;

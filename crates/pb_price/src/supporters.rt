@@ -24,7 +24,8 @@ impl<A: Allocator> Model for Supporters<A> {
 
     ghost view = { λ s. record { voters = s.voters; costs = s.costs.items; supporters = s.lists.items } };
 
-    ghost invariant = { λ s. IsSupport (record { voters = s.voters; costs = s.costs.items; supporters = s.lists.items }) };
+    ghost invariant = { λ s. IsSupport
+        (record { voters = s.voters; costs = s.costs.items; supporters = s.lists.items }) };
 }
 
 impl<A: Allocator> Supporters<A> {

@@ -38,7 +38,8 @@ impl<A: Allocator> Worker<A> {
         requires known { All (λ place. place < length supporters.now.costs) projects.now }
         requires few { length projects.now ≤ most_projects }
         ensures same { IfOk result (λ w. w.claim.seat.table_id ≡ claims.now.table.shared.table_id) }
-        ensures done { IfOk result (λ w. IsDone supporters.now rests.now projects.now w.claim.seat.me.0 w.answers.items) }
+        ensures done { IfOk result (λ w.
+            IsDone supporters.now rests.now projects.now w.claim.seat.me.0 w.answers.items) }
     {
         loop {
             let number = claims.draw(&mut self.claim);
@@ -65,8 +66,10 @@ pub(crate) fn staff<A: Allocator + Copy>(
     ensures same { stock.new.seat.table_id ≡ claims.now.table.shared.table_id }
     ensures seats { OnOk result (stock.new.seat.me.0 ≡ drawn 0 []) }
     ensures all { IfOk result (λ v. length v.items ≡ workers) }
-    ensures claims { IfOk result (λ v. All (λ w. w.claim.seat.table_id ≡ claims.now.table.shared.table_id) v.items) }
-    ensures fresh { IfOk result (λ v. All (λ w. (w.claim.seat.me.0 ≡ drawn 1 []) × (w.answers.items ≡ [])) v.items) }
+    ensures claims { IfOk result (λ v.
+        All (λ w. w.claim.seat.table_id ≡ claims.now.table.shared.table_id) v.items) }
+    ensures fresh { IfOk result (λ v.
+        All (λ w. (w.claim.seat.me.0 ≡ drawn 1 []) × (w.answers.items ≡ [])) v.items) }
 {
     let mut staff = Vec::with_capacity(alloc, workers as usize)?;
     for number in 0..workers {

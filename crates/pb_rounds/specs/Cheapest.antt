@@ -22,15 +22,19 @@ rests_after s rests (w ∷ elected) = rests_after s (charged (supporters_at s w.
 
 -- w was elected at these rests, after those before it, at its price; it was cheaper than each other project that was left and
 -- could be paid, or as cheap and earlier in the file
-pub record WasCheapest (m : Measure) (s : SupportView) (rests : List ℕ) (before : List ElectedView) (w : ElectedView) : Type 0 where
+pub record WasCheapest (m : Measure) (s : SupportView) (rests : List ℕ) (before : List ElectedView)
+    (w : ElectedView) : Type 0 where
   pub known : w.place < length s.costs
   pub was_left : All (λ v. v.place ≢ w.place) before
   pub priced : price_at s rests w.place ≡ Some w.price
-  pub cheapest : (other price : ℕ) → other < length s.costs → other ≢ w.place → All (λ v. v.place ≢ other) before
+  pub cheapest : (other price : ℕ) → other < length s.costs → other ≢ w.place
+      → All (λ v. v.place ≢ other) before
       → price_at s rests other ≡ Some price
-      → IsCheaper m s w.place w.price other price ⊎ (IsAsCheap m s w.place w.price other price × w.place < other)
+      → IsCheaper m s w.place w.price other price
+      ⊎ (IsAsCheap m s w.place w.price other price × w.place < other)
 
 -- each of the elected, in order of election from this share, was the cheapest of its round
 abbrev pub EachWasCheapest : Measure → SupportView → ℕ → List ElectedView → Type 0
 EachWasCheapest m s share elected = (before : List ElectedView) (w : ElectedView) (later : List ElectedView)
-    → elected ≡ before ++ w ∷ later → WasCheapest m s (rests_after s (replicate s.voters share) before) before w
+    → elected ≡ before ++ w ∷ later
+    → WasCheapest m s (rests_after s (replicate s.voters share) before) before w

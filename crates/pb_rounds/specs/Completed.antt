@@ -12,7 +12,8 @@ IsOver s budget elected = budget < spent_on s elected
 -- the elected are within the budget, and with any other project that somebody supports they would be over it
 pub record IsExhausted (s : SupportView) (budget : ℕ) (elected : List ElectedView) : Type 0 where
   pub within : spent_on s elected ≤ budget
-  pub no_room : (place : ℕ) → place < length s.costs → All (λ w. w.place ≢ place) elected → 0 < length (supporters_at s place)
+  pub no_room : (place : ℕ) → place < length s.costs → All (λ w. w.place ≢ place) elected
+      → 0 < length (supporters_at s place)
       → budget < spent_on s elected + cost_at s place
 
 -- Completion by raises: fewer raises give an outcome that is neither over nor exhausted, and after these the outcome is

@@ -23,12 +23,14 @@ is_over s budget elected = nat_lt budget (spent_on s elected)
 -- the project is not elected, has a supporter, and costs no more than the elected leave of the budget
 abbrev pub could_be_added : SupportView → ℕ → List ElectedView → ℕ → Bool
 could_be_added s budget elected place =
-    not (is_elected elected place) && nat_lt 0 (length (supporters_at s place)) && nat_le (cost_at s place) (budget - spent_on s elected)
+    not (is_elected elected place) && nat_lt 0 (length (supporters_at s place))
+    && nat_le (cost_at s place) (budget - spent_on s elected)
 
 -- the elected are within the budget, and no project could be added
 unfoldable pub is_exhausted : SupportView → ℕ → List ElectedView → Bool
 is_exhausted s budget elected =
-    not (is_over s budget elected) && not (list_any (could_be_added s budget elected) (range_with_len 0 (length s.costs)))
+    not (is_over s budget elected)
+    && not (list_any (could_be_added s budget elected) (range_with_len 0 (length s.costs)))
 
 -- the voters share the budget, down to whole hundredths
 abbrev pub opening_share : ElectionView → ℕ
@@ -58,7 +60,8 @@ first_decisive m e step limit = find (is_decisive m e step) (range_with_len 0 (l
 -- completion by raises: the first outcome that is exhausted, or the last one before the first that is over
 abbrev pub add1_of : Measure → ElectionView → ℕ → ℕ → Option ℕ
 add1_of m e step limit =
-    option_map (λ raises. if is_over_after m e step raises then raises - 1 else raises) (first_decisive m e step limit)
+    option_map (λ raises. if is_over_after m e step raises then raises - 1 else raises)
+    (first_decisive m e step limit)
 
 -- how many raises a completion decides on, if it does within the limit
 abbrev pub raises_of : Completion → Measure → ElectionView → ℕ → ℕ → Option ℕ
@@ -67,7 +70,8 @@ raises_of Add1 m e step limit = add1_of m e step limit
 
 -- the outcome after this many raises
 abbrev pub settled_after : Measure → ElectionView → ℕ → ℕ → Settled
-settled_after m e step raises = settled_by (share_after e step raises) raises (outcome_of m e (share_after e step raises))
+settled_after m e step raises =
+    settled_by (share_after e step raises) raises (outcome_of m e (share_after e step raises))
 
 -- the count: the outcome after as many raises as the completion decides on; none where it does not decide within the limit
 abbrev pub count_of : ElectionView → CountOptions → Option Settled

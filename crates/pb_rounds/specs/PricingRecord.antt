@@ -14,7 +14,8 @@ known_after s rests priced known place = if is_listed priced place then price_at
 
 -- the project's known price does not come after the winner's
 abbrev pub is_in_time : Measure → SupportView → Bid → (ℕ → Option ℕ) → ℕ → Bool
-is_in_time m s winner known place = option_map_or (λ price. not (is_before winner (bid m s place price))) (known place) false
+is_in_time m s winner known place =
+    option_map_or (λ price. not (is_before winner (bid m s place price))) (known place) false
 
 -- these of the projects left are priced, none twice
 pub record ArePriced (left priced : List ℕ) : Type 0 where
@@ -23,33 +24,39 @@ pub record ArePriced (left priced : List ℕ) : Type 0 where
 
 -- A round that elects the winner, and prices these: the winner is among them; after the round no known price of a project
 -- left comes before the winner's; and they are at most workers - 1 more than the projects whose known price was in time.
-pub record IsPricedRound (m : Measure) (s : SupportView) (workers : ℕ) (rests left : List ℕ) (known : ℕ → Option ℕ)
+pub record IsPricedRound (m : Measure) (s : SupportView) (workers : ℕ) (rests left : List ℕ)
+    (known : ℕ → Option ℕ)
     (winner : Bid) (priced : List ℕ) : Type 0 where
   pub are_priced : ArePriced left priced
   pub has_winner : is_listed priced winner.place ≡ true
-  pub none_before : (place price : ℕ) → is_listed left place ≡ true → known_after s rests priced known place ≡ Some price
+  pub none_before : (place price : ℕ) → is_listed left place ≡ true
+      → known_after s rests priced known place ≡ Some price
       → is_before (bid m s place price) winner ≡ false
   pub few : length priced ≤ workers - 1 + count_by (is_in_time m s winner known) left
 
 -- the last round, which elects nobody, and prices these: after it each project left is known to have no price
-pub record IsPricedEnd (s : SupportView) (rests left : List ℕ) (known : ℕ → Option ℕ) (priced : List ℕ) : Type 0 where
+pub record IsPricedEnd (s : SupportView) (rests left : List ℕ) (known : ℕ → Option ℕ)
+    (priced : List ℕ) : Type 0 where
   pub are_priced : ArePriced left priced
   pub all_none : (place : ℕ) → is_listed left place ≡ true → known_after s rests priced known place ≡ None
   pub few : length priced ≤ length left
 
 -- The lists of the projects priced, one for each round of a run from these rests on, with these projects left and these
 -- known prices: each round but the last elects the best of it, and the next begins where it ends.
-abbrev pub PricingRecord : Measure → SupportView → ℕ → List ℕ → List ℕ → (ℕ → Option ℕ) → List (List ℕ) → Type 0
+abbrev pub PricingRecord : Measure → SupportView → ℕ → List ℕ → List ℕ → (ℕ → Option ℕ) → List (List ℕ)
+    → Type 0
 PricingRecord m s workers rests left known [] = ⊥
 PricingRecord m s workers rests left known (priced ∷ later) =
     MatchOption (best_of m s rests left)
     (IsPricedEnd s rests left known priced × (later ≡ []))
     (λ winner. IsPricedRound m s workers rests left known winner priced
-    × PricingRecord m s workers (charged (supporters_at s winner.place) winner.price rests) (without winner.place left)
+    × PricingRecord m s workers (charged (supporters_at s winner.place) winner.price rests)
+    (without winner.place left)
     (known_after s rests priced known) later)
 
 -- these are the numbers of prices of a pricing record of a run at this share, where each known price is 0 at first
 abbrev pub HasPricing : Measure → SupportView → ℕ → ℕ → List ℕ → Type 0
 HasPricing m s workers share priced = (record_of : List (List ℕ))
-    × PricingRecord m s workers (replicate s.voters share) (range_with_len 0 (length s.costs)) (λ _. Some 0) record_of
+    × PricingRecord m s workers (replicate s.voters share) (range_with_len 0 (length s.costs))
+    (λ _. Some 0) record_of
     × (priced ≡ map length record_of)

@@ -37,7 +37,8 @@ IsDone None (head ∷ queue) = ⊥
 IsDone (Some best) (head ∷ queue) = is_before best head ≡ true
 
 -- some heads are taken from the queue, at most this many, and their places put after others; none only where the round is done
-pub record TakesHeads (best : Option Bid) (most : ℕ) (queue rest : List Bid) (places all : List ℕ) : Type 0 where
+pub record TakesHeads (best : Option Bid) (most : ℕ) (queue rest : List Bid)
+    (places all : List ℕ) : Type 0 where
   pub heads : List Bid
   pub cut : queue ≡ heads ++ rest
   pub placed : all ≡ places ++ places_of heads
@@ -76,10 +77,12 @@ pub record IsFull (m : Measure) (s : SupportView) (projects : ℕ) (queue : List
 -- a mark for each project: whether it is elected
 pub record AreMarked (s : SupportView) (elected : List ElectedView) (marks : List Bool) : Type 0 where
   pub one_each : length marks ≡ length s.costs
-  pub marked : (place : ℕ) → place < length s.costs → slice_index_or marks place false ≡ is_elected elected place
+  pub marked : (place : ℕ) → place < length s.costs
+      → slice_index_or marks place false ≡ is_elected elected place
 
 -- a whole run: its outcome, its pricing record, the marks of the elected and what they cost
-pub record IsWholeRun (m : Measure) (s : SupportView) (workers share raised : ℕ) (o : OutcomeView) (marks : List Bool) (spent : ℕ) : Type 0 where
+pub record IsWholeRun (m : Measure) (s : SupportView) (workers share raised : ℕ) (o : OutcomeView)
+    (marks : List Bool) (spent : ℕ) : Type 0 where
   pub settled_is : settled o ≡ settled_by share raised (run_of m s share)
   pub priced : HasPricing m s workers share o.priced
   pub marked : AreMarked s o.elected marks
@@ -90,7 +93,8 @@ abbrev pub is_above : Option ℕ → ℕ → Bool
 is_above limit spent = option_map_or (λ money. nat_lt money spent) limit false
 
 -- how a run ended: whole and within the limit, or with elected that cost more than it, as those of the whole run do
-abbrev pub IsRunEnd : RunEnd → Measure → SupportView → ℕ → Option ℕ → ℕ → ℕ → OutcomeView → List Bool → ℕ → Type 0
+abbrev pub IsRunEnd : RunEnd → Measure → SupportView → ℕ → Option ℕ → ℕ → ℕ → OutcomeView → List Bool → ℕ
+    → Type 0
 IsRunEnd Whole m s workers limit share raised o marks spent =
     IsWholeRun m s workers share raised o marks spent × (is_above limit spent ≡ false)
 IsRunEnd OverLimit m s workers limit share raised o marks spent =

@@ -47,11 +47,14 @@ is_listed numbers n = list_any (λ m. m == n) numbers
 -- the rests once each supporter paid the price, or the whole rest where that is less
 unfoldable pub charged : List ℕ → ℕ → List ℕ → List ℕ
 charged supporters price rests =
-    map (λ v. if is_listed supporters v then slice_index rests v - min (slice_index rests v) price else slice_index rests v) (range_with_len 0 (length rests))
+    map
+    (λ v. if is_listed supporters v then slice_index rests v - min (slice_index rests v) price else slice_index rests v)
+    (range_with_len 0 (length rests))
 
 -- the project elected by this bid
 abbrev pub elected_by : SupportView → List ℕ → Bid → ElectedView
-elected_by s rests b = record { place = b.place; price = b.price; collected = paid_at (supporters_at s b.place) rests b.price }
+elected_by s rests b =
+    record { place = b.place; price = b.price; collected = paid_at (supporters_at s b.place) rests b.price }
 
 -- the projects left without the one at this place
 abbrev pub without : ℕ → List ℕ → List ℕ
@@ -72,7 +75,8 @@ run_from m s (suc rounds) rests left =
 
 -- a run at a share: all projects are left, and every voter's rest is the share
 unfoldable pub run_of : Measure → SupportView → ℕ → RunView
-run_of m s share = run_from m s (length s.costs) (replicate s.voters share) (range_with_len 0 (length s.costs))
+run_of m s share =
+    run_from m s (length s.costs) (replicate s.voters share) (range_with_len 0 (length s.costs))
 
 -- the outcome of an election at a share
 abbrev pub outcome_of : Measure → ElectionView → ℕ → RunView

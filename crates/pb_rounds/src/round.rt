@@ -92,7 +92,8 @@ pub(crate) fn price_round<R: Threads + Sync, G: Gate, A: Allocator + Copy + Send
     requires rests { AreRests pricing.now.supporters.now.voters outcome.old.rests }
     requires known { (b : Bid) → IsIn b queue.old.keys → b.place < length pricing.now.supporters.now.costs }
     requires few { length queue.old.keys ≤ most_projects }
-    ensures priced { IfOk result (PricesHeads pricing.now.measure pricing.now.supporters.now outcome.old.rests most
+    ensures priced { IfOk result
+        (PricesHeads pricing.now.measure pricing.now.supporters.now outcome.old.rests most
         queue.old.keys queue.new.keys places.new.items fresh.new.items) }
     ensures done { IfOk result (λ best. IsDone best queue.new.keys) }
     ensures outcome { OnOk result (outcome.new

@@ -12,7 +12,8 @@ use std::alloc::Allocator;
 fn is_affordable<A: Allocator>(supporters: &Supporters<A>, place: u32, money: u128) -> bool
     requires { place < length supporters.now.costs }
     ensures { result
-        ≡ (nat_lt 0 (length (supporters_at supporters.now place)) && nat_le (cost_at supporters.now place) money) }
+        ≡ (nat_lt 0 (length (supporters_at supporters.now place))
+        && nat_le (cost_at supporters.now place) money) }
 {
     !supporters.of(place).is_empty() && u128::from(supporters.cost(place).0) <= money
 }
