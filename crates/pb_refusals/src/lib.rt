@@ -1,0 +1,11 @@
+//! What the calls of the other crates answer where an allocation, a read or a write is refused, each in
+//! turn, and where a text is cut or damaged. Beside the allocator that refuses, it has tests alone.
+#![tactic(auto)]
+
+#[cfg(test)]
+mod files;
+#[cfg(test)]
+mod journals;
+#[cfg(test)]
+mod memory;
+pub mod refusing;
