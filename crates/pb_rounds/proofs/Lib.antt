@@ -17,3 +17,4 @@ pub mod Listed
 pub mod BestBid
 pub mod BestIs
 pub mod CheapestRounds
+pub mod Room

@@ -35,7 +35,7 @@ module _ (s : SupportView) (budget : ℕ) (elected : List ElectedView) where
     | inr dear ↦ leb-false (cost_at s place) (budget - spent_on s elected) dear
   ]
 
-  exhausted_from_test : is_exhausted s budget elected ≡ true → IsExhausted s budget elected
+  pub exhausted_from_test : is_exhausted s budget elected ≡ true → IsExhausted s budget elected
   unfolding is_exhausted
   exhausted_from_test e =
       let parts = and_parts _ _ e in

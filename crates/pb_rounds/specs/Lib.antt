@@ -8,4 +8,5 @@ pub mod Outcome
 pub mod PriceSystem
 pub mod PricingRecord
 pub mod Queue
+pub mod Reach
 pub mod Run

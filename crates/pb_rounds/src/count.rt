@@ -16,10 +16,12 @@ use crate::measure::Measure;
 use crate::options::{Completion, CountOptions};
 use crate::outcome::Outcome;
 use crate::pricing::Pricing;
+use crate::reach::{raised_share, raises_with_room};
 use crate::run::Run;
 use crate::run_end::RunEnd;
 use pb_core::election::Election;
 use pb_core::money::Money;
+use pb_core::no_memory::NoMemory;
 use pb_price::gate::{Gate, NoGate};
 use pb_price::supporters::Supporters;
 use std::alloc::Allocator;
@@ -59,17 +61,6 @@ fn opening_share<B: Allocator>(election: &Election<B>) -> Money
         return Money(0);
     }
     Money(election.budget().0 / voters)
-}
-
-/// The share after this many raises.
-fn raised_share(opening: Money, raised: u32, step: Money) -> Money
-    requires opening { opening ≤ largest_money }
-    requires raised { raised ≤ 1000000 }
-    requires step { step ≤ 1000000000 }
-    ensures share { result ≡ opening + raised * step }
-    ensures small { result ≤ largest_share }
-{
-    Money(opening.0 + u64::from(raised) * step.0)
 }
 
 /// The method of equal shares at one share (Peters, Pierczynski and Skowron 2021, with whole payments): while a project
@@ -170,7 +161,30 @@ where
     }
 }
 
-/// Counts with completion by raises. A raise whose elected cost more than the budget runs no further.
+/// The outcome after this many raises.
+fn outcome_after<R: Threads + Sync, G: Gate, A: Allocator + Copy + Send + Sync, B: Allocator>(
+    pricing: &Pricing<R, G, A>,
+    election: &Election<B>,
+    step: Money,
+    raised: u32,
+) -> Result<Outcome<A>, NoMemory>
+    requires workers { is_worker_count pricing.now.workers ≡ true }
+    requires step { step ≤ 1000000000 }
+    requires raised { raised ≤ 1000000 }
+    requires supporters { pricing.now.supporters.now ≡ support_of election.now }
+    ensures settled { IfOk result (λ o. settled o ≡ settled_after pricing.now.measure election.now step raised) }
+    ensures priced { IfOk result (λ o.
+        HasPricing pricing.now.measure (support_of election.now) pricing.now.workers o.share o.priced) }
+    ensures is_support { OnOk result (IsSupport pricing.now.supporters.now) }
+{
+    let mut outcome = Outcome::unfilled(pricing.alloc);
+    let share = raised_share(opening_share(election), raised, step);
+    Run::new(pricing.alloc).run(pricing, share, raised, None, &mut outcome)?;
+    Ok(outcome)
+}
+
+/// Counts with completion by raises. The first raises that leave room decide nothing and are not run; a raise whose elected
+/// cost more than the budget runs no further.
 fn complete<R: Threads + Sync, G: Gate, A: Allocator + Copy + Send + Sync, B: Allocator>(
     pricing: &Pricing<R, G, A>,
     election: &Election<B>,
@@ -191,13 +205,18 @@ fn complete<R: Threads + Sync, G: Gate, A: Allocator + Copy + Send + Sync, B: Al
 {
     let budget = election.budget();
     let opening = opening_share(election);
+    let first = raises_with_room(pricing.supporters, budget, opening, step, max_raises);
     let mut run = Run::new(pricing.alloc);
     let mut last = Outcome::unfilled(pricing.alloc);
     let mut next = Outcome::unfilled(pricing.alloc);
-    for raised in 0..max_raises + 1 {
+    for raised in first..max_raises + 1 {
         let share = raised_share(opening, raised, step);
         let end = run.run(pricing, share, raised, Some(budget), &mut next)?;
         match end {
+            RunEnd::OverLimit if raised == first => {
+                let outcome = outcome_after(pricing, election, step, raised - 1)?;
+                return Ok(outcome);
+            }
             RunEnd::OverLimit => return Ok(last),
             RunEnd::Whole => {}
         }

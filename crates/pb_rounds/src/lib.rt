@@ -4,11 +4,13 @@
 pub mod count;
 pub mod count_fault;
 pub mod key;
+pub mod laws;
 pub mod measure;
 pub mod options;
 pub mod outcome;
 mod pricing;
 mod queue;
+mod reach;
 mod round;
 mod run;
 mod run_end;

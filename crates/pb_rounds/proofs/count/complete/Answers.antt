@@ -3,6 +3,7 @@ use Rattle.pb_price.specs.Supporters.{support_of}
 use Rattle.pb_rounds.specs.Count.{settled_after}
 use Rattle.pb_rounds.specs.Outcome.{OutcomeView, settled}
 use Rattle.pb_rounds.specs.PricingRecord.{HasPricing}
+use Rattle.pb_rounds.proofs.Room.{room_goes_on}
 use Rattle.pb_rounds.proofs.Completion.{exhausted_decides, exhausted_settled, goes_on, next_priced, next_settled, over_decides, over_settled, raised_once, raises_spent}
 use Rattle.pb_rounds.proofs.RunQueue.{over_from_end, whole_from_end}
 use Rattle.pb_rounds.proofs.count.complete.Goals as goal
@@ -10,13 +11,29 @@ use Rattle.pb_rounds.proofs.count.complete.Goals as goal
 raise_back : (n : ℕ) → n ≡ n + 1 - 1
 raise_back n = omega arith
 
+pub loop-raised-init : goal.loop-raised-init
+loop-raised-init g c = record {
+  from = omega arith;
+  tried = λ raises below. room_goes_on c.args.pricing.now.measure c.args.election.now c.args.step raises c.args.pricing.now.supporters.now c.requires.supporters
+      c.budget-budget.result c.budget-budget.ensures.budget c.opening_share-opening.result c.opening_share-opening.ensures.share
+      (c.raises_with_room-first.ensures.room raises below);
+  last = λ some. absurd (omega (arith, some));
+  priced = λ some. absurd (omega (arith, some));
+}
+
+pub overflow_sub-raised : goal.overflow_sub-raised
+overflow_sub-raised g c = raised_once c.args.pricing.now.measure c.args.election.now c.args.step c.args.max_raises c.loop-raised.raised (omega (arith, c.loop-raised-test.true)) c.loop-raised.invariant.tried
+    c.args.pricing.now.supporters.now c.requires.supporters c.in_ok-end.ensures.is_support c.opening_share-opening.result c.opening_share-opening.ensures.share
+    c.raised_share-share.result c.raised_share-share.ensures.share c.budget-budget.result c.budget-budget.ensures.budget
+    (over_from_end c.args.pricing.now.measure c.args.pricing.now.supporters.now c.args.pricing.now.workers c.raised_share-share.result c.loop-raised.raised c.run.new.outcome c.run.new.self.marks.items c.run.new.self.spent c.budget-budget.result c.in_ok-end.end c.in-OverLimit.is c.in_ok-end.ensures.ended)
+
 pub returns-in-OverLimit-clause-decided : goal.returns-in-OverLimit-clause-decided
 returns-in-OverLimit-clause-decided g c =
     over_decides c.args.pricing.now.measure c.args.election.now c.args.step c.args.max_raises c.loop-raised.raised (omega (arith, c.loop-raised-test.true)) c.loop-raised.invariant.tried
     c.args.pricing.now.supporters.now c.requires.supporters c.in_ok-end.ensures.is_support c.opening_share-opening.result c.opening_share-opening.ensures.share
     c.raised_share-share.result c.raised_share-share.ensures.share c.budget-budget.result c.budget-budget.ensures.budget
     (over_from_end c.args.pricing.now.measure c.args.pricing.now.supporters.now c.args.pricing.now.workers c.raised_share-share.result c.loop-raised.raised c.run.new.outcome c.run.new.self.marks.items c.run.new.self.spent c.budget-budget.result c.in_ok-end.end c.in-OverLimit.is c.in_ok-end.ensures.ended)
-    c.loop-raised.last c.loop-raised.invariant.last
+    c.in_ok-outcome-in-OverLimit.outcome (λ _. c.in_ok-outcome-in-OverLimit.ensures.settled)
 
 pub returns-in-OverLimit-clause-settled : goal.returns-in-OverLimit-clause-settled
 returns-in-OverLimit-clause-settled g c =
@@ -24,14 +41,27 @@ returns-in-OverLimit-clause-settled g c =
     c.args.pricing.now.supporters.now c.requires.supporters c.in_ok-end.ensures.is_support c.opening_share-opening.result c.opening_share-opening.ensures.share
     c.raised_share-share.result c.raised_share-share.ensures.share c.budget-budget.result c.budget-budget.ensures.budget
     (over_from_end c.args.pricing.now.measure c.args.pricing.now.supporters.now c.args.pricing.now.workers c.raised_share-share.result c.loop-raised.raised c.run.new.outcome c.run.new.self.marks.items c.run.new.self.spent c.budget-budget.result c.in_ok-end.end c.in-OverLimit.is c.in_ok-end.ensures.ended)
-    c.loop-raised.last c.loop-raised.invariant.last
+    c.in_ok-outcome-in-OverLimit.outcome (λ _. c.in_ok-outcome-in-OverLimit.ensures.settled)
 
-pub returns-in-OverLimit-clause-priced : goal.returns-in-OverLimit-clause-priced
-returns-in-OverLimit-clause-priced g c =
-    c.loop-raised.invariant.priced (raised_once c.args.pricing.now.measure c.args.election.now c.args.step c.args.max_raises c.loop-raised.raised (omega (arith, c.loop-raised-test.true)) c.loop-raised.invariant.tried
+pub returns-in-OverLimit-2-clause-decided : goal.returns-in-OverLimit-2-clause-decided
+returns-in-OverLimit-2-clause-decided g c =
+    over_decides c.args.pricing.now.measure c.args.election.now c.args.step c.args.max_raises c.loop-raised.raised (omega (arith, c.loop-raised-test.true)) c.loop-raised.invariant.tried
     c.args.pricing.now.supporters.now c.requires.supporters c.in_ok-end.ensures.is_support c.opening_share-opening.result c.opening_share-opening.ensures.share
     c.raised_share-share.result c.raised_share-share.ensures.share c.budget-budget.result c.budget-budget.ensures.budget
-    (over_from_end c.args.pricing.now.measure c.args.pricing.now.supporters.now c.args.pricing.now.workers c.raised_share-share.result c.loop-raised.raised c.run.new.outcome c.run.new.self.marks.items c.run.new.self.spent c.budget-budget.result c.in_ok-end.end c.in-OverLimit.is c.in_ok-end.ensures.ended))
+    (over_from_end c.args.pricing.now.measure c.args.pricing.now.supporters.now c.args.pricing.now.workers c.raised_share-share.result c.loop-raised.raised c.run.new.outcome c.run.new.self.marks.items c.run.new.self.spent c.budget-budget.result c.in_ok-end.end c.in-OverLimit.is c.in_ok-end.ensures.ended)
+    c.loop-raised.last (λ _. c.loop-raised.invariant.last (omega (arith, c.loop-raised.invariant.from, c.if-raised-first.false)))
+
+pub returns-in-OverLimit-2-clause-settled : goal.returns-in-OverLimit-2-clause-settled
+returns-in-OverLimit-2-clause-settled g c =
+    over_settled c.args.pricing.now.measure c.args.election.now c.args.step c.args.max_raises c.loop-raised.raised (omega (arith, c.loop-raised-test.true)) c.loop-raised.invariant.tried
+    c.args.pricing.now.supporters.now c.requires.supporters c.in_ok-end.ensures.is_support c.opening_share-opening.result c.opening_share-opening.ensures.share
+    c.raised_share-share.result c.raised_share-share.ensures.share c.budget-budget.result c.budget-budget.ensures.budget
+    (over_from_end c.args.pricing.now.measure c.args.pricing.now.supporters.now c.args.pricing.now.workers c.raised_share-share.result c.loop-raised.raised c.run.new.outcome c.run.new.self.marks.items c.run.new.self.spent c.budget-budget.result c.in_ok-end.end c.in-OverLimit.is c.in_ok-end.ensures.ended)
+    c.loop-raised.last (λ _. c.loop-raised.invariant.last (omega (arith, c.loop-raised.invariant.from, c.if-raised-first.false)))
+
+pub returns-in-OverLimit-2-clause-priced : goal.returns-in-OverLimit-2-clause-priced
+returns-in-OverLimit-2-clause-priced g c =
+    c.loop-raised.invariant.priced (omega (arith, c.loop-raised.invariant.from, c.if-raised-first.false))
 
 pub is_exhausted-requires : goal.is_exhausted-requires
 is_exhausted-requires g c = (whole_from_end c.args.pricing.now.measure c.args.pricing.now.supporters.now c.args.pricing.now.workers c.raised_share-share.result c.loop-raised.raised c.run.new.outcome c.run.new.self.marks.items c.run.new.self.spent c.budget-budget.result c.in_ok-end.end c.in-Whole.is c.in_ok-end.ensures.ended).0.marked.one_each
@@ -67,6 +97,7 @@ returns-then-is_exhausted-clause-priced g c =
 
 pub loop-raised-preserved : goal.loop-raised-preserved
 loop-raised-preserved g c = record {
+  from = (let from = c.loop-raised.invariant.from in omega arith);
   tried = goes_on c.args.pricing.now.measure c.args.election.now c.args.step c.args.max_raises c.loop-raised.raised (omega (arith, c.loop-raised-test.true)) c.loop-raised.invariant.tried
       c.args.pricing.now.supporters.now c.requires.supporters c.in_ok-end.ensures.is_support c.opening_share-opening.result c.opening_share-opening.ensures.share
       c.raised_share-share.result c.raised_share-share.ensures.share c.budget-budget.result c.budget-budget.ensures.budget
