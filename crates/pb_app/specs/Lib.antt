@@ -9,3 +9,4 @@ pub mod ScriptFault
 pub mod ScriptReading
 pub mod Serving
 pub mod Desked
+pub mod Closed

@@ -2,6 +2,11 @@
 //! the desk that took its ballots.
 #![tactic(auto)]
 
+mod close_and_count;
+mod close_fault;
+mod closing;
+#[cfg(test)]
+mod closing_tests;
 mod command_line;
 #[cfg(test)]
 mod command_line_tests;

@@ -6,8 +6,12 @@ ghost use Rattle.pb_app.specs.Audited.{AuditFails, AuditWrites, IsRefusedDesk, I
 ghost use Rattle.pb_app.specs.Ends.{Accepts, HasWritten, IfBothKnown, JudgesFile};
 ghost use Rattle.pb_app.specs.Fault.{merged};
 
+use crate::close_and_count::count_desk;
+use crate::close_fault::CloseFault;
+use crate::closing::Closing;
 use crate::fault::AppFault;
-use crate::run_count::{put_count, write_out};
+use crate::report::put_report;
+use crate::run_count::write_out;
 use itoa::Buffer;
 use pb_core::no_memory::NoMemory;
 use pb_desk::{Desk, audit};
@@ -79,14 +83,17 @@ fn put_desk<T: Threads + Sync>(
     ensures fault { IfErr result (IsRefusedDesk desk options.now) }
 {
     put_entries(rows, &desk)?;
-    if !desk.is_shut() {
-        return Ok(());
+    match count_desk(rt, alloc, desk, options) {
+        Ok(Closing::Open(_)) => Ok(()),
+        Ok(Closing::Counted(counted)) => {
+            // What is true of every election bounds the sums of its report.
+            let _budget = counted.election.budget();
+            put_report(rows, alloc, &counted.election, &counted.outcome)?;
+            Ok(())
+        }
+        Err(CloseFault::NotCounted(fault, _)) => Err(fault),
+        Err(CloseFault::NoMemory(_) | CloseFault::Unfinished(_)) => Err(CountFault::NoMemory),
     }
-    let Ok(election) = desk.into_election() else {
-        return Err(CountFault::NoMemory);
-    };
-    put_count(rt, alloc, rows, &election, options)?;
-    Ok(())
 }
 
 /// Writes the row of a desk.

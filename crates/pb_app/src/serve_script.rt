@@ -1,9 +1,10 @@
 //! The clerks of a run at work: each serves its own requests, side by side with the others.
 
-ghost use Rattle.std.specs.Prelude.{◌≡◌, ◌<◌, ◌≤◌, ℕ, List, [], All, length, map, IfErr, IfOk, OnOk};
+ghost use Rattle.std.specs.Prelude.{◌≡◌, ◌+◌, ◌<◌, ◌≤◌, ℕ, List, [], All, length, map, IfErr, IfOk, OnOk};
 ghost use Rattle.pb_core.specs.Request.{asked};
 ghost use Rattle.pb_desk.specs.Replay.{most_clerks};
 ghost use Rattle.pb_shared.specs.Clerk.{AreNewcomers};
+ghost use Rattle.pb_app.specs.Audited.{program_room};
 ghost use Rattle.pb_app.specs.Script.{clerks_within, most_rows};
 ghost use Rattle.pb_app.specs.Serving.{AppendsFor, AreCounts, HasServed, ServesAll, ServesUpTo, AreBack, AreClerks, IsServingFault, list_of};
 
@@ -55,7 +56,7 @@ fn serve_own<G: Gate>(shared: &SharedDesk, gate: &G, clerk: Clerk, lists: &[Requ
                 is_out_of_memory = true;
                 break;
             }
-            // Another clerk holds the desk, or its journal is full.
+            // Another clerk holds the desk. Its journal is never full: see `serve_rest`.
             Err(_) => break,
         }
     }
@@ -66,23 +67,30 @@ fn serve_own<G: Gate>(shared: &SharedDesk, gate: &G, clerk: Clerk, lists: &[Requ
     }
 }
 
-/// Serves these requests of a clerk, one after the other.
-fn serve_for(desk: &mut Desk, clerk: u32, requests: &[Request]) -> Result<(), DeskFault>
-    requires { clerk < most_clerks }
+/// Serves these requests of a clerk, one after the other. There is room for them.
+fn serve_for(desk: &mut Desk, clerk: u32, requests: &[Request]) -> Result<(), NoMemory>
+    requires clerk { clerk < most_clerks }
+    requires room { length desk.old.journal + length requests.now ≤ desk.old.room }
     ensures opening { desk.new.opening ≡ desk.old.opening }
     ensures room { desk.new.room ≡ desk.old.room }
     ensures appends { OnOk result (AppendsFor clerk (map asked requests.now) desk.old.journal desk.new.journal) }
 {
     for request in requests {
-        desk.serve(clerk, request)?;
+        match desk.serve(clerk, request) {
+            Ok(_) => {}
+            Err(DeskFault::NoMemory) => return Err(NoMemory),
+            Err(DeskFault::JournalFull) => unreachable!(),
+        }
     }
     Ok(())
 }
 
 /// Serves what the clerks left over, clerks in rising number: of each clerk's requests this many were
-/// served.
-fn serve_rest(desk: &mut Desk, lists: &[Requests], served: &[u32]) -> Result<(), DeskFault>
+/// served. A desk of the program has room for all that 64 clerks ask in a script.
+fn serve_rest(desk: &mut Desk, lists: &[Requests], served: &[u32]) -> Result<(), NoMemory>
     requires few { length lists.now ≤ most_clerks }
+    requires few_each { All (λ list. length list ≤ most_rows) lists.now }
+    requires room { desk.old.room ≡ program_room }
     requires counts { AreCounts lists.now served.now }
     requires so_far { ServesUpTo 0 lists.now served.now desk.old.journal }
     ensures opening { desk.new.opening ≡ desk.old.opening }
@@ -147,6 +155,7 @@ pub(crate) fn serve_script<T: Threads + Sync, G: Gate>(
     gate: &G,
 ) -> Result<Desk, AppFault>
     requires empty { desk.journal ≡ [] }
+    requires room { desk.room ≡ program_room }
     requires one_each { length lists.now ≡ clerks_within clerks }
     requires few { All (λ list. length list ≤ most_rows) lists.now }
     ensures ok { IfOk result (λ served. (served ≡ record desk { journal = served.journal }) × ServesAll lists.now served.journal) }
@@ -163,6 +172,6 @@ pub(crate) fn serve_script<T: Threads + Sync, G: Gate>(
     let mut desk = shared.finish(clerks).unwrap();
     match serve_rest(&mut desk, lists, &served) {
         Ok(()) => Ok(desk),
-        Err(_) => Err(AppFault::Memory),
+        Err(NoMemory) => Err(AppFault::Memory),
     }
 }
