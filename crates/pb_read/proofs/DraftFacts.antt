@@ -8,8 +8,8 @@ use Rattle.pb_core.specs.Election.{ElectionView, ProjectView, VoterView, most_pr
 use Rattle.pb_core.specs.Money.{money_of}
 use Rattle.pb_core.specs.declared.money_fault.MoneyFault.{MoneyFault}
 use Rattle.pb_rows.specs.Reading.{Fields}
-use Rattle.pb_read.specs.Columns.{has_project_fields, has_vote_fields}
-use Rattle.pb_read.specs.Kinds.{kind_of_money}
+use Rattle.pb_read.specs.Columns.{has_fields}
+use Rattle.pb_read.specs.MoneyKinds.{kind_of_money}
 use Rattle.pb_read.specs.Machine.{Explains, project_checks, project_row_checks, vote_checks, vote_row_checks}
 use Rattle.pb_read.specs.Rows.{field, is_empty}
 use Rattle.pb_read.specs.Voting.{is_among, names_only}
@@ -19,11 +19,11 @@ use Rattle.pb_read.specs.declared.fault.ReadKind.{ReadKind}
 use Rattle.pb_read.specs.declared.fault.ReadKind.TheVariants as kinds
 
 module _ (columns : ProjectColumns) (row : Fields) (e : ElectionView) where
-  pub project_lacks : has_project_fields columns row ≡ false → project_row_checks columns row e ≡ Some kinds.MissingField
+  pub project_lacks : has_fields columns.id columns.cost row ≡ false → project_row_checks columns row e ≡ Some kinds.MissingField
   unfolding project_row_checks
   project_lacks whole = λ i. project_checks (whole i) (money_of (field row columns.cost)) (is_empty (field row columns.id)) (is_among (project_ids e) (field row columns.id)) (nat_le most_projects (length e.projects))
 
-  pub project_unread : has_project_fields columns row ≡ true → (kind : ReadKind) → IsErrAnd (money_of (field row columns.cost)) (λ fault. kind ≡ kind_of_money fault) → project_row_checks columns row e ≡ Some kind
+  pub project_unread : has_fields columns.id columns.cost row ≡ true → (kind : ReadKind) → IsErrAnd (money_of (field row columns.cost)) (λ fault. kind ≡ kind_of_money fault) → project_row_checks columns row e ≡ Some kind
   unfolding project_row_checks
   project_unread whole kind reads = go (money_of (field row columns.cost)) refl reads
     where
@@ -32,18 +32,18 @@ module _ (columns : ProjectColumns) (row : Fields) (e : ElectionView) where
       go (Err fault) m err =
           (λ i. project_checks (whole i) (m i) (is_empty (field row columns.id)) (is_among (project_ids e) (field row columns.id)) (nat_le most_projects (length e.projects))) ∙ ap Some (sym err)
 
-  pub project_found : {cost : ℕ} {free no_id repeated full : Bool} → has_project_fields columns row ≡ true → money_of (field row columns.cost) ≡ Ok cost → (cost == 0) ≡ free → is_empty (field row columns.id) ≡ no_id → is_among (project_ids e) (field row columns.id) ≡ repeated → nat_le most_projects (length e.projects) ≡ full →
+  pub project_found : {cost : ℕ} {free no_id repeated full : Bool} → has_fields columns.id columns.cost row ≡ true → money_of (field row columns.cost) ≡ Ok cost → (cost == 0) ≡ free → is_empty (field row columns.id) ≡ no_id → is_among (project_ids e) (field row columns.id) ≡ repeated → nat_le most_projects (length e.projects) ≡ full →
       project_row_checks columns row e ≡ cond free (Some kinds.ZeroCost) (cond no_id (Some kinds.EmptyId) (cond repeated (Some kinds.RepeatedProject) (cond full (Some kinds.TooManyProjects) None)))
   unfolding project_row_checks
   project_found {cost} {free} {no_id} {repeated} {full} whole reads f n r m =
       (λ i. project_checks (whole i) (reads i) (n i) (r i) (m i)) ∙ ap (λ t. cond t (Some kinds.ZeroCost) (cond no_id (Some kinds.EmptyId) (cond repeated (Some kinds.RepeatedProject) (cond full (Some kinds.TooManyProjects) None)))) f
 
 module _ (columns : VoteColumns) (row : Fields) (e : ElectionView) where
-  pub vote_lacks : has_vote_fields columns row ≡ false → vote_row_checks columns row e ≡ Some kinds.MissingField
+  pub vote_lacks : has_fields columns.voter columns.vote row ≡ false → vote_row_checks columns row e ≡ Some kinds.MissingField
   unfolding vote_row_checks
   vote_lacks whole = λ i. vote_checks (whole i) (is_empty (field row columns.voter)) (is_among (voter_ids e) (field row columns.voter)) (names_only (project_ids e) (field row columns.vote)) (nat_le most_voters (length e.voters))
 
-  pub vote_found : {no_id repeated known full : Bool} → has_vote_fields columns row ≡ true → is_empty (field row columns.voter) ≡ no_id → is_among (voter_ids e) (field row columns.voter) ≡ repeated → names_only (project_ids e) (field row columns.vote) ≡ known → nat_le most_voters (length e.voters) ≡ full →
+  pub vote_found : {no_id repeated known full : Bool} → has_fields columns.voter columns.vote row ≡ true → is_empty (field row columns.voter) ≡ no_id → is_among (voter_ids e) (field row columns.voter) ≡ repeated → names_only (project_ids e) (field row columns.vote) ≡ known → nat_le most_voters (length e.voters) ≡ full →
       vote_row_checks columns row e ≡ cond no_id (Some kinds.EmptyId) (cond repeated (Some kinds.RepeatedVoter) (cond (not known) (Some kinds.UnknownProject) (cond full (Some kinds.TooManyVoters) None)))
   unfolding vote_row_checks
   vote_found whole n r k f = λ i. vote_checks (whole i) (n i) (r i) (k i) (f i)

@@ -9,18 +9,20 @@ use Rattle.std.proofs.lemmas.List.Elements.{filter-append}
 use Rattle.std.proofs.lemmas.Str.{IsUtf8-from_is_utf8, is_utf8-from_IsUtf8}
 use Rattle.csv.specs.Records.{AllText}
 use lib.Utf8.{encode}
-use Rattle.pb_core.specs.Election.{ElectionView}
+use Rattle.pb_core.specs.Election.{ElectionView, IsElection}
 use Rattle.pb_rows.specs.Reading.{Fields}
 use Rattle.pb_read.proofs.LowestKind.{lowest_applies}
-use Rattle.pb_read.proofs.Keeps.{IsTidy, IsTidy-trimmed, kept, next_follows}
+use Rattle.pb_read.proofs.Keeps.{IsTidy, IsTidy-trimmed, kept, next_follows, opening_is_election}
 use Rattle.pb_read.proofs.ListFacts.{some≢none, ok≢err, same_Ok, AllByRecursion-append, AllByRecursion-left, AllByRecursion-right}
 use Rattle.pb_read.proofs.Runs.{AreFull, run_fault, run_onto, run_row, runs}
-use Rattle.pb_read.specs.Stages.{Stage, Start, MetaHeader, InMeta, ProjectsHeader, InProjects, VotesHeader, InVotes, the_end, blank, next_row, IsAt, IsSound}
-use Rattle.pb_read.specs.FirstFault.{MayGoOn, HasNoFault, IsAtFault, IsFirstFault}
-use Rattle.pb_read.specs.Machine.{advance, run, step, row_fault, lowest_kind}
+use Rattle.pb_read.specs.Stages.{the_end, blank, next_row, IsAt}
+use Rattle.pb_read.specs.declared.progress.Stage.TheVariants.{Start, Header, InMeta, InProjects, InVotes}
+use Rattle.pb_read.specs.declared.section.Section.TheVariants as section
+use Rattle.pb_read.specs.FirstFault.{HasNoFault, IsAtFault, IsFirstFault}
+use Rattle.pb_read.specs.Machine.{Position, start, advance, run, step, row_fault, lowest_kind}
 use Rattle.pb_read.specs.Tracking.{Reached}
 use Rattle.pb_read.specs.Rows.{head_of, is_blank, rows_of, trimmed}
-use Rattle.pb_read.specs.StandsFor.{GivesAll, StandsFor, most_records}
+use Rattle.pb_read.specs.StandsFor.{Describes, GivesAll, StandsFor, most_records}
 use Rattle.pb_read.specs.declared.columns.VoteColumns.{VoteColumns}
 use Rattle.pb_read.specs.declared.fault.ReadKind.{ReadKind}
 use Rattle.pb_read.specs.declared.fault.ReadKind.TheVariants as kinds
@@ -92,87 +94,87 @@ meta_rows = (codes "budget" ∷ codes "0" ∷ []) ∷ (codes "vote_type" ∷ cod
 abbrev meta_header : List Fields
 meta_header = (codes "key" ∷ codes "value" ∷ []) ∷ meta_rows
 
-abbrev completion : Stage → List Fields
-completion Start = (codes "META" ∷ []) ∷ meta_header
-completion MetaHeader = meta_header
-completion (InMeta meta) = meta_rows
-completion (ProjectsHeader e) = project_header
-completion (InProjects columns e) = votes
-completion (VotesHeader e) = vote_header
-completion (InVotes columns e) = []
+abbrev completion : Position → List Fields
+completion (Start, e) = (codes "META" ∷ []) ∷ meta_header
+completion (Header section.Meta, e) = meta_header
+completion (InMeta meta, e) = meta_rows
+completion (Header section.Projects, e) = project_header
+completion (InProjects columns, e) = votes
+completion (Header section.Votes, e) = vote_header
+completion (InVotes columns, e) = []
 
-completes : (p : Stage) → (columns : VoteColumns) × (e : ElectionView) × (run p (completion p) ≡ Ok (InVotes columns e))
+completes : (p : Position) → (columns : VoteColumns) × (e : ElectionView) × (run p (completion p) ≡ Ok (InVotes columns, e))
 unfolding step row_fault head_of
-completes Start = (_, _, refl)
-completes MetaHeader = (_, _, refl)
-completes (InMeta meta) = (_, _, refl)
-completes (ProjectsHeader e) = (_, _, refl)
-completes (InProjects columns e) = (_, _, refl)
-completes (VotesHeader e) = (_, _, refl)
-completes (InVotes columns e) = (columns, e, refl)
+completes (Start, e) = (_, _, refl)
+completes (Header section.Meta, e) = (_, _, refl)
+completes (InMeta meta, e) = (_, _, refl)
+completes (Header section.Projects, e) = (_, _, refl)
+completes (InProjects columns, e) = (_, _, refl)
+completes (Header section.Votes, e) = (_, _, refl)
+completes (InVotes columns, e) = (columns, e, refl)
 
-completion_rows : (p : Stage) → rows_of (completion p) ≡ completion p
+completion_rows : (p : Position) → rows_of (completion p) ≡ completion p
 unfolding trim_start trim_end chars encode
-completion_rows Start = refl
-completion_rows MetaHeader = refl
-completion_rows (InMeta meta) = refl
-completion_rows (ProjectsHeader e) = refl
-completion_rows (InProjects columns e) = refl
-completion_rows (VotesHeader e) = refl
-completion_rows (InVotes columns e) = refl
+completion_rows (Start, e) = refl
+completion_rows (Header section.Meta, e) = refl
+completion_rows (InMeta meta, e) = refl
+completion_rows (Header section.Projects, e) = refl
+completion_rows (InProjects columns, e) = refl
+completion_rows (Header section.Votes, e) = refl
+completion_rows (InVotes columns, e) = refl
 
-completion_text : (p : Stage) → list_all (list_all is_utf8) (completion p) ≡ true
+completion_text : (p : Position) → list_all (list_all is_utf8) (completion p) ≡ true
 unfolding is_utf8 chars encode
-completion_text Start = refl
-completion_text MetaHeader = refl
-completion_text (InMeta meta) = refl
-completion_text (ProjectsHeader e) = refl
-completion_text (InProjects columns e) = refl
-completion_text (VotesHeader e) = refl
-completion_text (InVotes columns e) = refl
+completion_text (Start, e) = refl
+completion_text (Header section.Meta, e) = refl
+completion_text (InMeta meta, e) = refl
+completion_text (Header section.Projects, e) = refl
+completion_text (InProjects columns, e) = refl
+completion_text (Header section.Votes, e) = refl
+completion_text (InVotes columns, e) = refl
 
 -- rows without fault, one after another
-run_keeps : (p q : Stage) (rows more : List Fields) → AreFull more → AllByRecursion IsTidy more → IsAt rows p → IsSound p → run p more ≡ Ok q → IsAt (rows ++ more) q × IsSound q
+run_keeps : (p q : Position) (rows more : List Fields) → AreFull more → AllByRecursion IsTidy more → IsAt rows p → IsElection p.1 → run p more ≡ Ok q → IsAt (rows ++ more) q × IsElection q.1
 run_keeps p q rows [] full tidy at sound e =
     let same : p ≡ q = cc in
-    subst (λ x. IsAt (rows ++ []) x × IsSound x) same (subst (λ xs. IsAt xs p) (sym (append-nil rows)) at, sound)
+    subst (λ x. IsAt (rows ++ []) x × IsElection x.1) same (subst (λ xs. IsAt xs p) (sym (append-nil rows)) at, sound)
 run_keeps p q rows (row ∷ more) full tidy at sound e = go (run_keeps (advance p (next_row row)) q (rows ++ row ∷ []) more full.1 tidy.1) (row_fault p (next_row row)) refl
   where
-    go : (IsAt (rows ++ row ∷ []) (advance p (next_row row)) → IsSound (advance p (next_row row)) → run (advance p (next_row row)) more ≡ Ok q → IsAt ((rows ++ row ∷ []) ++ more) q × IsSound q) →
-        (fault : Option ReadKind) → row_fault p (next_row row) ≡ fault → IsAt (rows ++ row ∷ more) q × IsSound q
+    go : (IsAt (rows ++ row ∷ []) (advance p (next_row row)) → IsElection ((advance p (next_row row)).1) → run (advance p (next_row row)) more ≡ Ok q → IsAt ((rows ++ row ∷ []) ++ more) q × IsElection q.1) →
+        (fault : Option ReadKind) → row_fault p (next_row row) ≡ fault → IsAt (rows ++ row ∷ more) q × IsElection q.1
     go later (Some kind) f = absurd (ok≢err (sym e ∙ run_fault p row more kind f))
     go later None f =
         let next = kept p (next_row row) rows row (next_follows row full.0) tidy.0 f at sound in
         let rest = later next.0 next.1 (sym (run_row p row more (next_row row) refl f) ∙ e) in
         (subst (λ xs. IsAt xs q) (append_assoc rows (row ∷ []) more) rest.0, rest.1)
 
-pub blank_passes : (p : Stage) → row_fault p blank ≡ None
+pub blank_passes : (p : Position) → row_fault p blank ≡ None
 unfolding row_fault
-blank_passes Start = refl
-blank_passes MetaHeader = refl
-blank_passes (InMeta meta) = refl
-blank_passes (ProjectsHeader e) = refl
-blank_passes (InProjects columns e) = refl
-blank_passes (VotesHeader e) = refl
-blank_passes (InVotes columns e) = refl
+blank_passes (Start, e) = refl
+blank_passes (Header section.Meta, e) = refl
+blank_passes (InMeta meta, e) = refl
+blank_passes (Header section.Projects, e) = refl
+blank_passes (InProjects columns, e) = refl
+blank_passes (Header section.Votes, e) = refl
+blank_passes (InVotes columns, e) = refl
 
-pub advance-blank : (p : Stage) → advance p blank ≡ p
-advance-blank Start = refl
-advance-blank MetaHeader = refl
-advance-blank (InMeta meta) = refl
-advance-blank (ProjectsHeader e) = refl
-advance-blank (InProjects columns e) = refl
-advance-blank (VotesHeader e) = refl
-advance-blank (InVotes columns e) = refl
+pub advance-blank : (p : Position) → advance p blank ≡ p
+advance-blank (Start, e) = refl
+advance-blank (Header section.Meta, e) = refl
+advance-blank (InMeta meta, e) = refl
+advance-blank (Header section.Projects, e) = refl
+advance-blank (InProjects columns, e) = refl
+advance-blank (Header section.Votes, e) = refl
+advance-blank (InVotes columns, e) = refl
 
-pub reached_start : Reached [] Start
-reached_start = record { text = tt; at = refl; sound = tt }
+pub reached_start : Reached [] start
+reached_start = record { text = tt; at = (refl, refl); sound = opening_is_election 0 None (omega arith) }
 
 pub next_row-blank : (row : Fields) → is_blank row ≡ true → next_row row ≡ blank
 next_row-blank row none = rw none refl
 
 -- one record without fault
-pub reached_next : (done : List Fields) (p : Stage) (r : Fields) → Reached done p → AllText r → row_fault p (next_row (trimmed r)) ≡ None → Reached (done ++ r ∷ []) (advance p (next_row (trimmed r)))
+pub reached_next : (done : List Fields) (p : Position) (r : Fields) → Reached done p → AllText r → row_fault p (next_row (trimmed r)) ≡ None → Reached (done ++ r ∷ []) (advance p (next_row (trimmed r)))
 reached_next done p r so_far text none = go (is_blank (trimmed r)) refl
   where
     all_text : AllByRecursion AllText (done ++ r ∷ [])
@@ -188,75 +190,80 @@ reached_next done p r so_far text none = go (is_blank (trimmed r)) refl
         let next = kept p (next_row (trimmed r)) (rows_of done) (trimmed r) (next_follows (trimmed r) e) (IsTidy-trimmed r text) none so_far.at so_far.sound in
         record { text = all_text; at = subst (λ xs. IsAt xs (advance p (next_row (trimmed r)))) (sym rows) next.0; sound = next.1 }
 
+-- more records may follow so that all of them describe an election
+abbrev pub MayGoOn : List Fields → Type 0
+MayGoOn records = (more : List Fields) × (e : ElectionView) × Describes (records ++ more) e
+
 -- where a file has come without fault, some records complete it
-pub goes_on : (done : List Fields) (p : Stage) → Reached done p → MayGoOn done
+pub goes_on : (done : List Fields) (p : Position) → Reached done p → MayGoOn done
 goes_on done p so_far =
     let q = completes p in
     let more : List Fields = completion p in
     let text : AllByRecursion AllText more = are_text more (completion_text p) in
-    let ran : run p (rows_of more) ≡ Ok (InVotes q.0 q.1) = ap (run p) (completion_rows p) ∙ q.2 in
-    let all = run_keeps p (InVotes q.0 q.1) (rows_of done) (rows_of more) (rows_of-are_full more) (rows_of-are_tidy more text) so_far.at so_far.sound ran in
-    record {
-      more = more;
-      election = q.1;
-      describes = record {
+    let ran : run p (rows_of more) ≡ Ok (InVotes q.0, q.1) = ap (run p) (completion_rows p) ∙ q.2 in
+    let all = run_keeps p (InVotes q.0, q.1) (rows_of done) (rows_of more) (rows_of-are_full more) (rows_of-are_tidy more text) so_far.at so_far.sound ran in (
+      more,
+      q.1,
+      record {
         text = AllByRecursion-append AllText done more so_far.text text;
         columns = q.0;
         rows = subst (GivesAll q.0 q.1) (sym (rows_of-append done more)) all.0;
         is_election = all.1;
-      };
-    }
+      },
+    )
 
 -- after a record that is no text nothing helps
 pub no_text_ends : (done : List Fields) (r : Fields) → ¬ AllText r → ¬ MayGoOn (done ++ r ∷ [])
 no_text_ends done r none way =
-    let all : AllByRecursion AllText (done ++ r ∷ []) = AllByRecursion-left AllText (done ++ r ∷ []) way.more way.describes.text in
+    let all : AllByRecursion AllText (done ++ r ∷ []) = AllByRecursion-left AllText (done ++ r ∷ []) way.0 way.2.text in
     none (AllByRecursion-right AllText done (r ∷ []) all).0
 
-run_from_start : (done : List Fields) (p : Stage) → Reached done p → run Start (rows_of done) ≡ Ok p
+run_from_start : (done : List Fields) (p : Position) → Reached done p → run start (rows_of done) ≡ Ok p
 run_from_start done p so_far = runs p (rows_of done) (rows_of-are_full done) so_far.at so_far.sound
 
 -- after a record at fault nothing helps
-pub fault_ends : (done : List Fields) (p : Stage) (r : Fields) (kind : ReadKind) → Reached done p → row_fault p (next_row (trimmed r)) ≡ Some kind → ¬ MayGoOn (done ++ r ∷ [])
+pub fault_ends : (done : List Fields) (p : Position) (r : Fields) (kind : ReadKind) → Reached done p → row_fault p (next_row (trimmed r)) ≡ Some kind → ¬ MayGoOn (done ++ r ∷ [])
 fault_ends done p r kind so_far fault way = go (is_blank (trimmed r)) refl
   where
     records : List Fields
-    records = (done ++ r ∷ []) ++ way.more
+    records = (done ++ r ∷ []) ++ way.0
 
-    whole : run Start (rows_of ((done ++ r ∷ []) ++ way.more)) ≡ Ok (InVotes way.describes.columns way.election)
-    whole = runs (InVotes way.describes.columns way.election) (rows_of ((done ++ r ∷ []) ++ way.more)) (rows_of-are_full ((done ++ r ∷ []) ++ way.more)) way.describes.rows way.describes.is_election
+    whole : run start (rows_of ((done ++ r ∷ []) ++ way.0)) ≡ Ok (InVotes way.2.columns, way.1)
+    whole = runs (InVotes way.2.columns, way.1) (rows_of ((done ++ r ∷ []) ++ way.0)) (rows_of-are_full ((done ++ r ∷ []) ++ way.0)) way.2.rows way.2.is_election
 
     go : (no_field : Bool) → is_blank (trimmed r) ≡ no_field → ⊥
     go true e = some≢none (sym fault ∙ ap (row_fault p) (next_row-blank (trimmed r) e) ∙ blank_passes p)
     go false e =
-        let rows : rows_of ((done ++ r ∷ []) ++ way.more) ≡ rows_of done ++ trimmed r ∷ rows_of way.more =
-        ap rows_of (append_assoc done (r ∷ []) way.more) ∙ rows_of-append done (r ∷ way.more) ∙ ap (λ xs. rows_of done ++ xs) (rows_of-full r way.more e) in
-        ok≢err (sym whole ∙ ap (run Start) rows ∙ run_onto Start p (rows_of done) (trimmed r ∷ rows_of way.more) (run_from_start done p so_far) ∙ run_fault p (trimmed r) (rows_of way.more) kind fault)
+        let rows : rows_of ((done ++ r ∷ []) ++ way.0) ≡ rows_of done ++ trimmed r ∷ rows_of way.0 =
+        ap rows_of (append_assoc done (r ∷ []) way.0) ∙ rows_of-append done (r ∷ way.0) ∙ ap (λ xs. rows_of done ++ xs) (rows_of-full r way.0 e) in
+        ok≢err (sym whole ∙ ap (run start) rows ∙ run_onto start p (rows_of done) (trimmed r ∷ rows_of way.0) (run_from_start done p so_far) ∙ run_fault p (trimmed r) (rows_of way.0) kind fault)
 
-votes_end : (columns : VoteColumns) (e : ElectionView) → row_fault (InVotes columns e) the_end ≡ None
+votes_end : (columns : VoteColumns) (e : ElectionView) → row_fault (InVotes columns, e) the_end ≡ None
 unfolding row_fault
 votes_end columns e = refl
 
 -- where the file ends at fault, it stands for nothing
-pub end_ends : (done : List Fields) (p : Stage) (kind : ReadKind) → Reached done p → row_fault p the_end ≡ Some kind → (e : ElectionView) → ¬ StandsFor done e
+pub end_ends : (done : List Fields) (p : Position) (kind : ReadKind) → Reached done p → row_fault p the_end ≡ Some kind → (e : ElectionView) → ¬ StandsFor done e
 end_ends done p kind so_far fault e stands =
-    let whole : run Start (rows_of done) ≡ Ok (InVotes stands.describes.columns e) =
-    runs (InVotes stands.describes.columns e) (rows_of done) (rows_of-are_full done) stands.describes.rows stands.describes.is_election in
-    let same : p ≡ InVotes stands.describes.columns e = same_Ok (sym (run_from_start done p so_far) ∙ whole) in
+    let whole : run start (rows_of done) ≡ Ok (InVotes stands.describes.columns, e) =
+    runs (InVotes stands.describes.columns, e) (rows_of done) (rows_of-are_full done) stands.describes.rows stands.describes.is_election in
+    let same : p ≡ (InVotes stands.describes.columns, e) = same_Ok (sym (run_from_start done p so_far) ∙ whole) in
     some≢none (sym fault ∙ ap (λ x. row_fault x the_end) same ∙ votes_end stands.describes.columns e)
 
 -- where the file ends without fault, it stands for the election
-pub end_stands : (done : List Fields) (columns : VoteColumns) (e : ElectionView) → length done ≤ most_records → Reached done (InVotes columns e) → StandsFor done e
+pub end_stands : (done : List Fields) (columns : VoteColumns) (e : ElectionView) → length done ≤ most_records → Reached done (InVotes columns, e) → StandsFor done e
 end_stands done columns e few so_far = record {
   few = few;
   describes = record { text = so_far.text; columns = columns; rows = so_far.at; is_election = so_far.sound };
 }
 
-pub no_fault_so_far : (done : List Fields) (p : Stage) → length done ≤ most_records → Reached done p → HasNoFault done
-no_fault_so_far done p few so_far = record { few = few; goes_on = goes_on done p so_far }
+pub no_fault_so_far : (done : List Fields) (p : Position) → length done ≤ most_records → Reached done p → HasNoFault done
+no_fault_so_far done p few so_far =
+    let way = goes_on done p so_far in
+    (few, way.0, way.1, way.2)
 
 -- the lowest kind that applies is the first fault
-pub first_fault : (done left : List Fields) (p : Stage) (kind : ReadKind) → length done ≤ most_records → Reached done p → lowest_kind (length done) p left ≡ Some kind → IsFirstFault (done ++ left) kind (length done + 1)
+pub first_fault : (done left : List Fields) (p : Position) (kind : ReadKind) → length done ≤ most_records → Reached done p → lowest_kind (length done) p left ≡ Some kind → IsFirstFault (done ++ left) kind (length done + 1)
 first_fault done left p kind few so_far lowest =
     let found = lowest_applies (length done) p left kind lowest in
     record {
@@ -274,14 +281,14 @@ first_fault done left p kind few so_far lowest =
     at_fault (r ∷ rest) e = by_text (list_all is_utf8 r) refl e
       where
         full : length done ≡ most_records → ¬ HasNoFault (done ++ r ∷ [])
-        full n none = omega (arith, n, none.few, length-append done (r ∷ []))
+        full n none = omega (arith, n, none.0, length-append done (r ∷ []))
 
         by_count : (all : Bool) → (length done == most_records) ≡ all → cond all (Some kinds.TooManyRecords) (row_fault p (next_row (trimmed r))) ≡ Some kind → ¬ HasNoFault (done ++ r ∷ [])
         by_count true n f = full (eqb-true (length done) most_records n)
-        by_count false n f = λ none. fault_ends done p r kind so_far f none.goes_on
+        by_count false n f = λ none. fault_ends done p r kind so_far f (none.1, none.2, none.3)
 
         by_text : (text : Bool) → list_all is_utf8 r ≡ text →
             cond (not text) (Some kinds.NotText) (cond (length done == most_records) (Some kinds.TooManyRecords) (row_fault p (next_row (trimmed r)))) ≡ Some kind →
             ¬ HasNoFault (done ++ r ∷ [])
-        by_text false t f = λ none. no_text_ends done r (λ text. false≢true (sym t ∙ test-from_AllText r text)) none.goes_on
+        by_text false t f = λ none. no_text_ends done r (λ text. false≢true (sym t ∙ test-from_AllText r text)) (none.1, none.2, none.3)
         by_text true t f = by_count (length done == most_records) refl f

@@ -11,8 +11,12 @@ use Rattle.std.proofs.lemmas.Map.Views.{Contains-from_any}
 use Rattle.std.proofs.lemmas.Slice.Eq.{bytes_eq-Decides}
 use Rattle.csv.specs.Records.{field_at}
 use Rattle.pb_rows.specs.Reading.{Fields}
-use Rattle.pb_read.specs.Rows.{field, is_blank, is_empty, trimmed}
+use Rattle.pb_read.specs.Rows.{field, head_of, is_blank, is_empty, trimmed}
 use Rattle.pb_read.specs.Voting.{is_among}
+
+-- a row that is no section's head
+abbrev pub IsPlain : Fields → Type 0
+IsPlain row = head_of row ≡ None
 
 pub some≢none : {A : Type 0} {x : A} → Some x ≡ None → ⊥
 some≢none e = cc

@@ -7,8 +7,7 @@ use Rattle.pb_rows.specs.Reading.{Fields}
 use Rattle.pb_read.proofs.ListFacts.{some≢none}
 use Rattle.pb_read.specs.Faults.{applies_after}
 use Rattle.pb_read.specs.Kinds.{number_of}
-use Rattle.pb_read.specs.Machine.{all_kinds, lowest_kind, row_fault}
-use Rattle.pb_read.specs.Stages.{Stage}
+use Rattle.pb_read.specs.Machine.{Position, all_kinds, lowest_kind, row_fault}
 use Rattle.pb_read.specs.declared.fault.ReadKind.{ReadKind}
 use Rattle.pb_read.specs.declared.fault.ReadKind.TheVariants as kinds
 
@@ -81,13 +80,13 @@ first_is_lowest test n (x ∷ ks) kind from found = go (test x) refl found (firs
         by other low below rest (inr (inl above)) = rest.1 other (omega (arith, above)) below
         by other low below rest (inr (inr under)) = absurd (omega (arith, low, under))
 
-lowest_is_first : (done : ℕ) (p : Stage) (left : List Fields) → find (applies_after done p left) all_kinds ≡ lowest_kind done p left
+lowest_is_first : (done : ℕ) (p : Position) (left : List Fields) → find (applies_after done p left) all_kinds ≡ lowest_kind done p left
 unfolding row_fault
 lowest_is_first done p [] = refl
 lowest_is_first done p (next ∷ rest) = refl
 
 -- the lowest kind that applies after this many records
-pub lowest_applies : (done : ℕ) (p : Stage) (left : List Fields) (kind : ReadKind) → lowest_kind done p left ≡ Some kind →
+pub lowest_applies : (done : ℕ) (p : Position) (left : List Fields) (kind : ReadKind) → lowest_kind done p left ≡ Some kind →
     (applies_after done p left kind ≡ true) × ((other : ReadKind) → number_of other < number_of kind → applies_after done p left other ≡ false)
 lowest_applies done p left kind e =
     let found = first_is_lowest (applies_after done p left) 1 all_kinds kind all_numbered (lowest_is_first done p left ∙ e) in

@@ -1,7 +1,9 @@
 -- Laws of the reading of rows one by one.
 use Rattle.std.proofs.Common.{◌≡◌, ◌<◌, ◌==◌, ℕ, Bool, cond, not, List, [], ◌∷◌, ◌++◌, length, Option, Some, None, Result, Ok, Err, refl, ap, sym, ◌∙◌, true, false, arith}
-use Rattle.std.specs.Prelude.{codes, option_map, nat_le}
-use Rattle.std.specs.Option.{option_map_or, option_or}
+use Rattle.std.specs.Result.{result_unwrap_or}
+use Rattle.std.specs.Prelude.{codes, find, option_map, nat_le, reverse}
+use Rattle.std.proofs.lemmas.List.{reverse-append}
+use Rattle.std.specs.Option.{option_map_or}
 use Rattle.std.proofs.lemmas.Bool.{eqb-false, leb-false, lt-leb, ne_eqb, not-false}
 use Rattle.pb_core.specs.Election.{ElectionView, project_ids, voter_ids, most_projects, most_voters}
 use Rattle.pb_core.specs.Money.{money_of}
@@ -9,10 +11,10 @@ use Rattle.pb_core.specs.declared.money_fault.MoneyFault.{MoneyFault}
 use Rattle.pb_core.specs.declared.money_fault.MoneyFault.TheVariants as money
 use Rattle.pb_rows.specs.Reading.{Fields}
 use Rattle.pb_read.proofs.ListFacts.{cond_none, some≢none}
-use Rattle.pb_read.specs.Columns.{has_project_fields, has_vote_fields}
-use Rattle.pb_read.specs.Faults.{is_zero, fails_by}
-use Rattle.pb_read.specs.Stages.{Stage, InMeta, InProjects, InVotes, head, plain, next_row}
-use Rattle.pb_read.specs.Machine.{with_row, step, bind, run, head_checks, project_checks, vote_checks, row_fault}
+use Rattle.pb_read.specs.Columns.{has_fields}
+use Rattle.pb_read.specs.Faults.{fails_by}
+use Rattle.pb_read.specs.Stages.{head, plain, next_row}
+use Rattle.pb_read.specs.Machine.{Position, with_row, step, bind, run, head_checks, project_checks, vote_checks, row_fault}
 use Rattle.pb_read.specs.Lengths.{max_length_of}
 use Rattle.pb_read.specs.MetaRows.{meta_of, value_of}
 use Rattle.pb_read.specs.Rows.{field, is_empty, is_word}
@@ -22,17 +24,18 @@ use Rattle.pb_read.specs.declared.columns.VoteColumns.{VoteColumns}
 use Rattle.pb_read.specs.declared.fault.ReadKind.{ReadKind}
 use Rattle.pb_read.specs.declared.fault.ReadKind.TheVariants as kind
 use Rattle.pb_read.specs.declared.meta.Meta.{Meta}
+use Rattle.pb_read.specs.declared.progress.Stage.TheVariants.{InMeta, InProjects, InVotes}
 use Rattle.pb_read.specs.declared.section.Section.TheVariants as section
 
-bind_bind : (r : Result Stage ReadKind) (f g : Stage → Result Stage ReadKind) → bind (bind r f) g ≡ bind r (λ p. bind (f p) g)
+bind_bind : (r : Result Position ReadKind) (f g : Position → Result Position ReadKind) → bind (bind r f) g ≡ bind r (λ p. bind (f p) g)
 bind_bind (Ok p) f g = refl
 bind_bind (Err kind) f g = refl
 
-bind_same : (r : Result Stage ReadKind) (f g : Stage → Result Stage ReadKind) → ((p : Stage) → f p ≡ g p) → bind r f ≡ bind r g
+bind_same : (r : Result Position ReadKind) (f g : Position → Result Position ReadKind) → ((p : Position) → f p ≡ g p) → bind r f ≡ bind r g
 bind_same (Ok p) f g h = h p
 bind_same (Err kind) f g h = refl
 
-pub run-append : (p : Stage) (xs ys : List Fields) → run p (xs ++ ys) ≡ bind (run p xs) (λ q. run q ys)
+pub run-append : (p : Position) (xs ys : List Fields) → run p (xs ++ ys) ≡ bind (run p xs) (λ q. run q ys)
 run-append p [] ys = refl
 run-append p (x ∷ xs) ys =
     bind_same (step p (next_row x)) _ _ (λ q. run-append q xs ys) ∙ sym (bind_bind (step p (next_row x)) (λ q. run q xs) (λ q. run q ys))
@@ -46,15 +49,9 @@ option_map_or_cond f true x o d = refl
 option_map_or_cond f false x o d = refl
 
 value_of-push : (key : List ℕ) (rows : List Fields) (row : Fields) → value_of key (rows ++ row ∷ []) ≡ cond (is_word key (field row 0)) (Some (field row 1)) (value_of key rows)
-value_of-push key [] row = refl
-value_of-push key (x ∷ rows) row =
-    ap (λ o. option_or o (cond (is_word key (field x 0)) (Some (field x 1)) None)) (value_of-push key rows row) ∙ swap (is_word key (field row 0))
-  where
-    swap : (t : Bool) →
-        option_or (cond t (Some (field row 1)) (value_of key rows)) (cond (is_word key (field x 0)) (Some (field x 1)) None)
-        ≡ cond t (Some (field row 1)) (option_or (value_of key rows) (cond (is_word key (field x 0)) (Some (field x 1)) None))
-    swap true = refl
-    swap false = refl
+value_of-push key rows row =
+    ap (λ xs. option_map (λ x. field x 1) (find (λ x. is_word key (field x 0)) xs)) (reverse-append rows (row ∷ []))
+    ∙ option_map_cond (λ x. field x 1) (is_word key (field row 0)) row (find (λ x. is_word key (field x 0)) (reverse rows))
 
 -- META's rows with one more
 pub meta_of-push : (rows : List Fields) (row : Fields) → meta_of (rows ++ row ∷ []) ≡ with_row (meta_of rows) row
@@ -71,12 +68,12 @@ meta_of-push rows row = λ i. record { budget = budget i; approval = approval i;
         ap (λ o. option_map_or max_length_of o (Ok None)) (value_of-push (codes "max_length") rows row)
         ∙ option_map_or_cond max_length_of (is_word (codes "max_length") (field row 0)) (field row 1) (value_of (codes "max_length") rows) (Ok None)
 
-pub head_fault : (meta : Meta) → row_fault (InMeta meta) (head section.Projects) ≡ head_checks meta.budget meta.approval meta.max_length
+pub head_fault : (meta : Meta) (e : ElectionView) → row_fault (InMeta meta, e) (head section.Projects) ≡ head_checks meta.budget meta.approval meta.max_length
 unfolding row_fault
-head_fault meta = go meta.budget meta.approval meta.max_length
+head_fault meta e = go meta.budget meta.approval meta.max_length
   where
     go : (budget : Option (Result ℕ MoneyFault)) (approval : Option Bool) (max_length : Result (Option ℕ) ReadKind) →
-        row_fault (InMeta (record { budget = budget; approval = approval; max_length = max_length })) (head section.Projects) ≡ head_checks budget approval max_length
+        row_fault (InMeta (record { budget = budget; approval = approval; max_length = max_length }), e) (head section.Projects) ≡ head_checks budget approval max_length
     go None approval max_length = refl
     go (Some budget) None max_length = refl
     go (Some (Ok amount)) (Some true) (Ok max_length) = refl
@@ -96,49 +93,48 @@ found_for whole cost no_id repeated full =
     cond (fails_by kind.BadMoney cost) (Some kind.BadMoney) (
     cond (fails_by kind.MoneyTooFine cost) (Some kind.MoneyTooFine) (
     cond (fails_by kind.MoneyTooLarge cost) (Some kind.MoneyTooLarge) (
-    cond (is_zero cost) (Some kind.ZeroCost) (
+    cond (result_unwrap_or cost 1 == 0) (Some kind.ZeroCost) (
     cond no_id (Some kind.EmptyId) (
     cond repeated (Some kind.RepeatedProject) (
     cond full (Some kind.TooManyProjects) None)))))))
 
 found_is_checks : (whole : Bool) (cost : Result ℕ MoneyFault) (no_id repeated full : Bool) → found_for whole cost no_id repeated full ≡ project_checks whole cost no_id repeated full
-found_is_checks false cost no_id repeated full = refl
-found_is_checks true (Ok amount) no_id repeated full = refl
-found_is_checks true (Err money.BadMoney) no_id repeated full = refl
-found_is_checks true (Err money.MoneyTooFine) no_id repeated full = refl
-found_is_checks true (Err money.MoneyTooLarge) no_id repeated full = refl
+found_is_checks whole (Ok amount) no_id repeated full = refl
+found_is_checks whole (Err money.BadMoney) no_id repeated full = refl
+found_is_checks whole (Err money.MoneyTooFine) no_id repeated full = refl
+found_is_checks whole (Err money.MoneyTooLarge) no_id repeated full = refl
 
 pub project_fault : (columns : ProjectColumns) (row : Fields) (e : ElectionView) →
-    row_fault (InProjects columns e) (plain row)
-    ≡ project_checks (has_project_fields columns row) (money_of (field row columns.cost)) (is_empty (field row columns.id)) (is_among (project_ids e) (field row columns.id)) (nat_le most_projects (length e.projects))
+    row_fault (InProjects columns, e) (plain row)
+    ≡ project_checks (has_fields columns.id columns.cost row) (money_of (field row columns.cost)) (is_empty (field row columns.id)) (is_among (project_ids e) (field row columns.id)) (nat_le most_projects (length e.projects))
 unfolding row_fault
 project_fault columns row e =
-    found_is_checks (has_project_fields columns row) (money_of (field row columns.cost)) (is_empty (field row columns.id)) (is_among (project_ids e) (field row columns.id)) (nat_le most_projects (length e.projects))
+    found_is_checks (has_fields columns.id columns.cost row) (money_of (field row columns.cost)) (is_empty (field row columns.id)) (is_among (project_ids e) (field row columns.id)) (nat_le most_projects (length e.projects))
 
 pub vote_fault : (columns : VoteColumns) (row : Fields) (e : ElectionView) →
-    row_fault (InVotes columns e) (plain row)
-    ≡ vote_checks (has_vote_fields columns row) (is_empty (field row columns.voter)) (is_among (voter_ids e) (field row columns.voter)) (names_only (project_ids e) (field row columns.vote)) (nat_le most_voters (length e.voters))
+    row_fault (InVotes columns, e) (plain row)
+    ≡ vote_checks (has_fields columns.voter columns.vote row) (is_empty (field row columns.voter)) (is_among (voter_ids e) (field row columns.voter)) (names_only (project_ids e) (field row columns.vote)) (nat_le most_voters (length e.voters))
 unfolding row_fault
 vote_fault columns row e = refl
 
 -- what a project row without fault has passed
 pub record PassesProject (columns : ProjectColumns) (row : Fields) (e : ElectionView) : Type 0 where
   pub cost : ℕ
-  pub whole : has_project_fields columns row ≡ true
+  pub whole : has_fields columns.id columns.cost row ≡ true
   pub reads : money_of (field row columns.cost) ≡ Ok cost
   pub costs : 0 < cost
   pub has_id : is_empty (field row columns.id) ≡ false
   pub new_id : is_among (project_ids e) (field row columns.id) ≡ false
   pub room : length e.projects < most_projects
 
-pub passes_project : (columns : ProjectColumns) (row : Fields) (e : ElectionView) → row_fault (InProjects columns e) (plain row) ≡ None → PassesProject columns row e
+pub passes_project : (columns : ProjectColumns) (row : Fields) (e : ElectionView) → row_fault (InProjects columns, e) (plain row) ≡ None → PassesProject columns row e
 passes_project columns row e none =
-    go (has_project_fields columns row) refl (money_of (field row columns.cost)) refl (sym (project_fault columns row e) ∙ none)
+    go (has_fields columns.id columns.cost row) refl (money_of (field row columns.cost)) refl (sym (project_fault columns row e) ∙ none)
   where
     room : Bool
     room = nat_le most_projects (length e.projects)
 
-    go : (whole : Bool) → has_project_fields columns row ≡ whole → (cost : Result ℕ MoneyFault) → money_of (field row columns.cost) ≡ cost →
+    go : (whole : Bool) → has_fields columns.id columns.cost row ≡ whole → (cost : Result ℕ MoneyFault) → money_of (field row columns.cost) ≡ cost →
         project_checks whole cost (is_empty (field row columns.id)) (is_among (project_ids e) (field row columns.id)) (nat_le most_projects (length e.projects)) ≡ None →
         PassesProject columns row e
     go false w cost m f = absurd (some≢none f)
@@ -154,7 +150,7 @@ passes_project columns row e none =
         let below = leb-false most_projects (length e.projects) few.0 in
         record { cost = cost; whole = w; reads = m; costs = omega (arith, some_cost); has_id = has_id.0; new_id = new_id.0; room = below }
 
-pub project_passes : (columns : ProjectColumns) (row : Fields) (e : ElectionView) → PassesProject columns row e → row_fault (InProjects columns e) (plain row) ≡ None
+pub project_passes : (columns : ProjectColumns) (row : Fields) (e : ElectionView) → PassesProject columns row e → row_fault (InProjects columns, e) (plain row) ≡ None
 project_passes columns row e p =
     project_fault columns row e ∙ go _ _ _ _ _ p.whole p.reads p.has_id p.new_id (lt-leb most_projects (length e.projects) p.room)
   where
@@ -166,13 +162,13 @@ project_passes columns row e p =
 
 -- what a vote row without fault has passed
 pub record PassesVote (columns : VoteColumns) (row : Fields) (e : ElectionView) : Type 0 where
-  pub whole : has_vote_fields columns row ≡ true
+  pub whole : has_fields columns.voter columns.vote row ≡ true
   pub has_id : is_empty (field row columns.voter) ≡ false
   pub new_id : is_among (voter_ids e) (field row columns.voter) ≡ false
   pub known : names_only (project_ids e) (field row columns.vote) ≡ true
   pub room : length e.voters < most_voters
 
-pub passes_vote : (columns : VoteColumns) (row : Fields) (e : ElectionView) → row_fault (InVotes columns e) (plain row) ≡ None → PassesVote columns row e
+pub passes_vote : (columns : VoteColumns) (row : Fields) (e : ElectionView) → row_fault (InVotes columns, e) (plain row) ≡ None → PassesVote columns row e
 passes_vote columns row e none =
     let whole = cond_none _ _ _ (sym (vote_fault columns row e) ∙ none) in
     let has_id = cond_none _ _ _ whole.1 in
@@ -181,7 +177,7 @@ passes_vote columns row e none =
     let few = cond_none _ _ _ known.1 in
     record { whole = not-false _ whole.0; has_id = has_id.0; new_id = new_id.0; known = not-false _ known.0; room = leb-false most_voters (length e.voters) few.0 }
 
-pub vote_passes : (columns : VoteColumns) (row : Fields) (e : ElectionView) → PassesVote columns row e → row_fault (InVotes columns e) (plain row) ≡ None
+pub vote_passes : (columns : VoteColumns) (row : Fields) (e : ElectionView) → PassesVote columns row e → row_fault (InVotes columns, e) (plain row) ≡ None
 vote_passes columns row e p =
     vote_fault columns row e ∙ go _ _ _ _ _ p.whole p.has_id p.new_id p.known (lt-leb most_voters (length e.voters) p.room)
   where
@@ -196,8 +192,8 @@ pub record PassesHead (meta : Meta) : Type 0 where
   pub approval : meta.approval ≡ Some true
   pub limit : meta.max_length ≡ Ok max_length
 
-pub passes_head : (meta : Meta) → row_fault (InMeta meta) (head section.Projects) ≡ None → PassesHead meta
-passes_head meta none = go meta.budget meta.approval meta.max_length refl refl refl (sym (head_fault meta) ∙ none)
+pub passes_head : (meta : Meta) (e : ElectionView) → row_fault (InMeta meta, e) (head section.Projects) ≡ None → PassesHead meta
+passes_head meta e none = go meta.budget meta.approval meta.max_length refl refl refl (sym (head_fault meta e) ∙ none)
   where
     go : (budget : Option (Result ℕ MoneyFault)) (approval : Option Bool) (max_length : Result (Option ℕ) ReadKind) → meta.budget ≡ budget → meta.approval ≡ approval → meta.max_length ≡ max_length →
         head_checks budget approval max_length ≡ None → PassesHead meta
@@ -210,6 +206,6 @@ passes_head meta none = go meta.budget meta.approval meta.max_length refl refl r
     go (Some (Err money.MoneyTooFine)) (Some true) max_length b a l f = absurd (some≢none f)
     go (Some (Err money.MoneyTooLarge)) (Some true) max_length b a l f = absurd (some≢none f)
 
-pub head_passes : (meta : Meta) (budget : ℕ) (max_length : Option ℕ) → meta.budget ≡ Some (Ok budget) → meta.approval ≡ Some true → meta.max_length ≡ Ok max_length →
-    row_fault (InMeta meta) (head section.Projects) ≡ None
-head_passes meta budget max_length b a l = head_fault meta ∙ rw (b, a, l) refl
+pub head_passes : (meta : Meta) (e : ElectionView) (budget : ℕ) (max_length : Option ℕ) → meta.budget ≡ Some (Ok budget) → meta.approval ≡ Some true → meta.max_length ≡ Ok max_length →
+    row_fault (InMeta meta, e) (head section.Projects) ≡ None
+head_passes meta e budget max_length b a l = head_fault meta e ∙ rw (b, a, l) refl

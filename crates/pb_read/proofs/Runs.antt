@@ -9,14 +9,15 @@ use Rattle.std.proofs.lemmas.List.Elements.{All-contains, Contains-append_right}
 use Rattle.std.proofs.Math.Seq.{get_or-append_seam}
 use Rattle.pb_core.specs.Election.{ElectionView, ProjectView, VoterView, IsElection, IsProject, IsVoter, AreDistinct, project_ids}
 use Rattle.pb_rows.specs.Reading.{Fields}
-use Rattle.pb_read.proofs.ListFacts.{Contains-is_among, AllByRecursion-left, AllByRecursion-right}
+use Rattle.pb_read.proofs.ListFacts.{IsPlain, Contains-is_among, AllByRecursion-left, AllByRecursion-right}
 use Rattle.pb_read.proofs.MachineLaws.{run-append, meta_of-push, head_passes, project_passes, vote_passes, PassesProject, PassesVote}
 use Rattle.pb_read.specs.Columns.{project_columns, vote_columns}
-use Rattle.pb_read.specs.Stages.{Stage, Start, MetaHeader, InMeta, ProjectsHeader, InProjects, VotesHeader, InVotes, Next, head, plain, next_row, IsAt, IsSound}
-use Rattle.pb_read.specs.Machine.{advance, amount_of, project_of, voter_of, run, bind, step, step_or, row_fault}
+use Rattle.pb_read.specs.Stages.{Next, head, plain, next_row, IsAt}
+use Rattle.pb_read.specs.declared.progress.Stage.TheVariants.{Start, Header, InMeta, InProjects, InVotes}
+use Rattle.pb_read.specs.Machine.{Position, start, advance, amount_of, project_of, voter_of, run, bind, step, step_or, row_fault}
 use Rattle.pb_read.specs.MetaRows.{meta_of}
 use Rattle.pb_read.specs.Rows.{field, head_of, is_blank, is_empty}
-use Rattle.pb_read.specs.StandsFor.{GivesAll, GivesAllButVoters, GivesProject, GivesTerms, GivesVoter, IsHead, IsMeta, IsPlain, Then, opening}
+use Rattle.pb_read.specs.StandsFor.{GivesAll, GivesAllButVoters, GivesProject, GivesTerms, GivesVoter, IsHead, IsMeta, Then, opening}
 use Rattle.pb_read.specs.Voting.{is_among}
 use Rattle.pb_read.specs.declared.columns.ProjectColumns.{ProjectColumns}
 use Rattle.pb_read.specs.declared.columns.VoteColumns.{VoteColumns}
@@ -29,22 +30,22 @@ use Rattle.pb_read.specs.declared.section.Section.TheVariants as section
 abbrev pub AreFull : List Fields → Type 0
 AreFull rows = AllByRecursion (λ row. is_blank row ≡ false) rows
 
-abbrev Runs : Stage → List Fields → Stage → Type 0
+abbrev Runs : Position → List Fields → Position → Type 0
 Runs p rows q = run p rows ≡ Ok q
 
 -- one row without fault
-pub run_row : (p : Stage) (row : Fields) (rest : List Fields) (n : Next) → next_row row ≡ n → row_fault p n ≡ None → run p (row ∷ rest) ≡ run (advance p n) rest
+pub run_row : (p : Position) (row : Fields) (rest : List Fields) (n : Next) → next_row row ≡ n → row_fault p n ≡ None → run p (row ∷ rest) ≡ run (advance p n) rest
 unfolding step
 run_row p row rest n is none =
     ap (λ m. bind (step p m) (λ q. run q rest)) is ∙ ap (λ r. bind (step_or r (advance p n)) (λ q. run q rest)) none
 
 -- one row at fault
-pub run_fault : (p : Stage) (row : Fields) (rest : List Fields) (kind : ReadKind) → row_fault p (next_row row) ≡ Some kind → run p (row ∷ rest) ≡ Err kind
+pub run_fault : (p : Position) (row : Fields) (rest : List Fields) (kind : ReadKind) → row_fault p (next_row row) ≡ Some kind → run p (row ∷ rest) ≡ Err kind
 unfolding step
 run_fault p row rest kind fault = ap (λ r. bind (step_or r (advance p (next_row row))) (λ q. run q rest)) fault
 
 -- rows after others
-pub run_onto : (p q : Stage) (front rest : List Fields) → run p front ≡ Ok q → run p (front ++ rest) ≡ run q rest
+pub run_onto : (p q : Position) (front rest : List Fields) → run p front ≡ Ok q → run p (front ++ rest) ≡ run q rest
 run_onto p q front rest e = run-append p front rest ∙ ap (λ r. bind r (λ x. run x rest)) e
 
 next_plain : (row : Fields) → is_blank row ≡ false → IsPlain row → next_row row ≡ plain row
@@ -53,69 +54,70 @@ next_plain row full is = rw (full, is) refl
 next_head : (row : Fields) (name : Section) → is_blank row ≡ false → head_of row ≡ Some name → next_row row ≡ head name
 next_head row name full is = rw (full, is) refl
 
-meta_opens : row_fault Start (head section.Meta) ≡ None
+meta_opens : row_fault start (head section.Meta) ≡ None
 unfolding row_fault
 meta_opens = refl
 
-header_passes : (r : Fields) → row_fault MetaHeader (plain r) ≡ None
+header_passes : (e : ElectionView) (r : Fields) → row_fault (Header section.Meta, e) (plain r) ≡ None
 unfolding row_fault
-header_passes r = refl
+header_passes e r = refl
 
-pub meta_row_passes : (meta : Meta) (r : Fields) → row_fault (InMeta meta) (plain r) ≡ None
+pub meta_row_passes : (meta : Meta) (e : ElectionView) (r : Fields) → row_fault (InMeta meta, e) (plain r) ≡ None
 unfolding row_fault
-meta_row_passes meta r = refl
+meta_row_passes meta e r = refl
 
-project_header_passes : (e : ElectionView) (header : Fields) (columns : ProjectColumns) → project_columns header ≡ Some columns → row_fault (ProjectsHeader e) (plain header) ≡ None
+project_header_passes : (e : ElectionView) (header : Fields) (columns : ProjectColumns) → project_columns header ≡ Some columns → row_fault (Header section.Projects, e) (plain header) ≡ None
 unfolding row_fault
 project_header_passes e header columns c = ap (λ o. cond (is_none o) (Some kind.MissingColumn) None) c
 
-vote_header_passes : (e : ElectionView) (header : Fields) (columns : VoteColumns) → vote_columns header ≡ Some columns → row_fault (VotesHeader e) (plain header) ≡ None
+vote_header_passes : (e : ElectionView) (header : Fields) (columns : VoteColumns) → vote_columns header ≡ Some columns → row_fault (Header section.Votes, e) (plain header) ≡ None
 unfolding row_fault
 vote_header_passes e header columns c = ap (λ o. cond (is_none o) (Some kind.MissingColumn) None) c
 
-votes_open : (columns : ProjectColumns) (e : ElectionView) → row_fault (InProjects columns e) (head section.Votes) ≡ None
+votes_open : (columns : ProjectColumns) (e : ElectionView) → row_fault (InProjects columns, e) (head section.Votes) ≡ None
 unfolding row_fault
 votes_open columns e = refl
 
-run_meta_body : (done body : List Fields) → AllByRecursion IsPlain body → AreFull body → Runs (InMeta (meta_of done)) body (InMeta (meta_of (done ++ body)))
-run_meta_body done [] plain_rows full = ap (λ rows. Ok (InMeta (meta_of rows))) (sym (append-nil done))
-run_meta_body done (row ∷ body) plain_rows full =
-    run_row (InMeta (meta_of done)) row body (plain row) (next_plain row full.0 plain_rows.0) (meta_row_passes (meta_of done) row)
-    ∙ ap (λ m. run (InMeta m) body) (sym (meta_of-push done row))
-    ∙ run_meta_body (done ++ row ∷ []) body plain_rows.1 full.1
-    ∙ ap (λ rows. Ok (InMeta (meta_of rows))) (append_assoc done (row ∷ []) body)
+run_meta_body : (e : ElectionView) (done body : List Fields) → AllByRecursion IsPlain body → AreFull body → Runs (InMeta (meta_of done), e) body (InMeta (meta_of (done ++ body)), e)
+run_meta_body e done [] plain_rows full = ap (λ rows. Ok (InMeta (meta_of rows), e)) (sym (append-nil done))
+run_meta_body e done (row ∷ body) plain_rows full =
+    run_row (InMeta (meta_of done), e) row body (plain row) (next_plain row full.0 plain_rows.0) (meta_row_passes (meta_of done) e row)
+    ∙ ap (λ m. run (InMeta m, e) body) (sym (meta_of-push done row))
+    ∙ run_meta_body e (done ++ row ∷ []) body plain_rows.1 full.1
+    ∙ ap (λ rows. Ok (InMeta (meta_of rows), e)) (append_assoc done (row ∷ []) body)
 
-run_meta : (rows : List Fields) (meta : Meta) → AreFull rows → IsMeta meta rows → Runs Start rows (InMeta meta)
+run_meta : (rows : List Fields) (meta : Meta) → AreFull rows → IsMeta meta rows → Runs start rows (InMeta meta, opening 0 None)
 run_meta rows meta full at =
     let whole : AreFull (at.head ∷ at.header ∷ at.body) = subst AreFull at.cut full in
-    ap (run Start) at.cut
-    ∙ run_row Start at.head (at.header ∷ at.body) (head section.Meta) (next_head at.head section.Meta whole.0 at.opens) meta_opens
-    ∙ run_row MetaHeader at.header at.body (plain at.header) (next_plain at.header whole.1.0 at.plain.0) (header_passes at.header)
-    ∙ run_meta_body [] at.body at.plain.1 whole.1.1
-    ∙ ap (λ m. Ok (InMeta m)) (sym at.says)
+    ap (run start) at.cut
+    ∙ run_row start at.head (at.header ∷ at.body) (head section.Meta) (next_head at.head section.Meta whole.0 at.opens) meta_opens
+    ∙ run_row (Header section.Meta, opening 0 None) at.header at.body (plain at.header) (next_plain at.header whole.1.0 at.plain.0) (header_passes (opening 0 None) at.header)
+    ∙ run_meta_body (opening 0 None) [] at.body at.plain.1 whole.1.1
+    ∙ ap (λ m. Ok (InMeta m, opening 0 None)) (sym at.says)
 
--- rows of which the first part runs to a stage
-run_then : (First Second : List Fields → Type 0) (p : Stage) (rows back : List Fields) → (at : Then First Second rows) → at.back ≡ back → Runs Start at.front p → run Start rows ≡ run p back
+-- rows of which the first part runs to a position
+run_then : (First Second : List Fields → Type 0) (p : Position) (rows back : List Fields) → (at : Then First Second rows) → at.1 ≡ back → Runs start at.0 p → run start rows ≡ run p back
 run_then First Second p rows back at is front =
-    ap (run Start) (at.cut ∙ ap (λ xs. at.front ++ xs) is) ∙ run_onto Start p at.front back front
+    ap (run start) (at.2 ∙ ap (λ xs. at.0 ++ xs) is) ∙ run_onto start p at.0 back front
 
-full_front : (First Second : List Fields → Type 0) (rows : List Fields) → (at : Then First Second rows) → AreFull rows → AreFull at.front
-full_front First Second rows at full = AllByRecursion-left _ at.front at.back (subst AreFull at.cut full)
+full_front : (First Second : List Fields → Type 0) (rows : List Fields) → (at : Then First Second rows) → AreFull rows → AreFull at.0
+full_front First Second rows at full = AllByRecursion-left _ at.0 at.1 (subst AreFull at.2 full)
 
-full_back : (First Second : List Fields → Type 0) (rows back : List Fields) → (at : Then First Second rows) → at.back ≡ back → AreFull rows → AreFull back
-full_back First Second rows back at is full = subst AreFull is (AllByRecursion-right _ at.front at.back (subst AreFull at.cut full))
+full_back : (First Second : List Fields → Type 0) (rows back : List Fields) → (at : Then First Second rows) → at.1 ≡ back → AreFull rows → AreFull back
+full_back First Second rows back at is full = subst AreFull is (AllByRecursion-right _ at.0 at.1 (subst AreFull at.2 full))
 
-run_terms : (budget : ℕ) (max_length : Option ℕ) (row : Fields) (rest : List Fields) → is_blank row ≡ false → head_of row ≡ Some section.Projects →
-    run (InMeta (record { budget = Some (Ok budget); approval = Some true; max_length = Ok max_length })) (row ∷ rest) ≡ run (ProjectsHeader (opening budget max_length)) rest
-run_terms budget max_length row rest full opens =
-    run_row (InMeta (record { budget = Some (Ok budget); approval = Some true; max_length = Ok max_length })) row rest (head section.Projects) (next_head row section.Projects full opens)
-    (head_passes (record { budget = Some (Ok budget); approval = Some true; max_length = Ok max_length }) budget max_length refl refl refl)
+run_terms : (budget : ℕ) (max_length : Option ℕ) (e : ElectionView) (row : Fields) (rest : List Fields) → is_blank row ≡ false → head_of row ≡ Some section.Projects →
+    run (InMeta (record { budget = Some (Ok budget); approval = Some true; max_length = Ok max_length }), e) (row ∷ rest) ≡ run (Header section.Projects, opening budget max_length) rest
+run_terms budget max_length e row rest full opens =
+    run_row (InMeta (record { budget = Some (Ok budget); approval = Some true; max_length = Ok max_length }), e) row rest (head section.Projects) (next_head row section.Projects full opens)
+    (head_passes (record { budget = Some (Ok budget); approval = Some true; max_length = Ok max_length }) e budget max_length refl refl refl)
 
-run_projects_head : (rows : List Fields) (budget : ℕ) (max_length : Option ℕ) → AreFull rows → Then (GivesTerms budget max_length) (IsHead section.Projects) rows → Runs Start rows (ProjectsHeader (opening budget max_length))
+run_projects_head : (rows : List Fields) (budget : ℕ) (max_length : Option ℕ) → AreFull rows → Then (GivesTerms budget max_length) (IsHead section.Projects) rows → Runs start rows (Header section.Projects, opening budget max_length)
 run_projects_head rows budget max_length full at =
-    let back : AreFull (at.second.head ∷ []) = full_back _ _ rows (at.second.head ∷ []) at at.second.cut full in
-    run_then _ _ _ rows (at.second.head ∷ []) at at.second.cut (run_meta at.front _ (full_front _ _ rows at full) at.first)
-    ∙ run_terms budget max_length at.second.head [] back.0 at.second.opens
+    let first = at.4 in
+    let back : AreFull (first.0 ∷ []) = full_back _ _ rows (first.0 ∷ []) at first.1 full in
+    run_then _ _ _ rows (first.0 ∷ []) at first.1 (run_meta at.0 _ (full_front _ _ rows at full) at.3)
+    ∙ run_terms budget max_length (opening 0 None) first.0 [] back.0 first.2
 
 -- what is true of an element in the middle
 middle : {X : Type 0} (P : X → Type 0) (xs : List X) (y : X) (ys : List X) → All P (xs ++ y ∷ ys) → P y
@@ -156,34 +158,35 @@ passes_at columns e qs ps p row given is =
 
 run_projects_body : (columns : ProjectColumns) (e : ElectionView) (qs ps : List ProjectView) (body : List Fields) → AllZip (GivesProject columns) body ps → AllByRecursion IsPlain body → AreFull body →
     IsElection (record e { projects = qs ++ ps; voters = [] }) →
-    Runs (InProjects columns (record e { projects = qs; voters = [] })) body (InProjects columns (record e { projects = qs ++ ps; voters = [] }))
-run_projects_body columns e qs [] [] zip plain_rows full is = ap (λ ps. Ok (InProjects columns (record e { projects = ps; voters = [] }))) (sym (append-nil qs))
+    Runs (InProjects columns, record e { projects = qs; voters = [] }) body (InProjects columns, record e { projects = qs ++ ps; voters = [] })
+run_projects_body columns e qs [] [] zip plain_rows full is = ap (λ ps. Ok (InProjects columns, record e { projects = ps; voters = [] })) (sym (append-nil qs))
 run_projects_body columns e qs (p ∷ ps) [] zip plain_rows full is = absurd zip
 run_projects_body columns e qs [] (row ∷ body) zip plain_rows full is = absurd zip
 run_projects_body columns e qs (p ∷ ps) (row ∷ body) zip plain_rows full is =
     let given : GivesProject columns row p = zip.0 in
     let same : project_of columns row ≡ p = λ i. record { id = sym given.id i; name = sym given.name i; cost = ap amount_of given.cost i } in
-    run_row (InProjects columns (record e { projects = qs; voters = [] })) row body (plain row) (next_plain row full.0 plain_rows.0) (project_passes columns row (record e { projects = qs; voters = [] }) (passes_at columns e qs ps p row given is))
-    ∙ ap (λ x. run (InProjects columns (record e { projects = qs ++ x ∷ []; voters = [] })) body) same
+    run_row (InProjects columns, record e { projects = qs; voters = [] }) row body (plain row) (next_plain row full.0 plain_rows.0) (project_passes columns row (record e { projects = qs; voters = [] }) (passes_at columns e qs ps p row given is))
+    ∙ ap (λ x. run (InProjects columns, record e { projects = qs ++ x ∷ []; voters = [] }) body) same
     ∙ run_projects_body columns e (qs ++ p ∷ []) ps body zip.1 plain_rows.1 full.1 (subst (λ xs. IsElection (record e { projects = xs; voters = [] })) (sym (append_assoc qs (p ∷ []) ps)) is)
-    ∙ ap (λ xs. Ok (InProjects columns (record e { projects = xs; voters = [] }))) (append_assoc qs (p ∷ []) ps)
+    ∙ ap (λ xs. Ok (InProjects columns, record e { projects = xs; voters = [] })) (append_assoc qs (p ∷ []) ps)
 
-run_projects : (rows : List Fields) (columns : ProjectColumns) (e : ElectionView) → AreFull rows → GivesAllButVoters columns e rows → e.voters ≡ [] → IsElection e → Runs Start rows (InProjects columns e)
+run_projects : (rows : List Fields) (columns : ProjectColumns) (e : ElectionView) → AreFull rows → GivesAllButVoters columns e rows → e.voters ≡ [] → IsElection e → Runs start rows (InProjects columns, e)
 run_projects rows columns e full at no_voter is =
-    let part = at.second in
+    let part = at.4 in
     let back : AreFull (part.head ∷ part.header ∷ part.body) = full_back _ _ rows (part.head ∷ part.header ∷ part.body) at part.cut full in
-    run_then _ _ _ rows (part.head ∷ part.header ∷ part.body) at part.cut (run_meta at.front _ (full_front _ _ rows at full) at.first)
-    ∙ run_terms e.budget e.max_length part.head (part.header ∷ part.body) back.0 part.opens
-    ∙ run_row (ProjectsHeader (opening e.budget e.max_length)) part.header part.body (plain part.header) (next_plain part.header back.1.0 part.plain.0) (project_header_passes (opening e.budget e.max_length) part.header columns part.says.0)
-    ∙ ap (λ o. run (option_map_or (λ c. InProjects c (opening e.budget e.max_length)) o Start) part.body) part.says.0
+    run_then _ _ _ rows (part.head ∷ part.header ∷ part.body) at part.cut (run_meta at.0 _ (full_front _ _ rows at full) at.3)
+    ∙ run_terms e.budget e.max_length (opening 0 None) part.head (part.header ∷ part.body) back.0 part.opens
+    ∙ run_row (Header section.Projects, opening e.budget e.max_length) part.header part.body (plain part.header) (next_plain part.header back.1.0 part.plain.0) (project_header_passes (opening e.budget e.max_length) part.header columns part.says.0)
+    ∙ ap (λ o. run (option_map_or (λ c. (InProjects c, opening e.budget e.max_length)) o (Start, opening e.budget e.max_length)) part.body) part.says.0
     ∙ run_projects_body columns e [] e.projects part.body part.says.1 part.plain.1 back.1.1 (subst (λ vs. IsElection (record e { voters = vs })) no_voter is)
-    ∙ ap (λ vs. Ok (InProjects columns (record e { voters = vs }))) (sym no_voter)
+    ∙ ap (λ vs. Ok (InProjects columns, record e { voters = vs })) (sym no_voter)
 
-run_votes_head : (rows : List Fields) (columns : ProjectColumns) (e : ElectionView) → AreFull rows → Then (GivesAllButVoters columns e) (IsHead section.Votes) rows → e.voters ≡ [] → IsElection e → Runs Start rows (VotesHeader e)
+run_votes_head : (rows : List Fields) (columns : ProjectColumns) (e : ElectionView) → AreFull rows → Then (GivesAllButVoters columns e) (IsHead section.Votes) rows → e.voters ≡ [] → IsElection e → Runs start rows (Header section.Votes, e)
 run_votes_head rows columns e full at no_voter is =
-    let back : AreFull (at.second.head ∷ []) = full_back _ _ rows (at.second.head ∷ []) at at.second.cut full in
-    run_then _ _ (InProjects columns e) rows (at.second.head ∷ []) at at.second.cut (run_projects at.front columns e (full_front _ _ rows at full) at.first no_voter is)
-    ∙ run_row (InProjects columns e) at.second.head [] (head section.Votes) (next_head at.second.head section.Votes back.0 at.second.opens) (votes_open columns e)
+    let first = at.4 in
+    let back : AreFull (first.0 ∷ []) = full_back _ _ rows (first.0 ∷ []) at first.1 full in
+    run_then _ _ (InProjects columns, e) rows (first.0 ∷ []) at first.1 (run_projects at.0 columns e (full_front _ _ rows at full) at.3 no_voter is)
+    ∙ run_row (InProjects columns, e) first.0 [] (head section.Votes) (next_head first.0 section.Votes back.0 first.2) (votes_open columns e)
 
 vote_passes_at : (columns : VoteColumns) (e : ElectionView) (us vs : List VoterView) (v : VoterView) (row : Fields) → GivesVoter columns (project_ids e) row v → IsElection (record e { voters = us ++ v ∷ vs }) →
     PassesVote columns row (record e { voters = us })
@@ -200,17 +203,17 @@ vote_passes_at columns e us vs v row given is =
 
 run_votes_body : (columns : VoteColumns) (e : ElectionView) (us vs : List VoterView) (body : List Fields) → AllZip (GivesVoter columns (project_ids e)) body vs → AllByRecursion IsPlain body → AreFull body →
     IsElection (record e { voters = us ++ vs }) →
-    Runs (InVotes columns (record e { voters = us })) body (InVotes columns (record e { voters = us ++ vs }))
-run_votes_body columns e us [] [] zip plain_rows full is = ap (λ xs. Ok (InVotes columns (record e { voters = xs }))) (sym (append-nil us))
+    Runs (InVotes columns, record e { voters = us }) body (InVotes columns, record e { voters = us ++ vs })
+run_votes_body columns e us [] [] zip plain_rows full is = ap (λ xs. Ok (InVotes columns, record e { voters = xs })) (sym (append-nil us))
 run_votes_body columns e us (v ∷ vs) [] zip plain_rows full is = absurd zip
 run_votes_body columns e us [] (row ∷ body) zip plain_rows full is = absurd zip
 run_votes_body columns e us (v ∷ vs) (row ∷ body) zip plain_rows full is =
     let given : GivesVoter columns (project_ids e) row v = zip.0 in
     let same : voter_of columns (project_ids e) row ≡ v = λ i. record { id = sym given.id i; ballot = sym given.ballot i } in
-    run_row (InVotes columns (record e { voters = us })) row body (plain row) (next_plain row full.0 plain_rows.0) (vote_passes columns row (record e { voters = us }) (vote_passes_at columns e us vs v row given is))
-    ∙ ap (λ x. run (InVotes columns (record e { voters = us ++ x ∷ [] })) body) same
+    run_row (InVotes columns, record e { voters = us }) row body (plain row) (next_plain row full.0 plain_rows.0) (vote_passes columns row (record e { voters = us }) (vote_passes_at columns e us vs v row given is))
+    ∙ ap (λ x. run (InVotes columns, record e { voters = us ++ x ∷ [] }) body) same
     ∙ run_votes_body columns e (us ++ v ∷ []) vs body zip.1 plain_rows.1 full.1 (subst (λ xs. IsElection (record e { voters = xs })) (sym (append_assoc us (v ∷ []) vs)) is)
-    ∙ ap (λ xs. Ok (InVotes columns (record e { voters = xs }))) (append_assoc us (v ∷ []) vs)
+    ∙ ap (λ xs. Ok (InVotes columns, record e { voters = xs })) (append_assoc us (v ∷ []) vs)
 
 pub without_voters_is_election : (e : ElectionView) → IsElection e → IsElection (record e { voters = [] })
 without_voters_is_election e is = record {
@@ -223,27 +226,30 @@ without_voters_is_election e is = record {
   voters_differ = λ i j d above below. absurd (omega (arith, below));
 }
 
-run_votes : (rows : List Fields) (columns : VoteColumns) (e : ElectionView) → AreFull rows → GivesAll columns e rows → IsElection e → Runs Start rows (InVotes columns e)
+run_votes : (rows : List Fields) (columns : VoteColumns) (e : ElectionView) → AreFull rows → GivesAll columns e rows → IsElection e → Runs start rows (InVotes columns, e)
 run_votes rows columns e full all is =
-    let at = all.sections in
-    let part = at.second in
+    let at = all.parts in
+    let part = at.4 in
     let before : ElectionView = record e { voters = [] } in
     let back : AreFull (part.head ∷ part.header ∷ part.body) = full_back _ _ rows (part.head ∷ part.header ∷ part.body) at part.cut full in
-    run_then _ _ (InProjects all.project_columns before) rows (part.head ∷ part.header ∷ part.body) at part.cut
-    (run_projects at.front all.project_columns before (full_front _ _ rows at full) at.first refl (without_voters_is_election e is))
-    ∙ run_row (InProjects all.project_columns before) part.head (part.header ∷ part.body) (head section.Votes) (next_head part.head section.Votes back.0 part.opens) (votes_open all.project_columns before)
-    ∙ run_row (VotesHeader before) part.header part.body (plain part.header) (next_plain part.header back.1.0 part.plain.0) (vote_header_passes before part.header columns part.says.0)
-    ∙ ap (λ o. run (option_map_or (λ c. InVotes c before) o Start) part.body) part.says.0
+    run_then _ _ (InProjects all.project_columns, before) rows (part.head ∷ part.header ∷ part.body) at part.cut
+    (run_projects at.0 all.project_columns before (full_front _ _ rows at full) at.3 refl (without_voters_is_election e is))
+    ∙ run_row (InProjects all.project_columns, before) part.head (part.header ∷ part.body) (head section.Votes) (next_head part.head section.Votes back.0 part.opens) (votes_open all.project_columns before)
+    ∙ run_row (Header section.Votes, before) part.header part.body (plain part.header) (next_plain part.header back.1.0 part.plain.0) (vote_header_passes before part.header columns part.says.0)
+    ∙ ap (λ o. run (option_map_or (λ c. (InVotes c, before)) o (Start, before)) part.body) part.says.0
     ∙ run_votes_body columns e [] e.voters part.body part.says.1 part.plain.1 back.1.1 is
 
 -- what stands runs, wherever a file has come to
-pub runs : (p : Stage) (rows : List Fields) → AreFull rows → IsAt rows p → IsSound p → Runs Start rows p
-runs Start rows full at sound = ap (run Start) at
-runs MetaHeader rows full at sound =
-    let whole : AreFull (at.head ∷ []) = subst AreFull at.cut full in
-    ap (run Start) at.cut ∙ run_row Start at.head [] (head section.Meta) (next_head at.head section.Meta whole.0 at.opens) meta_opens
-runs (InMeta meta) rows full at sound = run_meta rows meta full at
-runs (ProjectsHeader e) rows full at sound = run_projects_head rows e.budget e.max_length full at.0 ∙ ap (λ x. Ok (ProjectsHeader x)) (sym at.1)
-runs (InProjects columns e) rows full at sound = run_projects rows columns e full at sound.1 sound.0
-runs (VotesHeader e) rows full at sound = run_votes_head rows at.0 e full at.1 sound.1 sound.0
-runs (InVotes columns e) rows full at sound = run_votes rows columns e full at sound
+pub runs : (p : Position) (rows : List Fields) → AreFull rows → IsAt rows p → IsElection p.1 → Runs start rows p
+runs (Start, e) rows full at sound = ap (run start) at.0 ∙ ap (λ x. Ok (Start, x)) (sym at.1)
+runs (Header section.Meta, e) rows full at sound =
+    let first = at.0 in
+    let whole : AreFull (first.0 ∷ []) = subst AreFull first.1 full in
+    ap (run start) first.1
+    ∙ run_row start first.0 [] (head section.Meta) (next_head first.0 section.Meta whole.0 first.2) meta_opens
+    ∙ ap (λ x. Ok (Header section.Meta, x)) (sym at.1)
+runs (InMeta meta, e) rows full at sound = run_meta rows meta full at.0 ∙ ap (λ x. Ok (InMeta meta, x)) (sym at.1)
+runs (Header section.Projects, e) rows full at sound = run_projects_head rows e.budget e.max_length full at.0 ∙ ap (λ x. Ok (Header section.Projects, x)) (sym at.1)
+runs (InProjects columns, e) rows full at sound = run_projects rows columns e full at.0 at.1 sound
+runs (Header section.Votes, e) rows full at sound = run_votes_head rows at.0.0 e full at.0.1 at.1 sound
+runs (InVotes columns, e) rows full at sound = run_votes rows columns e full at sound

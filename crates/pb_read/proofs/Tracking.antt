@@ -10,9 +10,9 @@ use Rattle.pb_rows.specs.Reading.{Fields, NextIsNoText, records_of}
 use Rattle.pb_read.specs.Tracking.{HasCome, HasEnded, IsNextRow, Reached, Tracks}
 use Rattle.pb_read.proofs.GoesOn.{AllText-from_test, end_stands, first_fault, no_fault_so_far, reached_next, reached_start, test-from_AllText}
 use Rattle.pb_read.proofs.Uniqueness.{one_election, refused_from_outside}
-use Rattle.pb_read.specs.Stages.{Stage, Start, next_row, the_end}
+use Rattle.pb_read.specs.Stages.{next_row, the_end}
 use Rattle.pb_read.specs.FirstFault.{IsReachedAt, IsFaultAt, IsFirstFault, IsFromOutside}
-use Rattle.pb_read.specs.Machine.{Explains, advance, lowest_kind, row_fault}
+use Rattle.pb_read.specs.Machine.{Position, start, Explains, advance, lowest_kind, row_fault}
 use Rattle.pb_read.specs.Progresses.{EndsWith, StopsReading}
 use Rattle.pb_read.specs.Rows.{trimmed}
 use Rattle.pb_read.specs.StandsFor.{StandsFor, most_records}
@@ -20,12 +20,12 @@ use Rattle.pb_read.specs.declared.fault.ReadFault.{ReadFault}
 use Rattle.pb_read.specs.declared.fault.ReadKind.{ReadKind}
 use Rattle.pb_read.specs.declared.fault.ReadKind.TheVariants as kinds
 
-pub tracks_start : (all : Option (List Fields)) → Tracks all all 0 Start
+pub tracks_start : (all : Option (List Fields)) → Tracks all all 0 start
 tracks_start None = tt
 tracks_start (Some all) = record { done = []; cut = refl; count_is = refl; reached = reached_start }
 
 -- one record more
-pub tracks_more : (all left after : Option (List Fields)) (count : ℕ) (p q : Stage) (row : Fields) → Tracks all left count p → IsNextRow left after true row → row_fault p (next_row row) ≡ None → q ≡ advance p (next_row row) →
+pub tracks_more : (all left after : Option (List Fields)) (count : ℕ) (p q : Position) (row : Fields) → Tracks all left count p → IsNextRow left after true row → row_fault p (next_row row) ≡ None → q ≡ advance p (next_row row) →
     Tracks all after (count + 1) q
 tracks_more None left after count p q row tracks next none goes = tt
 tracks_more (Some all) None after count p q row tracks next none goes = absurd tracks
@@ -38,7 +38,7 @@ tracks_more (Some all) (Some (r ∷ rest)) after count p q row tracks next none 
       reached = subst (Reached (tracks.done ++ next.fields ∷ [])) (sym (goes ∙ ap (λ x. advance p (next_row x)) next.row_is)) (reached_next tracks.done p next.fields tracks.reached next.text (ap (λ x. row_fault p (next_row x)) (sym next.row_is) ∙ none));
     })
 
-cut_short : (all left : List Fields) (count : ℕ) (p : Stage) → HasCome all left count p → count ≤ most_records → (at : ℕ) → at ≡ count + 1 → IsReachedAt all at
+cut_short : (all left : List Fields) (count : ℕ) (p : Position) → HasCome all left count p → count ≤ most_records → (at : ℕ) → at ≡ count + 1 → IsReachedAt all at
 cut_short all left count p come few at is = record {
   done = come.done;
   left = left;
@@ -47,7 +47,7 @@ cut_short all left count p come few at is = record {
   no_fault_before = no_fault_so_far come.done p (omega (arith, come.count_is, few)) come.reached;
 }
 
-first_at : (all left : List Fields) (count : ℕ) (p : Stage) → HasCome all left count p → count ≤ most_records → (at : ℕ) → at ≡ count + 1 → (kind : ReadKind) → lowest_kind count p left ≡ Some kind → IsFirstFault all kind at
+first_at : (all left : List Fields) (count : ℕ) (p : Position) → HasCome all left count p → count ≤ most_records → (at : ℕ) → at ≡ count + 1 → (kind : ReadKind) → lowest_kind count p left ≡ Some kind → IsFirstFault all kind at
 first_at all left count p come few at is kind lowest =
     let here : IsFirstFault (come.done ++ left) kind (length come.done + 1) =
     first_fault come.done left p kind (omega (arith, come.count_is, few)) come.reached (ap (λ n. lowest_kind n p left) come.count_is ∙ lowest) in
@@ -60,7 +60,7 @@ explained all kinds.NoMemory at found cut said first = cut
 explained all kind at found cut said first = first _ said
 
 -- the next record could not be read
-pub stopped : (all left : Option (List Fields)) (count : ℕ) (p : Stage) (kind : ReadKind) (at : ℕ) → Tracks all left count p → count ≤ most_records → at ≡ count + 1 → StopsReading kind left → IfSome all (λ records. IsFaultAt records kind at)
+pub stopped : (all left : Option (List Fields)) (count : ℕ) (p : Position) (kind : ReadKind) (at : ℕ) → Tracks all left count p → count ≤ most_records → at ≡ count + 1 → StopsReading kind left → IfSome all (λ records. IsFaultAt records kind at)
 stopped None left count p kind at tracks few is stops = tt
 stopped (Some all) None count p kind at tracks few is stops = absurd tracks
 stopped (Some all) (Some left) count p kind at tracks few is stops = go kind stops
@@ -78,7 +78,7 @@ stopped (Some all) (Some left) count p kind at tracks few is stops = go kind sto
     go _ s = absurd s
 
 -- the next record is at fault
-pub refused : (all left after : Option (List Fields)) (count : ℕ) (p : Stage) (row : Fields) (kind : ReadKind) (at : ℕ) → Tracks all left count p → count < most_records → at ≡ count + 1 → IsNextRow left after true row → Explains kind (row_fault p (next_row row)) →
+pub refused : (all left after : Option (List Fields)) (count : ℕ) (p : Position) (row : Fields) (kind : ReadKind) (at : ℕ) → Tracks all left count p → count < most_records → at ≡ count + 1 → IsNextRow left after true row → Explains kind (row_fault p (next_row row)) →
     IfSome all (λ records. IsFaultAt records kind at)
 refused None left after count p row kind at tracks few is next said = tt
 refused (Some all) None after count p row kind at tracks few is next said = absurd tracks
@@ -91,7 +91,7 @@ refused (Some all) (Some (r ∷ rest)) after count p row kind at tracks few is n
     ∙ ap (λ t. cond t (Some kinds.TooManyRecords) (row_fault p (next_row (trimmed r)))) (ne_eqb count most_records (λ e. absurd (omega (arith, e, few)))) ∙ found))
 
 -- one record too many
-pub too_many : (all left after : Option (List Fields)) (p : Stage) (row : Fields) → Tracks all left most_records p → IsNextRow left after true row → IfSome all (λ records. IsFaultAt records kinds.TooManyRecords (most_records + 1))
+pub too_many : (all left after : Option (List Fields)) (p : Position) (row : Fields) → Tracks all left most_records p → IsNextRow left after true row → IfSome all (λ records. IsFaultAt records kinds.TooManyRecords (most_records + 1))
 too_many None left after p row tracks next = tt
 too_many (Some all) None after p row tracks next = absurd tracks
 too_many (Some all) (Some []) after p row tracks next = absurd (true≢false next.next)
@@ -100,21 +100,21 @@ too_many (Some all) (Some (r ∷ rest)) after p row tracks next =
     (ap (λ t. cond (not t) (Some kinds.NotText) (cond (most_records == most_records) (Some kinds.TooManyRecords) (row_fault p (next_row (trimmed r))))) (test-from_AllText r (subst AllText next.next.1 next.text)))
 
 -- no record is left
-pub has_ended : (all left after : Option (List Fields)) (count : ℕ) (p : Stage) (row : Fields) (at : ℕ) → Tracks all left count p → count ≤ most_records → at ≡ count + 1 → IsNextRow left after false row → HasEnded all at p
+pub has_ended : (all left after : Option (List Fields)) (count : ℕ) (p : Position) (row : Fields) (at : ℕ) → Tracks all left count p → count ≤ most_records → at ≡ count + 1 → IsNextRow left after false row → HasEnded all at p
 has_ended None left after count p row at tracks few is next = tt
 has_ended (Some all) None after count p row at tracks few is next = absurd tracks
 has_ended (Some all) (Some (r ∷ rest)) after count p row at tracks few is next = absurd (false≢true next.next.0)
 has_ended (Some all) (Some []) after count p row at tracks few is next = record { count = count; at_is = is; few = few; come = tracks }
 
 -- the file stands for the election that was read
-pub ended : (all : Option (List Fields)) (at : ℕ) (p : Stage) (e : ElectionView) → HasEnded all at p → EndsWith p e → IfSome all (λ records. StandsFor records e)
+pub ended : (all : Option (List Fields)) (at : ℕ) (p : Position) (e : ElectionView) → HasEnded all at p → EndsWith p e → IfSome all (λ records. StandsFor records e)
 ended None at p e end ends = tt
 ended (Some all) at p e end ends =
     subst (λ xs. StandsFor xs e) (sym (end.come.cut ∙ append-nil end.come.done))
     (end_stands end.come.done ends.0 e (omega (arith, end.come.count_is, end.few)) (subst (Reached end.come.done) ends.1 end.come.reached))
 
 -- the file ends at fault
-pub ended_at_fault : (all : Option (List Fields)) (at : ℕ) (p : Stage) (kind : ReadKind) (number : ℕ) → HasEnded all at p → number ≡ at → Explains kind (row_fault p the_end) → IfSome all (λ records. IsFaultAt records kind number)
+pub ended_at_fault : (all : Option (List Fields)) (at : ℕ) (p : Position) (kind : ReadKind) (number : ℕ) → HasEnded all at p → number ≡ at → Explains kind (row_fault p the_end) → IfSome all (λ records. IsFaultAt records kind number)
 ended_at_fault None at p kind number end same said = tt
 ended_at_fault (Some all) at p kind number end same said =
     explained all kind number _ (cut_short all [] end.count p end.come end.few number (same ∙ end.at_is)) said (λ k found. first_at all [] end.count p end.come end.few number (same ∙ end.at_is) k found)
@@ -125,7 +125,7 @@ as_result None r fault e said = tt
 as_result (Some all) r fault e said = rw e said
 
 -- what ends the reading of a file that ended
-pub finished : (all : Option (List Fields)) (at : ℕ) (p : Stage) (r : Result ElectionView ReadFault) → HasEnded all at p → MatchResult r (λ e. EndsWith p e) (λ fault. (fault.at ≡ at) × Explains fault.kind (row_fault p the_end)) →
+pub finished : (all : Option (List Fields)) (at : ℕ) (p : Position) (r : Result ElectionView ReadFault) → HasEnded all at p → MatchResult r (λ e. EndsWith p e) (λ fault. (fault.at ≡ at) × Explains fault.kind (row_fault p the_end)) →
     IfSome all (λ records. IfErr r (λ fault. IsFaultAt records fault.kind fault.at))
 finished None at p r end said = tt
 finished (Some all) at p (Ok e) end said = tt

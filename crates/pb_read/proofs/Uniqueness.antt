@@ -11,25 +11,19 @@ use Rattle.pb_read.proofs.ListFacts.{same_Ok}
 use Rattle.pb_read.proofs.Runs.{runs}
 use Rattle.pb_read.specs.Faults.{applies_after}
 use Rattle.pb_read.specs.Kinds.{number_of}
-use Rattle.pb_read.specs.Stages.{Stage, Start, InVotes}
 use Rattle.pb_read.specs.FirstFault.{HasNoFault, IsAtFault, IsFaultAt, IsFirstFault, IsFromOutside, IsReachedAt}
-use Rattle.pb_read.specs.Machine.{run}
+use Rattle.pb_read.specs.Machine.{start, run}
 use Rattle.pb_read.specs.Rows.{rows_of}
 use Rattle.pb_read.specs.StandsFor.{Describes, StandsFor}
 use Rattle.pb_read.specs.declared.fault.ReadKind.{ReadKind}
 use Rattle.pb_read.specs.declared.fault.ReadKind.TheVariants as kinds
-
-election_at : Stage → ElectionView → ElectionView
-election_at (InVotes columns e) other = e
-election_at _ other = other
+use Rattle.pb_read.specs.declared.progress.Stage.TheVariants.{InVotes}
 
 pub one_election : (records : List Fields) (e f : ElectionView) → StandsFor records e → StandsFor records f → e ≡ f
-unfolding election_at
 one_election records e f se sf =
-    let here = runs (InVotes se.describes.columns e) (rows_of records) (rows_of-are_full records) se.describes.rows se.describes.is_election in
-    let there = runs (InVotes sf.describes.columns f) (rows_of records) (rows_of-are_full records) sf.describes.rows sf.describes.is_election in
-    let same : InVotes se.describes.columns e ≡ InVotes sf.describes.columns f = same_Ok (sym here ∙ there) in
-    ap (λ p. election_at p e) same
+    let here = runs (InVotes se.describes.columns, e) (rows_of records) (rows_of-are_full records) se.describes.rows se.describes.is_election in
+    let there = runs (InVotes sf.describes.columns, f) (rows_of records) (rows_of-are_full records) sf.describes.rows sf.describes.is_election in
+    ap (λ p. p.1) (same_Ok (sym here ∙ there))
 
 -- what stands has no fault
 pub no_first_fault : (records : List Fields) (e : ElectionView) (kind : ReadKind) (at : ℕ) → StandsFor records e → ¬ IsFirstFault records kind at
@@ -39,14 +33,12 @@ no_first_fault records e kind at stands fault = go fault.reached.done fault.reac
     go done [] cut none = none e (subst (λ xs. StandsFor xs e) (cut ∙ append-nil done) stands)
     go done (next ∷ rest) cut none =
         let size : length records ≡ length done + length (next ∷ rest) = ap length cut ∙ length-append done (next ∷ rest) in
-        none (record {
-          few = omega (arith, size, stands.few, length-append done (next ∷ []));
-          goes_on = record {
-            more = rest;
-            election = e;
-            describes = subst (λ xs. Describes xs e) (cut ∙ sym (append_assoc done (next ∷ []) rest)) stands.describes;
-          };
-        })
+        none (
+          omega (arith, size, stands.few, length-append done (next ∷ [])),
+          rest,
+          e,
+          subst (λ xs. Describes xs e) (cut ∙ sym (append_assoc done (next ∷ []) rest)) stands.describes,
+        )
 
 same_rest : (front xs ys : List Fields) → front ++ xs ≡ front ++ ys → xs ≡ ys
 same_rest [] xs ys e = e
@@ -96,15 +88,13 @@ not_after records k l a b f g shorter = go f.reached.left f.reached.cut f.at_fau
         let whole : f.reached.done ++ next ∷ rest ≡ f.reached.done ++ (found.0 ∷ (found.1 ++ g.reached.left)) =
         sym cut ∙ g.reached.cut ∙ ap (λ xs. xs ++ g.reached.left) found.2 ∙ append_assoc f.reached.done (found.0 ∷ found.1) g.reached.left in
         let same : next ≡ found.0 = same_head f.reached.done next found.0 rest (found.1 ++ g.reached.left) whole in
-        let way = g.reached.no_fault_before.goes_on in
-        none (record {
-          few = omega (arith, shorter, g.reached.no_fault_before.few, length-append f.reached.done (next ∷ []));
-          goes_on = record {
-            more = found.1 ++ way.more;
-            election = way.election;
-            describes = subst (λ xs. Describes xs way.election) (regrouped f.reached.done g.reached.done next found.0 found.1 way.more found.2 same) way.describes;
-          };
-        })
+        let way = g.reached.no_fault_before in
+        none (
+          omega (arith, shorter, way.0, length-append f.reached.done (next ∷ [])),
+          found.1 ++ way.1,
+          way.2,
+          subst (λ xs. Describes xs way.2) (regrouped f.reached.done g.reached.done next found.0 found.1 way.1 found.2 same) way.3,
+        )
 
 -- the first fault is one
 one_first_fault : (records : List Fields) (k l : ReadKind) (a b : ℕ) → IsFirstFault records k a → IsFirstFault records l b → (k ≡ l) × (a ≡ b)
@@ -118,7 +108,7 @@ one_first_fault records k l a b f g = go (cases_order (length f.reached.done) (l
         let left : f.reached.left ≡ g.reached.left = same_rest f.reached.done f.reached.left g.reached.left (sym f.reached.cut ∙ g.reached.cut ∙ ap (λ xs. xs ++ g.reached.left) (sym done)) in
         let here = runs f.stage (rows_of f.reached.done) (rows_of-are_full f.reached.done) f.so_far f.sound in
         let there = runs g.stage (rows_of g.reached.done) (rows_of-are_full g.reached.done) g.so_far g.sound in
-        let stage : f.stage ≡ g.stage = same_Ok (sym here ∙ ap (λ xs. run Start (rows_of xs)) done ∙ there) in (
+        let stage : f.stage ≡ g.stage = same_Ok (sym here ∙ ap (λ xs. run start (rows_of xs)) done ∙ there) in (
           by_number (λ kind i. applies_after (length (done i)) (stage i) (left i) kind) (cases_order (number_of k) (number_of l)),
           f.reached.at_is ∙ ap (λ n. n + 1) same ∙ sym g.reached.at_is,
         )

@@ -3,7 +3,7 @@ use Rattle.std.specs.Prelude.{◌≡◌, ◌==◌, ℕ, List, true, false, Ok}
 use Rattle.pb_core.specs.Election.{project_ids, voter_ids}
 use Rattle.pb_core.specs.Money.{money_of}
 use Rattle.pb_rows.specs.Reading.{Fields}
-use Rattle.pb_read.specs.Columns.{has_project_fields, has_vote_fields}
+use Rattle.pb_read.specs.Columns.{has_fields}
 use Rattle.pb_read.specs.Rows.{field, is_empty}
 use Rattle.pb_read.specs.declared.columns.ProjectColumns.{ProjectColumns}
 use Rattle.pb_read.specs.declared.columns.VoteColumns.{VoteColumns}
@@ -16,7 +16,7 @@ pub record IsTied (draft : Draft) : Type 0 where
 
 -- a row of PROJECTS has an id, and a cost above zero
 pub record HasProject (columns : ProjectColumns) (row : Fields) (id : List ℕ) (cost : ℕ) : Type 0 where
-  pub whole : has_project_fields columns row ≡ true
+  pub whole : has_fields columns.id columns.cost row ≡ true
   pub reads : money_of (field row columns.cost) ≡ Ok cost
   pub costs : (cost == 0) ≡ false
   pub id_is : id ≡ field row columns.id
@@ -24,6 +24,6 @@ pub record HasProject (columns : ProjectColumns) (row : Fields) (id : List ℕ) 
 
 -- a row of VOTES has a voter's id
 pub record HasVoter (columns : VoteColumns) (row : Fields) (id : List ℕ) : Type 0 where
-  pub whole : has_vote_fields columns row ≡ true
+  pub whole : has_fields columns.voter columns.vote row ≡ true
   pub id_is : id ≡ field row columns.voter
   pub has_id : is_empty (field row columns.voter) ≡ false

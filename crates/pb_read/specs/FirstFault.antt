@@ -1,25 +1,20 @@
 -- The first fault of a list of records.
 use Rattle.std.specs.Prelude.{◌≡◌, ◌≤◌, ◌<◌, ◌+◌, ℕ, true, false, List, [], ◌∷◌, ◌++◌, length}
-use Rattle.pb_core.specs.Election.{ElectionView}
+use Rattle.pb_core.specs.Election.{ElectionView, IsElection}
 use Rattle.pb_rows.specs.Reading.{Fields}
 use Rattle.pb_read.specs.Faults.{applies_after}
 use Rattle.pb_read.specs.Kinds.{number_of}
-use Rattle.pb_read.specs.Stages.{Stage, IsAt, IsSound}
+use Rattle.pb_read.specs.Stages.{IsAt}
 use Rattle.pb_read.specs.Rows.{rows_of}
 use Rattle.pb_read.specs.StandsFor.{Describes, StandsFor, most_records}
 use Rattle.pb_read.specs.declared.fault.ReadKind.{ReadKind}
+use Rattle.pb_read.specs.declared.progress.Stage.{Stage}
 use Rattle.pb_read.specs.declared.fault.ReadKind.TheVariants.{ReadFailed, NoMemory}
 
--- more records may follow so that all of them describe an election
-pub record MayGoOn (records : List Fields) : Type 0 where
-  pub more : List Fields
-  pub election : ElectionView
-  pub describes : Describes (records ++ more) election
-
--- none of these records is at fault
-pub record HasNoFault (records : List Fields) : Type 0 where
-  pub few : length records ≤ most_records
-  pub goes_on : MayGoOn records
+-- none of these records is at fault: more may follow so that all of them describe an election
+abbrev pub HasNoFault : List Fields → Type 0
+HasNoFault records =
+    (length records ≤ most_records) × (more : List Fields) × (e : ElectionView) × Describes (records ++ more) e
 
 -- the first of the records that are left is at fault: those before it have no fault, and with it they have;
 -- where none is left, those that were read stand for no election
@@ -39,15 +34,15 @@ pub record IsReachedAt (records : List Fields) (at : ℕ) : Type 0 where
 pub record IsFirstFault (records : List Fields) (kind : ReadKind) (at : ℕ) : Type 0 where
   pub reached : IsReachedAt records at
   pub at_fault : IsAtFault reached.done reached.left
-  pub stage : Stage
+  pub stage : Stage × ElectionView
   pub so_far : IsAt (rows_of reached.done) stage
-  pub sound : IsSound stage
+  pub sound : IsElection stage.1
   pub applies : applies_after (length reached.done) stage reached.left kind ≡ true
   pub lowest : (other : ReadKind) → number_of other < number_of kind →
       applies_after (length reached.done) stage reached.left other ≡ false
 
--- a fault is the first one; of a failed reader and of refused memory no clause can say at which record they came,
--- but the records before that number have no fault
+-- a fault is the first one; of a failed reader and of refused memory no clause can say at which record they
+-- came, but the records before that number have no fault
 abbrev pub IsFaultAt : List Fields → ReadKind → ℕ → Type 0
 IsFaultAt records ReadFailed at = IsReachedAt records at
 IsFaultAt records NoMemory at = IsReachedAt records at

@@ -1,9 +1,5 @@
 -- The numbers and names of the kinds of fault.
 use Rattle.std.specs.Prelude.{ℕ, List, codes}
-use Rattle.pb_core.specs.declared.money_fault.MoneyFault.{MoneyFault}
-use Rattle.pb_core.specs.declared.money_fault.MoneyFault.TheVariants as money
-use Rattle.pb_rows.specs.declared.fault.RecordsFault.{RecordsFault}
-use Rattle.pb_rows.specs.declared.fault.RecordsFault.TheVariants as records
 use Rattle.pb_read.specs.declared.fault.ReadKind.{ReadKind}
 use Rattle.pb_read.specs.declared.fault.ReadKind.TheVariants.{ReadFailed, NotText, TooManyRecords, NoSection, SectionOrder, NoHeader, MissingColumn, MissingField, MissingKey, VoteType, BadMoney, MoneyTooFine, MoneyTooLarge, ZeroCost, EmptyId, RepeatedProject, RepeatedVoter, UnknownProject, TooManyProjects, TooManyVoters, NoMemory, BadLength}
 
@@ -36,14 +32,3 @@ number_of kind = (numbered_name kind).0
 
 abbrev pub name_of : ReadKind → List ℕ
 name_of kind = (numbered_name kind).1
-
--- the kinds of the faults that an amount, and the reading of records, can have
-abbrev pub kind_of_money : MoneyFault → ReadKind
-kind_of_money money.BadMoney = BadMoney
-kind_of_money money.MoneyTooFine = MoneyTooFine
-kind_of_money money.MoneyTooLarge = MoneyTooLarge
-
-abbrev pub kind_of_records : RecordsFault → ReadKind
-kind_of_records records.ReadFailed = ReadFailed
-kind_of_records records.NotText = NotText
-kind_of_records records.NoMemory = NoMemory

@@ -17,5 +17,5 @@ abbrev pub max_length_of : List ℕ → Result (Option ℕ) ReadKind
 max_length_of text =
     if is_empty text then Ok None
     else if not (has_length_form text) then Err BadLength
-    else if nat_le (digits_value 10 (whole_part text)) most_projects then Ok (Some (digits_value 10 (whole_part text)))
-    else Ok None
+    else if not (nat_le (digits_value 10 (whole_part text)) most_projects) then Ok None
+    else Ok (Some (digits_value 10 (whole_part text)))

@@ -6,6 +6,7 @@ pub mod Kinds
 pub mod Lengths
 pub mod Machine
 pub mod MetaRows
+pub mod MoneyKinds
 pub mod Stages
 pub mod Progresses
 pub mod Rows

@@ -1,5 +1,7 @@
--- The reading of rows one by one. Private contracts and proofs speak of it; what a file stands for does not rest on it.
+-- The reading of rows one by one. Private contracts and proofs speak of it; what a file stands for does not rest
+-- on it.
 use Rattle.std.specs.Prelude.{◌≡◌, ◌==◌, ℕ, Bool, not, find, if◌then◌else◌, List, [], ◌∷◌, ◌++◌, Option, Some, None, Result, Ok, Err, codes}
+use Rattle.std.specs.Result.{result_unwrap_or}
 use Rattle.std.specs.Option.{option_map_or}
 use Rattle.std.specs.Prelude.{length, map, nat_le}
 use Rattle.std.specs.List.{list_all, position_or_len}
@@ -8,12 +10,12 @@ use Rattle.pb_core.specs.Election.{ElectionView, ProjectView, VoterView, most_pr
 use Rattle.pb_core.specs.Money.{money_of}
 use Rattle.pb_core.specs.declared.money_fault.MoneyFault.{MoneyFault}
 use Rattle.pb_rows.specs.Reading.{Fields}
-use Rattle.pb_read.specs.Columns.{project_columns, vote_columns, has_project_fields, has_vote_fields, name_field}
-use Rattle.pb_read.specs.Faults.{applies, is_zero}
-use Rattle.pb_read.specs.Kinds.{kind_of_money}
+use Rattle.pb_read.specs.Columns.{project_columns, vote_columns, has_fields, name_field}
+use Rattle.pb_read.specs.Faults.{applies}
+use Rattle.pb_read.specs.MoneyKinds.{kind_of_money}
 use Rattle.pb_read.specs.Lengths.{max_length_of}
 use Rattle.pb_read.specs.MetaRows.{meta_of}
-use Rattle.pb_read.specs.Stages.{Stage, Start, MetaHeader, InMeta, ProjectsHeader, InProjects, VotesHeader, InVotes, Next, head, plain, the_end, next_row}
+use Rattle.pb_read.specs.Stages.{Next, head, plain, the_end, next_row}
 use Rattle.pb_read.specs.Rows.{field, is_empty, is_word, trimmed}
 use Rattle.pb_read.specs.StandsFor.{most_records, opening}
 use Rattle.pb_read.specs.Voting.{ballot_of, is_among, names_only}
@@ -22,13 +24,27 @@ use Rattle.pb_read.specs.declared.columns.VoteColumns.{VoteColumns}
 use Rattle.pb_read.specs.declared.fault.ReadKind.{ReadKind}
 use Rattle.pb_read.specs.declared.fault.ReadKind.TheVariants.{ReadFailed, NotText, TooManyRecords, NoSection, SectionOrder, NoHeader, MissingColumn, MissingField, MissingKey, VoteType, BadMoney, MoneyTooFine, MoneyTooLarge, ZeroCost, EmptyId, RepeatedProject, RepeatedVoter, UnknownProject, TooManyProjects, TooManyVoters, NoMemory, BadLength}
 use Rattle.pb_read.specs.declared.meta.Meta.{Meta}
+use Rattle.pb_read.specs.declared.progress.Stage.{Stage}
+use Rattle.pb_read.specs.declared.progress.Stage.TheVariants.{Start, Header, InMeta, InProjects, InVotes}
+use Rattle.pb_read.specs.declared.section.Section.TheVariants.{Projects, Votes}
+
+-- how far the rows have come, and the election so far
+abbrev pub Position : Type 0
+Position = Stage × ElectionView
+
+-- before the first row
+abbrev pub start : Position
+start = (Start, opening 0 None)
 
 -- what META says with one more row
 abbrev pub with_row : Meta → Fields → Meta
 with_row meta row = record {
   budget = if is_word (codes "budget") (field row 0) then Some (money_of (field row 1)) else meta.budget;
-  approval = if is_word (codes "vote_type") (field row 0) then Some (is_word (codes "approval") (field row 1)) else meta.approval;
-  max_length = if is_word (codes "max_length") (field row 0) then max_length_of (field row 1) else meta.max_length;
+  approval =
+      if is_word (codes "vote_type") (field row 0) then Some (is_word (codes "approval") (field row 1))
+      else meta.approval;
+  max_length =
+      if is_word (codes "max_length") (field row 0) then max_length_of (field row 1) else meta.max_length;
 }
 
 abbrev pub amount_of : Result ℕ MoneyFault → ℕ
@@ -44,67 +60,78 @@ limit_of (Ok max_length) = max_length
 limit_of (Err kind) = None
 
 abbrev pub project_of : ProjectColumns → Fields → ProjectView
-project_of columns row = record { id = field row columns.id; name = name_field columns row; cost = amount_of (money_of (field row columns.cost)) }
+project_of columns row = record {
+  id = field row columns.id;
+  name = name_field columns row;
+  cost = amount_of (money_of (field row columns.cost));
+}
 
 abbrev pub with_project : ProjectColumns → Fields → ElectionView → ElectionView
 with_project columns row e = record e { projects = e.projects ++ project_of columns row ∷ [] }
 
 abbrev pub voter_of : VoteColumns → List (List ℕ) → Fields → VoterView
-voter_of columns ids row = record { id = field row columns.voter; ballot = ballot_of ids (field row columns.vote) }
+voter_of columns ids row = record {
+  id = field row columns.voter;
+  ballot = ballot_of ids (field row columns.vote);
+}
 
 abbrev pub with_voter : VoteColumns → Fields → ElectionView → ElectionView
 with_voter columns row e = record e { voters = e.voters ++ voter_of columns (project_ids e) row ∷ [] }
 
--- the stage after what comes next, where that is no fault
-abbrev pub advance : Stage → Next → Stage
-advance Start (head name) = MetaHeader
-advance MetaHeader (plain row) = InMeta (meta_of [])
-advance (InMeta meta) (head name) = ProjectsHeader (opening (budget_of meta.budget) (limit_of meta.max_length))
-advance (InMeta meta) (plain row) = InMeta (with_row meta row)
-advance (ProjectsHeader e) (plain header) = option_map_or (λ columns. InProjects columns e) (project_columns header) Start
-advance (InProjects columns e) (head name) = VotesHeader e
-advance (InProjects columns e) (plain row) = InProjects columns (with_project columns row e)
-advance (VotesHeader e) (plain header) = option_map_or (λ columns. InVotes columns e) (vote_columns header) Start
-advance (InVotes columns e) (plain row) = InVotes columns (with_voter columns row e)
+-- the position after what comes next, where that is no fault
+abbrev pub advance : Position → Next → Position
+advance (Start, e) (head name) = (Header name, e)
+advance (Header Projects, e) (plain header) =
+    option_map_or (λ columns. (InProjects columns, e)) (project_columns header) (Start, e)
+advance (Header Votes, e) (plain header) =
+    option_map_or (λ columns. (InVotes columns, e)) (vote_columns header) (Start, e)
+advance (Header name, e) (plain row) = (InMeta (meta_of []), e)
+advance (InMeta meta, e) (head name) = (Header name, opening (budget_of meta.budget) (limit_of meta.max_length))
+advance (InMeta meta, e) (plain row) = (InMeta (with_row meta row), e)
+advance (InProjects columns, e) (head name) = (Header name, e)
+advance (InProjects columns, e) (plain row) = (InProjects columns, with_project columns row e)
+advance (InVotes columns, e) (plain row) = (InVotes columns, with_voter columns row e)
 advance p n = p
 
 -- the kinds that depend on how far the rows have come, and all kinds, each in rising number
 abbrev pub row_kinds : List ReadKind
 row_kinds =
-    NoSection ∷ SectionOrder ∷ NoHeader ∷ MissingColumn ∷ MissingField ∷ MissingKey ∷ VoteType ∷ BadMoney ∷ MoneyTooFine ∷ MoneyTooLarge
-    ∷ ZeroCost ∷ EmptyId ∷ RepeatedProject ∷ RepeatedVoter ∷ UnknownProject ∷ TooManyProjects ∷ TooManyVoters ∷ BadLength ∷ []
+    NoSection ∷ SectionOrder ∷ NoHeader ∷ MissingColumn ∷ MissingField ∷ MissingKey ∷ VoteType ∷ BadMoney
+    ∷ MoneyTooFine ∷ MoneyTooLarge ∷ ZeroCost ∷ EmptyId ∷ RepeatedProject ∷ RepeatedVoter ∷ UnknownProject
+    ∷ TooManyProjects ∷ TooManyVoters ∷ BadLength ∷ []
 
 abbrev pub all_kinds : List ReadKind
 all_kinds =
     ReadFailed ∷ NotText ∷ TooManyRecords
-    ∷ NoSection ∷ SectionOrder ∷ NoHeader ∷ MissingColumn ∷ MissingField ∷ MissingKey ∷ VoteType ∷ BadMoney ∷ MoneyTooFine ∷ MoneyTooLarge
-    ∷ ZeroCost ∷ EmptyId ∷ RepeatedProject ∷ RepeatedVoter ∷ UnknownProject ∷ TooManyProjects ∷ TooManyVoters ∷ NoMemory ∷ BadLength ∷ []
+    ∷ NoSection ∷ SectionOrder ∷ NoHeader ∷ MissingColumn ∷ MissingField ∷ MissingKey ∷ VoteType ∷ BadMoney
+    ∷ MoneyTooFine ∷ MoneyTooLarge ∷ ZeroCost ∷ EmptyId ∷ RepeatedProject ∷ RepeatedVoter ∷ UnknownProject
+    ∷ TooManyProjects ∷ TooManyVoters ∷ NoMemory ∷ BadLength ∷ []
 
 -- the first of them that applies
-unfoldable pub row_fault : Stage → Next → Option ReadKind
+unfoldable pub row_fault : Position → Next → Option ReadKind
 row_fault p n = find (λ kind. applies kind p n) row_kinds
 
 -- the first of all that applies after this many records
-abbrev pub lowest_kind : ℕ → Stage → List Fields → Option ReadKind
+abbrev pub lowest_kind : ℕ → Position → List Fields → Option ReadKind
 lowest_kind done p [] = row_fault p the_end
 lowest_kind done p (next ∷ rest) =
     if not (list_all is_utf8 next) then Some NotText
     else if done == most_records then Some TooManyRecords
     else row_fault p (next_row (trimmed next))
 
-abbrev pub step_or : Option ReadKind → Stage → Result Stage ReadKind
+abbrev pub step_or : Option ReadKind → Position → Result Position ReadKind
 step_or None q = Ok q
 step_or (Some kind) q = Err kind
 
-unfoldable pub step : Stage → Next → Result Stage ReadKind
+unfoldable pub step : Position → Next → Result Position ReadKind
 step p n = step_or (row_fault p n) (advance p n)
 
-abbrev pub bind : Result Stage ReadKind → (Stage → Result Stage ReadKind) → Result Stage ReadKind
+abbrev pub bind : Result Position ReadKind → (Position → Result Position ReadKind) → Result Position ReadKind
 bind (Ok p) f = f p
 bind (Err kind) f = Err kind
 
 -- rows that are read one after another
-abbrev pub run : Stage → List Fields → Result Stage ReadKind
+abbrev pub run : Position → List Fields → Result Position ReadKind
 run p [] = Ok p
 run p (row ∷ rows) = bind (step p (next_row row)) (λ q. run q rows)
 
@@ -117,7 +144,8 @@ abbrev pub length_checks : Result (Option ℕ) ReadKind → Option ReadKind
 length_checks (Ok max_length) = None
 length_checks (Err kind) = Some BadLength
 
-abbrev pub head_checks : Option (Result ℕ MoneyFault) → Option Bool → Result (Option ℕ) ReadKind → Option ReadKind
+abbrev pub head_checks :
+    Option (Result ℕ MoneyFault) → Option Bool → Result (Option ℕ) ReadKind → Option ReadKind
 head_checks None approval max_length = Some MissingKey
 head_checks (Some budget) None max_length = Some MissingKey
 head_checks (Some budget) (Some approval) max_length =
@@ -127,7 +155,7 @@ abbrev pub project_checks : Bool → Result ℕ MoneyFault → Bool → Bool →
 project_checks whole cost no_id repeated full =
     if not whole then Some MissingField
     else money_checks cost (
-    if is_zero cost then Some ZeroCost
+    if result_unwrap_or cost 1 == 0 then Some ZeroCost
     else if no_id then Some EmptyId
     else if repeated then Some RepeatedProject
     else if full then Some TooManyProjects
@@ -145,11 +173,15 @@ vote_checks whole no_id repeated known full =
 -- the same of a row
 unfoldable pub project_row_checks : ProjectColumns → Fields → ElectionView → Option ReadKind
 project_row_checks columns row e =
-    project_checks (has_project_fields columns row) (money_of (field row columns.cost)) (is_empty (field row columns.id)) (is_among (project_ids e) (field row columns.id)) (nat_le most_projects (length e.projects))
+    project_checks (has_fields columns.id columns.cost row) (money_of (field row columns.cost))
+    (is_empty (field row columns.id)) (is_among (project_ids e) (field row columns.id))
+    (nat_le most_projects (length e.projects))
 
 unfoldable pub vote_row_checks : VoteColumns → Fields → ElectionView → Option ReadKind
 vote_row_checks columns row e =
-    vote_checks (has_vote_fields columns row) (is_empty (field row columns.voter)) (is_among (voter_ids e) (field row columns.voter)) (names_only (project_ids e) (field row columns.vote)) (nat_le most_voters (length e.voters))
+    vote_checks (has_fields columns.voter columns.vote row) (is_empty (field row columns.voter))
+    (is_among (voter_ids e) (field row columns.voter)) (names_only (project_ids e) (field row columns.vote))
+    (nat_le most_voters (length e.voters))
 
 -- a kind is what the checks found, unless memory was refused
 abbrev pub Explains : ReadKind → Option ReadKind → Type 0

@@ -1,6 +1,6 @@
 -- What the rows of META say.
-use Rattle.std.specs.Prelude.{ℕ, List, [], ◌∷◌, Option, None, Some, Ok, option_map, codes, if◌then◌else◌}
-use Rattle.std.specs.Option.{option_map_or, option_or}
+use Rattle.std.specs.Prelude.{ℕ, List, Option, None, Ok, option_map, codes, find, reverse}
+use Rattle.std.specs.Option.{option_map_or}
 use Rattle.pb_core.specs.Money.{money_of}
 use Rattle.pb_rows.specs.Reading.{Fields}
 use Rattle.pb_read.specs.Lengths.{max_length_of}
@@ -9,9 +9,7 @@ use Rattle.pb_read.specs.declared.meta.Meta.{Meta}
 
 -- the value of a key: the second field of the last row whose first field is the key
 abbrev pub value_of : List ℕ → List Fields → Option (List ℕ)
-value_of key [] = None
-value_of key (row ∷ rows) =
-    option_or (value_of key rows) (if is_word key (field row 0) then Some (field row 1) else None)
+value_of key rows = option_map (λ row. field row 1) (find (λ row. is_word key (field row 0)) (reverse rows))
 
 -- `budget` as money, whether `vote_type` is `approval`, and the limit of `max_length`
 abbrev pub meta_of : List Fields → Meta

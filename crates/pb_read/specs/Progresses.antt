@@ -1,4 +1,4 @@
--- How far the reader has come, as a stage; private contracts speak of it.
+-- How far the reader has come; private contracts speak of it.
 use Rattle.std.specs.Prelude.{◌≡◌, ◌≤◌, ℕ, List, [], Option, None, Some, Ok}
 use Rattle.pb_core.specs.Election.{ElectionView}
 use Rattle.pb_core.specs.Money.{largest_money}
@@ -7,51 +7,42 @@ use Rattle.pb_rows.specs.Reading.{Fields, NextIsNoText}
 use Rattle.pb_read.specs.declared.fault.ReadKind.{ReadKind}
 use Rattle.pb_read.specs.declared.fault.ReadKind.TheVariants.{ReadFailed, NotText, NoMemory}
 use Rattle.pb_read.specs.Drafts.{IsTied}
-use Rattle.pb_read.specs.Machine.{Explains, advance, row_fault}
-use Rattle.pb_read.specs.Stages.{Next, Stage, Start, MetaHeader, InMeta, ProjectsHeader, InProjects, VotesHeader, InVotes}
+use Rattle.pb_read.specs.Machine.{Explains, Position, advance, row_fault}
+use Rattle.pb_read.specs.Stages.{Next}
 use Rattle.pb_read.specs.declared.columns.VoteColumns.{VoteColumns}
 use Rattle.pb_read.specs.declared.progress.Progress.{Progress}
-use Rattle.pb_read.specs.declared.progress.Stage.{Stage as CodeStage}
-use Rattle.pb_read.specs.declared.progress.Stage.TheVariants as code
-
-abbrev pub at_stage : CodeStage → ElectionView → Stage
-at_stage code.Start e = Start
-at_stage code.MetaHeader e = MetaHeader
-at_stage (code.InMeta meta) e = InMeta meta
-at_stage code.ProjectsHeader e = ProjectsHeader e
-at_stage (code.InProjects columns) e = InProjects columns e
-at_stage code.VotesHeader e = VotesHeader e
-at_stage (code.InVotes columns) e = InVotes columns e
+use Rattle.pb_read.specs.declared.progress.Stage.{Stage}
+use Rattle.pb_read.specs.declared.progress.Stage.TheVariants.{Header, InMeta, InProjects, InVotes}
 
 -- a budget that was read is in range
 abbrev pub IsRead : Meta → Type 0
 IsRead meta = (budget : ℕ) → meta.budget ≡ Some (Ok budget) → budget ≤ largest_money
 
 -- what is kept from one record to the next
-abbrev pub IsKept : CodeStage → ElectionView → Type 0
-IsKept (code.InMeta meta) e = IsRead meta
-IsKept code.ProjectsHeader e = e.voters ≡ []
-IsKept (code.InProjects columns) e = e.voters ≡ []
-IsKept _ e = Unit {0}
+abbrev pub IsKept : Stage → ElectionView → Type 0
+IsKept (InMeta meta) e = IsRead meta
+IsKept (InVotes columns) e = Unit {0}
+IsKept _ e = e.voters ≡ []
 
 pub record IsReady (progress : Progress) : Type 0 where
   pub tied : IsTied progress.draft
   pub kept : IsKept progress.stage progress.draft.election
 
-abbrev pub stage_of : Progress → Stage
-stage_of progress = at_stage progress.stage progress.draft.election
+abbrev pub place_of : Progress → Position
+place_of progress = (progress.stage, progress.draft.election)
 
 -- what comes next is read without fault
 abbrev pub Advances : Progress → Next → Progress → Type 0
-Advances old next new = (row_fault (stage_of old) next ≡ None) × (stage_of new ≡ advance (stage_of old) next) × IsReady new
+Advances old next new =
+    (row_fault (place_of old) next ≡ None) × (place_of new ≡ advance (place_of old) next) × IsReady new
 
 -- what comes next is refused: a kind is the first fault there, unless memory was refused
 abbrev pub Refuses : Progress → Next → ReadKind → Type 0
-Refuses old next kind = Explains kind (row_fault (stage_of old) next)
+Refuses old next kind = Explains kind (row_fault (place_of old) next)
 
 -- a file may end here, with this election
-abbrev pub EndsWith : Stage → ElectionView → Type 0
-EndsWith p election = (columns : VoteColumns) × (p ≡ InVotes columns election)
+abbrev pub EndsWith : Position → ElectionView → Type 0
+EndsWith p election = (columns : VoteColumns) × (p ≡ (InVotes columns, election))
 
 -- the next record could not be read: the reader failed, memory was refused, or a field is no text
 abbrev pub StopsReading : ReadKind → Option (List Fields) → Type 0

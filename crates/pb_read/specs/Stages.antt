@@ -1,45 +1,27 @@
 -- How far the rows of a file have come, and what comes next.
-use Rattle.std.specs.Prelude.{◌≡◌, List, [], ◌∷◌, if◌then◌else◌}
+use Rattle.std.specs.Prelude.{◌≡◌, List, [], ◌∷◌, None, if◌then◌else◌}
 use Rattle.std.specs.Option.{option_map_or}
-use Rattle.pb_core.specs.Election.{ElectionView, IsElection}
+use Rattle.pb_core.specs.Election.{ElectionView}
 use Rattle.pb_rows.specs.Reading.{Fields}
 use Rattle.pb_read.specs.Rows.{head_of, is_blank, trimmed}
 use Rattle.pb_read.specs.StandsFor.{GivesAll, GivesAllButVoters, GivesTerms, IsHead, IsMeta, Then, opening}
 use Rattle.pb_read.specs.declared.columns.ProjectColumns.{ProjectColumns}
-use Rattle.pb_read.specs.declared.columns.VoteColumns.{VoteColumns}
-use Rattle.pb_read.specs.declared.meta.Meta.{Meta}
+use Rattle.pb_read.specs.declared.progress.Stage.{Stage}
+use Rattle.pb_read.specs.declared.progress.Stage.TheVariants.{Start, Header, InMeta, InProjects, InVotes}
 use Rattle.pb_read.specs.declared.section.Section.{Section}
-use Rattle.pb_read.specs.declared.section.Section.TheVariants as section
+use Rattle.pb_read.specs.declared.section.Section.TheVariants.{Meta, Projects, Votes}
 
--- how far the rows of a file have come
-pub data Stage : Type 0 where
-  Start : Stage
-  MetaHeader : Stage
-  InMeta : Meta → Stage
-  ProjectsHeader : ElectionView → Stage
-  InProjects : ProjectColumns → ElectionView → Stage
-  VotesHeader : ElectionView → Stage
-  InVotes : VoteColumns → ElectionView → Stage
-
--- the rows have come so far: the election has the projects and voters of the rows up to here
-abbrev pub IsAt : List Fields → Stage → Type 0
-IsAt rows Start = rows ≡ []
-IsAt rows MetaHeader = IsHead section.Meta rows
-IsAt rows (InMeta meta) = IsMeta meta rows
-IsAt rows (ProjectsHeader e) =
-    Then (GivesTerms e.budget e.max_length) (IsHead section.Projects) rows × (e ≡ opening e.budget e.max_length)
-IsAt rows (InProjects columns e) = GivesAllButVoters columns e rows
-IsAt rows (VotesHeader e) =
-    (columns : ProjectColumns) × Then (GivesAllButVoters columns e) (IsHead section.Votes) rows
-IsAt rows (InVotes columns e) = GivesAll columns e rows
-
--- what was read so far is an election: its ids differ, its amounts are in range, and so on
-abbrev pub IsSound : Stage → Type 0
-IsSound (ProjectsHeader e) = IsElection e × (e.voters ≡ [])
-IsSound (InProjects columns e) = IsElection e × (e.voters ≡ [])
-IsSound (VotesHeader e) = IsElection e × (e.voters ≡ [])
-IsSound (InVotes columns e) = IsElection e
-IsSound p = Unit {0}
+-- the rows have come so far: the election has the budget, projects and voters of the rows up to here
+abbrev pub IsAt : List Fields → Stage × ElectionView → Type 0
+IsAt rows (Start, e) = (rows ≡ []) × (e ≡ opening 0 None)
+IsAt rows (Header Meta, e) = IsHead Meta rows × (e ≡ opening 0 None)
+IsAt rows (InMeta meta, e) = IsMeta meta rows × (e ≡ opening 0 None)
+IsAt rows (Header Projects, e) =
+    Then (GivesTerms e.budget e.max_length) (IsHead Projects) rows × (e ≡ opening e.budget e.max_length)
+IsAt rows (InProjects columns, e) = GivesAllButVoters columns e rows × (e.voters ≡ [])
+IsAt rows (Header Votes, e) =
+    ((columns : ProjectColumns) × Then (GivesAllButVoters columns e) (IsHead Votes) rows) × (e.voters ≡ [])
+IsAt rows (InVotes columns, e) = GivesAll columns e rows
 
 -- what comes next: the end of the file, a blank record, a section's head, or a plain row
 pub data Next : Type 0 where

@@ -5,7 +5,7 @@ use Rattle.csv.specs.Records.{AllText}
 use Rattle.pb_core.specs.Election.{ElectionView, IsElection, ProjectView, VoterView, project_ids}
 use Rattle.pb_core.specs.Money.{money_of}
 use Rattle.pb_rows.specs.Reading.{Fields}
-use Rattle.pb_read.specs.Columns.{project_columns, vote_columns, has_project_fields, has_vote_fields, name_field}
+use Rattle.pb_read.specs.Columns.{project_columns, vote_columns, has_fields, name_field}
 use Rattle.pb_read.specs.MetaRows.{meta_of}
 use Rattle.pb_read.specs.Rows.{field, head_of, rows_of}
 use Rattle.pb_read.specs.Voting.{ballot_of, names_only}
@@ -21,36 +21,31 @@ opening budget max_length = record { budget = budget; max_length = max_length; p
 
 -- a row of PROJECTS gives a project
 pub record GivesProject (columns : ProjectColumns) (row : Fields) (project : ProjectView) : Type 0 where
-  pub whole : has_project_fields columns row ≡ true
+  pub whole : has_fields columns.id columns.cost row ≡ true
   pub id : project.id ≡ field row columns.id
   pub name : project.name ≡ name_field columns row
   pub cost : money_of (field row columns.cost) ≡ Ok project.cost
 
 -- a row of VOTES gives a voter, where the projects have these ids
-pub record GivesVoter (columns : VoteColumns) (ids : List (List ℕ)) (row : Fields) (voter : VoterView) : Type 0 where
-  pub whole : has_vote_fields columns row ≡ true
-  pub id : voter.id ≡ field row columns.voter
-  pub known : names_only ids (field row columns.vote) ≡ true
-  pub ballot : voter.ballot ≡ ballot_of ids (field row columns.vote)
-
--- a row that is no section's head
-abbrev pub IsPlain : Fields → Type 0
-IsPlain row = head_of row ≡ None
+pub record GivesVoter (columns : VoteColumns) (ids : List (List ℕ)) (row : Fields) (voter : VoterView) : Type 0
+  where
+    pub whole : has_fields columns.voter columns.vote row ≡ true
+    pub id : voter.id ≡ field row columns.voter
+    pub known : names_only ids (field row columns.vote) ≡ true
+    pub ballot : voter.ballot ≡ ballot_of ids (field row columns.vote)
 
 -- a section's head alone
-pub record IsHead (name : Section) (rows : List Fields) : Type 0 where
-  pub head : Fields
-  pub cut : rows ≡ head ∷ []
-  pub opens : head_of head ≡ Some name
+abbrev pub IsHead : Section → List Fields → Type 0
+IsHead name rows = (head : Fields) × (rows ≡ head ∷ []) × (head_of head ≡ Some name)
 
--- a section: its head, its header row, and further rows, of which this holds
-pub record IsSection (name : Section) (Says : Fields → List Fields → Type 0) (rows : List Fields) : Type 0 where
+-- a section: its head, its header row, and further rows, of which this holds; none but the first is a head
+pub record IsSection (of : Section) (Says : Fields → List Fields → Type 0) (rows : List Fields) : Type 0 where
   pub head : Fields
   pub header : Fields
   pub body : List Fields
   pub cut : rows ≡ head ∷ header ∷ body
-  pub opens : head_of head ≡ Some name
-  pub plain : AllByRecursion IsPlain (header ∷ body)
+  pub opens : head_of head ≡ Some of
+  pub plain : AllByRecursion (λ row. head_of row ≡ None) (header ∷ body)
   pub says : Says header body
 
 -- META, whose rows say this
@@ -75,21 +70,18 @@ GivesVoters columns ids voters rows =
     (vote_columns header ≡ Some columns) × AllZip (GivesVoter columns ids) body voters) rows
 
 -- rows of one form, and then rows of another
-pub record Then (First Second : List Fields → Type 0) (rows : List Fields) : Type 0 where
-  pub front : List Fields
-  pub back : List Fields
-  pub cut : rows ≡ front ++ back
-  pub first : First front
-  pub second : Second back
+abbrev pub Then : (First Second : List Fields → Type 0) → List Fields → Type 0
+Then First Second rows =
+    (front : List Fields) × (back : List Fields) × (rows ≡ front ++ back) × First front × Second back
 
 -- META and PROJECTS of an election
 abbrev pub GivesAllButVoters : ProjectColumns → ElectionView → List Fields → Type 0
-GivesAllButVoters columns e rows = Then (GivesTerms e.budget e.max_length) (GivesProjects columns e.projects) rows
+GivesAllButVoters columns e = Then (GivesTerms e.budget e.max_length) (GivesProjects columns e.projects)
 
 -- META, PROJECTS and VOTES of an election
 pub record GivesAll (columns : VoteColumns) (e : ElectionView) (rows : List Fields) : Type 0 where
   pub project_columns : ProjectColumns
-  pub sections : Then (GivesAllButVoters project_columns e) (GivesVoters columns (project_ids e) e.voters) rows
+  pub parts : Then (GivesAllButVoters project_columns e) (GivesVoters columns (project_ids e) e.voters) rows
 
 -- the records are text, and their rows give the election
 pub record Describes (records : List Fields) (e : ElectionView) : Type 0 where

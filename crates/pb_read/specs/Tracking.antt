@@ -3,15 +3,17 @@ use Rattle.std.specs.Prelude.{◌≡◌, ◌≤◌, ◌+◌, ℕ, Bool, List, []
 use Rattle.std.specs.List.{AllByRecursion}
 use Rattle.csv.specs.Records.{AllText}
 use Rattle.pb_rows.specs.Reading.{Fields, IsNext}
-use Rattle.pb_read.specs.Stages.{IsAt, IsSound, Stage}
+use Rattle.pb_core.specs.Election.{IsElection}
+use Rattle.pb_read.specs.Machine.{Position}
+use Rattle.pb_read.specs.Stages.{IsAt}
 use Rattle.pb_read.specs.Rows.{rows_of, trimmed}
 use Rattle.pb_read.specs.StandsFor.{most_records}
 
--- the records are text, and were read to this stage without fault
-pub record Reached (done : List Fields) (p : Stage) : Type 0 where
+-- the records are text, and were read to this position without fault
+pub record Reached (done : List Fields) (p : Position) : Type 0 where
   pub text : AllByRecursion AllText done
   pub at : IsAt (rows_of done) p
-  pub sound : IsSound p
+  pub sound : IsElection p.1
 
 -- the next record, as a row; or none is left
 pub record IsNextRow (left after : Option (List Fields)) (found : Bool) (row : Fields) : Type 0 where
@@ -20,26 +22,26 @@ pub record IsNextRow (left after : Option (List Fields)) (found : Bool) (row : F
   pub text : AllText fields
   pub row_is : row ≡ trimmed fields
 
--- this many of all records were read to a stage, and these are left
-pub record HasCome (all left : List Fields) (count : ℕ) (p : Stage) : Type 0 where
+-- this many of all records were read to a position, and these are left
+pub record HasCome (all left : List Fields) (count : ℕ) (p : Position) : Type 0 where
   pub done : List Fields
   pub cut : all ≡ done ++ left
   pub count_is : length done ≡ count
   pub reached : Reached done p
 
 -- the same of a reader, where its records are known
-abbrev pub Tracks : Option (List Fields) → Option (List Fields) → ℕ → Stage → Type 0
+abbrev pub Tracks : Option (List Fields) → Option (List Fields) → ℕ → Position → Type 0
 Tracks None left count p = Unit {0}
 Tracks (Some all) None count p = ⊥
 Tracks (Some all) (Some left) count p = HasCome all left count p
 
--- all records were read to a stage, and their end is number `at`
-pub record EndsAt (all : List Fields) (at : ℕ) (p : Stage) : Type 0 where
+-- all records were read to a position, and their end is number `at`
+pub record EndsAt (all : List Fields) (at : ℕ) (p : Position) : Type 0 where
   pub count : ℕ
   pub at_is : at ≡ count + 1
   pub few : count ≤ most_records
   pub come : HasCome all [] count p
 
-abbrev pub HasEnded : Option (List Fields) → ℕ → Stage → Type 0
+abbrev pub HasEnded : Option (List Fields) → ℕ → Position → Type 0
 HasEnded None at p = Unit {0}
 HasEnded (Some all) at p = EndsAt all at p

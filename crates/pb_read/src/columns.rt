@@ -25,10 +25,10 @@ impl ProjectColumns {
     ghost use Rattle.std.specs.Prelude.{◌≡◌, Ok, IfErr, IfOk, IsErrAnd, MatchResult};
     ghost use Rattle.pb_core.specs.Election.{ElectionView};
     ghost use Rattle.pb_core.specs.Money.{money_of};
-    ghost use Rattle.pb_read.specs.Kinds.{kind_of_money};
+    ghost use Rattle.pb_read.specs.MoneyKinds.{kind_of_money};
     ghost use Rattle.pb_read.specs.Drafts.{HasProject};
     ghost use Rattle.pb_read.specs.Machine.{Explains, project_row_checks};
-    ghost use Rattle.pb_read.specs.Columns.{has_project_fields, name_field, project_columns};
+    ghost use Rattle.pb_read.specs.Columns.{has_fields, name_field, project_columns};
     ghost use Rattle.pb_read.specs.Rows.{field};
 
     /// The columns that a header row of PROJECTS names: `project_id` and `cost` are needed.
@@ -43,7 +43,7 @@ impl ProjectColumns {
 
     /// Whether a row has a field in each needed column.
     fn are_in(&self, row: &Row) -> bool
-        ensures { result ≡ has_project_fields self.now row.now }
+        ensures { result ≡ has_fields self.now.id self.now.cost row.now }
     {
         row.has_field(self.id) && row.has_field(self.cost)
     }
@@ -51,15 +51,17 @@ impl ProjectColumns {
     /// The cost in a row.
     fn cost(&self, row: &Row) -> Result<Money, ReadKind>
         ensures { MatchResult result (λ cost. money_of (field row.now self.now.cost) ≡ Ok cost)
-            (λ kind. IsErrAnd (money_of (field row.now self.now.cost)) (λ fault. kind ≡ kind_of_money fault)) }
+            (λ kind.
+            IsErrAnd (money_of (field row.now self.now.cost)) (λ fault. kind ≡ kind_of_money fault)) }
     {
-        Money::read(row.field(self.cost)).map_err(ReadKind::from)
+        Money::read(row.field(self.cost)).map_err(ReadKind::of_money)
     }
 
     /// The id and the cost of the project in a row, or why it has none.
     pub(crate) fn id_and_cost<'r>(&self, row: &'r Row) -> Result<(&'r str, Money), ReadKind>
         ensures ok { IfOk result (λ found. HasProject self.now row.now found.0.now found.1) }
-        ensures err { IfErr result (λ kind. (e : ElectionView) → Explains kind (project_row_checks self.now row.now e)) }
+        ensures err { IfErr result (λ kind.
+            (e : ElectionView) → Explains kind (project_row_checks self.now row.now e)) }
     {
         if !self.are_in(row) {
             return Err(ReadKind::MissingField);
@@ -94,7 +96,7 @@ impl VoteColumns {
     ghost use Rattle.pb_core.specs.Election.{ElectionView};
     ghost use Rattle.pb_read.specs.Drafts.{HasVoter};
     ghost use Rattle.pb_read.specs.Machine.{Explains, vote_row_checks};
-    ghost use Rattle.pb_read.specs.Columns.{has_vote_fields, vote_columns};
+    ghost use Rattle.pb_read.specs.Columns.{has_fields, vote_columns};
 
     /// The columns that a header row of VOTES names: `voter_id` and `vote`, both needed.
     pub(crate) fn of(header: &Row) -> Option<VoteColumns>
@@ -107,7 +109,7 @@ impl VoteColumns {
 
     /// Whether a row has a field in each needed column.
     fn are_in(&self, row: &Row) -> bool
-        ensures { result ≡ has_vote_fields self.now row.now }
+        ensures { result ≡ has_fields self.now.voter self.now.vote row.now }
     {
         row.has_field(self.voter) && row.has_field(self.vote)
     }
@@ -115,7 +117,8 @@ impl VoteColumns {
     /// The voter's id in a row, or why it has none.
     pub(crate) fn voter_id(&self, alloc: Global, row: &Row) -> Result<VoterId, ReadKind>
         ensures ok { IfOk result (HasVoter self.now row.now) }
-        ensures err { IfErr result (λ kind. (e : ElectionView) → Explains kind (vote_row_checks self.now row.now e)) }
+        ensures err { IfErr result (λ kind.
+            (e : ElectionView) → Explains kind (vote_row_checks self.now row.now e)) }
     {
         if !self.are_in(row) {
             return Err(ReadKind::MissingField);

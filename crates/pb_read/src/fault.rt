@@ -5,7 +5,6 @@ ghost use Rattle.pb_read.specs.Kinds.{name_of, number_of};
 
 use pb_core::money_fault::MoneyFault;
 use pb_core::no_memory::NoMemory;
-use pb_rows::RecordsFault;
 use std::alloc::AllocError;
 use thiserror::Error;
 
@@ -82,6 +81,19 @@ pub enum ReadKind {
 }
 
 impl ReadKind {
+    ghost use Rattle.pb_read.specs.MoneyKinds.{kind_of_money};
+
+    /// The kind of an amount's fault.
+    pub(crate) fn of_money(fault: MoneyFault) -> ReadKind
+        ensures { result ≡ kind_of_money fault }
+    {
+        match fault {
+            MoneyFault::BadMoney => ReadKind::BadMoney,
+            MoneyFault::MoneyTooFine => ReadKind::MoneyTooFine,
+            MoneyFault::MoneyTooLarge => ReadKind::MoneyTooLarge,
+        }
+    }
+
     /// The kind's number, from 1.
     pub fn number(&self) -> u32
         ensures { result ≡ number_of self.now }
@@ -139,36 +151,6 @@ impl ReadKind {
             ReadKind::TooManyVoters => "TooManyVoters",
             ReadKind::NoMemory => "NoMemory",
             ReadKind::BadLength => "BadLength",
-        }
-    }
-}
-
-impl From<MoneyFault> for ReadKind {
-    ghost use Rattle.std.specs.Prelude.{◌≡◌};
-    ghost use Rattle.pb_read.specs.Kinds.{kind_of_money};
-
-    ghost from_gives = { λ fault kind. kind ≡ kind_of_money fault };
-
-    fn from(fault: MoneyFault) -> ReadKind {
-        match fault {
-            MoneyFault::BadMoney => ReadKind::BadMoney,
-            MoneyFault::MoneyTooFine => ReadKind::MoneyTooFine,
-            MoneyFault::MoneyTooLarge => ReadKind::MoneyTooLarge,
-        }
-    }
-}
-
-impl From<RecordsFault> for ReadKind {
-    ghost use Rattle.std.specs.Prelude.{◌≡◌};
-    ghost use Rattle.pb_read.specs.Kinds.{kind_of_records};
-
-    ghost from_gives = { λ fault kind. kind ≡ kind_of_records fault };
-
-    fn from(fault: RecordsFault) -> ReadKind {
-        match fault {
-            RecordsFault::ReadFailed => ReadKind::ReadFailed,
-            RecordsFault::NotText => ReadKind::NotText,
-            RecordsFault::NoMemory => ReadKind::NoMemory,
         }
     }
 }

@@ -11,8 +11,9 @@ use pb_core::election::MOST_PROJECTS;
 use pb_core::money::Money;
 use pb_core::money_fault::MoneyFault;
 
-/// The most projects that a ballot may approve, as the value of `max_length` says: digits, then perhaps `.` or `,` and
-/// zeros. There is no limit where the text is empty, or the number is above 10,000. The caller trims.
+/// The most projects that a ballot may approve, as the value of `max_length` says: digits, then perhaps
+/// `.` or `,` and zeros. There is no limit where the text is empty, or the number is above 10,000. The
+/// caller trims.
 pub(crate) fn read_max_length(text: &str) -> Result<Option<u32>, ReadKind>
     ensures { result ≡ max_length_of text.now }
 {

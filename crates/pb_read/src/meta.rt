@@ -65,7 +65,7 @@ impl Meta {
         }
         let budget = match budget {
             Ok(budget) => budget,
-            Err(fault) => return Err(ReadKind::from(fault)),
+            Err(fault) => return Err(ReadKind::of_money(fault)),
         };
         match self.max_length {
             Ok(max_length) => Ok((budget, max_length)),

@@ -1,10 +1,12 @@
 // How far a file was read.
 
 ghost use Rattle.std.specs.Prelude.{◌≡◌, None, Some, IfErr, OnOk, MatchResult};
-ghost use Rattle.pb_read.specs.Stages.{head, next_row, plain, ProjectsHeader, Start, the_end};
+ghost use Rattle.pb_read.specs.Stages.{head, next_row, plain, the_end};
 ghost use Rattle.pb_read.specs.Machine.{budget_of, head_checks, limit_of};
-ghost use Rattle.pb_read.specs.Progresses.{Advances, EndsWith, IsRead, IsReady, Refuses, stage_of};
+ghost use Rattle.pb_read.specs.Progresses.{Advances, EndsWith, IsRead, IsReady, Refuses, place_of};
 ghost use Rattle.pb_read.specs.StandsFor.{opening};
+ghost use Rattle.pb_read.specs.declared.progress.Stage.TheVariants.{Start, Header};
+ghost use Rattle.pb_read.specs.declared.section.Section.TheVariants.{Projects};
 
 use crate::columns::{ProjectColumns, VoteColumns};
 use crate::draft::Draft;
@@ -16,21 +18,17 @@ use pb_core::election::Election;
 use pb_core::money::Money;
 use std::alloc::Global;
 
-/// What the next record may be.
+/// How far a file was read: what the next record may be.
 #[derive(Clone, Copy)]
 pub(crate) enum Stage {
     /// META's head.
     Start,
-    /// META's header row.
-    MetaHeader,
+    /// A section's header row, after its head.
+    Header(Section),
     /// A row of META, or PROJECTS' head.
     InMeta(Meta),
-    /// PROJECTS' header row.
-    ProjectsHeader,
     /// A row of PROJECTS, or VOTES' head.
     InProjects(ProjectColumns),
-    /// VOTES' header row.
-    VotesHeader,
     /// A row of VOTES, or the end of the file.
     InVotes(VoteColumns),
 }
@@ -45,7 +43,7 @@ pub(crate) struct Progress {
 impl Progress {
     /// Nothing was read yet.
     pub(crate) fn new(alloc: Global) -> Progress
-        ensures start { stage_of result ≡ Start }
+        ensures start { place_of result ≡ (Start, opening 0 None) }
         ensures ready { IsReady result }
     {
         Progress {
@@ -76,33 +74,23 @@ impl Progress {
         ensures ok { OnOk result (Advances self.old (head section) self.new) }
         ensures err { IfErr result (Refuses self.old (head section)) }
     {
-        match self.stage {
-            Stage::Start => match section {
-                Section::Meta => self.stage = Stage::MetaHeader,
-                Section::Projects | Section::Votes => return Err(ReadKind::SectionOrder),
-            },
-            Stage::InMeta(meta) => match section {
-                Section::Projects => return self.open_projects(meta),
-                Section::Meta | Section::Votes => return Err(ReadKind::SectionOrder),
-            },
-            Stage::InProjects(_) => match section {
-                Section::Votes => self.stage = Stage::VotesHeader,
-                Section::Meta | Section::Projects => return Err(ReadKind::SectionOrder),
-            },
-            Stage::InVotes(_) => return Err(ReadKind::SectionOrder),
-            Stage::MetaHeader | Stage::ProjectsHeader | Stage::VotesHeader => {
-                return Err(ReadKind::NoHeader);
+        match (self.stage, section) {
+            (Stage::Start, Section::Meta) | (Stage::InProjects(_), Section::Votes) => {
+                self.stage = Stage::Header(section);
+                Ok(())
             }
+            (Stage::InMeta(meta), Section::Projects) => self.open_projects(meta),
+            (Stage::Header(_), _) => Err(ReadKind::NoHeader),
+            _ => Err(ReadKind::SectionOrder),
         }
-        Ok(())
     }
 
     /// Reads PROJECTS' head after META.
     fn open_projects(&mut self, meta: Meta) -> Result<(), ReadKind>
         requires { IsRead meta }
         ensures ok { OnOk result ((head_checks meta.budget meta.approval meta.max_length ≡ None)
-            × (stage_of self.new
-            ≡ ProjectsHeader (opening (budget_of meta.budget) (limit_of meta.max_length))) × IsReady self.new) }
+            × (place_of self.new ≡ (Header Projects, opening (budget_of meta.budget) (limit_of meta.max_length)))
+            × IsReady self.new) }
         ensures err { IfErr result (λ kind. head_checks meta.budget meta.approval meta.max_length ≡ Some kind) }
     {
         let (budget, max_length) = match meta.terms() {
@@ -110,7 +98,7 @@ impl Progress {
             Err(kind) => return Err(kind),
         };
         self.draft = Draft::new(self.draft.alloc, budget, max_length);
-        self.stage = Stage::ProjectsHeader;
+        self.stage = Stage::Header(Section::Projects);
         Ok(())
     }
 
@@ -123,20 +111,20 @@ impl Progress {
     {
         match self.stage {
             Stage::Start => return Err(ReadKind::NoSection),
-            Stage::MetaHeader => self.stage = Stage::InMeta(Meta::new()),
+            Stage::Header(Section::Meta) => self.stage = Stage::InMeta(Meta::new()),
+            Stage::Header(Section::Projects) => match ProjectColumns::of(row) {
+                Some(columns) => self.stage = Stage::InProjects(columns),
+                None => return Err(ReadKind::MissingColumn),
+            },
+            Stage::Header(Section::Votes) => match VoteColumns::of(row) {
+                Some(columns) => self.stage = Stage::InVotes(columns),
+                None => return Err(ReadKind::MissingColumn),
+            },
             Stage::InMeta(mut meta) => {
                 meta.note(row);
                 self.stage = Stage::InMeta(meta);
             }
-            Stage::ProjectsHeader => match ProjectColumns::of(row) {
-                Some(columns) => self.stage = Stage::InProjects(columns),
-                None => return Err(ReadKind::MissingColumn),
-            },
             Stage::InProjects(columns) => return self.draft.add_project(columns, row),
-            Stage::VotesHeader => match VoteColumns::of(row) {
-                Some(columns) => self.stage = Stage::InVotes(columns),
-                None => return Err(ReadKind::MissingColumn),
-            },
             Stage::InVotes(columns) => return self.draft.add_voter(columns, row),
         }
         Ok(())
@@ -145,13 +133,11 @@ impl Progress {
     /// The election, where the file may end here.
     #[tactic(auto, unfolding(crate::specs::Machine::row_fault))]
     pub(crate) fn finish(self) -> Result<Election, ReadKind>
-        ensures { MatchResult result (EndsWith (stage_of self)) (Refuses self the_end) }
+        ensures { MatchResult result (EndsWith (place_of self)) (Refuses self the_end) }
     {
         match self.stage {
             Stage::InVotes(_) => Ok(self.draft.election),
-            Stage::MetaHeader | Stage::ProjectsHeader | Stage::VotesHeader => Err(
-                ReadKind::NoHeader,
-            ),
+            Stage::Header(_) => Err(ReadKind::NoHeader),
             Stage::Start | Stage::InMeta(_) | Stage::InProjects(_) => Err(ReadKind::NoSection),
         }
     }

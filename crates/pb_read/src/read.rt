@@ -1,19 +1,20 @@
 // The reader of a whole file.
 
-ghost use Rattle.std.specs.Prelude.{◌≡◌, ◌+◌, ◌≤◌, None, IfOk, IfErr, IfSome, OnOk, MatchResult};
+ghost use Rattle.std.specs.Prelude.{◌≡◌, None, IfOk, IfErr, IfSome, OnOk, MatchResult};
 ghost use Rattle.pb_core.specs.Election.{ElectionView};
 ghost use Rattle.pb_rows.specs.Reading.{records_of};
-ghost use Rattle.pb_read.specs.Stages.{Start, next_row, the_end};
+ghost use Rattle.pb_read.specs.Stages.{next_row, the_end};
 ghost use Rattle.pb_read.specs.FirstFault.{IsFaultAt, IsFromOutside};
-ghost use Rattle.pb_read.specs.Progresses.{Advances, EndsWith, IsReady, Refuses, StopsReading, stage_of};
-ghost use Rattle.pb_read.specs.StandsFor.{StandsFor};
+ghost use Rattle.pb_read.specs.Progresses.{Advances, EndsWith, IsReady, Refuses, StopsReading, place_of};
+ghost use Rattle.pb_read.specs.StandsFor.{StandsFor, opening};
 ghost use Rattle.pb_read.specs.Tracking.{HasEnded, IsNextRow};
+ghost use Rattle.pb_read.specs.declared.progress.Stage.TheVariants.{Start};
 
 use crate::fault::{ReadFault, ReadKind};
 use crate::progress::Progress;
 use crate::row::Row;
 use pb_core::election::Election;
-use pb_rows::Records;
+use pb_rows::{Records, RecordsFault};
 use std::alloc::Global;
 use std::io::Read;
 
@@ -35,7 +36,8 @@ pub fn read_pb<R: Read + Drop>(alloc: Global, reader: R) -> Result<Election, Rea
         IfErr result (λ fault. IsFaultAt (records_of bytes) fault.kind fault.at)) }
 
     // A file that stands for an election is refused only where memory or the reader failed.
-    ensures accepts { IfSome (R.remaining reader) (λ bytes. (e : ElectionView) → StandsFor (records_of bytes) e →
+    ensures accepts { IfSome (R.remaining reader) (λ bytes.
+        (e : ElectionView) → StandsFor (records_of bytes) e →
         MatchResult result (λ read. read ≡ e) (λ fault. IsFromOutside fault.kind)) }
 {
     let mut records = Records::new(alloc, reader);
@@ -61,9 +63,9 @@ fn read_rows<R: Read>(
     row: &mut Row,
     progress: &mut Progress,
 ) -> Result<u32, ReadFault>
-    requires at_start { stage_of progress.old ≡ Start }
+    requires at_start { place_of progress.old ≡ (Start, opening 0 None) }
     requires ready { IsReady progress.old }
-    ensures ok { IfOk result (λ end. HasEnded records.old.left end (stage_of progress.new)) }
+    ensures ok { IfOk result (λ end. HasEnded records.old.left end (place_of progress.new)) }
     ensures fault { IfSome records.old.left (λ all. IfErr result (λ fault. IsFaultAt all fault.kind fault.at)) }
 {
     for done in 0..MOST_RECORDS {
@@ -89,7 +91,11 @@ fn read_row<R: Read>(records: &mut Records<R>, row: &mut Row, at: u32) -> Result
     match row.read(records) {
         Ok(found) => Ok(found),
         Err(fault) => {
-            let kind = ReadKind::from(fault);
+            let kind = match fault {
+                RecordsFault::ReadFailed => ReadKind::ReadFailed,
+                RecordsFault::NotText => ReadKind::NotText,
+                RecordsFault::NoMemory => ReadKind::NoMemory,
+            };
             Err(ReadFault { kind, at })
         }
     }
@@ -99,7 +105,8 @@ fn read_row<R: Read>(records: &mut Records<R>, row: &mut Row, at: u32) -> Result
 fn take_row(progress: &mut Progress, row: &Row, at: u32) -> Result<(), ReadFault>
     requires { IsReady progress.old }
     ensures ok { OnOk result (Advances progress.old (next_row row.now) progress.new) }
-    ensures fault { IfErr result (λ fault. (fault.at ≡ at) × Refuses progress.old (next_row row.now) fault.kind) }
+    ensures fault { IfErr result (λ fault.
+        (fault.at ≡ at) × Refuses progress.old (next_row row.now) fault.kind) }
 {
     match progress.read(row) {
         Ok(()) => Ok(()),
@@ -109,7 +116,7 @@ fn take_row(progress: &mut Progress, row: &Row, at: u32) -> Result<(), ReadFault
 
 /// Ends the reading, where record `at` would stand.
 fn finish(progress: Progress, at: u32) -> Result<Election, ReadFault>
-    ensures { MatchResult result (EndsWith (stage_of progress))
+    ensures { MatchResult result (EndsWith (place_of progress))
         (λ fault. (fault.at ≡ at) × Refuses progress the_end fault.kind) }
 {
     match progress.finish() {

@@ -1,7 +1,7 @@
 use Rattle.std.proofs.Common.{◌≡◌, ◌≤◌, ◌+◌, arith, subst}
 use Rattle.std.proofs.lemmas.Result.{err_from_is_err_and}
 use Rattle.pb_read.proofs.Tracking.{refused, stopped, too_many, tracks_more}
-use Rattle.pb_read.specs.Progresses.{stage_of}
+use Rattle.pb_read.specs.Progresses.{place_of}
 use Rattle.pb_read.specs.StandsFor.{most_records}
 use Rattle.pb_read.specs.Tracking.{IsNextRow, Tracks}
 use Rattle.pb_read.proofs.read.read_rows.Goals as goal
@@ -11,7 +11,7 @@ returns-in_err-read_row-clause-fault g c =
     let p = err_from_is_err_and c.from_residual.result c.from_residual.ensures.1 in
     let fault = c.in_err-read_row.field-0.0 in
     let said = c.in_err-read_row.ensures.fault in
-    rw (p.1, p.2) (stopped c.args.records.now.left c.loop-done.records.left c.loop-done.done (stage_of c.loop-done.progress) fault.kind fault.at c.loop-done.invariant.tracks (omega arith) said.0 said.1)
+    rw (p.1, p.2) (stopped c.args.records.now.left c.loop-done.records.left c.loop-done.done (place_of c.loop-done.progress) fault.kind fault.at c.loop-done.invariant.tracks (omega arith) said.0 said.1)
 
 pub returns-in_err-take_row-clause-fault : goal.returns-in_err-take_row-clause-fault
 returns-in_err-take_row-clause-fault g c =
@@ -20,7 +20,7 @@ returns-in_err-take_row-clause-fault g c =
     let row = c.read_row.new.row in
     let next = subst (λ found. IsNextRow c.loop-done.records.left c.read_row.new.records.left found row) c.if-not-branch.false c.in_ok-read_row.ensures.next in
     let said = c.in_err-take_row.ensures.fault in
-    rw (p.1, p.2) (refused c.args.records.now.left c.loop-done.records.left c.read_row.new.records.left c.loop-done.done (stage_of c.loop-done.progress) row fault.kind fault.at c.loop-done.invariant.tracks (omega arith) said.0 next said.1)
+    rw (p.1, p.2) (refused c.args.records.now.left c.loop-done.records.left c.read_row.new.records.left c.loop-done.done (place_of c.loop-done.progress) row fault.kind fault.at c.loop-done.invariant.tracks (omega arith) said.0 next said.1)
 
 pub loop-done-preserved : goal.loop-done-preserved
 loop-done-preserved g c =
@@ -28,7 +28,7 @@ loop-done-preserved g c =
     let next = subst (λ found. IsNextRow c.loop-done.records.left c.read_row.new.records.left found row) c.if-not-branch.false c.in_ok-read_row.ensures.next in
     let step = c.in_ok-take_row.ensures.ok in
     record {
-      tracks = tracks_more c.args.records.now.left c.loop-done.records.left c.read_row.new.records.left c.loop-done.done (stage_of c.loop-done.progress) (stage_of c.take_row.new.progress) row c.loop-done.invariant.tracks next step.0 step.1;
+      tracks = tracks_more c.args.records.now.left c.loop-done.records.left c.read_row.new.records.left c.loop-done.done (place_of c.loop-done.progress) (place_of c.take_row.new.progress) row c.loop-done.invariant.tracks next step.0 step.1;
       ready = step.2;
     }
 
@@ -39,11 +39,11 @@ returns-in_err-read_row-2-clause-fault g c =
     let said = c.in_err-read_row-2.ensures.fault in
     let few : c.loop-done.done ≤ most_records = omega arith in
     let is : fault.at ≡ c.loop-done.done + 1 = omega (arith, said.0) in
-    rw (p.1, p.2) (stopped c.args.records.now.left c.loop-done.records.left c.loop-done.done (stage_of c.loop-done.progress) fault.kind fault.at c.loop-done.invariant.tracks few is said.1)
+    rw (p.1, p.2) (stopped c.args.records.now.left c.loop-done.records.left c.loop-done.done (place_of c.loop-done.progress) fault.kind fault.at c.loop-done.invariant.tracks few is said.1)
 
 pub returns-then-branch-clause-fault : goal.returns-then-branch-clause-fault
 returns-then-branch-clause-fault g c =
-    let at = stage_of c.loop-done.progress in
+    let at = place_of c.loop-done.progress in
     let row = c.read_row-2.new.row in
     let next = subst (λ found. IsNextRow c.loop-done.records.left c.read_row-2.new.records.left found row) c.if-branch.true c.in_ok-read_row-2.ensures.next in
     let all : c.loop-done.done ≡ most_records = omega arith in
