@@ -1,5 +1,6 @@
 // A file whose reader fails.
 
+use pb_core::Election;
 use pb_core::devices::FailsAfter;
 use pb_read::{ReadFault, ReadKind, read_pb};
 use std::alloc::Global;
@@ -7,12 +8,20 @@ use std::process::Abort;
 use std::test::Fail;
 
 /// Three voters' approvals of two projects, in 13 records and 117 bytes.
-pub const THREE_VOTERS: &str =
+const THREE_VOTERS: &str =
     "META\nkey;value\nbudget;100\nvote_type;approval\nPROJECTS\nproject_id;cost\na;30\nb;60\nVOTES\nvoter_id;vote\nv1;a\nv2;a,b\nv3;b\n";
 
 /// The same with a cost that is finer than a hundredth, in record 7.
 const TOO_FINE: &str =
     "META\nkey;value\nbudget;100\nvote_type;approval\nPROJECTS\nproject_id;cost\na;10.005\nb;60\nVOTES\nvoter_id;vote\nv1;a\nv2;a,b\nv3;b\n";
+
+/// The election of three voters and two projects.
+pub fn three_voters(alloc: Global) -> Result<Election, Fail> {
+    match read_pb(alloc, THREE_VOTERS.as_bytes()) {
+        Ok(election) => Ok(election),
+        Err(_) => Err(Fail::new("the file was refused")),
+    }
+}
 
 /// How many lines of these bytes have their end.
 pub fn whole_lines(bytes: &[u8]) -> usize {

@@ -1,13 +1,14 @@
 // A journal that is cut or damaged, whose reader fails, or whose writer fails.
 
-use crate::files::{THREE_VOTERS, whole_lines};
+use crate::files::{three_voters, whole_lines};
+use crate::refusing::Refusing;
+use crate::walk::{Heap, MOST, goes_on};
 use pb_core::devices::{FailsAfter, FailsAt, TakesNone, TakesOne};
-use pb_core::{Election, Request};
+use pb_core::{NoMemory, Request};
 use pb_desk::audit;
 use pb_desk::audit_fault::AuditFault;
 use pb_desk::desk::Desk;
 use pb_desk::write_fault::WriteFault;
-use pb_read::read_pb;
 use std::alloc::Global;
 use std::io::Read;
 use std::test::Fail;
@@ -32,14 +33,6 @@ const EXCHANGED: [&str; 4] = [
     "1;0;cast;ann;0;done\n2;0;cast;ann;1;already-cast\n4;0;withdraw;ann;;done\n3;0;replace;ann;0,1;done\n5;0;replace;ann;0;no-ballot\n",
     "1;0;cast;ann;0;done\n2;0;cast;ann;1;already-cast\n3;0;replace;ann;0,1;done\n5;0;replace;ann;0;no-ballot\n4;0;withdraw;ann;;done\n",
 ];
-
-/// The election of three voters and two projects.
-fn three_voters(alloc: Global) -> Result<Election, Fail> {
-    match read_pb(alloc, THREE_VOTERS.as_bytes()) {
-        Ok(election) => Ok(election),
-        Err(_) => Err(Fail::new("the file was refused")),
-    }
-}
 
 /// How many entries the journal has that a reader gives, or its fault.
 fn audited<R: Read + Drop>(alloc: Global, reader: R) -> Result<Result<u64, AuditFault>, Fail> {
@@ -133,5 +126,31 @@ fn a_writer_that_fails_is_told(rt: HostRuntime) -> Result<(), Fail> {
         ample.as_slice(),
         b"journal;2\n1;7;shut;;;done\n".as_slice()
     );
+    Ok(())
+}
+
+/// Whether a journal of one row goes into a writer in memory, whose nth allocation is refused.
+fn written(alloc: Global, heap: Heap<'_>, desk: &Desk, nth: u64) -> Result<bool, NoMemory> {
+    let mut writer = Vec::new(heap);
+    heap.refuse(nth);
+    match desk.write_journal(alloc, &mut writer) {
+        Ok(()) => Ok(writer.as_slice() == b"journal;2\n1;7;shut;;;done\n".as_slice()),
+        Err(WriteFault::NoMemory) => Err(NoMemory),
+        Err(WriteFault::WriteFailed) => Ok(false),
+    }
+}
+
+#[test]
+fn a_writer_without_room_is_out_of_memory(rt: HostRuntime) -> Result<(), Fail> {
+    let alloc = rt.alloc();
+    let mut desk = Desk::start(alloc, three_voters(alloc)?, 10)?;
+    desk.serve(7, &Request::Shut)?;
+    for nth in 1..=MOST {
+        let heap = Refusing::new(alloc);
+        let answer = written(alloc, &heap, &desk, nth);
+        if !goes_on(&rt, &heap, nth, answer) {
+            return Ok(());
+        }
+    }
     Ok(())
 }

@@ -3,9 +3,19 @@
 #![tactic(auto)]
 
 #[cfg(test)]
+mod counting;
+#[cfg(test)]
+mod desks;
+#[cfg(test)]
+mod elections;
+#[cfg(test)]
 mod files;
 #[cfg(test)]
 mod journals;
-#[cfg(test)]
-mod memory;
 pub mod refusing;
+#[cfg(test)]
+mod sharing;
+#[cfg(test)]
+mod values;
+#[cfg(test)]
+mod walk;

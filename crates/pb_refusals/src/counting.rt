@@ -1,0 +1,214 @@
+// Each allocation of a count refused in turn.
+
+ghost use Rattle.std.specs.Prelude.{◌<◌, ◌≤◌, All, length};
+ghost use Rattle.std.specs.Bool.{OnTrue};
+ghost use Rattle.pb_core.specs.Election.{most_projects};
+ghost use Rattle.pb_price.specs.Price.{AreRests};
+
+use crate::refusing::Refusing;
+use crate::walk::{Heap, MOST, goes_on, refused};
+use pb_core::{Election, Money, NoMemory};
+use pb_price::gate::NoGate;
+use pb_price::price::price;
+use pb_price::{PriceFault, Supporters, Tally, price_all};
+use pb_read::read_pb;
+use pb_rounds::count::{count, equal_shares};
+use pb_rounds::count_fault::CountFault;
+use pb_rounds::measure::Measure;
+use pb_rounds::options::CountOptions;
+use std::alloc::Global;
+use std::process::Abort;
+use std::test::Fail;
+use std::thread::Threads;
+
+/// Four voters and four projects. At a share of 10.00 p1 is elected at 4.00, and then p3 at 6.50.
+const FOUR_VOTERS: &str =
+    "META\nkey;value\nbudget;40\nvote_type;approval\nPROJECTS\nproject_id;cost\np1;12\np2;19\np3;6.50\np4;9.90\nVOTES\nvoter_id;vote\nv1;p1,p2\nv2;p1,p2\nv3;p1\nv4;p2,p3,p4\n";
+
+/// The calls whose allocations are refused.
+#[derive(Clone, Copy, Drop)]
+enum Call {
+    Supporters,
+    Price,
+    Prices(u32),
+    Shares,
+    Count,
+}
+
+impl Call {
+    /// Makes ready, lets the nth allocation from then on be refused, calls, and answers whether all is as it
+    /// should be.
+    fn run<R: Threads + Sync>(
+        self,
+        rt: &R,
+        heap: Heap<'_>,
+        election: &Election,
+        nth: u64,
+    ) -> Result<bool, NoMemory> {
+        match self {
+            Call::Supporters => supported(heap, election, nth),
+            Call::Price => priced(heap, election, nth),
+            Call::Prices(workers) => all_priced(rt, heap, election, workers, nth),
+            Call::Shares => shared_equally(rt, heap, election, nth),
+            Call::Count => counted(rt, heap, election, nth),
+        }
+    }
+}
+
+/// Refuses each allocation of the call in turn.
+fn walk<R: Threads + Sync + Abort>(rt: &R, alloc: Global, call: Call) -> Result<(), Fail> {
+    let election = match read_pb(alloc, FOUR_VOTERS.as_bytes()) {
+        Ok(election) => election,
+        Err(_) => return Err(Fail::new("the file was refused")),
+    };
+    for nth in 1..=MOST {
+        let heap = Refusing::new(alloc);
+        let answer = call.run(rt, &heap, &election, nth);
+        if !goes_on(rt, &heap, nth, answer) {
+            return Ok(());
+        }
+    }
+    Ok(())
+}
+
+fn supported(heap: Heap<'_>, election: &Election, nth: u64) -> Result<bool, NoMemory> {
+    heap.refuse(nth);
+    let supporters = Supporters::build(heap, election)?;
+    Ok(
+        supporters.projects() == 4
+            && supporters.voters() == 4
+            && supporters.of(1) == [0, 1, 3].as_slice()
+            && supporters.cost(1) == Money(1_900),
+    )
+}
+
+/// Whether there is a rest for each voter, none above the largest share, and a project at each place.
+fn can_price(supporters: &Supporters<Heap<'_>>, rests: &[Money], projects: &[u32]) -> bool
+    ensures rests { OnTrue result (AreRests supporters.now.voters rests.now) }
+    ensures known { OnTrue result (All (λ place. place < length supporters.now.costs) projects.now) }
+    ensures few { OnTrue result (length projects.now ≤ most_projects) }
+{
+    rests.len() == supporters.voters() as usize
+        && projects.len() <= 10_000
+        && projects.iter().all(|place| *place < supporters.projects())
+        && rests.iter().all(|rest| rest.0 <= 2_000_000_000_000_000)
+}
+
+/// What is left to the voters once p1 is elected.
+const RESTS: [Money; 4] = [Money(600), Money(600), Money(600), Money(1_000)];
+
+fn priced(heap: Heap<'_>, election: &Election, nth: u64) -> Result<bool, NoMemory> {
+    let supporters = Supporters::build(heap, election)?;
+    if !can_price(&supporters, &RESTS, &[1]) {
+        return Ok(false);
+    }
+    let mut tally = Tally::new();
+    heap.refuse(nth);
+    match price(heap, &supporters, &RESTS, 1, &mut tally) {
+        Ok(answer) => Ok(answer == Some(Money(700)) && tally.count() == 1),
+        Err(NoMemory) => refused(tally.count() == 0),
+    }
+}
+
+/// p2 takes 6.00 of two and 7.00 of the third; p4 takes 9.90 of v4 alone.
+fn all_priced<R: Threads + Sync>(
+    rt: &R,
+    heap: Heap<'_>,
+    election: &Election,
+    workers: u32,
+    nth: u64,
+) -> Result<bool, NoMemory> {
+    let supporters = Supporters::build(heap, election)?;
+    let projects = [1, 3];
+    if !can_price(&supporters, &RESTS, &projects) {
+        return Ok(false);
+    }
+    let mut tally = Tally::new();
+    heap.refuse(nth);
+    let answer = price_all(
+        rt,
+        heap,
+        workers,
+        &NoGate,
+        &projects,
+        &supporters,
+        &RESTS,
+        &mut tally,
+    );
+    match answer {
+        Ok(prices) => Ok(
+            prices.as_slice() == [Some(Money(700)), Some(Money(990))].as_slice()
+                && tally.count() == 2,
+        ),
+        Err(PriceFault::NoMemory) => refused(tally.count() == 0),
+        Err(PriceFault::WorkerCount) => Ok(false),
+    }
+}
+
+fn shared_equally<R: Threads + Sync>(
+    rt: &R,
+    heap: Heap<'_>,
+    election: &Election,
+    nth: u64,
+) -> Result<bool, NoMemory> {
+    heap.refuse(nth);
+    match equal_shares(rt, heap, election, Money(1_000), 1, Measure::Votes, &NoGate) {
+        Ok(outcome) => Ok(
+            outcome.elected.len() == 2
+                && outcome.priced.as_slice() == [4, 2, 2].as_slice()
+                && outcome.rests.as_slice()
+                    == [Money(600), Money(600), Money(600), Money(350)].as_slice(),
+        ),
+        Err(CountFault::NoMemory) => Err(NoMemory),
+        Err(_) => Ok(false),
+    }
+}
+
+/// At 10.00, 11.00 and 12.00 two projects are elected, and what is left of the budget would pay for another.
+/// At 13.00 p1 takes 4.00 of three voters, p2 6.34 of three, and p3 6.50 of v4's 6.66; 2.50 of the budget is
+/// left, and p4 costs 9.90.
+fn counted<R: Threads + Sync>(
+    rt: &R,
+    heap: Heap<'_>,
+    election: &Election,
+    nth: u64,
+) -> Result<bool, NoMemory> {
+    heap.refuse(nth);
+    match count(rt, heap, election, &CountOptions::standard()) {
+        Ok(outcome) => Ok(
+            outcome.raised == 3 && outcome.share == Money(1_300) && outcome.elected.len() == 3,
+        ),
+        Err(CountFault::NoMemory) => Err(NoMemory),
+        Err(_) => Ok(false),
+    }
+}
+
+#[test]
+fn supporters_are_found_or_memory_is_refused(rt: HostRuntime) -> Result<(), Fail> {
+    walk(&rt, rt.alloc(), Call::Supporters)
+}
+
+#[test]
+fn a_price_is_found_or_memory_is_refused(rt: HostRuntime) -> Result<(), Fail> {
+    walk(&rt, rt.alloc(), Call::Price)
+}
+
+#[test]
+fn prices_are_found_or_memory_is_refused(rt: HostRuntime) -> Result<(), Fail> {
+    walk(&rt, rt.alloc(), Call::Prices(1))
+}
+
+#[test]
+fn workers_find_prices_or_memory_is_refused(rt: HostRuntime) -> Result<(), Fail> {
+    walk(&rt, rt.alloc(), Call::Prices(2))
+}
+
+#[test]
+fn a_run_ends_or_memory_is_refused(rt: HostRuntime) -> Result<(), Fail> {
+    walk(&rt, rt.alloc(), Call::Shares)
+}
+
+#[test]
+fn a_count_ends_or_memory_is_refused(rt: HostRuntime) -> Result<(), Fail> {
+    walk(&rt, rt.alloc(), Call::Count)
+}
