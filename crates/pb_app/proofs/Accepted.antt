@@ -16,13 +16,14 @@ use Rattle.pb_rounds.specs.declared.options.CountOptions.{CountOptions}
 use Rattle.pb_rows.specs.Reading.{records_of}
 use Rattle.pb_app.specs.Counted.{CountFails, CountWrites, FileIsNotCounted, IsReportOf}
 use Rattle.pb_app.specs.Ends.{Accepts, IsFromOutside}
-use Rattle.pb_app.specs.Fault.{of_count, of_read}
+use Rattle.pb_app.specs.Fault.{merged}
 use Rattle.pb_app.specs.Report.{report_of}
 use Rattle.pb_app.specs.declared.fault.AppFault.{AppFault}
+use Rattle.pb_app.specs.declared.fault.AppFault.TheVariants.{Read, Count}
 
-pub read_from_outside : (kind : ReadKind) (at : ℕ) → IsReadFromOutside kind → IsFromOutside (of_read (record { kind = kind; at = at }))
+pub read_from_outside : (kind : ReadKind) (at : ℕ) → IsReadFromOutside kind → IsFromOutside (merged (Read (record { kind = kind; at = at })))
 read_from_outside ReadFailed at outside = refl
-read_from_outside NoMemory at outside = tt
+read_from_outside NoMemory at outside = refl
 read_from_outside kind at outside = absurd outside
 
 -- an error that is a given fault
@@ -31,40 +32,40 @@ given_fault P (Ok done) fault is holds = tt
 given_fault P (Err app) fault is holds = subst P (sym is) holds
 
 pub accepted_by_reader : (files : Option (List ℕ)) (options : CountOptions) (fault : ReadFault) (r : Result (Unit {0}) AppFault)
-    → IsErrAnd r (λ app. app ≡ of_read fault)
+    → IsErrAnd r (λ app. app ≡ merged (Read fault))
     → IfSome files (λ bytes. (e : ElectionView) → StandsFor (records_of bytes) e → IsReadFromOutside fault.kind)
     → IfSome files (λ bytes. Accepts (CountWrites bytes options) r)
 accepted_by_reader None options fault r is accepts = tt
 accepted_by_reader (Some bytes) options fault r is accepts = λ text writes.
-    given_fault IsFromOutside r (of_read fault) is (read_from_outside fault.kind fault.at (accepts writes.election writes.stands))
+    given_fault IsFromOutside r (merged (Read fault)) is (read_from_outside fault.kind fault.at (accepts writes.election writes.stands))
 
 -- the count of an election that has a report is refused from outside alone
 pub count_from_outside : (e : ElectionView) (options : CountOptions) (text : List ℕ) → IsReportOf e options text
-    → (fault : CountFault) → IsCountFault e options fault → IsFromOutside (of_count fault)
+    → (fault : CountFault) → IsCountFault e options fault → IsFromOutside (merged (Count fault))
 count_from_outside e options text report count.WorkerCount refused = absurd (none-some _ (sym report.in_range ∙ refused))
 count_from_outside e options text report count.StepRange refused = absurd (none-some _ (sym report.in_range ∙ refused))
 count_from_outside e options text report count.RaisesRange refused = absurd (none-some _ (sym report.in_range ∙ refused))
 count_from_outside e options text report count.RaisesSpent refused = absurd (none-some _ (sym refused.1 ∙ report.counted))
-count_from_outside e options text report count.NoMemory refused = tt
+count_from_outside e options text report count.NoMemory refused = refl
 
 pub accepted_by_count : (files : Option (List ℕ)) (options : CountOptions) (e : ElectionView) (fault : CountFault) (r : Result (Unit {0}) AppFault)
-    → IsErrAnd r (λ app. app ≡ of_count fault) → IfSome files (λ bytes. StandsFor (records_of bytes) e) → IsCountFault e options fault
+    → IsErrAnd r (λ app. app ≡ merged (Count fault)) → IfSome files (λ bytes. StandsFor (records_of bytes) e) → IsCountFault e options fault
     → IfSome files (λ bytes. Accepts (CountWrites bytes options) r)
 accepted_by_count None options e fault r is stands refused = tt
 accepted_by_count (Some bytes) options e fault r is stands refused = λ text writes.
     let report = rw (one_election (records_of bytes) writes.election e writes.stands stands) at writes.report in
-    given_fault IsFromOutside r (of_count fault) is (count_from_outside e options text report fault refused)
+    given_fault IsFromOutside r (merged (Count fault)) is (count_from_outside e options text report fault refused)
 
-refused_count : (bytes : List ℕ) (options : CountOptions) (fault : CountFault) → FileIsNotCounted bytes options fault → CountFails bytes options (of_count fault)
+refused_count : (bytes : List ℕ) (options : CountOptions) (fault : CountFault) → FileIsNotCounted bytes options fault → CountFails bytes options (merged (Count fault))
 refused_count bytes options count.NoMemory refused = tt
 refused_count bytes options fault refused = refused
 
 pub refused_by_count : (files : Option (List ℕ)) (options : CountOptions) (e : ElectionView) (fault : CountFault) (r : Result (Unit {0}) AppFault)
-    → IsErrAnd r (λ app. app ≡ of_count fault) → IfSome files (λ bytes. StandsFor (records_of bytes) e) → IsCountFault e options fault
+    → IsErrAnd r (λ app. app ≡ merged (Count fault)) → IfSome files (λ bytes. StandsFor (records_of bytes) e) → IsCountFault e options fault
     → IfErr r (λ app. IfSome files (λ bytes. CountFails bytes options app))
-refused_by_count None options e fault r is stands refused = given_fault (λ app. Unit {0}) r (of_count fault) is tt
+refused_by_count None options e fault r is stands refused = given_fault (λ app. Unit {0}) r (merged (Count fault)) is tt
 refused_by_count (Some bytes) options e fault r is stands refused =
-    given_fault (CountFails bytes options) r (of_count fault) is (refused_count bytes options fault (record { election = e; stands = stands; refused = refused }))
+    given_fault (CountFails bytes options) r (merged (Count fault)) is (refused_count bytes options fault (record { election = e; stands = stands; refused = refused }))
 
 -- an election and options have one report
 pub one_report : (e : ElectionView) (options : CountOptions) (a b : List ℕ) → IsReportOf e options a → IsReportOf e options b → a ≡ b

@@ -1,5 +1,5 @@
 -- A file and a journal that have a text get it, unless a device fails or memory is refused; and they have one at most.
-use Rattle.std.proofs.Common.{◌≡◌, ◌<◌, ◌^◌, ℕ, ◌++◌, List, Option, Some, None, Bool, true, false, sym, ◌∙◌, ap, subst, arith}
+use Rattle.std.proofs.Common.{◌≡◌, ◌<◌, ◌^◌, ℕ, ◌++◌, List, Option, Some, None, Bool, true, false, refl, sym, ◌∙◌, ap, subst, arith}
 use Rattle.std.specs.Prelude.{All, IfSome, IsErrAnd, MatchBool, Result}
 use Rattle.std.proofs.lemmas.List.Elements.{All-nil}
 use Rattle.pb_core.specs.Election.{ElectionView}
@@ -25,8 +25,9 @@ use Rattle.pb_rows.specs.Writing.{text_of_row}
 use Rattle.pb_app.specs.Audited.{AuditWrites, IsDeskOf, IsRefusedDesk, IsTextOf, entries_row, program_room}
 use Rattle.pb_app.specs.Counted.{IsReportOf}
 use Rattle.pb_app.specs.Ends.{Accepts, IfBothKnown, IsFromOutside}
-use Rattle.pb_app.specs.Fault.{of_audit, of_count, of_read}
+use Rattle.pb_app.specs.Fault.{merged}
 use Rattle.pb_app.specs.declared.fault.AppFault.{AppFault}
+use Rattle.pb_app.specs.declared.fault.AppFault.TheVariants.{Read, Audit, Count}
 use Rattle.pb_app.proofs.Accepted.{count_from_outside, given_fault, one_report, read_from_outside}
 
 request_places : (r : RequestView) → IsRequest r → AreNumbers (places_of r)
@@ -53,26 +54,26 @@ one_desk bytes journal d other first second =
     λ i. record { opening = record { election = election i; version = same.0 i }; room = room i; journal = same.1 i }
 
 pub audited_by_reader : (files journals : Option (List ℕ)) (options : CountOptions) (fault : ReadFault) (r : Result (Unit {0}) AppFault)
-    → IsErrAnd r (λ app. app ≡ of_read fault)
+    → IsErrAnd r (λ app. app ≡ merged (Read fault))
     → IfSome files (λ bytes. (e : ElectionView) → StandsFor (records_of bytes) e → IsReadFromOutside fault.kind)
     → IfBothKnown files journals (λ bytes journal. Accepts (AuditWrites bytes journal options) r)
 audited_by_reader None journals options fault r is accepts = tt
 audited_by_reader (Some bytes) None options fault r is accepts = tt
 audited_by_reader (Some bytes) (Some journal) options fault r is accepts = λ text writes.
-    given_fault IsFromOutside r (of_read fault) is (read_from_outside fault.kind fault.at (accepts writes.desk.opening.election writes.audited.stands))
+    given_fault IsFromOutside r (merged (Read fault)) is (read_from_outside fault.kind fault.at (accepts writes.desk.opening.election writes.audited.stands))
 
 -- the rows of a sound journal have no fault, so that the fault is none of theirs
 journal_from_outside : (o : OpeningView) (journal : List EntryView) → IsSound o program_room journal
-    → (fault : AuditFault) → IsFaultOfJournal o.election program_room (rows_of o.version journal) fault → IsFromOutside (of_audit fault)
-journal_from_outside o journal sound (audit.ReadFailed row) fails = tt
+    → (fault : AuditFault) → IsFaultOfJournal o.election program_room (rows_of o.version journal) fault → IsFromOutside (merged (Audit fault))
+journal_from_outside o journal sound (audit.ReadFailed row) fails = refl
 journal_from_outside o journal sound (audit.BadRow row) fails = absurd (no_fault o program_room journal (audit.BadRow row) (omega arith) sound fails tt)
 journal_from_outside o journal sound (audit.WrongNumber row) fails = absurd (no_fault o program_room journal (audit.WrongNumber row) (omega arith) sound fails tt)
 journal_from_outside o journal sound (audit.JournalFull row) fails = absurd (no_fault o program_room journal (audit.JournalFull row) (omega arith) sound fails tt)
 journal_from_outside o journal sound (audit.WrongAnswer row) fails = absurd (no_fault o program_room journal (audit.WrongAnswer row) (omega arith) sound fails tt)
-journal_from_outside o journal sound audit.NoMemory fails = tt
+journal_from_outside o journal sound audit.NoMemory fails = refl
 
 pub audited_by_journal : (files journals : Option (List ℕ)) (options : CountOptions) (e : ElectionView) (fault : AuditFault) (r : Result (Unit {0}) AppFault)
-    → IsErrAnd r (λ app. app ≡ of_audit fault)
+    → IsErrAnd r (λ app. app ≡ merged (Audit fault))
     → IfSome files (λ bytes. StandsFor (records_of bytes) e) → IfSome journals (λ journal. IsFaultOfJournal e program_room (records_of journal) fault)
     → IfBothKnown files journals (λ bytes journal. Accepts (AuditWrites bytes journal options) r)
 audited_by_journal None journals options e fault r is stands fails = tt
@@ -82,12 +83,12 @@ audited_by_journal (Some bytes) (Some journal) options e fault r is stands fails
     let election = one_election (records_of bytes) e d.opening.election stands writes.audited.stands in
     let sound = rw writes.audited.room at writes.audited.sound in
     let P : ElectionView → Type 0 = λ e. IsFaultOfJournal e program_room (rows_of d.opening.version d.journal) fault in
-    given_fault IsFromOutside r (of_audit fault) is (journal_from_outside d.opening d.journal sound fault (subst P election (rw writes.audited.rows at fails)))
+    given_fault IsFromOutside r (merged (Audit fault)) is (journal_from_outside d.opening d.journal sound fault (subst P election (rw writes.audited.rows at fails)))
 
 -- a desk that has a text is refused from outside alone
 desk_from_outside : (d : DeskView) (options : CountOptions) (text : List ℕ) → IsTextOf d options text
-    → (fault : CountFault) → IsRefusedDesk d options fault → IsFromOutside (of_count fault)
-desk_from_outside d options text written count.NoMemory refused = tt
+    → (fault : CountFault) → IsRefusedDesk d options fault → IsFromOutside (merged (Count fault))
+desk_from_outside d options text written count.NoMemory refused = refl
 desk_from_outside d options text written fault refused =
     let report = rw refused.0 at written in
     count_from_outside (closed_election d) options report.0 report.1 fault refused.1
@@ -109,14 +110,14 @@ desk_of bytes journal e d is = record {
 }
 
 pub audited_by_desk : (files journals : Option (List ℕ)) (options : CountOptions) (e : ElectionView) (d : DeskView) (fault : CountFault) (r : Result (Unit {0}) AppFault)
-    → IsErrAnd r (λ app. app ≡ of_count fault) → IsAudited files journals e d → IsRefusedDesk d options fault
+    → IsErrAnd r (λ app. app ≡ merged (Count fault)) → IsAudited files journals e d → IsRefusedDesk d options fault
     → IfBothKnown files journals (λ bytes journal. Accepts (AuditWrites bytes journal options) r)
 audited_by_desk None journals options e d fault r is audited refused = tt
 audited_by_desk (Some bytes) None options e d fault r is audited refused = tt
 audited_by_desk (Some bytes) (Some journal) options e d fault r is audited refused = λ text writes.
     let same = one_desk bytes journal writes.desk d writes.audited (desk_of bytes journal e d audited) in
     let written = rw same at writes.written in
-    given_fault IsFromOutside r (of_count fault) is (desk_from_outside d options text written fault refused)
+    given_fault IsFromOutside r (merged (Count fault)) is (desk_from_outside d options text written fault refused)
 
 -- a desk has one text
 one_desk_text : (shut : Bool) (e : ElectionView) (options : CountOptions) (row a b : List ℕ)

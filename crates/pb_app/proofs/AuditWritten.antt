@@ -17,9 +17,9 @@ use Rattle.pb_rounds.specs.declared.options.CountOptions.{CountOptions}
 use Rattle.pb_rows.specs.Reading.{records_of}
 use Rattle.pb_app.specs.Audited.{AuditFails, AuditWrites, DeskIsNotCounted, IsRefusedDesk, IsTextOf, JournalFails, program_room}
 use Rattle.pb_app.specs.Ends.{IfBothKnown, IsElectionFile, JudgesFile}
-use Rattle.pb_app.specs.Fault.{of_audit, of_count, of_read}
+use Rattle.pb_app.specs.Fault.{merged}
 use Rattle.pb_app.specs.declared.fault.AppFault.{AppFault}
-use Rattle.pb_app.specs.declared.fault.AppFault.TheVariants.{Write}
+use Rattle.pb_app.specs.declared.fault.AppFault.TheVariants.{Read, Audit, Count, Write}
 use Rattle.pb_app.proofs.Accepted.{given_fault}
 use Rattle.pb_app.proofs.AuditAccepted.{IsAudited, desk_of}
 
@@ -35,32 +35,32 @@ write_fails (Some bytes) (Some journal) options e d text (Err fault) is_write au
     subst (AuditFails bytes journal options) (sym is_write) (text, writes)
 
 journal_fails : (bytes journal : List ℕ) (options : CountOptions) (fault : AuditFault) → JournalFails bytes journal fault
-    → AuditFails bytes journal options (of_audit fault)
+    → AuditFails bytes journal options (merged (Audit fault))
 journal_fails bytes journal options audit.NoMemory fails = tt
 journal_fails bytes journal options fault fails = fails
 
 pub refused_by_journal : (files journals : Option (List ℕ)) (options : CountOptions) (e : ElectionView) (fault : AuditFault) (r : Result (Unit {0}) AppFault)
-    → IsErrAnd r (λ app. app ≡ of_audit fault)
+    → IsErrAnd r (λ app. app ≡ merged (Audit fault))
     → IfSome files (λ bytes. StandsFor (records_of bytes) e) → IfSome journals (λ journal. IsFaultOfJournal e program_room (records_of journal) fault)
     → IfErr r (λ app. IfBothKnown files journals (λ bytes journal. AuditFails bytes journal options app))
-refused_by_journal None journals options e fault r is stands fails = given_fault (λ app. Unit {0}) r (of_audit fault) is tt
-refused_by_journal (Some bytes) None options e fault r is stands fails = given_fault (λ app. Unit {0}) r (of_audit fault) is tt
+refused_by_journal None journals options e fault r is stands fails = given_fault (λ app. Unit {0}) r (merged (Audit fault)) is tt
+refused_by_journal (Some bytes) None options e fault r is stands fails = given_fault (λ app. Unit {0}) r (merged (Audit fault)) is tt
 refused_by_journal (Some bytes) (Some journal) options e fault r is stands fails =
-    given_fault (AuditFails bytes journal options) r (of_audit fault) is
+    given_fault (AuditFails bytes journal options) r (merged (Audit fault)) is
     (journal_fails bytes journal options fault (record { election = e; stands = stands; refused = fails }))
 
 desk_fails : (bytes journal : List ℕ) (options : CountOptions) (fault : CountFault) → DeskIsNotCounted bytes journal options fault
-    → AuditFails bytes journal options (of_count fault)
+    → AuditFails bytes journal options (merged (Count fault))
 desk_fails bytes journal options count.NoMemory fails = tt
 desk_fails bytes journal options fault fails = fails
 
 pub refused_by_desk : (files journals : Option (List ℕ)) (options : CountOptions) (e : ElectionView) (d : DeskView) (fault : CountFault) (r : Result (Unit {0}) AppFault)
-    → IsErrAnd r (λ app. app ≡ of_count fault) → IsAudited files journals e d → IsRefusedDesk d options fault
+    → IsErrAnd r (λ app. app ≡ merged (Count fault)) → IsAudited files journals e d → IsRefusedDesk d options fault
     → IfErr r (λ app. IfBothKnown files journals (λ bytes journal. AuditFails bytes journal options app))
-refused_by_desk None journals options e d fault r is audited refused = given_fault (λ app. Unit {0}) r (of_count fault) is tt
-refused_by_desk (Some bytes) None options e d fault r is audited refused = given_fault (λ app. Unit {0}) r (of_count fault) is tt
+refused_by_desk None journals options e d fault r is audited refused = given_fault (λ app. Unit {0}) r (merged (Count fault)) is tt
+refused_by_desk (Some bytes) None options e d fault r is audited refused = given_fault (λ app. Unit {0}) r (merged (Count fault)) is tt
 refused_by_desk (Some bytes) (Some journal) options e d fault r is audited refused =
-    given_fault (AuditFails bytes journal options) r (of_count fault) is
+    given_fault (AuditFails bytes journal options) r (merged (Count fault)) is
     (desk_fails bytes journal options fault (record { desk = d; audited = desk_of bytes journal e d audited; refused = refused }))
 
 -- an error that is a given fault, judged by the file
@@ -71,33 +71,33 @@ judged None fault (Err app) is judges = tt
 judged (Some bytes) fault (Err app) is judges = subst (λ app. JudgesFile bytes (Err app)) (sym is) judges
 
 reader_judges : (bytes : List ℕ) (kind : ReadKind) (at : ℕ) → IsFaultAt (records_of bytes) kind at
-    → JudgesFile bytes (Err (of_read (record { kind = kind; at = at })))
+    → JudgesFile bytes (Err (merged (Read (record { kind = kind; at = at }))))
 reader_judges bytes NoMemory at fails = tt
 reader_judges bytes kind at fails = fails
 
 pub judged_by_reader : (files : Option (List ℕ)) (fault : ReadFault) (r : Result (Unit {0}) AppFault)
-    → IsErrAnd r (λ app. app ≡ of_read fault) → IfSome files (λ bytes. IsFaultAt (records_of bytes) fault.kind fault.at)
+    → IsErrAnd r (λ app. app ≡ merged (Read fault)) → IfSome files (λ bytes. IsFaultAt (records_of bytes) fault.kind fault.at)
     → IfSome files (λ bytes. JudgesFile bytes r)
 judged_by_reader None fault r is fails = tt
-judged_by_reader (Some bytes) fault r is fails = judged (Some bytes) (of_read fault) r is (reader_judges bytes fault.kind fault.at fails)
+judged_by_reader (Some bytes) fault r is fails = judged (Some bytes) (merged (Read fault)) r is (reader_judges bytes fault.kind fault.at fails)
 
-audit_judges : (bytes : List ℕ) (fault : AuditFault) → IsElectionFile bytes → JudgesFile bytes (Err (of_audit fault))
+audit_judges : (bytes : List ℕ) (fault : AuditFault) → IsElectionFile bytes → JudgesFile bytes (Err (merged (Audit fault)))
 audit_judges bytes audit.NoMemory is = tt
 audit_judges bytes fault is = is
 
 pub judged_by_audit : (files : Option (List ℕ)) (e : ElectionView) (fault : AuditFault) (r : Result (Unit {0}) AppFault)
-    → IsErrAnd r (λ app. app ≡ of_audit fault) → IfSome files (λ bytes. StandsFor (records_of bytes) e) → IfSome files (λ bytes. JudgesFile bytes r)
+    → IsErrAnd r (λ app. app ≡ merged (Audit fault)) → IfSome files (λ bytes. StandsFor (records_of bytes) e) → IfSome files (λ bytes. JudgesFile bytes r)
 judged_by_audit None e fault r is stands = tt
-judged_by_audit (Some bytes) e fault r is stands = judged (Some bytes) (of_audit fault) r is (audit_judges bytes fault (e, stands))
+judged_by_audit (Some bytes) e fault r is stands = judged (Some bytes) (merged (Audit fault)) r is (audit_judges bytes fault (e, stands))
 
-count_judges : (bytes : List ℕ) (fault : CountFault) → IsElectionFile bytes → JudgesFile bytes (Err (of_count fault))
+count_judges : (bytes : List ℕ) (fault : CountFault) → IsElectionFile bytes → JudgesFile bytes (Err (merged (Count fault)))
 count_judges bytes count.NoMemory is = tt
 count_judges bytes fault is = is
 
 pub judged_by_count : (files : Option (List ℕ)) (e : ElectionView) (fault : CountFault) (r : Result (Unit {0}) AppFault)
-    → IsErrAnd r (λ app. app ≡ of_count fault) → IfSome files (λ bytes. StandsFor (records_of bytes) e) → IfSome files (λ bytes. JudgesFile bytes r)
+    → IsErrAnd r (λ app. app ≡ merged (Count fault)) → IfSome files (λ bytes. StandsFor (records_of bytes) e) → IfSome files (λ bytes. JudgesFile bytes r)
 judged_by_count None e fault r is stands = tt
-judged_by_count (Some bytes) e fault r is stands = judged (Some bytes) (of_count fault) r is (count_judges bytes fault (e, stands))
+judged_by_count (Some bytes) e fault r is stands = judged (Some bytes) (merged (Count fault)) r is (count_judges bytes fault (e, stands))
 
 -- a run that comes to the writing has read an election
 pub judged_by_writer : (files : Option (List ℕ)) (e : ElectionView) (r : Result (Unit {0}) AppFault)

@@ -17,14 +17,15 @@ use Rattle.pb_read.specs.StandsFor.{StandsFor}
 use Rattle.pb_read.specs.declared.fault.ReadFault.{ReadFault}
 use Rattle.pb_rows.specs.Reading.{Fields, records_of}
 use Rattle.pb_shared.specs.Clerk.{entries_of}
-use Rattle.pb_app.specs.Desked.{DeskFails, DeskWrites, IsScriptFile, desk_room, opening_of}
+use Rattle.pb_app.specs.Audited.{program_room}
+use Rattle.pb_app.specs.Desked.{DeskFails, DeskWrites, IsScriptFile, opening_of}
 use Rattle.pb_app.specs.Ends.{Accepts, HasWritten, IfBothKnown, IsElectionFile, IsFileFault, IsFromOutside, JudgesFile}
-use Rattle.pb_app.specs.Fault.{of_read, of_script}
+use Rattle.pb_app.specs.Fault.{merged}
 use Rattle.pb_app.specs.Script.{AreAsked, HasScriptForm, IsScript, IsScriptRow, ScriptRowView, asked_by, clerks_within, most_rows}
 use Rattle.pb_app.specs.ScriptReading.{IsFaultOfScript, IsNextScriptFault, SplitsScript}
 use Rattle.pb_app.specs.Serving.{AreClerks, IsServingFault, ServesAll, ServesScript, requests_of}
 use Rattle.pb_app.specs.declared.fault.AppFault.{AppFault}
-use Rattle.pb_app.specs.declared.fault.AppFault.TheVariants.{Read, Script, ClerkCount, Audit, Count, Open, Write, Memory}
+use Rattle.pb_app.specs.declared.fault.AppFault.TheVariants.{Read, Script}
 use Rattle.pb_app.specs.declared.script_fault.ScriptFault.{ScriptFault}
 use Rattle.pb_app.specs.declared.script_fault.ScriptFault.TheVariants as script
 use Rattle.pb_app.proofs.Accepted.{given_fault, read_from_outside}
@@ -39,38 +40,38 @@ row_after clerks (b ∷ before) row rest (x ∷ xs) rows = row_after clerks befo
 
 -- a script has no fault but the reader's and memory's
 script_from_outside : (clerks : ℕ) (records : List Fields) (said : List ScriptRowView) (fault : ScriptFault) → IsScript clerks records said → IsFaultOfScript clerks records fault →
-    IsFromOutside (of_script fault)
+    IsFromOutside (merged (Script fault))
 script_from_outside clerks records said fault is fails = by fault fails.left fails.records_are fails.next
   where
-    by : (fault : ScriptFault) (left : List Fields) → records ≡ fails.before ++ left → IsNextScriptFault clerks (length fails.before) (Some left) fault → IsFromOutside (of_script fault)
-    by (script.ReadFailed row) left are next = tt
+    by : (fault : ScriptFault) (left : List Fields) → records ≡ fails.before ++ left → IsNextScriptFault clerks (length fails.before) (Some left) fault → IsFromOutside (merged (Script fault))
+    by (script.ReadFailed row) left are next = refl
     by (script.BadRow row) [] are next = absurd next.2
     by (script.BadRow row) (fields ∷ rest) are next =
         let P : List Fields → Type 0 = λ all. AllZip (IsScriptRow clerks) all said in
         absurd (next.2 (row_after clerks fails.before fields rest said (subst P are is.rows)))
     by script.TooManyRows [] are next = absurd next.1
     by script.TooManyRows (fields ∷ rest) are next = let few = is.few in absurd (omega (arith, next.0, ap length are, length-append fails.before (fields ∷ rest)))
-    by script.NoMemory left are next = tt
+    by script.NoMemory left are next = refl
 
 -- the script is refused
-script_fails : (bytes rows : List ℕ) (clerks : ℕ) (fault : ScriptFault) → IsElectionFile bytes → IsFaultOfScript clerks (records_of rows) fault → DeskFails bytes rows clerks (of_script fault)
+script_fails : (bytes rows : List ℕ) (clerks : ℕ) (fault : ScriptFault) → IsElectionFile bytes → IsFaultOfScript clerks (records_of rows) fault → DeskFails bytes rows clerks (merged (Script fault))
 script_fails bytes rows clerks (script.ReadFailed row) is fails = (is, fails)
 script_fails bytes rows clerks (script.BadRow row) is fails = (is, fails)
 script_fails bytes rows clerks script.TooManyRows is fails = (is, fails)
 script_fails bytes rows clerks script.NoMemory is fails = tt
 
 module _ (files scripts : Option (List ℕ)) (clerks : ℕ) (r : Result (Unit {0}) AppFault) where
-  pub refused_by_script : (e : ElectionView) (fault : ScriptFault) → IsErrAnd r (λ app. app ≡ of_script fault) → IfSome files (λ bytes. StandsFor (records_of bytes) e) →
+  pub refused_by_script : (e : ElectionView) (fault : ScriptFault) → IsErrAnd r (λ app. app ≡ merged (Script fault)) → IfSome files (λ bytes. StandsFor (records_of bytes) e) →
       IfSome scripts (λ rows. IsFaultOfScript clerks (records_of rows) fault) → IfErr r (λ app. IfBothKnown files scripts (λ bytes rows. DeskFails bytes rows clerks app))
   refused_by_script e fault is stands fails = by files scripts stands fails
     where
       by : (files scripts : Option (List ℕ)) → IfSome files (λ bytes. StandsFor (records_of bytes) e) → IfSome scripts (λ rows. IsFaultOfScript clerks (records_of rows) fault) →
           IfErr r (λ app. IfBothKnown files scripts (λ bytes rows. DeskFails bytes rows clerks app))
-      by None scripts stands fails = given_fault (λ app. Unit {0}) r (of_script fault) is tt
-      by (Some bytes) None stands fails = given_fault (λ app. Unit {0}) r (of_script fault) is tt
-      by (Some bytes) (Some rows) stands fails = given_fault (DeskFails bytes rows clerks) r (of_script fault) is (script_fails bytes rows clerks fault (e, stands) fails)
+      by None scripts stands fails = given_fault (λ app. Unit {0}) r (merged (Script fault)) is tt
+      by (Some bytes) None stands fails = given_fault (λ app. Unit {0}) r (merged (Script fault)) is tt
+      by (Some bytes) (Some rows) stands fails = given_fault (DeskFails bytes rows clerks) r (merged (Script fault)) is (script_fails bytes rows clerks fault (e, stands) fails)
 
-  pub accepted_by_script : (fault : ScriptFault) → IsErrAnd r (λ app. app ≡ of_script fault) →
+  pub accepted_by_script : (fault : ScriptFault) → IsErrAnd r (λ app. app ≡ merged (Script fault)) →
       IfSome scripts (λ rows. IsFaultOfScript clerks (records_of rows) fault) → IfBothKnown files scripts (λ bytes rows. Accepts (DeskWrites bytes rows clerks) r)
   accepted_by_script fault is fails = by files scripts fails
     where
@@ -78,9 +79,9 @@ module _ (files scripts : Option (List ℕ)) (clerks : ℕ) (r : Result (Unit {0
       by None scripts fails = tt
       by (Some bytes) None fails = tt
       by (Some bytes) (Some rows) fails = λ text writes.
-          given_fault IsFromOutside r (of_script fault) is (script_from_outside clerks (records_of rows) writes.script fault writes.is_script fails)
+          given_fault IsFromOutside r (merged (Script fault)) is (script_from_outside clerks (records_of rows) writes.script fault writes.is_script fails)
 
-  pub accepted_by_reader : (fault : ReadFault) → IsErrAnd r (λ app. app ≡ of_read fault) →
+  pub accepted_by_reader : (fault : ReadFault) → IsErrAnd r (λ app. app ≡ merged (Read fault)) →
       IfSome files (λ bytes. (e : ElectionView) → StandsFor (records_of bytes) e → IsReadFromOutside fault.kind) → IfBothKnown files scripts (λ bytes rows. Accepts (DeskWrites bytes rows clerks) r)
   accepted_by_reader fault is accepts = by files scripts accepts
     where
@@ -89,7 +90,7 @@ module _ (files scripts : Option (List ℕ)) (clerks : ℕ) (r : Result (Unit {0
       by None scripts accepts = tt
       by (Some bytes) None accepts = tt
       by (Some bytes) (Some rows) accepts = λ text writes.
-          given_fault IsFromOutside r (of_read fault) is (read_from_outside fault.kind fault.at (accepts writes.election writes.stands))
+          given_fault IsFromOutside r (merged (Read fault)) is (read_from_outside fault.kind fault.at (accepts writes.election writes.stands))
 
 -- what is true of a desk that a run is about to write
 pub record IsServed (files scripts : Option (List ℕ)) (clerks : ℕ) (e : ElectionView) (lists : List (List RequestView)) (d : DeskView) : Type 0 where
@@ -98,7 +99,7 @@ pub record IsServed (files scripts : Option (List ℕ)) (clerks : ℕ) (e : Elec
   pub in_range : AreClerks clerks
   pub serves : ServesAll lists d.journal
   pub opening : d.opening ≡ opening_of e
-  pub room : d.room ≡ desk_room
+  pub room : d.room ≡ program_room
   pub legal : IsLegal d.opening d.journal
   pub fits : length d.journal ≤ d.room
 

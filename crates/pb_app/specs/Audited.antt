@@ -15,7 +15,7 @@ use Rattle.pb_rows.specs.Writing.{text_of_row}
 use Rattle.pb_app.specs.Counted.{IsReportOf}
 use Rattle.pb_app.specs.Ends.{IsFileFault}
 use Rattle.pb_app.specs.declared.fault.AppFault.{AppFault}
-use Rattle.pb_app.specs.declared.fault.AppFault.TheVariants.{Read, Script, ClerkCount, Audit, Count, Open, Write, Memory}
+use Rattle.pb_app.specs.declared.fault.AppFault.TheVariants.{Read, Audit, Count, Write, Memory}
 
 -- how many entries a desk of the program has room for
 abbrev pub program_room : ℕ
@@ -74,10 +74,8 @@ pub record DeskIsNotCounted (bytes journal : List ℕ) (options : CountOptions) 
 -- or the writer failed, which is tried last
 abbrev pub AuditFails : List ℕ → List ℕ → CountOptions → AppFault → Type 0
 AuditFails bytes journal options (Read fault) = IsFileFault bytes fault
-AuditFails bytes journal options (Script fault) = ⊥
-AuditFails bytes journal options ClerkCount = ⊥
 AuditFails bytes journal options (Audit fault) = JournalFails bytes journal fault
 AuditFails bytes journal options (Count fault) = DeskIsNotCounted bytes journal options fault
-AuditFails bytes journal options (Open number) = ⊥
 AuditFails bytes journal options Write = (text : List ℕ) × AuditWrites bytes journal options text
 AuditFails bytes journal options Memory = ⊤
+AuditFails bytes journal options fault = ⊥

@@ -20,8 +20,8 @@ use Rattle.pb_app.specs.declared.closing.Closing.{Closing}
 use Rattle.pb_app.specs.declared.closing.Closing.TheVariants.{Open, Counted}
 use Rattle.pb_app.specs.declared.closing.DeskCount.{DeskCount}
 
--- the outcome is exactly that of the count of this election with these options, for any number of workers: the
--- elected are within the budget, payments of each voter's share explain them, each was the cheapest of its
+-- the outcome is exactly that of the count of this election with these options, for any number of workers:
+-- the elected are within the budget, payments of each voter's share explain them, each was the cheapest of its
 -- round, and the numbers of prices are those of a pricing record
 pub record IsCountOf (e : ElectionView) (options : CountOptions) (o : OutcomeView) : Type 0 where
   pub in_range : refusal_of options ≡ None
@@ -44,10 +44,10 @@ abbrev pub IsClosing : DeskView → CountOptions → Closing → Type 0
 IsClosing d options (Open desk) = ((standing_of d).is_shut ≡ false) × (desk ≡ d)
 IsClosing d options (Counted count) = IsCountOfDesk d options count
 
--- The headline. There is one journal. It is legal, begins with what each of these clerks has seen, and is past
--- the start a merge of the clerks' own calls; and the answer is what the desk with this journal comes to.
-pub record IsClosedAs (shared : SharedView) (clerks : List ClerkView) (options : CountOptions) (answer : Closing)
-    : Type 0 where
+-- The headline. There is one journal. It is legal, begins with what each of these clerks has seen, and past the
+-- start is a merge of the clerks' own calls; and the answer is what the desk with this journal comes to.
+pub record IsClosedAs (shared : SharedView) (clerks : List ClerkView) (options : CountOptions)
+    (answer : Closing) : Type 0 where
   pub journal : List EntryView
   pub merge : IsMergeOf shared clerks journal
   pub answer_is : IsClosing (desk_with shared journal) options answer
@@ -59,8 +59,8 @@ IsDeskFault d options (NoMemory desk) = ((standing_of d).is_shut ≡ true) × (d
 IsDeskFault d options (NotCounted fault election) =
     ((standing_of d).is_shut ≡ true) × (election ≡ closed_election d) × IsCountFault election options fault
 
--- why a shared desk is not closed and counted: a clerk who is not among these holds the lock; or there is such
--- a journal as above, and the desk with it is shut and not counted
+-- why a shared desk is not closed and counted: a clerk who is not among these holds the lock; or there is
+-- such a journal as above, and the desk with it is shut and not counted
 abbrev pub IsCloseFault : SharedView → List ClerkView → CountOptions → CloseFault → Type 0
 IsCloseFault shared clerks options (Unfinished word) = IsHeldByAnother shared clerks word
 IsCloseFault shared clerks options fault =

@@ -13,7 +13,7 @@ use Rattle.pb_rows.specs.Reading.{records_of}
 use Rattle.pb_app.specs.Ends.{IsFileFault}
 use Rattle.pb_app.specs.Report.{report_of}
 use Rattle.pb_app.specs.declared.fault.AppFault.{AppFault}
-use Rattle.pb_app.specs.declared.fault.AppFault.TheVariants.{Read, Script, ClerkCount, Audit, Count, Open, Write, Memory}
+use Rattle.pb_app.specs.declared.fault.AppFault.TheVariants.{Read, Count, Write, Memory}
 
 -- the text is the report of the election, counted with these options;
 -- what is elected is within the budget, and a price system explains it
@@ -41,10 +41,7 @@ pub record FileIsNotCounted (bytes : List ℕ) (options : CountOptions) (fault :
 -- which is tried last
 abbrev pub CountFails : List ℕ → CountOptions → AppFault → Type 0
 CountFails bytes options (Read fault) = IsFileFault bytes fault
-CountFails bytes options (Script fault) = ⊥
-CountFails bytes options ClerkCount = ⊥
-CountFails bytes options (Audit fault) = ⊥
 CountFails bytes options (Count fault) = FileIsNotCounted bytes options fault
-CountFails bytes options (Open number) = ⊥
 CountFails bytes options Write = (text : List ℕ) × CountWrites bytes options text
 CountFails bytes options Memory = ⊤
+CountFails bytes options fault = ⊥

@@ -8,23 +8,20 @@ use Rattle.pb_desk.specs.Rows.{journal_text}
 use Rattle.pb_desk.specs.declared.version.Version.TheVariants.{Two}
 use Rattle.pb_read.specs.StandsFor.{StandsFor}
 use Rattle.pb_rows.specs.Reading.{records_of}
+use Rattle.pb_app.specs.Audited.{program_room}
 use Rattle.pb_app.specs.Ends.{IsElectionFile, IsFileFault}
 use Rattle.pb_app.specs.Script.{IsScript, ScriptRowView}
 use Rattle.pb_app.specs.ScriptReading.{IsFaultOfScript}
 use Rattle.pb_app.specs.Serving.{AreClerks, ServesScript}
 use Rattle.pb_app.specs.declared.fault.AppFault.{AppFault}
-use Rattle.pb_app.specs.declared.fault.AppFault.TheVariants.{Read, Script, ClerkCount, Audit, Count, Open, Write, Memory}
-
--- how many entries a desk of the program has room for
-abbrev pub desk_room : ℕ
-desk_room = 4294967295
+use Rattle.pb_app.specs.declared.fault.AppFault.TheVariants.{Read, Script, ClerkCount, Write, Memory}
 
 -- what a desk of the program opens with
 abbrev pub opening_of : ElectionView → OpeningView
 opening_of e = record { election = e; version = Two }
 
--- what these bytes, as a file and as a script for this many clerks, make a run of `desk` write: the text of a journal that is
--- legal for the election that the file stands for, and that serves the script
+-- what these bytes, as a file and as a script for this many clerks, make a run of `desk` write: the text of a
+-- journal that is legal for the election that the file stands for, and that serves the script
 pub record DeskWrites (bytes rows : List ℕ) (clerks : ℕ) (text : List ℕ) : Type 0 where
   pub election : ElectionView
   pub stands : StandsFor (records_of bytes) election
@@ -32,7 +29,7 @@ pub record DeskWrites (bytes rows : List ℕ) (clerks : ℕ) (text : List ℕ) :
   pub is_script : IsScript clerks (records_of rows) script
   pub in_range : AreClerks clerks
   pub journal : List EntryView
-  pub sound : IsSound (opening_of election) desk_room journal
+  pub sound : IsSound (opening_of election) program_room journal
   pub serves : ServesScript clerks script journal
   pub text_is : text ≡ journal_text Two journal
 
@@ -44,10 +41,9 @@ IsScriptFile rows clerks = (script : List ScriptRowView) × IsScript clerks (rec
 -- or the writer failed, which is tried last
 abbrev pub DeskFails : List ℕ → List ℕ → ℕ → AppFault → Type 0
 DeskFails bytes rows clerks (Read fault) = IsFileFault bytes fault
-DeskFails bytes rows clerks (Script fault) = IsElectionFile bytes × IsFaultOfScript clerks (records_of rows) fault
+DeskFails bytes rows clerks (Script fault) =
+    IsElectionFile bytes × IsFaultOfScript clerks (records_of rows) fault
 DeskFails bytes rows clerks ClerkCount = IsElectionFile bytes × IsScriptFile rows clerks × ¬ AreClerks clerks
-DeskFails bytes rows clerks (Audit fault) = ⊥
-DeskFails bytes rows clerks (Count fault) = ⊥
-DeskFails bytes rows clerks (Open number) = ⊥
 DeskFails bytes rows clerks Write = (text : List ℕ) × DeskWrites bytes rows clerks text
 DeskFails bytes rows clerks Memory = ⊤
+DeskFails bytes rows clerks fault = ⊥

@@ -1,18 +1,14 @@
 -- How a run of a command ends.
-use Rattle.std.specs.Prelude.{◌≡◌, ℕ, ⊤, List, IfErr, IfSome, Option, Result, Ok, Err}
+use Rattle.std.specs.Prelude.{◌≡◌, ℕ, ⊤, List, IfErr, IfSome, Option, Result, Err}
 use Rattle.std.specs.Io.KnownBytes.{Appends}
 use Rattle.pb_core.specs.Election.{ElectionView}
-use Rattle.pb_desk.specs.declared.audit_fault.AuditFault.{AuditFault}
-use Rattle.pb_desk.specs.declared.audit_fault.AuditFault.TheVariants as audit
 use Rattle.pb_read.specs.FirstFault.{IsFaultAt}
 use Rattle.pb_read.specs.StandsFor.{StandsFor}
 use Rattle.pb_read.specs.declared.fault.ReadFault.{ReadFault}
-use Rattle.pb_read.specs.declared.fault.ReadKind.TheVariants.{ReadFailed}
 use Rattle.pb_rows.specs.Reading.{records_of}
-use Rattle.pb_app.specs.declared.script_fault.ScriptFault.{ScriptFault}
-use Rattle.pb_app.specs.declared.script_fault.ScriptFault.TheVariants as script
+use Rattle.pb_app.specs.Fault.{status_of}
 use Rattle.pb_app.specs.declared.fault.AppFault.{AppFault}
-use Rattle.pb_app.specs.declared.fault.AppFault.TheVariants.{Read, Script, ClerkCount, Audit, Count, Open, Write, Memory}
+use Rattle.pb_app.specs.declared.fault.AppFault.TheVariants.{Read, Open, Memory}
 
 -- where the bytes of both readers are known, they are so
 abbrev pub IfBothKnown : Option (List ℕ) → Option (List ℕ) → (List ℕ → List ℕ → Type 0) → Type 0
@@ -22,26 +18,9 @@ IfBothKnown file journal P = IfSome file (λ bytes. IfSome journal (P bytes))
 abbrev pub HasWritten : (List ℕ → Type 0) → Option (List ℕ) → Option (List ℕ) → Type 0
 HasWritten IsText before after = (text : List ℕ) × IsText text × Appends before after text
 
--- the journal's reader failed
-abbrev pub IsLostReader : AuditFault → Type 0
-IsLostReader (audit.ReadFailed row) = ⊤
-IsLostReader fault = ⊥
-
--- the script's reader failed
-abbrev pub IsLostScript : ScriptFault → Type 0
-IsLostScript (script.ReadFailed row) = ⊤
-IsLostScript fault = ⊥
-
 -- the fault of a device, or out of memory: it comes from outside, whatever the bytes are
 abbrev pub IsFromOutside : AppFault → Type 0
-IsFromOutside (Read fault) = fault.kind ≡ ReadFailed
-IsFromOutside (Script fault) = IsLostScript fault
-IsFromOutside ClerkCount = ⊥
-IsFromOutside (Audit fault) = IsLostReader fault
-IsFromOutside (Count fault) = ⊥
-IsFromOutside (Open number) = ⊥
-IsFromOutside Write = ⊤
-IsFromOutside Memory = ⊤
+IsFromOutside fault = status_of fault ≡ 3
 
 -- where there is a text of this kind to write, only a fault from outside stands against it
 abbrev pub Accepts : (List ℕ → Type 0) → Result (Unit {0}) AppFault → Type 0
@@ -58,12 +37,7 @@ IsFileFault bytes fault = IsFaultAt (records_of bytes) fault.kind fault.at
 -- the file is judged first: its first fault is the answer, and any other end, out of memory aside, says that
 -- it has none
 abbrev pub JudgesFile : List ℕ → Result (Unit {0}) AppFault → Type 0
-JudgesFile bytes (Ok done) = IsElectionFile bytes
 JudgesFile bytes (Err (Read fault)) = IsFileFault bytes fault
-JudgesFile bytes (Err (Script fault)) = IsElectionFile bytes
-JudgesFile bytes (Err ClerkCount) = IsElectionFile bytes
-JudgesFile bytes (Err (Audit fault)) = IsElectionFile bytes
-JudgesFile bytes (Err (Count fault)) = IsElectionFile bytes
 JudgesFile bytes (Err (Open number)) = ⊥
-JudgesFile bytes (Err Write) = IsElectionFile bytes
 JudgesFile bytes (Err Memory) = ⊤
+JudgesFile bytes result = IsElectionFile bytes

@@ -22,7 +22,8 @@ pub record ListsPlaces (field ballot : List ℕ) : Type 0 where
   pub field_is : field ≡ places_text listed
   pub members : HasSameMembers listed ballot
 
--- the fields for what is asked, voter and places are those of this request; white space round the voter does not count
+-- the fields for what is asked, voter and places are those of this request; white space round the voter does
+-- not count
 pub record AsksFor (word voter places : List ℕ) (request : RequestView) : Type 0 where
   pub can_be : IsRequest request
   pub word_is : word ≡ word_of request
@@ -33,7 +34,8 @@ pub record AsksFor (word voter places : List ℕ) (request : RequestView) : Type
 abbrev pub clerks_within : ℕ → ℕ
 clerks_within clerks = min clerks most_clerks
 
--- the row of a script for this many clerks that says this: four fields of text, for clerk, request, voter and places
+-- the row of a script for this many clerks that says this: four fields of text, for clerk, request, voter and
+-- places
 pub record IsScriptRow (clerks : ℕ) (row : Fields) (x : ScriptRowView) : Type 0 where
   pub is_text : AllText row
   pub by_clerk : x.clerk < clerks_within clerks
@@ -61,6 +63,8 @@ abbrev pub asked_by : ℕ → List ScriptRowView → List RequestView
 asked_by clerk script = map (λ x. x.request) (filter (λ x. x.clerk == clerk) script)
 
 -- one list for each clerk, of what it asks in the order of the script
-pub record AreAsked (clerks : ℕ) (script : List ScriptRowView) (lists : List (List RequestView)) : Type 0 where
+pub record AreAsked (clerks : ℕ) (script : List ScriptRowView) (lists : List (List RequestView))
+    : Type 0 where
   pub one_each : length lists ≡ clerks_within clerks
-  pub asked : (clerk : ℕ) → clerk < clerks_within clerks → slice_index_or lists clerk [] ≡ asked_by clerk script
+  pub asked : (clerk : ℕ) → clerk < clerks_within clerks
+      → slice_index_or lists clerk [] ≡ asked_by clerk script

@@ -4,21 +4,18 @@ use Rattle.pb_app.specs.Script.{most_rows}
 use Rattle.pb_app.specs.declared.script_fault.ScriptFault.{ScriptFault}
 use Rattle.pb_app.specs.declared.script_fault.ScriptFault.TheVariants.{ReadFailed, BadRow, TooManyRows, NoMemory}
 
+-- a fault's number, its name, and the number of its row, from 1; out of memory is the fault of no row
+abbrev pub numbered_name : ScriptFault → ℕ × List ℕ × ℕ
+numbered_name (ReadFailed row) = (1, codes "ReadFailed", row)
+numbered_name (BadRow row) = (2, codes "BadRow", row)
+numbered_name TooManyRows = (3, codes "TooManyRows", most_rows + 1)
+numbered_name NoMemory = (4, codes "NoMemory", 0)
+
 abbrev pub number_of : ScriptFault → ℕ
-number_of (ReadFailed row) = 1
-number_of (BadRow row) = 2
-number_of TooManyRows = 3
-number_of NoMemory = 4
+number_of fault = (numbered_name fault).0
 
 abbrev pub name_of : ScriptFault → List ℕ
-name_of (ReadFailed row) = codes "ReadFailed"
-name_of (BadRow row) = codes "BadRow"
-name_of TooManyRows = codes "TooManyRows"
-name_of NoMemory = codes "NoMemory"
+name_of fault = (numbered_name fault).1
 
--- the number of the row, from 1; want of memory has none
 abbrev pub at_of : ScriptFault → ℕ
-at_of (ReadFailed row) = row
-at_of (BadRow row) = row
-at_of TooManyRows = most_rows + 1
-at_of NoMemory = 0
+at_of fault = (numbered_name fault).2

@@ -9,7 +9,8 @@ use Rattle.pb_app.specs.declared.script_fault.ScriptFault.TheVariants.{ReadFaile
 
 -- the records are a script for this many clerks, in which each asks this
 abbrev pub SplitsScript : ℕ → List Fields → List (List RequestView) → Type 0
-SplitsScript clerks records lists = (script : List ScriptRowView) × IsScript clerks records script × AreAsked clerks script lists
+SplitsScript clerks records lists =
+    (script : List ScriptRowView) × IsScript clerks records script × AreAsked clerks script lists
 
 -- where it is known which records are left, there is none
 abbrev pub NoneLeft : Option (List Fields) → Type 0
@@ -29,10 +30,12 @@ HaveGone None gone left = ⊤
 HaveGone (Some all) gone None = ⊥
 HaveGone (Some all) gone (Some rest) = all ≡ gone ++ rest
 
--- the fault of the next record, where this many came before it: within a record a reader that fails comes first, then the limit, then the form
+-- the fault of the next record, where this many came before it: within a record a reader that fails comes first,
+-- then the limit, then the form
 abbrev pub IsNextScriptFault : ℕ → ℕ → Option (List Fields) → ScriptFault → Type 0
 IsNextScriptFault clerks before left (ReadFailed row) = (row ≡ before + 1) × (before ≤ most_rows)
-IsNextScriptFault clerks before left (BadRow row) = (row ≡ before + 1) × (row ≤ most_rows) × NextIs left (λ fields. ¬ HasScriptForm clerks fields)
+IsNextScriptFault clerks before left (BadRow row) =
+    (row ≡ before + 1) × (row ≤ most_rows) × NextIs left (λ fields. ¬ HasScriptForm clerks fields)
 IsNextScriptFault clerks before left TooManyRows = (before ≡ most_rows) × NextIs left (λ fields. ⊤)
 IsNextScriptFault clerks before left NoMemory = ⊤
 
@@ -52,7 +55,8 @@ pub record TakesScriptRow (clerks : ℕ) (left after : Option (List Fields)) (x 
   pub row : IsScriptRow clerks fields x
 
 -- this many records were read, and in them each clerk asked this
-pub record HaveAsked (clerks : ℕ) (all left : Option (List Fields)) (count : ℕ) (lists : List (List RequestView)) : Type 0 where
+pub record HaveAsked (clerks : ℕ) (all left : Option (List Fields)) (count : ℕ)
+    (lists : List (List RequestView)) : Type 0 where
   pub gone : List Fields
   pub script : List ScriptRowView
   pub have_gone : HaveGone all gone left

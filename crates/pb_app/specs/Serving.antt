@@ -11,8 +11,8 @@ use Rattle.pb_app.specs.Script.{ScriptRowView, asked_by}
 abbrev pub requests_of : ℕ → List EntryView → List RequestView
 requests_of clerk journal = map (λ x. x.request) (entries_of clerk journal)
 
--- the journal serves a script for this many clerks: what each clerk asked in it is what the clerk's rows say, in their
--- order, and it has no other entries
+-- the journal serves a script for this many clerks: what each clerk asked in it is what the clerk's rows say, in
+-- their order, and it has no other entries
 pub record ServesScript (clerks : ℕ) (script : List ScriptRowView) (journal : List EntryView) : Type 0 where
   pub in_order : (clerk : ℕ) → clerk < clerks → requests_of clerk journal ≡ asked_by clerk script
   pub by_clerks : All (λ x. x.clerk < clerks) journal
@@ -26,11 +26,14 @@ pub record ServesAll (lists : List (List RequestView)) (journal : List EntryView
   pub in_order : (clerk : ℕ) → clerk < length lists → requests_of clerk journal ≡ list_of lists clerk
   pub by_clerks : All (λ x. x.clerk < length lists) journal
 
--- the journal has all that the clerks below this number asked, of each other clerk the first of its requests, this many, and no
--- other entries
-pub record ServesUpTo (done : ℕ) (lists : List (List RequestView)) (served : List ℕ) (journal : List EntryView) : Type 0 where
-  pub whole : (clerk : ℕ) → clerk < done → clerk < length lists → requests_of clerk journal ≡ list_of lists clerk
-  pub first : (clerk : ℕ) → done ≤ clerk → clerk < length lists → requests_of clerk journal ≡ take (slice_index served clerk) (list_of lists clerk)
+-- the journal has all that the clerks below this number asked, of each other clerk the first of its requests,
+-- this many, and no other entries
+pub record ServesUpTo (done : ℕ) (lists : List (List RequestView)) (served : List ℕ)
+    (journal : List EntryView) : Type 0 where
+  pub whole : (clerk : ℕ) → clerk < done → clerk < length lists
+      → requests_of clerk journal ≡ list_of lists clerk
+  pub first : (clerk : ℕ) → done ≤ clerk → clerk < length lists
+      → requests_of clerk journal ≡ take (slice_index served clerk) (list_of lists clerk)
   pub by_clerks : All (λ x. x.clerk < length lists) journal
 
 -- a number for each clerk, of the requests that were served: no more than the clerk has
@@ -46,17 +49,20 @@ pub record AppendsFor (clerk : ℕ) (requests : List RequestView) (before after 
   pub asked : map (λ x. x.request) later ≡ requests
 
 -- a clerk is back: of these requests it has served the first, this many, in order, and nothing else
-pub record HasServed (d : SharedView) (number : ℕ) (requests : List RequestView) (c : ClerkView) (served : ℕ) : Type 0 where
+pub record HasServed (d : SharedView) (number : ℕ) (requests : List RequestView) (c : ClerkView)
+    (served : ℕ) : Type 0 where
   pub own : c.desk ≡ d
   pub number_is : c.number ≡ number
   pub within : served ≤ length requests
   pub mine : map (λ x. x.request) c.mine ≡ take served requests
 
 -- all clerks are back, in the order of their numbers: each has served the first of its requests, this many
-pub record AreBack (d : SharedView) (lists : List (List RequestView)) (clerks : List ClerkView) (served : List ℕ) : Type 0 where
+pub record AreBack (d : SharedView) (lists : List (List RequestView)) (clerks : List ClerkView)
+    (served : List ℕ) : Type 0 where
   pub clerks_count : length clerks ≡ d.clerks
   pub served_count : length served ≡ d.clerks
-  pub each : (number : ℕ) (c : ClerkView) → number < d.clerks → c ≡ slice_index_or clerks number c → HasServed d number (list_of lists number) c (slice_index served number)
+  pub each : (number : ℕ) (c : ClerkView) → number < d.clerks → c ≡ slice_index_or clerks number c
+      → HasServed d number (list_of lists number) c (slice_index served number)
 
 -- a desk is shared among 1 to 64 clerks
 abbrev pub AreClerks : ℕ → Type 0

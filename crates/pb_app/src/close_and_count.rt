@@ -1,4 +1,4 @@
-//! From a shared desk to its winners: the clerks come back, and where the desk is shut its ballots are counted.
+//! From a shared desk to its winners: its clerks come back, and where it is shut its ballots are counted.
 
 ghost use Rattle.std.specs.Prelude.{◌≡◌, ◌≢◌, ℕ, All, IfErr, IfOk};
 ghost use Rattle.pb_shared.specs.Clerk.{AreAll};

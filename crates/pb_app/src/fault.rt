@@ -57,9 +57,10 @@ impl AppFault {
 
 impl From<ReadFault> for AppFault {
     ghost use Rattle.std.specs.Prelude.{◌≡◌};
-    ghost use Rattle.pb_app.specs.Fault.{of_read};
+    ghost use Rattle.pb_app.specs.Fault.{merged};
+    ghost use Rattle.pb_app.specs.declared.fault.AppFault.TheVariants.{Read};
 
-    ghost from_gives = { λ fault app. app ≡ of_read fault };
+    ghost from_gives = { λ fault app. app ≡ merged (Read fault) };
 
     fn from(fault: ReadFault) -> AppFault {
         match fault.kind {
@@ -71,9 +72,10 @@ impl From<ReadFault> for AppFault {
 
 impl From<ScriptFault> for AppFault {
     ghost use Rattle.std.specs.Prelude.{◌≡◌};
-    ghost use Rattle.pb_app.specs.Fault.{of_script};
+    ghost use Rattle.pb_app.specs.Fault.{merged};
+    ghost use Rattle.pb_app.specs.declared.fault.AppFault.TheVariants.{Script};
 
-    ghost from_gives = { λ fault app. app ≡ of_script fault };
+    ghost from_gives = { λ fault app. app ≡ merged (Script fault) };
 
     fn from(fault: ScriptFault) -> AppFault {
         match fault {
@@ -85,9 +87,10 @@ impl From<ScriptFault> for AppFault {
 
 impl From<AuditFault> for AppFault {
     ghost use Rattle.std.specs.Prelude.{◌≡◌};
-    ghost use Rattle.pb_app.specs.Fault.{of_audit};
+    ghost use Rattle.pb_app.specs.Fault.{merged};
+    ghost use Rattle.pb_app.specs.declared.fault.AppFault.TheVariants.{Audit};
 
-    ghost from_gives = { λ fault app. app ≡ of_audit fault };
+    ghost from_gives = { λ fault app. app ≡ merged (Audit fault) };
 
     fn from(fault: AuditFault) -> AppFault {
         match fault {
@@ -99,9 +102,10 @@ impl From<AuditFault> for AppFault {
 
 impl From<CountFault> for AppFault {
     ghost use Rattle.std.specs.Prelude.{◌≡◌};
-    ghost use Rattle.pb_app.specs.Fault.{of_count};
+    ghost use Rattle.pb_app.specs.Fault.{merged};
+    ghost use Rattle.pb_app.specs.declared.fault.AppFault.TheVariants.{Count};
 
-    ghost from_gives = { λ fault app. app ≡ of_count fault };
+    ghost from_gives = { λ fault app. app ≡ merged (Count fault) };
 
     fn from(fault: CountFault) -> AppFault {
         match fault {

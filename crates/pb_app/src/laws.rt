@@ -24,7 +24,7 @@ pub fn one_report()
 /// The recount. For every file that stands for an election, and every legal journal of its desk that fits the
 /// room: an audit of the journal's text on the file accepts it as this desk's, and writes just what is to be
 /// written of this desk, its row and where it is shut the report of the ballots that its journal leaves. What
-/// `desk` writes is the text of such a journal. So whoever recounts what `desk` wrote gets the desk's winners.
+/// `desk` writes is the text of such a journal. So who recounts what `desk` wrote gets the desk's winners.
 pub fn journals_recount()
     ensures accepted { (bytes : List ℕ) (d : DeskView) → StandsFor (records_of bytes) d.opening.election
         → d.room ≡ program_room → IsSound d.opening d.room d.journal

@@ -36,9 +36,11 @@ pub fn run_desk<T: Threads + Sync, P: Read + Drop, S: Read + Drop, G: Gate, W: W
     gate: &G,
     writer: &mut W,
 ) -> Result<(), AppFault>
-    // Where the bytes of both readers are known, what is written is a journal that they and the number of clerks allow,
+    // Where the bytes of both readers are known, what is written is a journal that they and the number of
+    // clerks allow,
     ensures ok { OnOk result (IfBothKnown (P.remaining file) (S.remaining script)
-        (λ bytes rows. HasWritten (DeskWrites bytes rows clerks) (W.contents writer.old) (W.contents writer.new))) }
+        (λ bytes rows.
+        HasWritten (DeskWrites bytes rows clerks) (W.contents writer.old) (W.contents writer.new))) }
 
     // and they decide which fault comes.
     ensures fault { IfErr result (λ fault. IfBothKnown (P.remaining file) (S.remaining script)
@@ -52,7 +54,8 @@ pub fn run_desk<T: Threads + Sync, P: Read + Drop, S: Read + Drop, G: Gate, W: W
     ensures file { IfSome (P.remaining file) (λ bytes. JudgesFile bytes result) }
 
     // A fault writes nothing, unless it is the writer's, or memory was refused.
-    ensures unchanged { IfErr result (λ fault. fault ≢ AppFault.Write → fault ≢ AppFault.Memory → writer.new ≡ writer.old) }
+    ensures unchanged { IfErr result (λ fault.
+        fault ≢ AppFault.Write → fault ≢ AppFault.Memory → writer.new ≡ writer.old) }
 
     // Out of memory is one fault.
     ensures merged { IfErr result (λ fault. merged fault ≡ fault) }

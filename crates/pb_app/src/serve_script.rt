@@ -73,7 +73,8 @@ fn serve_for(desk: &mut Desk, clerk: u32, requests: &[Request]) -> Result<(), No
     requires room { length desk.old.journal + length requests.now ≤ desk.old.room }
     ensures opening { desk.new.opening ≡ desk.old.opening }
     ensures room { desk.new.room ≡ desk.old.room }
-    ensures appends { OnOk result (AppendsFor clerk (map asked requests.now) desk.old.journal desk.new.journal) }
+    ensures appends { OnOk result
+        (AppendsFor clerk (map asked requests.now) desk.old.journal desk.new.journal) }
 {
     for request in requests {
         match desk.serve(clerk, request) {
@@ -116,21 +117,25 @@ fn serve_side_by_side<T: Threads + Sync, G: Gate>(
     requires fresh { AreNewcomers shared.now clerks.items }
     requires one_each { length lists.now ≡ shared.now.clerks }
     requires few { All (λ list. length list ≤ most_rows) lists.now }
-    ensures { IfOk result (λ back. AreBack shared.now lists.now (map (λ r. r.clerk) back.items) (map (λ r. r.served) back.items)) }
+    ensures { IfOk result (λ back.
+        AreBack shared.now lists.now (map (λ r. r.clerk) back.items) (map (λ r. r.served) back.items)) }
 {
     map_vec(
         rt,
         clerks,
         &|clerk: Clerk| -> Returned
-            requires { (clerk.desk ≡ shared.now) × (clerk.mine ≡ []) × (length lists.now ≡ shared.now.clerks) × All (λ list. length list ≤ most_rows) lists.now }
-            ensures { HasServed shared.entry.now clerk.number (list_of lists.entry.now clerk.number) result.clerk result.served }
+            requires { (clerk.desk ≡ shared.now) × (clerk.mine ≡ []) × (length lists.now ≡ shared.now.clerks)
+                × All (λ list. length list ≤ most_rows) lists.now }
+            ensures { HasServed shared.entry.now clerk.number (list_of lists.entry.now clerk.number)
+                result.clerk result.served }
         { serve_own(shared, gate, clerk, lists) },
     )
 }
 
 /// The clerks who are back, and how many requests each of them served. Out of memory, where one of them was.
 fn taken_back(alloc: Global, back: Vec<Returned>) -> Result<(Vec<Clerk>, Vec<u32>), NoMemory>
-    ensures { IfOk result (λ both. (both.0.items ≡ map (λ r. r.clerk) back.items) × (both.1.items ≡ map (λ r. r.served) back.items)) }
+    ensures { IfOk result (λ both. (both.0.items ≡ map (λ r. r.clerk) back.items)
+        × (both.1.items ≡ map (λ r. r.served) back.items)) }
 {
     let mut clerks = Vec::new(alloc);
     let mut served = Vec::new(alloc);
@@ -158,7 +163,8 @@ pub(crate) fn serve_script<T: Threads + Sync, G: Gate>(
     requires room { desk.room ≡ program_room }
     requires one_each { length lists.now ≡ clerks_within clerks }
     requires few { All (λ list. length list ≤ most_rows) lists.now }
-    ensures ok { IfOk result (λ served. (served ≡ record desk { journal = served.journal }) × ServesAll lists.now served.journal) }
+    ensures ok { IfOk result (λ served. (served ≡ record desk { journal = served.journal })
+        × ServesAll lists.now served.journal) }
     ensures clerks { OnOk result (AreClerks clerks) }
     ensures err { IfErr result (IsServingFault clerks) }
 {

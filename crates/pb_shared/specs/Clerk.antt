@@ -12,8 +12,8 @@ pub record SharedView : Type 0 where
   pub start : DeskView
   pub clerks : ℕ
 
--- a clerk: the shared desk that made it, its number, the entries that it has seen, its own entries since the desk was shared,
--- the lock words that its exchanges found, and the front words that its loads found
+-- a clerk: the shared desk that made it, its number, the entries that it has seen, its own entries since the
+-- desk was shared, the lock words that its exchanges found, and the front words that its loads found
 pub record ClerkView : Type 0 where
   pub desk : SharedView
   pub number : ℕ
@@ -41,11 +41,13 @@ desk_with d journal = record { opening = d.start.opening; room = d.start.room; j
 
 -- a clerk who has made no call
 abbrev pub newcomer : SharedView → ℕ → ClerkView
-newcomer d number = record { desk = d; number = number; seen = d.start.journal; mine = []; found = []; read = [] }
+newcomer d number =
+    record { desk = d; number = number; seen = d.start.journal; mine = []; found = []; read = [] }
 
 -- the clerks of a shared desk, before any call
 abbrev pub AreNewcomers : SharedView → List ClerkView → Type 0
-AreNewcomers d clerks = (length clerks ≡ d.clerks) × ((number : ℕ) → number < d.clerks → slice_get clerks number ≡ Some (newcomer d number))
+AreNewcomers d clerks = (length clerks ≡ d.clerks)
+    × ((number : ℕ) → number < d.clerks → slice_get clerks number ≡ Some (newcomer d number))
 
 -- the same clerk: no call changes its desk or its number
 abbrev pub IsSame : ClerkView → ClerkView → Type 0
@@ -57,24 +59,30 @@ IsAnother c number = (number < c.desk.clerks) × (number ≢ c.number)
 
 -- this journal of the desk is legal, and begins with what the clerk has seen
 abbrev pub IsLater : ClerkView → List EntryView → Type 0
-IsLater c journal = IsLegal c.desk.start.opening journal × (length journal ≤ c.desk.start.room) × Begins c.seen journal
+IsLater c journal =
+    IsLegal c.desk.start.opening journal × (length journal ≤ c.desk.start.room) × Begins c.seen journal
 
 -- the clerk's exchanges found these words, and it has now seen this journal
 abbrev pub Sees : ClerkView → List EntryView → List ℕ → ClerkView → Type 0
 Sees c seen words c' = IsLater c seen × (c' ≡ record c { seen = seen; found = c.found ++ words })
 
--- the clerk's request was answered, after exchanges that found these words: past some entries that came in between, its entry
--- stands last in what it has now seen, and is the only one that its own have grown by
+-- the clerk's request was answered, after exchanges that found these words: past some entries that came in
+-- between, its entry stands last in what it has now seen, and is the only one that its own have grown by
 abbrev pub Serves : ClerkView → RequestView → Answer → List ℕ → ClerkView → Type 0
 Serves c request answer words c' =
     let x : EntryView = record { clerk = c.number; request = request; answer = answer } in
     (between : List EntryView)
     × IsLater c ((c.seen ++ between) ++ x ∷ [])
-    × (c' ≡ record c { seen = (c.seen ++ between) ++ x ∷ []; mine = c.mine ++ x ∷ []; found = c.found ++ words })
+    × (c' ≡ record c {
+      seen = (c.seen ++ between) ++ x ∷ [];
+      mine = c.mine ++ x ∷ [];
+      found = c.found ++ words;
+    })
 
 -- the clerk's last exchange found the lock with this other clerk, and nothing else of it has changed
 abbrev pub TurnsAway : ClerkView → ℕ → List ℕ → ClerkView → Type 0
-TurnsAway c holder words c' = IsAnother c holder × (c' ≡ record c { found = c.found ++ (words ++ (holder + 1) ∷ []) })
+TurnsAway c holder words c' =
+    IsAnother c holder × (c' ≡ record c { found = c.found ++ (words ++ (holder + 1) ∷ []) })
 
 -- these words were found by exchanges that other clerks had won before
 abbrev pub AreLost : ClerkView → List ℕ → Type 0
@@ -82,7 +90,8 @@ AreLost c words = All (λ word. (holder : ℕ) × IsAnother c holder × (word �
 
 -- the clerk's load found this front word: the length of what it has now seen
 abbrev pub Reads : ClerkView → ℕ → ClerkView → Type 0
-Reads c front c' = IsLater c c'.seen × (front ≡ length c'.seen) × (c' ≡ record c { seen = c'.seen; read = c.read ++ front ∷ [] })
+Reads c front c' = IsLater c c'.seen × (front ≡ length c'.seen)
+    × (c' ≡ record c { seen = c'.seen; read = c.read ++ front ∷ [] })
 
 -- all clerks of the desk are among these
 abbrev pub AreAll : SharedView → List ClerkView → Type 0
@@ -92,8 +101,8 @@ AreAll d clerks = (number : ℕ) → number < d.clerks → Contains (map (λ c. 
 abbrev pub AgreesWith : List EntryView → List EntryView → ClerkView → Type 0
 AgreesWith journal later c = Begins c.seen journal × (entries_of c.number later ≡ c.mine)
 
--- the journal of the shared desk is legal, and past the start it is a merge: it has the entries of each of these clerks, in
--- order, and no entry by a number that is no clerk's
+-- the journal of the shared desk is legal, and past the start it is a merge: it has the entries of each of these
+-- clerks, in order, and no entry by a number that is no clerk's
 pub record IsMergeOf (d : SharedView) (clerks : List ClerkView) (journal : List EntryView) : Type 0 where
   pub later : List EntryView
   pub journal_is : journal ≡ d.start.journal ++ later
@@ -104,4 +113,5 @@ pub record IsMergeOf (d : SharedView) (clerks : List ClerkView) (journal : List 
 
 -- the lock word is held for a clerk who is not among these
 abbrev pub IsHeldByAnother : SharedView → List ClerkView → ℕ → Type 0
-IsHeldByAnother d clerks word = (holder : ℕ) × (holder < d.clerks) × (word ≡ holder + 1) × All (λ c. c.number ≢ holder) clerks
+IsHeldByAnother d clerks word =
+    (holder : ℕ) × (holder < d.clerks) × (word ≡ holder + 1) × All (λ c. c.number ≢ holder) clerks

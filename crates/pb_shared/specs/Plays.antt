@@ -17,14 +17,17 @@ pub record CanSee (v : SeatView) (seen : List EntryView) : Type 0 where
   pub begins : Begins v.sheet.seen seen
 
 abbrev pub won : SeatView → List EntryView → SeatView
-won v seen = record v { sheet = record v.sheet { seen = seen; found = v.sheet.found ++ 0 ∷ [] }; holds = true }
+won v seen =
+    record v { sheet = record v.sheet { seen = seen; found = v.sheet.found ++ 0 ∷ [] }; holds = true }
 
 abbrev pub lost : SeatView → ℕ → SeatView
 lost v word = record v { sheet = record v.sheet { found = v.sheet.found ++ word ∷ [] } }
 
 -- the desk has this journal now, whose entries past what was seen are the clerk's own
 abbrev pub published : SeatView → List EntryView → SeatView
-published v journal = record v { sheet = record v.sheet { seen = journal; mine = v.sheet.mine ++ drop (length v.sheet.seen) journal }; home = true }
+published v journal =
+    let mine = v.sheet.mine ++ drop (length v.sheet.seen) journal in
+    record v { sheet = record v.sheet { seen = journal; mine = mine }; home = true }
 
 abbrev pub freed : SeatView → SeatView
 freed v = record v { holds = false; home = false }
@@ -38,10 +41,12 @@ journal_out [] = []
 journal_out ((_, None) ∷ _) = []
 journal_out ((_, Some d) ∷ _) = d.journal
 
--- an exchange wins the lock and takes the desk out, with the whole history as its journal, or it finds another clerk's word
+-- an exchange wins the lock and takes the desk out, with the whole history as its journal, or it finds another
+-- clerk's word
 abbrev pub tries_lock : Sitter → ℕ → Sitter → Type 0
 tries_lock m word m' =
-    (word ≡ 0 → (seen : List EntryView) × CanSee m.0 seen × (m' ≡ (won m.0 seen, (0, Some (desk_at m.0.about seen)) ∷ [])))
+    (word ≡ 0 → (seen : List EntryView) × CanSee m.0 seen
+    × (m' ≡ (won m.0 seen, (0, Some (desk_at m.0.about seen)) ∷ [])))
     × (word ≢ 0 → (word ≤ m.0.about.clerks) × (word ≢ m.0.sheet.number + 1) × (m' ≡ (lost m.0 word, [])))
 
 abbrev pub publishes : Sitter → ℕ → Sitter → Type 0
@@ -51,7 +56,8 @@ abbrev pub frees : Sitter → ℕ → Sitter → Type 0
 frees m word m' = m' ≡ (freed m.0, [])
 
 abbrev pub reads : Sitter → ℕ → Sitter → Type 0
-reads m word m' = (seen : List EntryView) × CanSee m.0 seen × Begins m.0.told seen × (word ≡ length seen) × (m' ≡ (has_read m.0 seen word, m.1))
+reads m word m' = (seen : List EntryView) × CanSee m.0 seen × Begins m.0.told seen × (word ≡ length seen)
+    × (m' ≡ (has_read m.0 seen word, m.1))
 
 abbrev pub visits : Sitter → ℕ → Sitter → Type 0
 visits m word m' = m'.0 ≡ seated Guest m.0.about (blank m.0.about 0)
@@ -74,7 +80,16 @@ handed v clerk = record v { returned = clerk.sheet ∷ v.returned }
 
 -- a desk that nobody has
 abbrev pub no_desk : DeskView
-no_desk = record { opening = record { election = record { budget = 0; max_length = None; projects = []; voters = [] }; version = Two }; room = 0; journal = [] }
+no_desk = record {
+  opening = record {
+    election = record { budget = 0; max_length = None; projects = []; voters = [] };
+    version = Two;
+  };
+  room = 0;
+  journal = [];
+}
 
 abbrev pub nobody : SeatView
-nobody = let a : About = record { desk = record { marker = record {}; value = no_desk }; clerks = 0 } in seated Spent a (blank a 0)
+nobody =
+    let a : About = record { desk = record { marker = record {}; value = no_desk }; clerks = 0 } in
+    seated Spent a (blank a 0)

@@ -12,14 +12,15 @@ abbrev pub HandsBack : DeskView → ℕ → ShareFault → Type 0
 HandsBack d clerks (share.ClerkCount desk) = (desk ≡ d) × ((clerks ≡ 0) ⊎ (64 < clerks))
 HandsBack d clerks (share.NoMemory desk) = (desk ≡ d) × (0 < clerks) × (clerks ≤ 64)
 
--- a call was refused, after exchanges that found these words: the last exchange was lost too, or it was won and the clerk has
--- seen the desk's journal, which is full where that is the fault
+-- a call was refused, after exchanges that found these words: the last exchange was lost too, or it was won and
+-- the clerk has seen the desk's journal, which is full where that is the fault
 abbrev pub Refuses : ClerkView → SharedFault → List ℕ → ClerkView → Type 0
 Refuses c (Busy holder) words c' = TurnsAway c holder words c'
 Refuses c JournalFull words c' = Sees c c'.seen (words ++ 0 ∷ []) c' × (length c'.seen ≡ c.desk.start.room)
 Refuses c NoMemory words c' = Sees c c'.seen (words ++ 0 ∷ []) c'
 
--- how many exchanges were lost before the last, where there were at most so many: all that were allowed, if the last was lost too
+-- how many exchanges were lost before the last, where there were at most so many: all that were allowed, if the
+-- last was lost too
 abbrev pub IsWithin : ℕ → List ℕ → SharedFault → Type 0
 IsWithin tries words (Busy holder) = length words + 1 ≡ tries
 IsWithin tries words JournalFull = length words < tries

@@ -31,7 +31,8 @@ blank a number = record { number = number; seen = a.desk.value.journal; mine = [
 
 -- a seat that knows this sheet, and does not hold the lock
 abbrev pub seated : Role → About → Sheet → SeatView
-seated role a sheet = record { role = role; about = a; sheet = sheet; holds = false; home = false; told = []; returned = [] }
+seated role a sheet =
+    record { role = role; about = a; sheet = sheet; holds = false; home = false; told = []; returned = [] }
 
 -- the first seat, with all clerks in stock
 abbrev pub stock : About → SeatView
@@ -50,9 +51,10 @@ abbrev pub IsIn : slot.Option (Option DeskView) → DeskView → Type 0
 IsIn slot.none d = ⊤
 IsIn (slot.some x) d = x ≡ Some d
 
-module _ (a : About) (lock : ℕ) (home : slot.Option (Option DeskView)) (later : List EntryView) (seat_of : ℕ → ℕ) where
-  -- a clerk's sheet is true: the seat is its own; what it has seen begins the history, and is all of it while the clerk holds
-  -- the lock; past the start, its own entries are those of its number
+module _ (a : About) (lock : ℕ) (home : slot.Option (Option DeskView)) (later : List EntryView)
+    (seat_of : ℕ → ℕ) where
+  -- a clerk's sheet is true: the seat is its own; what it has seen begins the history, and is all of it while the
+  -- clerk holds the lock; past the start, its own entries are those of its number
   pub record SheetFits (seat : ℕ) (holds : Bool) (x : Sheet) : Type 0 where
     pub known : x.number < a.clerks
     pub its_seat : seat_of x.number ≡ seat
@@ -63,7 +65,8 @@ module _ (a : About) (lock : ℕ) (home : slot.Option (Option DeskView)) (later 
     pub found : All (IsWordFor a.clerks x.number) x.found
     pub read : All (λ word. word ≤ length x.seen) x.read
 
-  -- what a clerk's seat knows is true: its sheet, what it was told, and that the desk is home if it brought it back
+  -- what a clerk's seat knows is true: its sheet, what it was told, and that the desk is home if it brought it
+  -- back
   pub record ClerkFits (seat : ℕ) (v : SeatView) : Type 0 where
     pub about : v.about ≡ a
     pub sheet : SheetFits seat v.holds v.sheet
@@ -79,7 +82,8 @@ module _ (a : About) (lock : ℕ) (home : slot.Option (Option DeskView)) (later 
   -- the clerks in stock have made no call
   pub record StockFits (seat : ℕ) (v : SeatView) : Type 0 where
     pub about : v.about ≡ a
-    pub blanks : (number : ℕ) → v.sheet.number ≤ number → number < a.clerks → SheetFits seat false (blank a number)
+    pub blanks : (number : ℕ) → v.sheet.number ≤ number → number < a.clerks
+        → SheetFits seat false (blank a number)
 
   abbrev pub RoleFits : Role → ℕ → SeatView → Type 0
   RoleFits Stock seat v = StockFits seat v
@@ -87,14 +91,15 @@ module _ (a : About) (lock : ℕ) (home : slot.Option (Option DeskView)) (later 
   RoleFits Guest seat v = GuestFits seat v
   RoleFits Spent seat v = ⊤
 
-  -- what is true of the running desk, with this lock word, this in the slot and these views, where this was served since the
-  -- start
+  -- what is true of the running desk, with this lock word, this in the slot and these views, where this was
+  -- served since the start
   pub record Runs (views : List SeatView) : Type 0 where
     pub legal : IsLegal a.desk.value.opening (history a later)
     pub fits : length (history a later) ≤ a.desk.value.room
     pub by_clerks : All (λ x. x.clerk < a.clerks) later
     pub lock_known : lock ≤ a.clerks
-    pub holder : (number : ℕ) → lock ≡ number + 1 → (v : SeatView) × (get_elem? views (seat_of number) ≡ slot.some v) × Holds number v
+    pub holder : (number : ℕ) → lock ≡ number + 1
+        → (v : SeatView) × (get_elem? views (seat_of number) ≡ slot.some v) × Holds number v
     pub free : lock ≡ 0 → home ≡ slot.some (Some (desk_at a (history a later)))
     pub in_slot : IsIn home (desk_at a (history a later))
     pub each : (seat : ℕ) (v : SeatView) → get_elem? views seat ≡ slot.some v → RoleFits v.role seat v

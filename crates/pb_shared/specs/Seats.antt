@@ -15,7 +15,14 @@ shared_view id a = record { id = id; start = a.desk.value; clerks = a.clerks }
 
 abbrev pub clerk_view : TableId → Sitter → ClerkView
 clerk_view id m =
-    record { desk = shared_view id m.0.about; number = m.0.sheet.number; seen = m.0.sheet.seen; mine = m.0.sheet.mine; found = m.0.sheet.found; read = m.0.sheet.read }
+    record {
+      desk = shared_view id m.0.about;
+      number = m.0.sheet.number;
+      seen = m.0.sheet.seen;
+      mine = m.0.sheet.mine;
+      found = m.0.sheet.found;
+      read = m.0.sheet.read;
+    }
 
 -- what a clerk's seat knows of it
 abbrev pub sheet_of : ClerkView → Sheet
@@ -46,13 +53,16 @@ pub record IsNote (m : Sitter) : Type 0 where
   pub role : m.0.role ≡ Guest
   pub empty : m.1 ≡ []
 
--- an exchange won the lock: the desk was taken out, with the whole history as its journal, which is what the clerk has now seen
+-- an exchange won the lock: the desk was taken out, with the whole history as its journal, which is what the
+-- clerk has now seen
 abbrev pub HasWon : Sitter → DeskView → Sitter → Type 0
-HasWon m desk m' = (seen : List EntryView) × CanSee m.0 seen × (desk ≡ desk_at m.0.about seen) × (m' ≡ (won m.0 seen, (0, None) ∷ []))
+HasWon m desk m' = (seen : List EntryView) × CanSee m.0 seen × (desk ≡ desk_at m.0.about seen)
+    × (m' ≡ (won m.0 seen, (0, None) ∷ []))
 
 -- an exchange found the lock with another clerk
 abbrev pub HasLost : Sitter → ℕ → Sitter → Type 0
-HasLost m holder m' = (holder < m.0.about.clerks) × (holder ≢ m.0.sheet.number) × (m' ≡ (lost m.0 (holder + 1), []))
+HasLost m holder m' = (holder < m.0.about.clerks) × (holder ≢ m.0.sheet.number)
+    × (m' ≡ (lost m.0 (holder + 1), []))
 
 -- the clerk holds the lock, and its desk is out
 pub record IsOut (m : Sitter) : Type 0 where
@@ -69,7 +79,8 @@ abbrev pub HasServed : Sitter → DeskView → Type 0
 HasServed m desk = (x : EntryView) × (x.clerk ≡ m.0.sheet.number) × IsDeskOf m desk (m.0.sheet.seen ++ x ∷ [])
 
 -- a new table with this desk for so many clerks, and its first seat
-pub record IsLaid (desk : DeskView) (clerks : ℕ) (id : TableId) (a : About) (its : TableId) (m : Sitter) : Type 0 where
+pub record IsLaid (desk : DeskView) (clerks : ℕ) (id : TableId) (a : About) (its : TableId)
+    (m : Sitter) : Type 0 where
   pub table : IsTable id a
   pub desk_is : a.desk.value ≡ desk
   pub clerks_is : a.clerks ≡ clerks

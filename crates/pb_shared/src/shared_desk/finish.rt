@@ -15,7 +15,8 @@ impl SharedDesk {
     /// are handed back; then the journal past the start is a merge of their own lists.
     pub fn finish(self, mut clerks: Vec<Clerk>) -> Result<Desk, Unfinished>
         requires own { All (λ clerk. clerk.desk ≡ self) clerks.items }
-        ensures ok { IfOk result (λ desk. (desk ≡ desk_with self desk.journal) × IsMergeOf self clerks.items desk.journal) }
+        ensures ok { IfOk result (λ desk.
+            (desk ≡ desk_with self desk.journal) × IsMergeOf self clerks.items desk.journal) }
         ensures err { IfErr result (λ fault. IsHeldByAnother self clerks.items fault.0) }
         ensures all { AreAll self clerks.items → IsOk result }
     {

@@ -15,7 +15,8 @@ impl SharedDesk {
         requires own { clerk.old.desk ≡ self.now }
         requires f { F.IsAlwaysCallable f }
         ensures same { IsSame clerk.old clerk.new }
-        ensures ok { IfOk result (λ answer. Sees clerk.old clerk.new.seen (0 ∷ []) clerk.new × FnOnceReturnsAt F.FnOnce f (desk_with self.now clerk.new.seen) answer) }
+        ensures ok { IfOk result (λ answer. Sees clerk.old clerk.new.seen (0 ∷ []) clerk.new
+            × FnOnceReturnsAt F.FnOnce f (desk_with self.now clerk.new.seen) answer) }
         ensures err { IfErr result (λ busy. TurnsAway clerk.old busy.0 [] clerk.new) }
     {
         let desk = self.take_desk(&mut clerk.seat, clerk.number)?;

@@ -21,7 +21,8 @@ impl SharedDesk {
         desk: Desk,
         clerks: u32,
     ) -> Result<(SharedDesk, Vec<Clerk>), ShareFault>
-        ensures ok { IfOk result (λ shared. (shared.0.start ≡ desk) × (shared.0.clerks ≡ clerks) × AreNewcomers shared.0 shared.1.items) }
+        ensures ok { IfOk result (λ shared. (shared.0.start ≡ desk) × (shared.0.clerks ≡ clerks)
+            × AreNewcomers shared.0 shared.1.items) }
         ensures own { IfOk result (λ shared. All (λ clerk. clerk.desk ≡ shared.0) shared.1.items) }
         ensures range { OnOk result ((0 < clerks) × (clerks ≤ 64)) }
         ensures err { IfErr result (λ fault. HandsBack desk clerks fault) }
@@ -48,7 +49,8 @@ impl SharedDesk {
 /// desk comes back.
 fn lay_table(alloc: Global, desk: Desk, clerks: u32) -> Result<(DeskTable, Place), Desk>
     requires { (0 < clerks) × (clerks ≤ 64) }
-    ensures ok { IfOk result (λ laid. IsLaid desk clerks laid.0.shared.table_id laid.0.shared.key laid.1.table_id laid.1.me) }
+    ensures ok { IfOk result (λ laid.
+        IsLaid desk clerks laid.0.shared.table_id laid.0.shared.key laid.1.table_id laid.1.me) }
     ensures err { IfErr result (λ back. back ≡ desk) }
 {
     let Ok(mut slots) = Vec::with_capacity(alloc, 1) else {
