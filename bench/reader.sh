@@ -15,6 +15,6 @@ ls -l "$work/large.pb"
 for _ in 1 2 3; do
   python3 "$here/measure.py" "plain Rust, fields and votes split" "$records" -- "$work/plain_reader" "$work/large.pb"
   python3 "$here/measure.py" "plain Rust, the election kept" "$records" -- "$work/plain_keeper" "$work/large.pb"
-  # No count is made with 0 workers, and that is found behind the reading: so this is the reading alone.
-  python3 "$here/measure.py" "count, refused behind the reading" "$records" -- "$program" count "$work/large.pb" --workers 0
+  # No count is made with 0 workers, and that is found after the reading: so this is the reading alone.
+  python3 "$here/measure.py" "count, refused after the reading" "$records" -- "$program" count "$work/large.pb" --workers 0
 done
