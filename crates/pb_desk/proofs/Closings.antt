@@ -1,10 +1,10 @@
 -- The election that a desk leaves.
-use Rattle.std.proofs.Common.{◌≡◌, ℕ, ◌+◌, ◌<◌, List, [], ◌∷◌, ◌++◌, length, map, take, get_or, All, Contains, Some, slice_get, refl, sym, ap, subst, ◌∙◌, arith}
+use Rattle.std.proofs.Common.{◌≡◌, ℕ, ◌<◌, List, [], ◌∷◌, length, map, take, get_or, All, Contains, Some, slice_get, refl, sym, ap, subst, ◌∙◌, arith}
 use Rattle.std.specs.List.{IsDistinct}
 use Rattle.std.specs.Map.{keys_of, values_of}
 use Rattle.std.specs.Str.{bytes_eq}
 use Rattle.std.proofs.lemmas.Bool.{false≢true}
-use Rattle.std.proofs.lemmas.List.{get_or-map, get_or-take, get_or_default, length-map, length-take, map_push, take-map, take_more}
+use Rattle.std.proofs.lemmas.List.{get_or-map, get_or-take, get_or_default, length-map, length-take, take-map}
 use Rattle.std.proofs.lemmas.Map.Keys.{apart_from_distinct}
 use Rattle.std.proofs.lemmas.Option.{get_or_from_slice_get, slice_get_within}
 use Rattle.std.proofs.lemmas.Slice.Eq.{bytes_eq-Decides}
@@ -36,15 +36,7 @@ pub ids-voters_of : (ballots : List (List ℕ × List ℕ)) → map (λ (v : Vot
 ids-voters_of [] = refl
 ids-voters_of (b ∷ bs) = ap (λ rest. b.0 ∷ rest) (ids-voters_of bs)
 
--- the next ballot's voter is new among those before
-pub new_voter : (ballots : List (List ℕ × List ℕ)) (k : ℕ) (id ballot : List ℕ) → IsDistinct bytes_eq (keys_of ballots) → slice_get ballots k ≡ Some (id, ballot) →
-    ¬ Contains (map (λ (v : VoterView). v.id) (voters_of (take k ballots))) id
-new_voter ballots k id ballot distinct at =
-    rw (ids-voters_of (take k ballots))
-    (new_in_front (λ (b : List ℕ × List ℕ). b.0) ballots k (id, ballot) (AreDistinct-keys (keys_of ballots) distinct) (slice_get_within ballots k (id, ballot) at)
-    (sym (get_or_from_slice_get ballots k (id, ballot) (id, ballot) at)))
-
--- its places are known
+-- the places of a ballot in a list are known
 pub known_ballot : (e : ElectionView) (ballots : List (List ℕ × List ℕ)) (k : ℕ) (id ballot : List ℕ) → All (AreKnown e) (values_of ballots) → slice_get ballots k ≡ Some (id, ballot) → AreKnown e ballot
 known_ballot e ballots k id ballot known at =
     let below = slice_get_within ballots k (id, ballot) at in
@@ -52,13 +44,3 @@ known_ballot e ballots k id ballot known at =
     get_or-map (λ (b : List ℕ × List ℕ). b.1) ballots k (id, ballot) ballot below ∙ ap (λ b. b.1) (get_or_from_slice_get ballots k (id, ballot) (id, ballot) at) in
     let P : List ℕ → Type 0 = AreKnown e in
     subst P same (known k ballot (rw length-map below))
-
--- one voter more
-pub voters_of-more : (ballots : List (List ℕ × List ℕ)) (k : ℕ) (id ballot : List ℕ) → slice_get ballots k ≡ Some (id, ballot) →
-    voters_of (take k ballots) ++ record { id = id; ballot = ballot } ∷ [] ≡ voters_of (take (k + 1) ballots)
-voters_of-more ballots k id ballot at =
-    let b : List ℕ × List ℕ = (id, ballot) in
-    let view : List ℕ × List ℕ → VoterView = λ b. record { id = b.0; ballot = b.1 } in
-    sym (map_push view (take k ballots) b)
-    ∙ ap (λ c. voters_of (take k ballots ++ c ∷ [])) (sym (get_or_from_slice_get ballots k b b at))
-    ∙ ap voters_of (sym (take_more ballots k b (slice_get_within ballots k b at)))

@@ -1,4 +1,6 @@
 pub mod Ballots
+pub mod Orders
+pub mod Listings
 pub mod Openings
 pub mod Replays
 pub mod Steps

@@ -1,16 +1,15 @@
 -- The ballots that a desk opens with.
-use Rattle.std.proofs.Common.{◌≡◌, ◌≢◌, ℕ, ◌+◌, ◌<◌, List, [], ◌∷◌, length, map, take, get_or, All, sym, ap, ◌∙◌, arith}
+use Rattle.std.proofs.Common.{◌≡◌, ◌≢◌, ℕ, ◌+◌, ◌<◌, false, List, [], ◌∷◌, ◌++◌, is_some, length, map, take, get_or, All, sym, ap, ◌∙◌, arith}
 use Rattle.std.specs.Str.{bytes_eq}
 use Rattle.std.proofs.lemmas.Bool.{false_from_ne_true}
 use Rattle.std.proofs.lemmas.List.{get_or-map, get_or-take, length-map, length-take, map_push, take_more}
 use Rattle.std.proofs.lemmas.List.Elements.{All-head, All-map, All-tail, All-weaker}
 use Rattle.std.proofs.lemmas.Map.{NonePasses, lookup-none}
 use Rattle.std.proofs.lemmas.Slice.Eq.{bytes_eq-Decides}
-use Rattle.indexmap.specs.IndexMap.{insert_entry}
-use Rattle.indexmap.proofs.MapLemmas.{absent_from_lookup, insert_entry-absent}
 use Rattle.pb_core.specs.Election.{ElectionView, VoterView, AreDistinct, IsElection, IsVoter}
 use Rattle.pb_desk.specs.Desk.{AreKnown, IsStanding}
 use Rattle.pb_desk.specs.Replay.{ballots_of, opened}
+use Rattle.pb_desk.specs.Step.{has_ballot}
 
 -- the pairs in which no key is the id of a later one
 pub NonePasses-before : (voters : List VoterView) (v : VoterView) → All (λ u. u.id ≢ v.id) voters → NonePasses (bytes_eq v.id) (ballots_of voters)
@@ -29,16 +28,14 @@ differ_before voters k d distinct below =
     distinct i k [] ik (rw length-map below)
     (get_or-map (λ (v : VoterView). v.id) voters i x [] (omega (arith, ik, below)) ∙ ap (λ (v : VoterView). v.id) (sym (get_or-take k voters i x ik)) ∙ same ∙ sym (get_or-map (λ (v : VoterView). v.id) voters k d [] below))
 
--- the next voter's ballot goes last
-pub opened_more : (voters : List VoterView) (k : ℕ) (d : VoterView) → AreDistinct (map (λ v. v.id) voters) → k < length voters →
-    insert_entry bytes_eq (ballots_of (take k voters)) (get_or voters k d).id (get_or voters k d).ballot ≡ ballots_of (take (k + 1) voters)
-opened_more voters k d distinct below =
-    let v = get_or voters k d in
+-- the next voter has no ballot yet
+pub new_at_opening : (voters : List VoterView) (k : ℕ) (v : VoterView) (id : List ℕ) (before : List (List ℕ × List ℕ)) → AreDistinct (map (λ v. v.id) voters) → k < length voters →
+    v ≡ get_or voters k v → id ≡ v.id → before ≡ ballots_of (take k voters) → has_ballot before id ≡ false
+new_at_opening voters k v id before distinct below at same_id were =
+    let here = get_or voters k v in
     let front = take k voters in
-    let new = lookup-none (bytes_eq v.id) (ballots_of front) (NonePasses-before front v (differ_before voters k d distinct below)) in
-    insert_entry-absent bytes_eq v.id v.ballot (ballots_of front) (absent_from_lookup (bytes_eq v.id) (ballots_of front) new)
-    ∙ sym (map_push (λ (u : VoterView). (u.id, u.ballot)) front v)
-    ∙ ap ballots_of (sym (take_more voters k d below))
+    let none = lookup-none (bytes_eq here.id) (ballots_of front) (NonePasses-before front here (differ_before voters k v distinct below)) in
+    (λ j. has_ballot (were j) ((same_id ∙ ap (λ (u : VoterView). u.id) at) j)) ∙ ap is_some none
 
 -- an election's own ballots are few, and for its projects
 pub IsStanding-opened : (e : ElectionView) → IsElection e → IsStanding e (opened e)
@@ -54,7 +51,9 @@ IsStanding-opened e is =
 
 -- one turn of the loop over the voters
 pub opened_turn : (voters : List VoterView) (k : ℕ) (v : VoterView) (id ballot : List ℕ) (before after : List (List ℕ × List ℕ)) →
-    AreDistinct (map (λ v. v.id) voters) → k < length voters → v ≡ get_or voters k v → id ≡ v.id → ballot ≡ v.ballot →
-    before ≡ ballots_of (take k voters) → after ≡ insert_entry bytes_eq before id ballot → after ≡ ballots_of (take (k + 1) voters)
-opened_turn voters k v id ballot before after distinct below at same_id same_ballot were inserted =
-    inserted ∙ (λ i. insert_entry bytes_eq (were i) ((same_id ∙ ap (λ (u : VoterView). u.id) at) i) ((same_ballot ∙ ap (λ (u : VoterView). u.ballot) at) i)) ∙ opened_more voters k v distinct below
+    k < length voters → v ≡ get_or voters k v → id ≡ v.id → ballot ≡ v.ballot →
+    before ≡ ballots_of (take k voters) → after ≡ before ++ (id, ballot) ∷ [] → after ≡ ballots_of (take (k + 1) voters)
+opened_turn voters k v id ballot before after below at same_id same_ballot were pushed =
+    let front = take k voters in
+    pushed ∙ (λ j. were j ++ ((same_id ∙ ap (λ (u : VoterView). u.id) at) j, (same_ballot ∙ ap (λ (u : VoterView). u.ballot) at) j) ∷ [])
+    ∙ sym (map_push (λ (u : VoterView). (u.id, u.ballot)) front (get_or voters k v)) ∙ ap ballots_of (sym (take_more voters k v below))

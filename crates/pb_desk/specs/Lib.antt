@@ -11,3 +11,4 @@ pub mod AuditFault
 pub mod AuditSteps
 pub mod IntoFault
 pub mod Opening
+pub mod Slots

@@ -25,6 +25,7 @@
 
 pub mod audit_fault;
 mod ballot_box;
+mod ballot_list;
 pub mod desk;
 pub mod desk_fault;
 mod entry_writer;
@@ -33,6 +34,7 @@ mod journal_audit;
 mod journal_rows;
 pub mod laws;
 mod row_reader;
+mod slots;
 pub mod start_fault;
 mod version;
 pub mod write_fault;

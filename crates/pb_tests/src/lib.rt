@@ -17,3 +17,5 @@ mod rows;
 mod serving;
 #[cfg(test)]
 mod values;
+#[cfg(test)]
+mod withdrawals;
