@@ -23,12 +23,10 @@ is_printable d options count is_election counted =
 when_true : (b : Bool) (A B : Type 0) → b ≡ true → A → MatchBool b A B
 when_true b A B is a = subst (λ (t : Bool). MatchBool t A B) (sym is) a
 
--- the report of a shut desk's count goes after the desk's row
-pub report_follows : (d : DeskView) (options : CountOptions) (count : DeskCount) (before middle after : List ℕ) → IsCountOfDesk d options count
-    → middle ≡ before ++ text_of_row (entries_row d) → after ≡ middle ++ report_of count.election (settled count.outcome)
-    → (text : List ℕ) × IsTextOf d options text × (after ≡ before ++ text)
-report_follows d options count before middle after counted row_is report_is =
-    let row = text_of_row (entries_row d) in
+-- the desk's row and the report of its count are what is to be written of the desk
+pub report_of_count : (d : DeskView) (options : CountOptions) (count : DeskCount) → IsCountOfDesk d options count
+    → IsTextOf d options (text_of_row (entries_row d) ++ report_of count.election (settled count.outcome))
+report_of_count d options count counted =
     let report = report_of count.election (settled count.outcome) in
     let o = counted.outcome in
     let is_report : IsReportOf count.election options report = record {
@@ -39,8 +37,17 @@ report_follows d options count before middle after counted row_is report_is =
       within_budget = o.within_budget;
       price_system = o.price_system;
     } in
-    let of_closed = subst (λ (e : ElectionView). IsReportOf e options report) counted.election is_report in (
+    let of_closed = subst (λ (e : ElectionView). IsReportOf e options report) counted.election is_report in
+    when_true (standing_of d).is_shut _ _ counted.shut (report, of_closed, refl)
+
+-- the report of a shut desk's count goes after the desk's row
+pub report_follows : (d : DeskView) (options : CountOptions) (count : DeskCount) (before middle after : List ℕ) → IsCountOfDesk d options count
+    → middle ≡ before ++ text_of_row (entries_row d) → after ≡ middle ++ report_of count.election (settled count.outcome)
+    → (text : List ℕ) × IsTextOf d options text × (after ≡ before ++ text)
+report_follows d options count before middle after counted row_is report_is =
+    let row = text_of_row (entries_row d) in
+    let report = report_of count.election (settled count.outcome) in (
       row ++ report,
-      when_true (standing_of d).is_shut _ _ counted.shut (report, of_closed, refl),
+      report_of_count d options count counted,
       report_is ∙ ap (λ (t : List ℕ). t ++ report) row_is ∙ append_assoc before row report,
     )

@@ -21,8 +21,8 @@ use Rattle.pb_app.specs.declared.closing.Closing.TheVariants.{Open, Counted}
 use Rattle.pb_app.specs.declared.closing.DeskCount.{DeskCount}
 
 -- the outcome is exactly that of the count of this election with these options, for any number of workers:
--- the elected are within the budget, payments of each voter's share explain them, each was the cheapest of its
--- round, and the numbers of prices are those of a pricing record
+-- the elected are within the budget, payments of each voter's share explain them, each was the cheapest of
+-- its round, and the numbers of prices are those of a pricing record
 pub record IsCountOf (e : ElectionView) (options : CountOptions) (o : OutcomeView) : Type 0 where
   pub in_range : refusal_of options ≡ None
   pub counted : count_of e options ≡ Some (settled o)
@@ -44,8 +44,8 @@ abbrev pub IsClosing : DeskView → CountOptions → Closing → Type 0
 IsClosing d options (Open desk) = ((standing_of d).is_shut ≡ false) × (desk ≡ d)
 IsClosing d options (Counted count) = IsCountOfDesk d options count
 
--- The headline. There is one journal. It is legal, begins with what each of these clerks has seen, and past the
--- start is a merge of the clerks' own calls; and the answer is what the desk with this journal comes to.
+-- The headline. There is one journal. It is legal, begins with what each of these clerks has seen, and past
+-- the start is a merge of the clerks' own calls; and the answer is what the desk with this journal comes to.
 pub record IsClosedAs (shared : SharedView) (clerks : List ClerkView) (options : CountOptions)
     (answer : Closing) : Type 0 where
   pub journal : List EntryView

@@ -55,9 +55,9 @@ abbrev pub read_status : ReadKind → ℕ
 read_status read.ReadFailed = 3
 read_status kind = 1
 
--- The status that the program ends with: 3 where a device failed or memory was refused; 2 where the arguments are
--- refused, the options of a count among them; 1 where what was read is, or its count. Options in range can still
--- be too few raises for a file.
+-- The status that the program ends with: 3 where a device failed or memory was refused; 2 where the arguments
+-- are refused, the options of a count among them; 1 where what was read is, or its count. Options in range can
+-- still be too few raises for a file.
 abbrev pub status_of : AppFault → ℕ
 status_of fault = by_case (merged fault)
   where

@@ -30,8 +30,8 @@ HaveGone None gone left = ⊤
 HaveGone (Some all) gone None = ⊥
 HaveGone (Some all) gone (Some rest) = all ≡ gone ++ rest
 
--- the fault of the next record, where this many came before it: within a record a reader that fails comes first,
--- then the limit, then the form
+-- the fault of the next record, where this many came before it: within a record a reader that fails comes
+-- first, then the limit, then the form
 abbrev pub IsNextScriptFault : ℕ → ℕ → Option (List Fields) → ScriptFault → Type 0
 IsNextScriptFault clerks before left (ReadFailed row) = (row ≡ before + 1) × (before ≤ most_rows)
 IsNextScriptFault clerks before left (BadRow row) =

@@ -11,8 +11,8 @@ use Rattle.pb_app.specs.Script.{ScriptRowView, asked_by}
 abbrev pub requests_of : ℕ → List EntryView → List RequestView
 requests_of clerk journal = map (λ x. x.request) (entries_of clerk journal)
 
--- the journal serves a script for this many clerks: what each clerk asked in it is what the clerk's rows say, in
--- their order, and it has no other entries
+-- the journal serves a script for this many clerks: what each clerk asked in it is what the clerk's rows say,
+-- in their order, and it has no other entries
 pub record ServesScript (clerks : ℕ) (script : List ScriptRowView) (journal : List EntryView) : Type 0 where
   pub in_order : (clerk : ℕ) → clerk < clerks → requests_of clerk journal ≡ asked_by clerk script
   pub by_clerks : All (λ x. x.clerk < clerks) journal
