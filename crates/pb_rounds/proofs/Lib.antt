@@ -4,6 +4,7 @@ pub mod QueueRound
 pub mod QueueSteps
 pub mod RunQueue
 pub mod Settled
+pub mod Trials
 pub mod Exhausted
 mod ThreeVoters
 pub mod Best

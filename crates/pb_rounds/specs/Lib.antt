@@ -8,5 +8,6 @@ pub mod Outcome
 pub mod PriceSystem
 pub mod PricingRecord
 pub mod Queue
+pub mod RaiseEnds
 pub mod Reach
 pub mod Run

@@ -1,4 +1,4 @@
-ghost use Rattle.std.specs.Prelude.{◌≡◌, ◌+◌, ◌*◌, ◌≤◌, length, Some, IfOk, IfErr, OnOk, MatchBool, MatchOption, IsOkUnless, ⊤, true};
+ghost use Rattle.std.specs.Prelude.{◌≡◌, ◌+◌, ◌*◌, ◌<◌, ◌≤◌, length, Some, IfOk, IfErr, OnOk, MatchBool, MatchOption, IsOkUnless, ⊤, true};
 ghost use Rattle.pb_core.specs.Money.{largest_money};
 ghost use Rattle.pb_price.specs.Price.{largest_share};
 ghost use Rattle.pb_price.specs.Supporters.{IsSupport, support_of};
@@ -19,6 +19,7 @@ use crate::pricing::Pricing;
 use crate::reach::{raised_share, raises_with_room};
 use crate::run::Run;
 use crate::run_end::RunEnd;
+use crate::side_by_side::complete_side_by_side;
 use pb_core::election::Election;
 use pb_core::money::Money;
 use pb_core::no_memory::NoMemory;
@@ -52,7 +53,7 @@ fn refusal_of(options: &CountOptions) -> Option<CountFault>
 }
 
 /// What each voter gets of the budget, down to whole hundredths.
-fn opening_share<B: Allocator>(election: &Election<B>) -> Money
+pub(crate) fn opening_share<B: Allocator>(election: &Election<B>) -> Money
     ensures share { result ≡ opening_share election.now }
     ensures small { result ≤ largest_money }
 {
@@ -162,7 +163,12 @@ where
 }
 
 /// The outcome after this many raises.
-fn outcome_after<R: Threads + Sync, G: Gate, A: Allocator + Copy + Send + Sync, B: Allocator>(
+pub(crate) fn outcome_after<
+    R: Threads + Sync,
+    G: Gate,
+    A: Allocator + Copy + Send + Sync,
+    B: Allocator,
+>(
     pricing: &Pricing<R, G, A>,
     election: &Election<B>,
     step: Money,
@@ -181,6 +187,21 @@ fn outcome_after<R: Threads + Sync, G: Gate, A: Allocator + Copy + Send + Sync, 
     let share = raised_share(opening_share(election), raised, step);
     Run::new(pricing.alloc).run(pricing, share, raised, None, &mut outcome)?;
     Ok(outcome)
+}
+
+/// Where the raises end that are run one after the other, each by all workers: one worker has all of them, several have the
+/// first alone, since it may decide.
+fn end_in_turn(workers: u32, first: u32, max_raises: u32) -> u32
+    requires raises { max_raises ≤ 1000000 }
+    requires first { first ≤ max_raises + 1 }
+    ensures first { first ≤ result }
+    ensures some { 0 < result }
+    ensures few { result ≤ max_raises + 1 }
+{
+    if workers == 1 || first > max_raises {
+        return max_raises + 1;
+    }
+    first + 1
 }
 
 /// Counts with completion by raises. The first raises that leave room decide nothing and are not run; a raise whose elected
@@ -209,10 +230,11 @@ fn complete<R: Threads + Sync, G: Gate, A: Allocator + Copy + Send + Sync, B: Al
     let mut run = Run::new(pricing.alloc);
     let mut last = Outcome::unfilled(pricing.alloc);
     let mut next = Outcome::unfilled(pricing.alloc);
-    for raised in first..max_raises + 1 {
+    let end = end_in_turn(pricing.workers, first, max_raises);
+    for raised in first..end {
         let share = raised_share(opening, raised, step);
-        let end = run.run(pricing, share, raised, Some(budget), &mut next)?;
-        match end {
+        let run_end = run.run(pricing, share, raised, Some(budget), &mut next)?;
+        match run_end {
             RunEnd::OverLimit if raised == first => {
                 let outcome = outcome_after(pricing, election, step, raised - 1)?;
                 return Ok(outcome);
@@ -225,5 +247,5 @@ fn complete<R: Threads + Sync, G: Gate, A: Allocator + Copy + Send + Sync, B: Al
         }
         swap(&mut last, &mut next);
     }
-    Err(CountFault::RaisesSpent)
+    complete_side_by_side(pricing, election, step, max_raises, end)
 }

@@ -10,6 +10,8 @@ mod faults;
 #[cfg(test)]
 mod prices;
 #[cfg(test)]
+mod raises;
+#[cfg(test)]
 mod reading;
 #[cfg(test)]
 mod rows;

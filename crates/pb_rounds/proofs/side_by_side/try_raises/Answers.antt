@@ -1,0 +1,28 @@
+use Rattle.std.proofs.Common.{◌+◌, ◌*◌, ◌<◌, ◌≤◌, length, subst, arith}
+use Rattle.pb_rounds.specs.RaiseEnds.{IsRaiseEnd}
+use Rattle.pb_rounds.proofs.Trials.{end_exhausted, end_over, ended}
+use Rattle.pb_rounds.proofs.side_by_side.try_raises.Goals as goal
+
+pub returns-in-Over-clause-decided : goal.returns-in-Over-clause-decided
+returns-in-Over-clause-decided g c =
+    let P = IsRaiseEnd c.args.pricing.now.measure c.args.pricing.now.supporters.now c.budget-budget.result (c.opening_share-opening.result + (c.args.next + c.loop-i.i) * c.args.step) in
+    let below : c.loop-i.i < length c.args.trials.now.items = omega (arith, c.loop-i-test.true, c.len-i-end.ensures, c.try_group.ensures.len) in
+    let within : c.args.next + c.loop-i.i ≤ c.args.max_raises = omega (arith, below, c.requires.few) in
+    let end = subst P c.in-Over.is (ended P (λ t. t.end) c.index.result.now _ c.index.ensures (c.try_group.ensures.ends c.loop-i.i c.index.result.now below) c.in_ok-end.end c.in_ok-end.was) in (
+      omega (arith, within),
+      end_over c.args.pricing.now.measure c.args.election.now c.args.step c.args.max_raises (c.args.next + c.loop-i.i) c.loop-i.invariant
+          c.args.pricing.now.supporters.now c.requires.supporters c.opening_share-opening.result c.opening_share-opening.ensures.share
+          c.budget-budget.result c.budget-budget.ensures.budget within end,
+    )
+
+pub returns-in-Exhausted-clause-decided : goal.returns-in-Exhausted-clause-decided
+returns-in-Exhausted-clause-decided g c =
+    let P = IsRaiseEnd c.args.pricing.now.measure c.args.pricing.now.supporters.now c.budget-budget.result (c.opening_share-opening.result + (c.args.next + c.loop-i.i) * c.args.step) in
+    let below : c.loop-i.i < length c.args.trials.now.items = omega (arith, c.loop-i-test.true, c.len-i-end.ensures, c.try_group.ensures.len) in
+    let within : c.args.next + c.loop-i.i ≤ c.args.max_raises = omega (arith, below, c.requires.few) in
+    let end = subst P c.in-Exhausted.is (ended P (λ t. t.end) c.index.result.now _ c.index.ensures (c.try_group.ensures.ends c.loop-i.i c.index.result.now below) c.in_ok-end.end c.in_ok-end.was) in (
+      within,
+      end_exhausted c.args.pricing.now.measure c.args.election.now c.args.step c.args.max_raises (c.args.next + c.loop-i.i) c.loop-i.invariant
+          c.args.pricing.now.supporters.now c.requires.supporters c.opening_share-opening.result c.opening_share-opening.ensures.share
+          c.budget-budget.result c.budget-budget.ensures.budget within end,
+    )

@@ -1,0 +1,204 @@
+//! Counts of made elections, by groups of raises and with raises left out, beside the rule alone: one raise after the other.
+
+use pb_core::ballot::Ballot;
+use pb_core::election::Election;
+use pb_core::money::Money;
+use pb_core::project::Project;
+use pb_core::voter::Voter;
+use pb_core::voter_id::VoterId;
+use pb_price::gate::NoGate;
+use pb_rounds::count::{count, equal_shares};
+use pb_rounds::count_fault::CountFault;
+use pb_rounds::measure::Measure;
+use pb_rounds::options::{Completion, CountOptions};
+use pb_rounds::outcome::Outcome;
+use std::alloc::Global;
+use std::process::Abort;
+use std::test::Fail;
+use std::thread::Threads;
+
+/// The next number of a simple recurrence, below this one.
+fn draw(rt: &impl Abort, seed: &mut u64, below: u64) -> u64 {
+    assert!(rt; 0 < below);
+    *seed = seed
+        .wrapping_mul(6_364_136_223_846_793_005)
+        .wrapping_add(1_442_695_040_888_963_407);
+    (*seed >> 33) % below
+}
+
+fn add_project(
+    rt: &impl Abort,
+    alloc: Global,
+    election: &mut Election,
+    cost: u64,
+) -> Result<(), Fail> {
+    let place = election.projects().len();
+    let id = format!(in alloc; "p{place}")?;
+    assert!(rt; !id.is_empty() && 0 < cost && cost <= 1_000_000_000_000_000);
+    let project = Project::new(id, String::new(alloc), Money(cost));
+    assert!(rt; election.voters().is_empty() && place < 10_000);
+    assert!(rt; !election.has_project(project.id()));
+    election.add_project(project)?;
+    Ok(())
+}
+
+fn add_voter(
+    rt: &impl Abort,
+    alloc: Global,
+    election: &mut Election,
+    places: &[u32],
+) -> Result<(), Fail> {
+    let position = election.voters().len();
+    let text = format!(in alloc; "v{position}")?;
+    let id = VoterId::new(alloc, text.as_str())?.expect(rt, "an id");
+    let ballot = Ballot::of(alloc, places)?;
+    assert!(rt; position < 1_000_000 && !election.has_voter(&id) && election.knows(&ballot));
+    election.add_voter(Voter { id, ballot })?;
+    Ok(())
+}
+
+/// Some of these projects.
+fn draw_places(
+    rt: &impl Abort,
+    alloc: Global,
+    seed: &mut u64,
+    projects: u32,
+) -> Result<Vec<u32>, Fail> {
+    let mut places = Vec::new(alloc);
+    let among = 2 + draw(rt, seed, 4);
+    for place in 0..projects {
+        if draw(rt, seed, among) == 0 {
+            places.push(place)?;
+        }
+    }
+    Ok(places)
+}
+
+/// An election of 1 to 5 projects and up to 6 voters, with a budget below 4.00.
+fn made_election(rt: &impl Abort, alloc: Global, seed: &mut u64) -> Result<Election, Fail> {
+    let mut election = Election::start(alloc, Money(draw(rt, seed, 400)));
+    let projects = 1 + draw(rt, seed, 5) as u32;
+    for _ in 0..projects {
+        let cost = 1 + draw(rt, seed, 150);
+        add_project(rt, alloc, &mut election, cost)?;
+    }
+    for _ in 0..draw(rt, seed, 7) {
+        let places = draw_places(rt, alloc, seed, projects)?;
+        add_voter(rt, alloc, &mut election, places.as_slice())?;
+    }
+    Ok(election)
+}
+
+/// What the elected cost together.
+fn spent(rt: &impl Abort, election: &Election, outcome: &Outcome) -> u64 {
+    let mut spent: u64 = 0;
+    for elected in &outcome.elected {
+        let project = election.projects().get(elected.place as usize).expect(rt, "a project");
+        spent = spent.saturating_add(project.cost().0);
+    }
+    spent
+}
+
+/// Whether a project that is not elected, and that somebody supports, costs at most this much.
+fn has_room(election: &Election, outcome: &Outcome, left: u64) -> bool {
+    for (place, project) in election.projects().iter().enumerate() {
+        let place = place as u32;
+        let is_elected = outcome.elected.iter().any(|elected| elected.place == place);
+        let is_supported = election.voters().iter().any(|voter| voter.ballot.has(place));
+        if !is_elected && is_supported && project.cost().0 <= left {
+            return true;
+        }
+    }
+    false
+}
+
+/// The outcome at a share, with one worker.
+fn run_at(
+    rt: &(impl Abort + Threads + Sync),
+    alloc: Global,
+    election: &Election,
+    share: u64,
+    measure: Measure,
+) -> Result<Outcome, Fail> {
+    assert!(rt; share <= 2_000_000_000_000_000);
+    let outcome = equal_shares(rt, alloc, election, Money(share), 1, measure, &NoGate)?;
+    Ok(outcome)
+}
+
+/// The rule alone: the first outcome that is exhausted, or the last one before the first that is over.
+fn plain_count(
+    rt: &(impl Abort + Threads + Sync),
+    alloc: Global,
+    election: &Election,
+    options: &CountOptions,
+) -> Result<Option<Outcome>, Fail> {
+    let budget = election.budget().0;
+    let voters = election.voters().len() as u64;
+    let opening = if voters == 0 { 0 } else { budget / voters };
+    let mut last = None;
+    for raised in 0..options.max_raises.saturating_add(1) {
+        let raise = u64::from(raised).saturating_mul(options.step.0);
+        let share = opening.saturating_add(raise);
+        let outcome = run_at(rt, alloc, election, share, options.measure)?;
+        let spent = spent(rt, election, &outcome);
+        if spent > budget {
+            return Ok(last);
+        }
+        if !has_room(election, &outcome, budget - spent) {
+            return Ok(Some(outcome));
+        }
+        last = Some(outcome);
+    }
+    Ok(None)
+}
+
+/// Counts with this many workers, and compares with what the rule gives.
+fn counts_as(
+    rt: &(impl Abort + Threads + Sync),
+    alloc: Global,
+    election: &Election,
+    options: &CountOptions,
+    plain: &Option<Outcome>,
+) -> Result<(), Fail> {
+    match (count(rt, alloc, election, options), plain) {
+        (Ok(outcome), Some(plain)) => {
+            assert_eq!(rt; outcome.share, plain.share);
+            assert_eq!(rt; outcome.elected.as_slice(), plain.elected.as_slice());
+            assert_eq!(rt; outcome.rests.as_slice(), plain.rests.as_slice());
+        }
+        (Err(fault), None) => assert_eq!(rt; fault, CountFault::RaisesSpent),
+        _ => assert!(rt; false),
+    }
+    Ok(())
+}
+
+/// Counts one made election by both measures and several numbers of workers.
+fn counts_one(rt: &(impl Abort + Threads + Sync), alloc: Global, seed: &mut u64) -> Result<(), Fail> {
+    let election = made_election(rt, alloc, seed)?;
+    let step = Money(1 + draw(rt, seed, 20));
+    let max_raises = draw(rt, seed, 30) as u32;
+    for measure in [Measure::Votes, Measure::Cost] {
+        let one = CountOptions {
+            step,
+            max_raises,
+            workers: 1,
+            completion: Completion::Add1,
+            measure,
+        };
+        let plain = plain_count(rt, alloc, &election, &one)?;
+        for workers in [1, 2, 3, 64] {
+            let options = CountOptions { workers, ..one };
+            counts_as(rt, alloc, &election, &options, &plain)?;
+        }
+    }
+    Ok(())
+}
+
+#[test]
+fn counts_as_the_rule_alone(rt: HostRuntime) -> Result<(), Fail> {
+    let mut seed = 1;
+    for _ in 0..300 {
+        counts_one(&rt, rt.alloc(), &mut seed)?;
+    }
+    Ok(())
+}
