@@ -62,8 +62,8 @@ ended P end_of seen at same h end is = subst (λ r. IfOk r P) (ap end_of (sym sa
 pub group_size : (workers most count left tried : ℕ) → is_worker_count workers ≡ true → most ≡ min workers left → 0 < left → count ≡ min (max tried 2) most
     → (0 < count) × (count ≤ 64) × (count ≤ left)
 group_size workers most count left tried e most_is some count_is =
-    let least = some_worker workers e in
-    let few = leb-true workers 64 (and_parts _ _ e).1 in (
+    let least : 0 < workers = some_worker workers e in
+    let few : workers ≤ 64 = leb-true workers 64 (and_parts _ _ e).1 in (
       omega (arith, least, most_is, some, count_is),
       omega (arith, few, most_is, count_is),
       omega (arith, most_is, count_is),

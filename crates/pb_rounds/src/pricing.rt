@@ -5,8 +5,8 @@ use crate::measure::Measure;
 use pb_price::supporters::Supporters;
 use std::alloc::Allocator;
 
-/// From this many approvals on it pays to start threads.
-const MANY_APPROVALS: u64 = 50_000;
+/// So many approvals are worth a thread.
+const APPROVALS_A_THREAD: u64 = 100_000;
 
 /// What all rounds of a count price by.
 #[derive(Drop)]
@@ -20,7 +20,7 @@ pub(crate) struct Pricing<'a, R, G, A: Allocator> {
     pub(crate) supporters: &'a Supporters<A>,
 }
 
-/// How many of the workers price these projects: one alone where there is little to do.
+/// How many of the workers price these projects: one for each share of the approvals that is worth a thread.
 pub(crate) fn workers_for<A: Allocator>(
     workers: u32,
     supporters: &Supporters<A>,
@@ -34,8 +34,6 @@ pub(crate) fn workers_for<A: Allocator>(
     for place in places {
         approvals = approvals.saturating_add(supporters.of(*place).len() as u64);
     }
-    if approvals < MANY_APPROVALS {
-        return 1;
-    }
-    workers
+    let threads = 1 + approvals / APPROVALS_A_THREAD;
+    threads.min(u64::from(workers)) as u32
 }

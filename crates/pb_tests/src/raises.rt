@@ -1,5 +1,7 @@
 //! Counts of made elections, by groups of raises and with raises left out, beside the rule alone: one raise after the other.
 
+ghost use Rattle.std.specs.Prelude.{◌<◌};
+
 use pb_core::ballot::Ballot;
 use pb_core::election::Election;
 use pb_core::money::Money;
@@ -18,8 +20,10 @@ use std::test::Fail;
 use std::thread::Threads;
 
 /// The next number of a simple recurrence, below this one.
-fn draw(rt: &impl Abort, seed: &mut u64, below: u64) -> u64 {
-    assert!(rt; 0 < below);
+fn draw(seed: &mut u64, below: u64) -> u64
+    requires { 0 < below }
+    ensures { result < below }
+{
     *seed = seed
         .wrapping_mul(6_364_136_223_846_793_005)
         .wrapping_add(1_442_695_040_888_963_407);
@@ -58,16 +62,11 @@ fn add_voter(
 }
 
 /// Some of these projects.
-fn draw_places(
-    rt: &impl Abort,
-    alloc: Global,
-    seed: &mut u64,
-    projects: u32,
-) -> Result<Vec<u32>, Fail> {
+fn draw_places(alloc: Global, seed: &mut u64, projects: u32) -> Result<Vec<u32>, Fail> {
     let mut places = Vec::new(alloc);
-    let among = 2 + draw(rt, seed, 4);
+    let among = 2 + draw(seed, 4);
     for place in 0..projects {
-        if draw(rt, seed, among) == 0 {
+        if draw(seed, among) == 0 {
             places.push(place)?;
         }
     }
@@ -76,14 +75,14 @@ fn draw_places(
 
 /// An election of 1 to 5 projects and up to 6 voters, with a budget below 4.00.
 fn made_election(rt: &impl Abort, alloc: Global, seed: &mut u64) -> Result<Election, Fail> {
-    let mut election = Election::start(alloc, Money(draw(rt, seed, 400)));
-    let projects = 1 + draw(rt, seed, 5) as u32;
+    let mut election = Election::start(alloc, Money(draw(seed, 400)));
+    let projects = 1 + draw(seed, 5) as u32;
     for _ in 0..projects {
-        let cost = 1 + draw(rt, seed, 150);
+        let cost = 1 + draw(seed, 150);
         add_project(rt, alloc, &mut election, cost)?;
     }
-    for _ in 0..draw(rt, seed, 7) {
-        let places = draw_places(rt, alloc, seed, projects)?;
+    for _ in 0..draw(seed, 7) {
+        let places = draw_places(alloc, seed, projects)?;
         add_voter(rt, alloc, &mut election, places.as_slice())?;
     }
     Ok(election)
@@ -93,7 +92,10 @@ fn made_election(rt: &impl Abort, alloc: Global, seed: &mut u64) -> Result<Elect
 fn spent(rt: &impl Abort, election: &Election, outcome: &Outcome) -> u64 {
     let mut spent: u64 = 0;
     for elected in &outcome.elected {
-        let project = election.projects().get(elected.place as usize).expect(rt, "a project");
+        let project = election
+            .projects()
+            .get(elected.place as usize)
+            .expect(rt, "a project");
         spent = spent.saturating_add(project.cost().0);
     }
     spent
@@ -104,7 +106,10 @@ fn has_room(election: &Election, outcome: &Outcome, left: u64) -> bool {
     for (place, project) in election.projects().iter().enumerate() {
         let place = place as u32;
         let is_elected = outcome.elected.iter().any(|elected| elected.place == place);
-        let is_supported = election.voters().iter().any(|voter| voter.ballot.has(place));
+        let is_supported = election
+            .voters()
+            .iter()
+            .any(|voter| voter.ballot.has(place));
         if !is_elected && is_supported && project.cost().0 <= left {
             return true;
         }
@@ -172,26 +177,41 @@ fn counts_as(
     Ok(())
 }
 
-/// Counts one made election by both measures and several numbers of workers.
-fn counts_one(rt: &(impl Abort + Threads + Sync), alloc: Global, seed: &mut u64) -> Result<(), Fail> {
-    let election = made_election(rt, alloc, seed)?;
-    let step = Money(1 + draw(rt, seed, 20));
-    let max_raises = draw(rt, seed, 30) as u32;
-    for measure in [Measure::Votes, Measure::Cost] {
-        let one = CountOptions {
-            step,
-            max_raises,
-            workers: 1,
-            completion: Completion::Add1,
-            measure,
-        };
-        let plain = plain_count(rt, alloc, &election, &one)?;
-        for workers in [1, 2, 3, 64] {
-            let options = CountOptions { workers, ..one };
-            counts_as(rt, alloc, &election, &options, &plain)?;
-        }
+/// Counts the election with several numbers of workers.
+fn counts_alike(
+    rt: &(impl Abort + Threads + Sync),
+    alloc: Global,
+    election: &Election,
+    one: &CountOptions,
+) -> Result<(), Fail> {
+    let plain = plain_count(rt, alloc, election, one)?;
+    for workers in [1, 2, 3, 64] {
+        let options = CountOptions { workers, ..*one };
+        counts_as(rt, alloc, election, &options, &plain)?;
     }
     Ok(())
+}
+
+/// Counts one made election by both measures.
+fn counts_one(
+    rt: &(impl Abort + Threads + Sync),
+    alloc: Global,
+    seed: &mut u64,
+) -> Result<(), Fail> {
+    let election = made_election(rt, alloc, seed)?;
+    let votes = CountOptions {
+        step: Money(1 + draw(seed, 20)),
+        max_raises: draw(seed, 30) as u32,
+        workers: 1,
+        completion: Completion::Add1,
+        measure: Measure::Votes,
+    };
+    let cost = CountOptions {
+        measure: Measure::Cost,
+        ..votes
+    };
+    counts_alike(rt, alloc, &election, &votes)?;
+    counts_alike(rt, alloc, &election, &cost)
 }
 
 #[test]
