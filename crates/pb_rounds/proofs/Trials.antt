@@ -58,12 +58,15 @@ pub ended : {T F : Type 0} (P : RaiseEnd → Type 0) (end_of : T → Result Rais
     → (end : RaiseEnd) → end_of seen ≡ Ok end → P end
 ended P end_of seen at same h end is = subst (λ r. IfOk r P) (ap end_of (sym same) ∙ is) h
 
+few_workers : (workers : ℕ) → is_worker_count workers ≡ true → workers ≤ 64
+few_workers workers e = leb-true workers 64 (and_parts _ _ e).1
+
 -- a group is at least one raise, and at most 64
 pub group_size : (workers most count left tried : ℕ) → is_worker_count workers ≡ true → most ≡ min workers left → 0 < left → count ≡ min (max tried 2) most
     → (0 < count) × (count ≤ 64) × (count ≤ left)
 group_size workers most count left tried e most_is some count_is =
     let least : 0 < workers = some_worker workers e in
-    let few : workers ≤ 64 = leb-true workers 64 (and_parts _ _ e).1 in (
+    let few : workers ≤ 64 = few_workers workers e in (
       omega (arith, least, most_is, some, count_is),
       omega (arith, few, most_is, count_is),
       omega (arith, most_is, count_is),
