@@ -1,14 +1,16 @@
 -- What the checks of a row find, from the tests of its parts.
 use Rattle.std.proofs.Common.{◌≡◌, ◌≢◌, ◌==◌, ℕ, Bool, true, false, cond, not, List, [], ◌∷◌, ◌++◌, length, map, Option, Some, None, Result, Ok, Err, refl, ap, sym, ◌∙◌}
-use Rattle.std.specs.Prelude.{nat_le, IsErrAnd}
-use Rattle.std.specs.Str.{trim}
-use Rattle.std.proofs.lemmas.Bool.{not-false, not-true}
+use Rattle.std.specs.Prelude.{is_none, is_some, nat_le, IsErrAnd}
+use Rattle.std.specs.Str.{bytes_eq, trim}
 use Rattle.std.proofs.lemmas.List.{map_push}
 use Rattle.pb_core.specs.Election.{ElectionView, ProjectView, VoterView, most_projects, most_voters, project_ids, voter_ids}
 use Rattle.pb_core.specs.Money.{money_of}
 use Rattle.pb_core.specs.declared.money_fault.MoneyFault.{MoneyFault}
 use Rattle.pb_rows.specs.Reading.{Fields}
+use Rattle.pb_read.proofs.IdFacts.{is_some-place, place_in-push}
 use Rattle.pb_read.specs.Columns.{has_fields}
+use Rattle.pb_read.specs.Drafts.{HasProject, HasVoter}
+use Rattle.pb_read.specs.Ids.{Finds, found}
 use Rattle.pb_read.specs.MoneyKinds.{kind_of_money}
 use Rattle.pb_read.specs.Machine.{Explains, project_checks, project_row_checks, vote_checks, vote_row_checks}
 use Rattle.pb_read.specs.Rows.{field, is_empty}
@@ -16,6 +18,7 @@ use Rattle.pb_read.specs.Voting.{is_among, names_only}
 use Rattle.pb_read.specs.declared.columns.ProjectColumns.{ProjectColumns}
 use Rattle.pb_read.specs.declared.columns.VoteColumns.{VoteColumns}
 use Rattle.pb_read.specs.declared.fault.ReadKind.{ReadKind}
+use Rattle.pb_read.specs.declared.ids.Ids.{Ids}
 use Rattle.pb_read.specs.declared.fault.ReadKind.TheVariants as kinds
 
 module _ (columns : ProjectColumns) (row : Fields) (e : ElectionView) where
@@ -48,16 +51,37 @@ module _ (columns : VoteColumns) (row : Fields) (e : ElectionView) where
   unfolding vote_row_checks
   vote_found whole n r k f = λ i. vote_checks (whole i) (n i) (r i) (k i) (f i)
 
--- what `add` says of an id that was there, and of a new one
-pub was_there : (ids known : List (List ℕ)) (text id : List ℕ) (new : Bool) → ids ≡ known → text ≡ id → new ≡ not (is_among ids text) → new ≡ false → is_among known id ≡ true
-was_there ids known text id new same_ids same_text added e = (λ i. is_among (sym same_ids i) (sym same_text i)) ∙ not-false (is_among ids text) (sym added ∙ e)
+-- an id is among the known ones just where adding it says that it is not new
+module _ (ids : Ids) (known : List (List ℕ)) (text id : List ℕ) (new : Bool) (finds : Finds ids known) (same : text ≡ id) (added : new ≡ is_none (found ids text)) where
+  among : is_among known id ≡ not new
+  among =
+      ap (is_among known) (sym same) ∙ sym (is_some-place known text) ∙ ap is_some (sym (finds text)) ∙ turned (found ids text) ∙ ap not (sym added)
+    where
+      turned : (o : Option ℕ) → is_some o ≡ not (is_none o)
+      turned (Some place) = refl
+      turned None = refl
 
-pub was_new : (ids known : List (List ℕ)) (text id : List ℕ) (new : Bool) → ids ≡ known → text ≡ id → new ≡ not (is_among ids text) → new ≡ true → is_among known id ≡ false
-was_new ids known text id new same_ids same_text added e = (λ i. is_among (sym same_ids i) (sym same_text i)) ∙ not-true (is_among ids text) (sym added ∙ e)
+  pub was_there : new ≡ false → is_among known id ≡ true
+  was_there e = among ∙ ap not e
 
--- the ids after an addition
-pub ids_after : (old new known : List (List ℕ)) (text id : List ℕ) (fresh : Bool) → old ≡ known → text ≡ id → fresh ≡ true → new ≡ cond fresh (old ++ text ∷ []) old → new ≡ known ++ id ∷ []
-ids_after old new known text id fresh same_ids same_text is e = e ∙ (λ i. cond (is i) (same_ids i ++ same_text i ∷ []) (same_ids i))
+  pub was_new : new ≡ true → is_among known id ≡ false
+  was_new e = among ∙ ap not e
+
+  -- and is found after it was added
+  pub finds_after : (after : Ids) → new ≡ true → ((t : List ℕ) → found after t ≡ cond (bytes_eq text t) (Some (length known)) (found ids t)) → Finds after (known ++ id ∷ [])
+  finds_after after e put t =
+      put t ∙ ap (λ x. cond (bytes_eq x t) (Some (length known)) (found ids t)) same ∙ ap (cond (bytes_eq id t) (Some (length known))) (finds t)
+      ∙ sym (place_in-push known id t (was_new e))
+
+-- what the checks of a row find, once its id was added to those before it
+pub project_checked : (columns : ProjectColumns) (row : Fields) (e : ElectionView) (id : List ℕ) (cost : ℕ) {repeated full : Bool} → HasProject columns row id cost → is_among (project_ids e) (field row columns.id) ≡ repeated →
+    nat_le most_projects (length e.projects) ≡ full → project_row_checks columns row e ≡ cond repeated (Some kinds.RepeatedProject) (cond full (Some kinds.TooManyProjects) None)
+project_checked columns row e id cost has repeated full = project_found columns row e has.whole has.reads has.costs has.has_id repeated full
+
+pub voter_checked : (columns : VoteColumns) (row : Fields) (e : ElectionView) (id : List ℕ) {repeated known full : Bool} → HasVoter columns row id → is_among (voter_ids e) (field row columns.voter) ≡ repeated →
+    names_only (project_ids e) (field row columns.vote) ≡ known → nat_le most_voters (length e.voters) ≡ full →
+    vote_row_checks columns row e ≡ cond repeated (Some kinds.RepeatedVoter) (cond (not known) (Some kinds.UnknownProject) (cond full (Some kinds.TooManyVoters) None))
+voter_checked columns row e id has repeated known full = vote_found columns row e has.whole has.has_id repeated known full
 
 pub same_project : (p q : ProjectView) → p.id ≡ q.id → p.name ≡ q.name → p.cost ≡ q.cost → p ≡ q
 same_project p q id name cost = λ i. record { id = id i; name = name i; cost = cost i }

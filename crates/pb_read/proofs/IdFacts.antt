@@ -1,19 +1,139 @@
--- Ids kept as strings, seen as their bytes.
-use Rattle.std.proofs.Common.{◌≡◌, ◌+◌, ◌||◌, Bool, cond, not, List, [], ◌∷◌, length, map, Some, None, refl, ap, sym, ◌∙◌}
-use Rattle.std.specs.Prelude.{nat_lt}
-use Rattle.std.specs.List.{list_any, position, prefix_len}
-use Rattle.std.proofs.lemmas.List.{length-map}
+-- Ids found by number or by text.
+use Rattle.std.proofs.Common.{◌≡◌, ◌≢◌, ◌+◌, ◌<◌, ◌||◌, ℕ, Bool, true, false, cond, nat_eq, List, [], ◌∷◌, ◌++◌, length, reverse, Option, Some, None, refl, ap, sym, ◌∙◌, arith, zero-add}
+use Rattle.std.specs.Prelude.{is_some, nat_lt}
+use Rattle.std.specs.List.{list_all, list_any, position_from}
+use Rattle.std.specs.Option.{option_or}
+use Rattle.std.specs.Str.{bytes_eq}
+use Rattle.std.proofs.lemmas.Bool.{and_parts, and_from, eq-eqb, eqb-true, false_from_ne_true, false≢true, ltb-true}
+use Rattle.std.proofs.lemmas.List.{reverse-append, reverse-reverse}
+use Rattle.std.proofs.lemmas.List.Folds.{list_all-append}
+use Rattle.std.proofs.lemmas.Slice.Eq.{bytes_eq-Decides}
+use Rattle.std.proofs.lemmas.Iterator.Adapters.{position_from-zero}
+use Rattle.std.proofs.lemmas.Option.{same_Some}
+use Rattle.pb_read.proofs.ListFacts.{some≢none}
+use Rattle.pb_read.specs.Ids.{code_of, digits, has_code, place_in}
+use Rattle.pb_read.specs.Voting.{is_among}
 
-module _ {X Y : Type 0} (p : Y → Bool) (f : X → Y) where
-  pub list_any-map : (xs : List X) → list_any (λ x. p (f x)) xs ≡ list_any p (map f xs)
-  list_any-map [] = refl
-  list_any-map (x ∷ xs) = ap (λ t. p (f x) || t) (list_any-map xs)
+abbrev small : ℕ → Bool
+small b = nat_lt b 255
 
-  prefix_len-map : (xs : List X) → prefix_len (λ x. not (p (f x))) xs ≡ prefix_len (λ y. not (p y)) (map f xs)
-  prefix_len-map [] = refl
-  prefix_len-map (x ∷ xs) = ap (λ n. cond (not (p (f x))) (1 + n) 0) (prefix_len-map xs)
+-- numbers tell texts apart
+digits_same : (xs ys : List ℕ) → list_all small xs ≡ true → list_all small ys ≡ true → digits xs ≡ digits ys → xs ≡ ys
+digits_same [] [] sx sy e = refl
+digits_same [] (y ∷ ys) sx sy e = absurd (omega (arith, e))
+digits_same (x ∷ xs) [] sx sy e = absurd (omega (arith, e))
+digits_same (x ∷ xs) (y ∷ ys) sx sy e =
+    let px = and_parts (small x) (list_all small xs) sx in
+    let py = and_parts (small y) (list_all small ys) sy in
+    let bx : x < 255 = ltb-true x 255 px.0 in
+    let by : y < 255 = ltb-true y 255 py.0 in
+    let rest : digits xs ≡ digits ys = omega (arith, e, bx, by) in
+    let heads : x ≡ y = omega (arith, e, bx, by) in
+    let tails : xs ≡ ys = digits_same xs ys px.1 py.1 rest in
+    cc
 
-  pub position-map : (xs : List X) → position (λ x. p (f x)) xs ≡ position p (map f xs)
-  position-map xs =
-      ap (λ n. cond (nat_lt n (length xs)) (Some n) None) (prefix_len-map xs)
-      ∙ ap (λ n. cond (nat_lt (prefix_len (λ y. not (p y)) (map f xs)) n) (Some (prefix_len (λ y. not (p y)) (map f xs))) None) (sym (length-map xs f))
+list_all-reverse : (xs : List ℕ) → list_all small xs ≡ true → list_all small (reverse xs) ≡ true
+list_all-reverse [] e = refl
+list_all-reverse (x ∷ xs) e =
+    let p = and_parts (small x) (list_all small xs) e in
+    ap (list_all small) (reverse-append (x ∷ []) xs)
+    ∙ list_all-append small (reverse xs) (x ∷ [])
+    ∙ and_from _ _ (list_all-reverse xs p.1) (and_from _ _ p.0 refl)
+
+code_same : (a b : List ℕ) → has_code a ≡ true → has_code b ≡ true → code_of a ≡ code_of b → a ≡ b
+code_same a b ha hb e =
+    let sa = (and_parts _ _ ha).1 in
+    let sb = (and_parts _ _ hb).1 in
+    sym (reverse-reverse a) ∙ ap reverse (digits_same (reverse a) (reverse b) (list_all-reverse a sa) (list_all-reverse b sb) e) ∙ reverse-reverse b
+
+-- so numbers are equal where texts are
+code_eq : (a b : List ℕ) → has_code a ≡ true → has_code b ≡ true → nat_eq (code_of a) (code_of b) ≡ bytes_eq a b
+code_eq a b ha hb = go (bytes_eq a b) refl
+  where
+    go : (t : Bool) → bytes_eq a b ≡ t → nat_eq (code_of a) (code_of b) ≡ t
+    go true e = eq-eqb _ _ (ap code_of ((bytes_eq-Decides a b).0 e))
+    go false e = false_from_ne_true _ (λ same. false≢true (sym e ∙ (bytes_eq-Decides a b).1 (code_same a b ha hb (eqb-true _ _ same))))
+
+-- texts of which one has a number differ
+code_apart : (a b : List ℕ) (s t : Bool) → has_code a ≡ s → has_code b ≡ t → s ≢ t → bytes_eq a b ≡ false
+code_apart a b s t ha hb differ = false_from_ne_true _ (λ e. differ (sym ha ∙ ap has_code ((bytes_eq-Decides a b).0 e) ∙ hb))
+
+module _ (short new : ℕ → Option ℕ) (long : List ℕ → Option ℕ) (id text : List ℕ) (place : Option ℕ) where
+  -- what is found after an id was put among the numbers
+  pub found_after_short : has_code id ≡ true → ((q : ℕ) → new q ≡ cond (nat_eq (code_of id) q) place (short q)) →
+      cond (has_code text) (new (code_of text)) (long text) ≡ cond (bytes_eq id text) place (cond (has_code text) (short (code_of text)) (long text))
+  found_after_short has updates = go (has_code text) refl
+    where
+      go : (t : Bool) → has_code text ≡ t → cond t (new (code_of text)) (long text) ≡ cond (bytes_eq id text) place (cond t (short (code_of text)) (long text))
+      go true h = updates (code_of text) ∙ ap (λ b. cond b place (short (code_of text))) (code_eq id text has h)
+      go false h = sym (ap (λ b. cond b place (long text)) (code_apart id text true false has h (λ e. false≢true (sym e))))
+
+module _ (short : ℕ → Option ℕ) (long new : List ℕ → Option ℕ) (id text : List ℕ) (place : Option ℕ) where
+  -- and among the texts
+  pub found_after_long : has_code id ≡ false → ((q : List ℕ) → new q ≡ cond (bytes_eq id q) place (long q)) →
+      cond (has_code text) (short (code_of text)) (new text) ≡ cond (bytes_eq id text) place (cond (has_code text) (short (code_of text)) (long text))
+  found_after_long has updates = go (has_code text) refl
+    where
+      go : (t : Bool) → has_code text ≡ t → cond t (short (code_of text)) (new text) ≡ cond (bytes_eq id text) place (cond t (short (code_of text)) (long text))
+      go true h = sym (ap (λ b. cond b place (short (code_of text))) (code_apart id text false true has h false≢true))
+      go false h = updates text
+
+-- what the number of a text is found to be
+pub code_some : (text : List ℕ) (code : ℕ) → cond (has_code text) (Some (code_of text)) None ≡ Some code → (has_code text ≡ true) × (code_of text ≡ code)
+code_some text code e = go (has_code text) refl e
+  where
+    go : (t : Bool) → has_code text ≡ t → cond t (Some (code_of text)) None ≡ Some code → (has_code text ≡ true) × (code_of text ≡ code)
+    go true h e = (h, same_Some _ _ e)
+    go false h e = absurd (some≢none (sym e))
+
+pub code_none : (text : List ℕ) → cond (has_code text) (Some (code_of text)) None ≡ None → has_code text ≡ false
+code_none text e = go (has_code text) refl e
+  where
+    go : (t : Bool) → has_code text ≡ t → cond t (Some (code_of text)) None ≡ None → has_code text ≡ false
+    go true h e = absurd (some≢none e)
+    go false h e = h
+
+-- an id has a place where it is among the ids
+some_from : (p : List ℕ → Bool) (n : ℕ) (xs : List (List ℕ)) → is_some (position_from p n xs) ≡ list_any p xs
+some_from p n [] = refl
+some_from p n (x ∷ xs) = go (p x) (some_from p (n + 1) xs)
+  where
+    go : (t : Bool) → is_some (position_from p (n + 1) xs) ≡ list_any p xs → is_some (cond t (Some n) (position_from p (n + 1) xs)) ≡ (t || list_any p xs)
+    go true later = refl
+    go false later = later
+
+pub is_some-place : (ids : List (List ℕ)) (text : List ℕ) → is_some (place_in ids text) ≡ is_among ids text
+is_some-place ids text = ap is_some (position_from-zero (bytes_eq text) ids) ∙ some_from (bytes_eq text) 0 ids
+
+-- one text more
+push_from : (p : List ℕ → Bool) (n : ℕ) (xs : List (List ℕ)) (y : List ℕ) → position_from p n (xs ++ y ∷ []) ≡ option_or (position_from p n xs) (cond (p y) (Some (n + length xs)) None)
+push_from p n [] y = ap (λ k. cond (p y) (Some k) None) (omega arith)
+push_from p n (x ∷ xs) y = go (p x) (push_from p (n + 1) xs y ∙ ap (λ k. option_or (position_from p (n + 1) xs) (cond (p y) (Some k) None)) (omega arith))
+  where
+    go : (t : Bool) → position_from p (n + 1) (xs ++ y ∷ []) ≡ option_or (position_from p (n + 1) xs) (cond (p y) (Some (n + length (x ∷ xs))) None) →
+        cond t (Some n) (position_from p (n + 1) (xs ++ y ∷ [])) ≡ option_or (cond t (Some n) (position_from p (n + 1) xs)) (cond (p y) (Some (n + length (x ∷ xs))) None)
+    go true later = refl
+    go false later = later
+
+-- the places after an id joined that was not there
+pub place_in-push : (ids : List (List ℕ)) (id text : List ℕ) → is_among ids id ≡ false → place_in (ids ++ id ∷ []) text ≡ cond (bytes_eq id text) (Some (length ids)) (place_in ids text)
+place_in-push ids id text new =
+    position_from-zero (bytes_eq text) (ids ++ id ∷ []) ∙ push_from (bytes_eq text) 0 ids id
+    ∙ ap (λ n. option_or (position_from (bytes_eq text) 0 ids) (cond (bytes_eq text id) (Some n) None)) (zero-add (length ids))
+    ∙ ap (λ o. option_or o (cond (bytes_eq text id) (Some (length ids)) None)) (sym (position_from-zero (bytes_eq text) ids))
+    ∙ go (bytes_eq id text) refl
+  where
+    go : (t : Bool) → bytes_eq id text ≡ t → option_or (place_in ids text) (cond (bytes_eq text id) (Some (length ids)) None) ≡ cond t (Some (length ids)) (place_in ids text)
+    go true e =
+        let same : id ≡ text = (bytes_eq-Decides id text).0 e in
+        let none : is_some (place_in ids text) ≡ false = is_some-place ids text ∙ ap (is_among ids) (sym same) ∙ new in
+        by (place_in ids text) none ((bytes_eq-Decides text id).1 (sym same))
+      where
+        by : (o : Option ℕ) → is_some o ≡ false → bytes_eq text id ≡ true → option_or o (cond (bytes_eq text id) (Some (length ids)) None) ≡ Some (length ids)
+        by (Some place) some here = absurd (false≢true (sym some))
+        by None some here = ap (λ t. cond t (Some (length ids)) None) here
+    go false e = by (place_in ids text) (false_from_ne_true _ (λ here. false≢true (sym e ∙ (bytes_eq-Decides id text).1 (sym ((bytes_eq-Decides text id).0 here)))))
+      where
+        by : (o : Option ℕ) → bytes_eq text id ≡ false → option_or o (cond (bytes_eq text id) (Some (length ids)) None) ≡ o
+        by (Some place) other = refl
+        by None other = ap (λ t. cond t (Some (length ids)) None) other

@@ -4,15 +4,16 @@ use Rattle.pb_core.specs.Election.{project_ids, voter_ids}
 use Rattle.pb_core.specs.Money.{money_of}
 use Rattle.pb_rows.specs.Reading.{Fields}
 use Rattle.pb_read.specs.Columns.{has_fields}
+use Rattle.pb_read.specs.Ids.{Finds}
 use Rattle.pb_read.specs.Rows.{field, is_empty}
 use Rattle.pb_read.specs.declared.columns.ProjectColumns.{ProjectColumns}
 use Rattle.pb_read.specs.declared.columns.VoteColumns.{VoteColumns}
 use Rattle.pb_read.specs.declared.draft.Draft.{Draft}
 
--- the ids by hash are the election's
+-- the ids that are found are the election's
 pub record IsTied (draft : Draft) : Type 0 where
-  pub project_ids_are : draft.project_ids ≡ project_ids draft.election
-  pub voter_ids_are : draft.voter_ids ≡ voter_ids draft.election
+  pub project_ids_are : Finds draft.project_ids (project_ids draft.election)
+  pub voter_ids_are : Finds draft.voter_ids (voter_ids draft.election)
 
 -- a row of PROJECTS has an id, and a cost above zero
 pub record HasProject (columns : ProjectColumns) (row : Fields) (id : List ℕ) (cost : ℕ) : Type 0 where

@@ -27,14 +27,14 @@ fails_by MoneyTooFine (Err money.MoneyTooFine) = true
 fails_by MoneyTooLarge (Err money.MoneyTooLarge) = true
 fails_by kind read = false
 
--- the amount that is judged: the budget at PROJECTS' head, and the cost of a project; elsewhere none is at fault
+-- the amount that is judged: the budget at PROJECTS' head, and a project's cost; elsewhere none is at fault
 abbrev pub amount_at : Stage × ElectionView → Next → Result ℕ MoneyFault
 amount_at (InMeta meta, e) (head Projects) = unwrap_or meta.budget (Ok 0)
 amount_at (InProjects columns, e) (plain row) = money_of (field row columns.cost)
 amount_at p next = Ok 0
 
--- the kinds that apply, each with the places where it can: how far the rows have come, and what comes next; the
--- first line that fits decides
+-- the kinds that apply, each with the places where it can: how far the rows have come, and what comes next;
+-- the first line that fits decides
 abbrev pub applies : ReadKind → Stage × ElectionView → Next → Bool
 applies NoSection (Start, e) the_end = true
 applies NoSection (Start, e) (plain row) = true

@@ -14,7 +14,7 @@ use Rattle.pb_read.specs.declared.fault.ReadKind.TheVariants.{ReadFailed, NoMemo
 -- none of these records is at fault: more may follow so that all of them describe an election
 abbrev pub HasNoFault : List Fields → Type 0
 HasNoFault records =
-    (length records ≤ most_records) × (more : List Fields) × (e : ElectionView) × Describes (records ++ more) e
+    (length records ≤ most_records) × (end : List Fields) × (e : ElectionView) × Describes (records ++ end) e
 
 -- the first of the records that are left is at fault: those before it have no fault, and with it they have;
 -- where none is left, those that were read stand for no election

@@ -2,6 +2,7 @@ pub mod Columns
 pub mod Drafts
 pub mod Faults
 pub mod FirstFault
+pub mod Ids
 pub mod Kinds
 pub mod Lengths
 pub mod Machine

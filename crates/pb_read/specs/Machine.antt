@@ -1,5 +1,5 @@
--- The reading of rows one by one. Private contracts and proofs speak of it; what a file stands for does not rest
--- on it.
+-- The reading of rows one by one. Private contracts and proofs speak of it; what a file stands for does not
+-- rest on it.
 use Rattle.std.specs.Prelude.{◌≡◌, ◌==◌, ℕ, Bool, not, find, if◌then◌else◌, List, [], ◌∷◌, ◌++◌, Option, Some, None, Result, Ok, Err, codes}
 use Rattle.std.specs.Result.{result_unwrap_or}
 use Rattle.std.specs.Option.{option_map_or}
@@ -86,7 +86,8 @@ advance (Header Projects, e) (plain header) =
 advance (Header Votes, e) (plain header) =
     option_map_or (λ columns. (InVotes columns, e)) (vote_columns header) (Start, e)
 advance (Header name, e) (plain row) = (InMeta (meta_of []), e)
-advance (InMeta meta, e) (head name) = (Header name, opening (budget_of meta.budget) (limit_of meta.max_length))
+advance (InMeta meta, e) (head name) =
+    (Header name, opening (budget_of meta.budget) (limit_of meta.max_length))
 advance (InMeta meta, e) (plain row) = (InMeta (with_row meta row), e)
 advance (InProjects columns, e) (head name) = (Header name, e)
 advance (InProjects columns, e) (plain row) = (InProjects columns, with_project columns row e)

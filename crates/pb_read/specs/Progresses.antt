@@ -12,7 +12,7 @@ use Rattle.pb_read.specs.Stages.{Next}
 use Rattle.pb_read.specs.declared.columns.VoteColumns.{VoteColumns}
 use Rattle.pb_read.specs.declared.progress.Progress.{Progress}
 use Rattle.pb_read.specs.declared.progress.Stage.{Stage}
-use Rattle.pb_read.specs.declared.progress.Stage.TheVariants.{Header, InMeta, InProjects, InVotes}
+use Rattle.pb_read.specs.declared.progress.Stage.TheVariants.{InMeta, InVotes}
 
 -- a budget that was read is in range
 abbrev pub IsRead : Meta → Type 0

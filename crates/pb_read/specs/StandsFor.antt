@@ -27,12 +27,12 @@ pub record GivesProject (columns : ProjectColumns) (row : Fields) (project : Pro
   pub cost : money_of (field row columns.cost) ≡ Ok project.cost
 
 -- a row of VOTES gives a voter, where the projects have these ids
-pub record GivesVoter (columns : VoteColumns) (ids : List (List ℕ)) (row : Fields) (voter : VoterView) : Type 0
-  where
-    pub whole : has_fields columns.voter columns.vote row ≡ true
-    pub id : voter.id ≡ field row columns.voter
-    pub known : names_only ids (field row columns.vote) ≡ true
-    pub ballot : voter.ballot ≡ ballot_of ids (field row columns.vote)
+pub record GivesVoter (columns : VoteColumns) (ids : List (List ℕ)) (row : Fields)
+    (voter : VoterView) : Type 0 where
+  pub whole : has_fields columns.voter columns.vote row ≡ true
+  pub id : voter.id ≡ field row columns.voter
+  pub known : names_only ids (field row columns.vote) ≡ true
+  pub ballot : voter.ballot ≡ ballot_of ids (field row columns.vote)
 
 -- a section's head alone
 abbrev pub IsHead : Section → List Fields → Type 0

@@ -52,16 +52,18 @@ impl Draft {
         requires no_voter { self.old.election.voters ≡ [] }
         ensures ok { OnOk result ((project_row_checks columns row.now self.old.election ≡ None)
             × (self.new.election ≡ with_project columns row.now self.old.election) × IsTied self.new) }
-        ensures err { IfErr result (λ kind. Explains kind (project_row_checks columns row.now self.old.election)) }
+        ensures err { IfErr result (λ kind.
+            Explains kind (project_row_checks columns row.now self.old.election)) }
     {
         let (id, cost) = match columns.id_and_cost(row) {
             Ok(found) => found,
             Err(kind) => return Err(kind),
         };
-        if !self.project_ids.add(self.alloc, id)? {
+        let place = self.election.projects().len();
+        if !self.project_ids.add(self.alloc, id, place as u32)? {
             return Err(ReadKind::RepeatedProject);
         }
-        if self.election.projects().len() >= MOST_PROJECTS {
+        if place >= MOST_PROJECTS {
             return Err(ReadKind::TooManyProjects);
         }
         let name = String::from_str(self.alloc, columns.name(row))?;
@@ -75,21 +77,22 @@ impl Draft {
         requires { IsTied self.old }
         ensures ok { OnOk result ((vote_row_checks columns row.now self.old.election ≡ None)
             × (self.new.election ≡ with_voter columns row.now self.old.election) × IsTied self.new) }
-        ensures err { IfErr result (λ kind. Explains kind (vote_row_checks columns row.now self.old.election)) }
+        ensures err { IfErr result (λ kind.
+            Explains kind (vote_row_checks columns row.now self.old.election)) }
     {
         let id = match columns.voter_id(self.alloc, row) {
             Ok(id) => id,
             Err(kind) => return Err(kind),
         };
-        if !self.voter_ids.add(self.alloc, id.text())? {
+        let place = self.election.voters().len();
+        if !self.voter_ids.add(self.alloc, id.text(), place as u32)? {
             return Err(ReadKind::RepeatedVoter);
         }
-        let is_full = self.election.voters().len() >= MOST_VOTERS;
         let vote = row.field(columns.vote);
         if !self.project_ids.places(vote, &mut self.places)? {
             return Err(ReadKind::UnknownProject);
         }
-        if is_full {
+        if place >= MOST_VOTERS {
             return Err(ReadKind::TooManyVoters);
         }
         let ballot = Ballot::of(self.alloc, &self.places)?;

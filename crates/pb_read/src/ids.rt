@@ -1,64 +1,68 @@
 // Ids with their places.
 
-ghost use Rattle.std.specs.Prelude.{◌≡◌, [], ◌∷◌, ◌++◌, IfOk, OnErr, if◌then◌else◌, not, position, is_some, length, true, ◌<◌, ◌^◌};
+ghost use Rattle.std.specs.Prelude.{◌≡◌, List, ℕ, None, Some, IfOk, OnOk, if◌then◌else◌, is_none, true};
 ghost use Rattle.std.specs.Str.{bytes_eq};
+ghost use Rattle.pb_read.specs.Ids.{Finds, code_of, found, has_code};
 ghost use Rattle.pb_read.specs.Machine.{places_in};
-ghost use Rattle.pb_read.specs.Voting.{is_among, names_only, pieces_of};
+ghost use Rattle.pb_read.specs.Voting.{names_only, pieces_of};
 
-use indexmap::IndexSet;
+use indexmap::IndexMap;
 use pb_core::no_memory::NoMemory;
 use std::alloc::Global;
-use std::marker::Model;
 
-/// Ids, none twice, in the order in which they came, found by hash. The hash has a fixed seed, so
-/// chosen ids can make a look-up slow, never wrong.
+/// Ids with their places. One of at most eight bytes is found by a number made of its bytes, which is
+/// read in one go; a longer one by its text. The hash has a fixed seed, so chosen ids can make a
+/// look-up slow, never wrong.
 #[derive(Drop)]
 pub(crate) struct Ids {
-    texts: IndexSet<String>,
-}
-
-impl Model for Ids {
-    ghost use Rattle.std.specs.Prelude.{ℕ, List, map, string_bytes};
-
-    ghost Value = { List (List ℕ) };
-
-    ghost view = { λ ids. map (λ text. string_bytes text) ids.texts.keys };
+    pub(crate) short: IndexMap<u64, u32>,
+    pub(crate) long: IndexMap<String, u32>,
 }
 
 impl Ids {
     /// No ids yet.
     pub(crate) fn new(alloc: Global) -> Ids
-        ensures { result ≡ [] }
+        ensures { (text : List ℕ) → found result text ≡ None }
     {
         Ids {
-            texts: IndexSet::new(alloc),
+            short: IndexMap::new(alloc),
+            long: IndexMap::new(alloc),
         }
     }
 
-    /// The place of an id, from 0, where it is among these.
-    pub(crate) fn place_of(&self, id: &str) -> Option<usize>
-        ensures place { result ≡ position (bytes_eq id.now) self.now }
-        ensures found { is_some result ≡ is_among self.now id.now }
+    /// The place of an id, where it is among these.
+    pub(crate) fn place_of(&self, id: &str) -> Option<u32>
+        ensures { result ≡ found self.now id.now }
     {
-        self.texts.get_index_of(id)
+        match code_of(id) {
+            Some(code) => self.short.get(&code).copied(),
+            None => self.long.get(id).copied(),
+        }
     }
 
-    /// Puts an id after the others, and answers whether it was new.
-    pub(crate) fn add(&mut self, alloc: Global, id: &str) -> Result<bool, NoMemory>
-        ensures new { IfOk result (λ new. new ≡ not (is_among self.old id.now)) }
-        ensures ids { IfOk result (λ new. self.new ≡ (if new then self.old ++ id.now ∷ [] else self.old)) }
-        ensures err { OnErr result (self.new ≡ self.old) }
+    /// Gives an id this place, and answers whether it was new.
+    pub(crate) fn add(&mut self, alloc: Global, id: &str, place: u32) -> Result<bool, NoMemory>
+        ensures new { IfOk result (λ new. new ≡ is_none (found self.old id.now)) }
+        ensures places { OnOk result ((text : List ℕ) →
+            found self.new text ≡ (if bytes_eq id.now text then Some place else found self.old text)) }
     {
-        Ok(self.texts.insert(String::from_str(alloc, id)?)?)
+        if let Some(code) = code_of(id) {
+            let before = self.short.insert(code, place)?;
+            return Ok(before.is_none());
+        }
+        let text = String::from_str(alloc, id)?;
+        let before = self.long.insert(text, place)?;
+        Ok(before.is_none())
     }
 
     /// Puts the places of the ids that a vote names into `places`, in the order in which it names
     /// them, and answers whether it names no others.
     pub(crate) fn places(&self, vote: &str, places: &mut Vec<u32>) -> Result<bool, NoMemory>
-        requires { length self.now < 2 ^ 32 }
-        ensures known { IfOk result (λ known. known ≡ names_only self.now vote.now) }
+        ensures known { IfOk result (λ known.
+            (ids : List (List ℕ)) → Finds self.now ids → known ≡ names_only ids vote.now) }
         ensures places { IfOk result (λ known.
-            known ≡ true → places.new.items ≡ places_in self.now (pieces_of vote.now)) }
+            (ids : List (List ℕ)) → Finds self.now ids → known ≡ true →
+            places.new.items ≡ places_in ids (pieces_of vote.now)) }
     {
         places.clear();
         for piece in vote.split(',') {
@@ -69,8 +73,26 @@ impl Ids {
             let Some(place) = self.place_of(id) else {
                 return Ok(false);
             };
-            places.push(place as u32)?;
+            places.push(place)?;
         }
         Ok(true)
     }
+}
+
+/// The number of a text of at most eight bytes, none of them 255 (which no text has).
+fn code_of(id: &str) -> Option<u64>
+    ensures { result ≡ (if has_code id.now then Some (code_of id.now) else None) }
+{
+    let bytes = id.as_bytes();
+    if bytes.len() > 8 {
+        return None;
+    }
+    let mut code = 0;
+    for byte in bytes {
+        if *byte == u8::MAX {
+            return None;
+        }
+        code = 256 * code + u64::from(*byte) + 1;
+    }
+    Some(code)
 }

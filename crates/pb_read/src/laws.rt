@@ -7,8 +7,8 @@ ghost use Rattle.pb_read.specs.FirstFault.{HasNoFault, IsFaultAt, IsFromOutside}
 ghost use Rattle.pb_read.specs.StandsFor.{StandsFor};
 ghost use Rattle.pb_read.specs.declared.fault.ReadKind.{ReadKind};
 
-/// Records stand for one election at most, are refused by one fault at most, and never both; a failed reader and
-/// refused memory stand aside.
+/// Records stand for one election at most, are refused by one fault at most, and never both; a failed
+/// reader and refused memory stand aside.
 pub fn one_answer()
     ensures one_election { (records : List Fields) (e f : ElectionView) →
         StandsFor records e → StandsFor records f → e ≡ f }
@@ -22,5 +22,6 @@ pub fn one_answer()
     ensures none_before { (records : List Fields) (kind : ReadKind) (at : ℕ) →
         IsFaultAt records kind at → HasNoFault (take (at - 1) records) }
     ensures one_with_it { (records : List Fields) (kind : ReadKind) (at : ℕ) →
-        IsFaultAt records kind at → ¬ IsFromOutside kind → at ≤ length records → ¬ HasNoFault (take at records) }
+        IsFaultAt records kind at → ¬ IsFromOutside kind → at ≤ length records →
+        ¬ HasNoFault (take at records) }
 {}

@@ -89,9 +89,11 @@ impl Progress {
     fn open_projects(&mut self, meta: Meta) -> Result<(), ReadKind>
         requires { IsRead meta }
         ensures ok { OnOk result ((head_checks meta.budget meta.approval meta.max_length ≡ None)
-            × (place_of self.new ≡ (Header Projects, opening (budget_of meta.budget) (limit_of meta.max_length)))
+            × (place_of self.new
+            ≡ (Header Projects, opening (budget_of meta.budget) (limit_of meta.max_length)))
             × IsReady self.new) }
-        ensures err { IfErr result (λ kind. head_checks meta.budget meta.approval meta.max_length ≡ Some kind) }
+        ensures err { IfErr result (λ kind.
+            head_checks meta.budget meta.approval meta.max_length ≡ Some kind) }
     {
         let (budget, max_length) = match meta.terms() {
             Ok(terms) => terms,

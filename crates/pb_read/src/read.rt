@@ -47,7 +47,8 @@ pub fn read_pb<R: Read + Drop>(alloc: Global, reader: R) -> Result<Election, Rea
 /// Reads all records into an election.
 fn read_records<R: Read>(alloc: Global, records: &mut Records<R>) -> Result<Election, ReadFault>
     ensures ok { IfSome records.old.left (λ all. IfOk result (λ e. StandsFor all e)) }
-    ensures fault { IfSome records.old.left (λ all. IfErr result (λ fault. IsFaultAt all fault.kind fault.at)) }
+    ensures fault { IfSome records.old.left (λ all.
+        IfErr result (λ fault. IsFaultAt all fault.kind fault.at)) }
 {
     let mut row = Row::new(alloc);
     let mut progress = Progress::new(alloc);
@@ -66,7 +67,8 @@ fn read_rows<R: Read>(
     requires at_start { place_of progress.old ≡ (Start, opening 0 None) }
     requires ready { IsReady progress.old }
     ensures ok { IfOk result (λ end. HasEnded records.old.left end (place_of progress.new)) }
-    ensures fault { IfSome records.old.left (λ all. IfErr result (λ fault. IsFaultAt all fault.kind fault.at)) }
+    ensures fault { IfSome records.old.left (λ all.
+        IfErr result (λ fault. IsFaultAt all fault.kind fault.at)) }
 {
     for done in 0..MOST_RECORDS {
         let at = done + 1;

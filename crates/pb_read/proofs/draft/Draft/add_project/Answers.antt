@@ -1,8 +1,11 @@
-use Rattle.std.proofs.Common.{◌∷◌, [], ◌++◌, refl, ap, sym, ◌∙◌, arith, length}
+use Rattle.std.proofs.Common.{Some, cond, ◌∷◌, [], ◌++◌, refl, ap, sym, ◌∙◌, arith, length, subst}
+use Rattle.std.proofs.lemmas.List.{length-map}
+use Rattle.std.specs.Str.{bytes_eq}
 use Rattle.std.proofs.lemmas.Bool.{le-leb, lt-leb}
-use Rattle.pb_core.specs.Election.{most_projects, project_ids, voter_ids}
-use Rattle.pb_read.proofs.DraftFacts.{ids_after, project_found, project_ids-push, same_project, was_new, was_there}
+use Rattle.pb_core.specs.Election.{ProjectView, most_projects, project_ids, voter_ids}
+use Rattle.pb_read.proofs.DraftFacts.{finds_after, project_checked, project_ids-push, same_project, was_new, was_there}
 use Rattle.pb_read.proofs.Keeps.{money_of-le, not_among}
+use Rattle.pb_read.specs.Ids.{Finds, found}
 use Rattle.pb_read.specs.Machine.{amount_of, project_of}
 use Rattle.pb_read.specs.Rows.{field}
 use Rattle.pb_read.specs.Voting.{is_among}
@@ -16,15 +19,15 @@ returns-then-not-branch-clause-err c =
     let e = c.args.self.now.election in
     let has = c.in-Ok.ensures.ok in
     let among = was_there c.args.self.now.project_ids (project_ids e) c.in-Ok.found.0.now (field c.args.row.now c.args.columns.id) c.in_ok-add.field-0 c.requires.tied.project_ids_are has.id_is c.in_ok-add.ensures.new c.if-not-branch.true in
-    project_found c.args.columns c.args.row.now e has.whole has.reads has.costs has.has_id among refl
+    project_checked c.args.columns c.args.row.now e _ _ has among refl
 
-pub returns-then-projects-ge-MOST_PROJECTS-clause-err : goal.returns-then-projects-ge-MOST_PROJECTS-clause-err
-returns-then-projects-ge-MOST_PROJECTS-clause-err c =
+pub returns-then-place-ge-MOST_PROJECTS-clause-err : goal.returns-then-place-ge-MOST_PROJECTS-clause-err
+returns-then-place-ge-MOST_PROJECTS-clause-err c =
     let e = c.args.self.now.election in
     let has = c.in-Ok.ensures.ok in
     let among = was_new c.args.self.now.project_ids (project_ids e) c.in-Ok.found.0.now (field c.args.row.now c.args.columns.id) c.in_ok-add.field-0 c.requires.tied.project_ids_are has.id_is c.in_ok-add.ensures.new c.if-not-branch.false in
-    let full = le-leb most_projects (length e.projects) (omega (arith, ap length c.projects.ensures.projects, c.if-projects-ge-MOST_PROJECTS.true)) in
-    project_found c.args.columns c.args.row.now e has.whole has.reads has.costs has.has_id among full
+    let full = le-leb most_projects (length e.projects) (omega (arith, ap length c.projects-place.ensures.projects, c.if-place-ge-MOST_PROJECTS.true)) in
+    project_checked c.args.columns c.args.row.now e _ _ has among full
 
 pub new-requires-clause-affordable : goal.new-requires-clause-affordable
 new-requires-clause-affordable c = money_of-le (field c.args.row.now c.args.columns.cost) c.in-Ok.found.1 c.in-Ok.ensures.ok.reads
@@ -42,17 +45,19 @@ returns-clause-ok c =
     let e = c.args.self.now.election in
     let has = c.in-Ok.ensures.ok in
     let among = was_new c.args.self.now.project_ids (project_ids e) c.in-Ok.found.0.now (field row c.args.columns.id) c.in_ok-add.field-0 c.requires.tied.project_ids_are has.id_is c.in_ok-add.ensures.new c.if-not-branch.false in
-    let room = lt-leb most_projects (length e.projects) (omega (arith, ap length c.projects.ensures.projects, c.if-projects-ge-MOST_PROJECTS.false)) in
-    let id = c.new.ensures.id ∙ c.in_ok-id.ensures.ok ∙ has.id_is in
+    let room = lt-leb most_projects (length e.projects) (omega (arith, ap length c.projects-place.ensures.projects, c.if-place-ge-MOST_PROJECTS.false)) in
+    let id = c.new.ensures.id ∙ c.in_ok-id.ensures.ok in
     let name = c.new.ensures.name ∙ c.in_ok-name.ensures.ok ∙ c.name.ensures in
     let cost = c.new.ensures.cost ∙ sym (ap amount_of has.reads) in
-    let project = same_project c.new.result (project_of c.args.columns row) id name cost in
+    let project = same_project c.new.result (project_of c.args.columns row) (id ∙ has.id_is) name cost in
     let after = c.in_ok-add_project.ensures.ok in
-    let ids = ids_after c.args.self.now.project_ids c.add.new.self (project_ids e) c.in-Ok.found.0.now (c.new.result).id c.in_ok-add.field-0 c.requires.tied.project_ids_are (has.id_is ∙ sym id) c.if-not-branch.false c.in_ok-add.ensures.ids in (
-      project_found c.args.columns row e has.whole has.reads has.costs has.has_id among room,
+    let size = ap length c.projects-place.ensures.projects ∙ sym (length-map e.projects (λ (p : ProjectView). p.id)) in
+    let ids = finds_after c.args.self.now.project_ids (project_ids e) c.in-Ok.found.0.now c.new.result.id c.in_ok-add.field-0 c.requires.tied.project_ids_are (sym id) c.in_ok-add.ensures.new c.add.new.self c.if-not-branch.false
+    (λ t. c.in_ok-add.ensures.places t ∙ ap (λ n. cond (bytes_eq c.in-Ok.found.0.now t) (Some n) (found c.args.self.now.project_ids t)) size) in (
+      project_checked c.args.columns row e _ _ has among room,
       after ∙ ap (λ p. record e { projects = e.projects ++ p ∷ [] }) project,
       record {
-        project_ids_are = ids ∙ sym (project_ids-push e.projects c.new.result) ∙ ap project_ids (sym after);
-        voter_ids_are = c.requires.tied.voter_ids_are ∙ ap voter_ids (sym after);
+        project_ids_are = subst (Finds c.add.new.self) (sym (project_ids-push e.projects c.new.result) ∙ ap project_ids (sym after)) ids;
+        voter_ids_are = subst (Finds c.args.self.now.voter_ids) (ap voter_ids (sym after)) c.requires.tied.voter_ids_are;
       },
     )

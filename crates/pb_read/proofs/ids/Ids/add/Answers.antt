@@ -1,15 +1,20 @@
-use Rattle.std.proofs.Common.{not, ap, ◌∙◌}
-use Rattle.std.specs.List.{list_any}
+use Rattle.std.proofs.Common.{Some, nat_eq, ap, sym, ◌∙◌, cond}
 use Rattle.std.specs.Str.{bytes_eq}
-use Rattle.std.specs.String.{string_bytes}
-use Rattle.pb_read.proofs.IdFacts.{list_any-map}
-use Rattle.pb_read.specs.Voting.{is_among}
+use Rattle.std.proofs.lemmas.Map.Text.{hash_map_updates_text}
+use Rattle.indexmap.specs.IndexMap.{get, get_by_text}
+use Rattle.std.specs.Prelude.{string_bytes}
+use Rattle.pb_read.proofs.IdFacts.{code_some, code_none, found_after_long, found_after_short}
 use Rattle.pb_read.proofs.ids.Ids.add.Goals as goal
 
-pub returns-clause-new : goal.returns-clause-new
-returns-clause-new c =
-    let keys = c.self.inside.texts.keys in
-    c.in_ok-insert.ensures.added
-    ∙ ap (λ text. not (list_any (λ k. bytes_eq text (string_bytes k)) keys)) c.in_ok-from_str.ensures.ok
-    ∙ ap not (list_any-map (bytes_eq c.args.id.now) string_bytes keys)
-    ∙ ap (λ ids. not (is_among ids c.args.id.now)) c.self.view_is
+pub returns-in-Some-clause-places : goal.returns-in-Some-clause-places
+returns-in-Some-clause-places c = λ text.
+    let has = code_some c.args.id.now c.in-Some.code (sym c.code_of.ensures ∙ c.in-Some.is) in
+    found_after_short (get nat_eq c.args.self.now.short) (get nat_eq c.insert.new.self) (get_by_text c.args.self.now.long) c.args.id.now text (Some c.args.place) has.0
+    (λ q. c.in_ok-before.ensures.updates.0 q ∙ ap (λ n. cond (nat_eq n q) (Some c.args.place) (get nat_eq c.args.self.now.short q)) (sym has.1))
+
+pub returns-clause-places : goal.returns-clause-places
+returns-clause-places c = λ text.
+    let has = code_none c.args.id.now (sym c.code_of.ensures ∙ c.in_default.is) in
+    found_after_long (get nat_eq c.args.self.now.short) (get_by_text c.args.self.now.long) (get_by_text c.insert-2.new.self) c.args.id.now text (Some c.args.place) has
+    (λ q. hash_map_updates_text (string_bytes c.in_ok-text.text) c.args.self.now.long c.insert-2.new.self (Some c.args.place) c.in_ok-before-2.ensures.updates q
+    ∙ ap (λ bs. cond (bytes_eq bs q) (Some c.args.place) (get_by_text c.args.self.now.long q)) c.in_ok-text.ensures.ok)
