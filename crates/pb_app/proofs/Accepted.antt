@@ -14,8 +14,8 @@ use Rattle.pb_rounds.specs.declared.count_fault.CountFault.{CountFault}
 use Rattle.pb_rounds.specs.declared.count_fault.CountFault.TheVariants as count
 use Rattle.pb_rounds.specs.declared.options.CountOptions.{CountOptions}
 use Rattle.pb_rows.specs.Reading.{records_of}
-use Rattle.pb_app.specs.Counted.{CountFails, CountWrites, FileIsNotCounted, IsReportOf}
-use Rattle.pb_app.specs.Ends.{Accepts, IsFromOutside}
+use Rattle.pb_app.specs.Counted.{CountFails, CountWrites, IsReportOf}
+use Rattle.pb_app.specs.Ends.{Accepts, IsFileOf, IsFromOutside}
 use Rattle.pb_app.specs.Fault.{merged}
 use Rattle.pb_app.specs.Report.{report_of}
 use Rattle.pb_app.specs.declared.fault.AppFault.{AppFault}
@@ -37,7 +37,7 @@ pub accepted_by_reader : (files : Option (List ℕ)) (options : CountOptions) (f
     → IfSome files (λ bytes. Accepts (CountWrites bytes options) r)
 accepted_by_reader None options fault r is accepts = tt
 accepted_by_reader (Some bytes) options fault r is accepts = λ text writes.
-    given_fault IsFromOutside r (merged (Read fault)) is (read_from_outside fault.kind fault.at (accepts writes.election writes.stands))
+    given_fault IsFromOutside r (merged (Read fault)) is (read_from_outside fault.kind fault.at (accepts writes.0 writes.1))
 
 -- the count of an election that has a report is refused from outside alone
 pub count_from_outside : (e : ElectionView) (options : CountOptions) (text : List ℕ) → IsReportOf e options text
@@ -53,10 +53,10 @@ pub accepted_by_count : (files : Option (List ℕ)) (options : CountOptions) (e 
     → IfSome files (λ bytes. Accepts (CountWrites bytes options) r)
 accepted_by_count None options e fault r is stands refused = tt
 accepted_by_count (Some bytes) options e fault r is stands refused = λ text writes.
-    let report = rw (one_election (records_of bytes) writes.election e writes.stands stands) at writes.report in
+    let report = rw (one_election (records_of bytes) writes.0 e writes.1 stands) at writes.2 in
     given_fault IsFromOutside r (merged (Count fault)) is (count_from_outside e options text report fault refused)
 
-refused_count : (bytes : List ℕ) (options : CountOptions) (fault : CountFault) → FileIsNotCounted bytes options fault → CountFails bytes options (merged (Count fault))
+refused_count : (bytes : List ℕ) (options : CountOptions) (fault : CountFault) → IsFileOf bytes (λ e. IsCountFault e options fault) → CountFails bytes options (merged (Count fault))
 refused_count bytes options count.NoMemory refused = tt
 refused_count bytes options fault refused = refused
 
@@ -65,7 +65,7 @@ pub refused_by_count : (files : Option (List ℕ)) (options : CountOptions) (e :
     → IfErr r (λ app. IfSome files (λ bytes. CountFails bytes options app))
 refused_by_count None options e fault r is stands refused = given_fault (λ app. Unit {0}) r (merged (Count fault)) is tt
 refused_by_count (Some bytes) options e fault r is stands refused =
-    given_fault (CountFails bytes options) r (merged (Count fault)) is (refused_count bytes options fault (record { election = e; stands = stands; refused = refused }))
+    given_fault (CountFails bytes options) r (merged (Count fault)) is (refused_count bytes options fault (e, stands, refused))
 
 -- an election and options have one report
 pub one_report : (e : ElectionView) (options : CountOptions) (a b : List ℕ) → IsReportOf e options a → IsReportOf e options b → a ≡ b
@@ -75,5 +75,5 @@ one_report e options a b first second =
 
 pub one_text : (bytes : List ℕ) (options : CountOptions) (a b : List ℕ) → CountWrites bytes options a → CountWrites bytes options b → a ≡ b
 one_text bytes options a b first second =
-    let report = rw (one_election (records_of bytes) second.election first.election second.stands first.stands) at second.report in
-    one_report first.election options a b first.report report
+    let report = rw (one_election (records_of bytes) second.0 first.0 second.1 first.1) at second.2 in
+    one_report first.0 options a b first.2 report

@@ -60,7 +60,7 @@ pub audited_by_reader : (files journals : Option (List ℕ)) (options : CountOpt
 audited_by_reader None journals options fault r is accepts = tt
 audited_by_reader (Some bytes) None options fault r is accepts = tt
 audited_by_reader (Some bytes) (Some journal) options fault r is accepts = λ text writes.
-    given_fault IsFromOutside r (merged (Read fault)) is (read_from_outside fault.kind fault.at (accepts writes.desk.opening.election writes.audited.stands))
+    given_fault IsFromOutside r (merged (Read fault)) is (read_from_outside fault.kind fault.at (accepts writes.0.opening.election writes.1.stands))
 
 -- the rows of a sound journal have no fault, so that the fault is none of theirs
 journal_from_outside : (o : OpeningView) (journal : List EntryView) → IsSound o program_room journal
@@ -79,11 +79,11 @@ pub audited_by_journal : (files journals : Option (List ℕ)) (options : CountOp
 audited_by_journal None journals options e fault r is stands fails = tt
 audited_by_journal (Some bytes) None options e fault r is stands fails = tt
 audited_by_journal (Some bytes) (Some journal) options e fault r is stands fails = λ text writes.
-    let d = writes.desk in
-    let election = one_election (records_of bytes) e d.opening.election stands writes.audited.stands in
-    let sound = rw writes.audited.room at writes.audited.sound in
+    let d = writes.0 in
+    let election = one_election (records_of bytes) e d.opening.election stands writes.1.stands in
+    let sound = rw writes.1.room at writes.1.sound in
     let P : ElectionView → Type 0 = λ e. IsFaultOfJournal e program_room (rows_of d.opening.version d.journal) fault in
-    given_fault IsFromOutside r (merged (Audit fault)) is (journal_from_outside d.opening d.journal sound fault (subst P election (rw writes.audited.rows at fails)))
+    given_fault IsFromOutside r (merged (Audit fault)) is (journal_from_outside d.opening d.journal sound fault (subst P election (rw writes.1.rows at fails)))
 
 -- a desk that has a text is refused from outside alone
 desk_from_outside : (d : DeskView) (options : CountOptions) (text : List ℕ) → IsTextOf d options text
@@ -115,8 +115,8 @@ pub audited_by_desk : (files journals : Option (List ℕ)) (options : CountOptio
 audited_by_desk None journals options e d fault r is audited refused = tt
 audited_by_desk (Some bytes) None options e d fault r is audited refused = tt
 audited_by_desk (Some bytes) (Some journal) options e d fault r is audited refused = λ text writes.
-    let same = one_desk bytes journal writes.desk d writes.audited (desk_of bytes journal e d audited) in
-    let written = rw same at writes.written in
+    let same = one_desk bytes journal writes.0 d writes.1 (desk_of bytes journal e d audited) in
+    let written = rw same at writes.2 in
     given_fault IsFromOutside r (merged (Count fault)) is (desk_from_outside d options text written fault refused)
 
 -- a desk has one text
@@ -130,6 +130,6 @@ one_desk_text false e options row a b first second = first ∙ sym second
 pub one_audit : (bytes journal : List ℕ) (options : CountOptions) (a b : List ℕ)
     → AuditWrites bytes journal options a → AuditWrites bytes journal options b → a ≡ b
 one_audit bytes journal options a b first second =
-    let d = first.desk in
-    let written = rw (one_desk bytes journal second.desk d second.audited first.audited) at second.written in
-    one_desk_text (standing_of d).is_shut (closed_election d) options (text_of_row (entries_row d)) a b first.written written
+    let d = first.0 in
+    let written = rw (one_desk bytes journal second.0 d second.1 first.1) at second.2 in
+    one_desk_text (standing_of d).is_shut (closed_election d) options (text_of_row (entries_row d)) a b first.2 written

@@ -15,8 +15,8 @@ use Rattle.pb_rounds.specs.declared.count_fault.CountFault.{CountFault}
 use Rattle.pb_rounds.specs.declared.count_fault.CountFault.TheVariants as count
 use Rattle.pb_rounds.specs.declared.options.CountOptions.{CountOptions}
 use Rattle.pb_rows.specs.Reading.{records_of}
-use Rattle.pb_app.specs.Audited.{AuditFails, AuditWrites, DeskIsNotCounted, IsRefusedDesk, IsTextOf, JournalFails, program_room}
-use Rattle.pb_app.specs.Ends.{IfBothKnown, IsElectionFile, JudgesFile}
+use Rattle.pb_app.specs.Audited.{AuditFails, AuditWrites, IsDeskOf, IsRefusedDesk, IsTextOf, program_room}
+use Rattle.pb_app.specs.Ends.{IfBothKnown, IsElectionFile, IsFileOf, JudgesFile}
 use Rattle.pb_app.specs.Fault.{merged}
 use Rattle.pb_app.specs.declared.fault.AppFault.{AppFault}
 use Rattle.pb_app.specs.declared.fault.AppFault.TheVariants.{Read, Audit, Count, Write}
@@ -31,10 +31,10 @@ write_fails files journals options e d text (Ok done) is_write audited written =
 write_fails None journals options e d text (Err fault) is_write audited written = tt
 write_fails (Some bytes) None options e d text (Err fault) is_write audited written = tt
 write_fails (Some bytes) (Some journal) options e d text (Err fault) is_write audited written =
-    let writes : AuditWrites bytes journal options text = record { desk = d; audited = desk_of bytes journal e d audited; written = written } in
+    let writes : AuditWrites bytes journal options text = (d, desk_of bytes journal e d audited, written) in
     subst (AuditFails bytes journal options) (sym is_write) (text, writes)
 
-journal_fails : (bytes journal : List ℕ) (options : CountOptions) (fault : AuditFault) → JournalFails bytes journal fault
+journal_fails : (bytes journal : List ℕ) (options : CountOptions) (fault : AuditFault) → IsFileOf bytes (λ e. IsFaultOfJournal e program_room (records_of journal) fault)
     → AuditFails bytes journal options (merged (Audit fault))
 journal_fails bytes journal options audit.NoMemory fails = tt
 journal_fails bytes journal options fault fails = fails
@@ -47,9 +47,9 @@ refused_by_journal None journals options e fault r is stands fails = given_fault
 refused_by_journal (Some bytes) None options e fault r is stands fails = given_fault (λ app. Unit {0}) r (merged (Audit fault)) is tt
 refused_by_journal (Some bytes) (Some journal) options e fault r is stands fails =
     given_fault (AuditFails bytes journal options) r (merged (Audit fault)) is
-    (journal_fails bytes journal options fault (record { election = e; stands = stands; refused = fails }))
+    (journal_fails bytes journal options fault (e, stands, fails))
 
-desk_fails : (bytes journal : List ℕ) (options : CountOptions) (fault : CountFault) → DeskIsNotCounted bytes journal options fault
+desk_fails : (bytes journal : List ℕ) (options : CountOptions) (fault : CountFault) → (d : DeskView) × IsDeskOf bytes journal d × IsRefusedDesk d options fault
     → AuditFails bytes journal options (merged (Count fault))
 desk_fails bytes journal options count.NoMemory fails = tt
 desk_fails bytes journal options fault fails = fails
@@ -61,7 +61,7 @@ refused_by_desk None journals options e d fault r is audited refused = given_fau
 refused_by_desk (Some bytes) None options e d fault r is audited refused = given_fault (λ app. Unit {0}) r (merged (Count fault)) is tt
 refused_by_desk (Some bytes) (Some journal) options e d fault r is audited refused =
     given_fault (AuditFails bytes journal options) r (merged (Count fault)) is
-    (desk_fails bytes journal options fault (record { desk = d; audited = desk_of bytes journal e d audited; refused = refused }))
+    (desk_fails bytes journal options fault (d, desk_of bytes journal e d audited, refused))
 
 -- an error that is a given fault, judged by the file
 judged : (files : Option (List ℕ)) (fault : AppFault) (r : Result (Unit {0}) AppFault)

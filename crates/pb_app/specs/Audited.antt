@@ -1,10 +1,8 @@
 -- What a run of `audit` writes, and why it refuses.
 use Rattle.std.specs.Prelude.{◌≡◌, ℕ, ◌++◌, ⊤, MatchBool, List, [], ◌∷◌, true, codes, decimal, length, if◌then◌else◌}
-use Rattle.pb_core.specs.Election.{ElectionView}
 use Rattle.pb_desk.specs.Audit.{IsFaultOfJournal, IsSound}
 use Rattle.pb_desk.specs.Desk.{DeskView, closed_election, standing_of}
 use Rattle.pb_desk.specs.Rows.{rows_of}
-use Rattle.pb_desk.specs.declared.audit_fault.AuditFault.{AuditFault}
 use Rattle.pb_read.specs.StandsFor.{StandsFor}
 use Rattle.pb_rounds.specs.Count.{IsCountFault}
 use Rattle.pb_rounds.specs.declared.count_fault.CountFault.{CountFault}
@@ -13,7 +11,7 @@ use Rattle.pb_rounds.specs.declared.options.CountOptions.{CountOptions}
 use Rattle.pb_rows.specs.Reading.{Fields, records_of}
 use Rattle.pb_rows.specs.Writing.{text_of_row}
 use Rattle.pb_app.specs.Counted.{IsReportOf}
-use Rattle.pb_app.specs.Ends.{IsFileFault}
+use Rattle.pb_app.specs.Ends.{IsFileFault, IsFileOf}
 use Rattle.pb_app.specs.declared.fault.AppFault.{AppFault}
 use Rattle.pb_app.specs.declared.fault.AppFault.TheVariants.{Read, Audit, Count, Write, Memory}
 
@@ -46,16 +44,8 @@ IsTextOf d options text =
     (text ≡ row)
 
 -- what these bytes make a run of `audit` write
-pub record AuditWrites (bytes journal : List ℕ) (options : CountOptions) (text : List ℕ) : Type 0 where
-  pub desk : DeskView
-  pub audited : IsDeskOf bytes journal desk
-  pub written : IsTextOf desk options text
-
--- the file stands for an election, and the journal has a fault on its desk
-pub record JournalFails (bytes journal : List ℕ) (fault : AuditFault) : Type 0 where
-  pub election : ElectionView
-  pub stands : StandsFor (records_of bytes) election
-  pub refused : IsFaultOfJournal election program_room (records_of journal) fault
+abbrev pub AuditWrites : List ℕ → List ℕ → CountOptions → List ℕ → Type 0
+AuditWrites bytes journal options text = (d : DeskView) × IsDeskOf bytes journal d × IsTextOf d options text
 
 -- the desk is shut, and the count of the ballots that its journal leaves is refused
 abbrev pub IsRefusedDesk : DeskView → CountOptions → CountFault → Type 0
@@ -63,19 +53,14 @@ IsRefusedDesk d options NoMemory = ⊤
 IsRefusedDesk d options fault =
     ((standing_of d).is_shut ≡ true) × IsCountFault (closed_election d) options fault
 
--- these bytes are those of a desk whose count is refused
-pub record DeskIsNotCounted (bytes journal : List ℕ) (options : CountOptions) (fault : CountFault)
-    : Type 0 where
-  pub desk : DeskView
-  pub audited : IsDeskOf bytes journal desk
-  pub refused : IsRefusedDesk desk options fault
-
 -- why a run of `audit` on these bytes ends: the file's first fault; or the journal's; or the count's;
 -- or the writer failed, which is tried last
 abbrev pub AuditFails : List ℕ → List ℕ → CountOptions → AppFault → Type 0
 AuditFails bytes journal options (Read fault) = IsFileFault bytes fault
-AuditFails bytes journal options (Audit fault) = JournalFails bytes journal fault
-AuditFails bytes journal options (Count fault) = DeskIsNotCounted bytes journal options fault
+AuditFails bytes journal options (Audit fault) =
+    IsFileOf bytes (λ e. IsFaultOfJournal e program_room (records_of journal) fault)
+AuditFails bytes journal options (Count fault) =
+    (d : DeskView) × IsDeskOf bytes journal d × IsRefusedDesk d options fault
 AuditFails bytes journal options Write = (text : List ℕ) × AuditWrites bytes journal options text
 AuditFails bytes journal options Memory = ⊤
 AuditFails bytes journal options fault = ⊥

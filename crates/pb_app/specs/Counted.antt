@@ -2,15 +2,12 @@
 use Rattle.std.specs.Prelude.{◌≡◌, ℕ, ◌≤◌, ⊤, List, None, Some}
 use Rattle.pb_core.specs.Election.{ElectionView}
 use Rattle.pb_price.specs.Supporters.{support_of}
-use Rattle.pb_read.specs.StandsFor.{StandsFor}
 use Rattle.pb_rounds.specs.Count.{IsCountFault, count_of, spent_on}
 use Rattle.pb_rounds.specs.CountFault.{refusal_of}
 use Rattle.pb_rounds.specs.Outcome.{Settled}
 use Rattle.pb_rounds.specs.PriceSystem.{HasPriceSystem}
-use Rattle.pb_rounds.specs.declared.count_fault.CountFault.{CountFault}
 use Rattle.pb_rounds.specs.declared.options.CountOptions.{CountOptions}
-use Rattle.pb_rows.specs.Reading.{records_of}
-use Rattle.pb_app.specs.Ends.{IsFileFault}
+use Rattle.pb_app.specs.Ends.{IsFileFault, IsFileOf}
 use Rattle.pb_app.specs.Report.{report_of}
 use Rattle.pb_app.specs.declared.fault.AppFault.{AppFault}
 use Rattle.pb_app.specs.declared.fault.AppFault.TheVariants.{Read, Count, Write, Memory}
@@ -26,22 +23,14 @@ pub record IsReportOf (e : ElectionView) (options : CountOptions) (text : List �
   pub price_system : HasPriceSystem (support_of e) outcome.share outcome.elected outcome.rests
 
 -- what these bytes, read as a file, make a run of `count` write
-pub record CountWrites (bytes : List ℕ) (options : CountOptions) (text : List ℕ) : Type 0 where
-  pub election : ElectionView
-  pub stands : StandsFor (records_of bytes) election
-  pub report : IsReportOf election options text
-
--- the file stands for an election, and its count is refused
-pub record FileIsNotCounted (bytes : List ℕ) (options : CountOptions) (fault : CountFault) : Type 0 where
-  pub election : ElectionView
-  pub stands : StandsFor (records_of bytes) election
-  pub refused : IsCountFault election options fault
+abbrev pub CountWrites : List ℕ → CountOptions → List ℕ → Type 0
+CountWrites bytes options text = IsFileOf bytes (λ e. IsReportOf e options text)
 
 -- why a run of `count` on these bytes ends: the file's first fault; or the count's; or the writer failed,
 -- which is tried last
 abbrev pub CountFails : List ℕ → CountOptions → AppFault → Type 0
 CountFails bytes options (Read fault) = IsFileFault bytes fault
-CountFails bytes options (Count fault) = FileIsNotCounted bytes options fault
+CountFails bytes options (Count fault) = IsFileOf bytes (λ e. IsCountFault e options fault)
 CountFails bytes options Write = (text : List ℕ) × CountWrites bytes options text
 CountFails bytes options Memory = ⊤
 CountFails bytes options fault = ⊥

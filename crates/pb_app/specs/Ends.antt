@@ -26,6 +26,10 @@ IsFromOutside fault = status_of fault ≡ 3
 abbrev pub Accepts : (List ℕ → Type 0) → Result (Unit {0}) AppFault → Type 0
 Accepts IsText result = (text : List ℕ) → IsText text → IfErr result IsFromOutside
 
+-- the bytes stand for an election of which this is true
+abbrev pub IsFileOf : List ℕ → (ElectionView → Type 0) → Type 0
+IsFileOf bytes P = (e : ElectionView) × StandsFor (records_of bytes) e × P e
+
 -- the bytes stand for an election
 abbrev pub IsElectionFile : List ℕ → Type 0
 IsElectionFile bytes = (e : ElectionView) × StandsFor (records_of bytes) e
