@@ -1,90 +1,40 @@
-use pb_core::ballot::Ballot;
+use crate::checks::{holds, same};
+use crate::elections::{add_next_voter, numbered, three_voters};
 use pb_core::election::Election;
 use pb_core::money::Money;
-use pb_core::project::Project;
-use pb_core::voter::Voter;
-use pb_core::voter_id::VoterId;
 use pb_price::gate::{Gate, NoGate};
 use pb_rounds::count::{count, equal_shares};
 use pb_rounds::count_fault::CountFault;
 use pb_rounds::key::Key;
 use pb_rounds::measure::Measure;
 use pb_rounds::options::{Completion, CountOptions};
-use pb_rounds::outcome::Elected;
+use pb_rounds::outcome::{Elected, Outcome};
 use std::alloc::Global;
 use std::process::Abort;
 use std::sync::atomic::{AtomicU32, Ordering};
-use std::test::Fail;
 use std::thread::Threads;
 
-fn add_project(
-    rt: &impl Abort,
-    alloc: Global,
-    election: &mut Election,
-    cost: u64,
-) -> Result<(), Fail> {
-    let place = election.projects().len();
-    let id = format!(in alloc; "p{place}")?;
-    let name = String::new(alloc);
-    assert!(rt; !id.is_empty() && 0 < cost && cost <= 1_000_000_000_000_000);
-    let project = Project::new(id, name, Money(cost));
-    assert!(rt; election.voters().is_empty() && place < 10_000);
-    assert!(rt; !election.has_project(project.id()));
-    election.add_project(project)?;
-    Ok(())
-}
-
-fn add_voter(
-    rt: &impl Abort,
-    alloc: Global,
-    election: &mut Election,
-    places: &[u32],
-) -> Result<(), Fail> {
-    let position = election.voters().len();
-    let text = format!(in alloc; "v{position}")?;
-    let id = VoterId::new(alloc, text.as_str())?.expect(rt, "an id");
-    let ballot = Ballot::of(alloc, places)?;
-    assert!(rt; position < 1_000_000 && !election.has_voter(&id) && election.knows(&ballot));
-    election.add_voter(Voter { id, ballot })?;
-    Ok(())
-}
-
-/// An election of these costs and ballots, in hundredths and by place.
-fn election(
-    rt: &impl Abort,
-    alloc: Global,
-    budget: u64,
-    costs: &[u64],
-    ballots: &[&[u32]],
-) -> Result<Election, Fail> {
-    assert!(rt; budget <= 1_000_000_000_000_000);
-    let mut election = Election::start(alloc, Money(budget));
-    for cost in costs {
-        add_project(rt, alloc, &mut election, *cost)?;
-    }
-    for ballot in ballots {
-        add_voter(rt, alloc, &mut election, ballot)?;
-    }
-    Ok(election)
-}
-
-/// The three voters: a costs 30.00, b costs 60.00; the voters approve a; a and b; b.
-fn three_voters(rt: &impl Abort, alloc: Global) -> Result<Election, Fail> {
-    election(rt, alloc, 10_000, &[3000, 6000], &[&[0], &[0, 1], &[1]])
-}
-
-fn elected(place: u32, price: u64, collected: u64) -> Elected {
-    Elected {
-        place,
-        price: Money(price),
-        collected: Money(collected),
-    }
-}
+/// A winner: its place, its price and what it collected, in hundredths.
+type Winner = (u32, u64, u64);
 
 fn plain() -> CountOptions {
     CountOptions {
         completion: Completion::Plain,
         ..CountOptions::standard()
+    }
+}
+
+/// The outcome has elected these, in this order.
+fn elects(rt: &impl Abort, outcome: &Outcome, winners: &[Winner]) {
+    same(rt, outcome.elected.len(), winners.len(), "the winners");
+    for (elected, winner) in outcome.elected.iter().zip(winners) {
+        let (place, price, collected) = *winner;
+        let wanted = Elected {
+            place,
+            price: Money(price),
+            collected: Money(collected),
+        };
+        same(rt, *elected, wanted, "a winner");
     }
 }
 
@@ -94,15 +44,12 @@ fn counts_as(
     alloc: Global,
     election: &Election,
     options: &CountOptions,
-    share: u64,
-    raised: u32,
-    elected: &[Elected],
-) -> Result<(), Fail> {
-    let outcome = count(rt, alloc, election, options)?;
-    assert_eq!(rt; outcome.share, Money(share));
-    assert_eq!(rt; outcome.raised, raised);
-    assert_eq!(rt; outcome.elected.as_slice(), elected);
-    Ok(())
+    share: (u64, u32),
+    winners: &[Winner],
+) {
+    let outcome = count(rt, alloc, election, options).expect(rt, "an outcome");
+    same(rt, (outcome.share.0, outcome.raised), share, "the share");
+    elects(rt, &outcome, winners);
 }
 
 /// The fault that a count gives, if it gives one.
@@ -118,116 +65,119 @@ fn fault_of(
     }
 }
 
+/// Options with this step, this many raises and these workers.
+fn options(step: u64, max_raises: u32, workers: u32) -> CountOptions {
+    CountOptions {
+        step: Money(step),
+        max_raises,
+        workers,
+        ..CountOptions::standard()
+    }
+}
+
+/// The winners of the three voters: at share 38.33 both projects.
+const BOTH: &[Winner] = &[(0, 1500, 3000), (1, 3667, 6000)];
+
 #[test]
-fn counts_three_voters(rt: HostRuntime) -> Result<(), Fail> {
+fn counts_three_voters(rt: HostRuntime) {
     let alloc = rt.alloc();
+    let three = three_voters(&rt, alloc);
     let standard = CountOptions::standard();
-    let just_enough = CountOptions {
-        max_raises: 5,
-        ..standard
-    };
-    let larger_steps = CountOptions {
-        step: Money(250),
-        ..standard
-    };
-    let both = [elected(0, 1500, 3000), elected(1, 3667, 6000)];
-    let three = three_voters(&rt, alloc)?;
+    counts_as(&rt, alloc, &three, &standard, (3833, 5), BOTH);
+    counts_as(&rt, alloc, &three, &options(100, 5, 1), (3833, 5), BOTH);
+    counts_as(
+        &rt,
+        alloc,
+        &three,
+        &options(250, 1_000_000, 1),
+        (3833, 2),
+        BOTH,
+    );
+    counts_as(&rt, alloc, &three, &plain(), (3333, 0), &BOTH[..1]);
+}
+
+#[test]
+fn counts_by_any_number_of_workers(rt: HostRuntime) {
+    let three = three_voters(&rt, rt.alloc());
     for workers in [1, 2, 3, 64] {
-        let options = CountOptions {
-            workers,
-            ..standard
-        };
-        counts_as(&rt, alloc, &three, &options, 3833, 5, &both)?;
+        let options = options(100, 1_000_000, workers);
+        counts_as(&rt, rt.alloc(), &three, &options, (3833, 5), BOTH);
     }
-    counts_as(&rt, alloc, &three, &just_enough, 3833, 5, &both)?;
-    counts_as(&rt, alloc, &three, &larger_steps, 3833, 2, &both)?;
-    counts_as(&rt, alloc, &three, &plain(), 3333, 0, &both[..1])?;
-    let nobody = election(&rt, alloc, 10_000, &[3000, 6000], &[])?;
-    counts_as(&rt, alloc, &nobody, &standard, 0, 0, &[])
 }
 
-#[test]
-fn counts(rt: HostRuntime) -> Result<(), Fail> {
-    let alloc = rt.alloc();
-    let standard = CountOptions::standard();
-    let no_raise = CountOptions {
-        max_raises: 0,
-        ..standard
-    };
+/// An election by budget, costs and ballots, the most raises, and the share, the raises and the winners of its count.
+type Counted = (
+    u64,
+    &'static [u64],
+    &'static [&'static [u32]],
+    u32,
+    (u64, u32),
+    &'static [Winner],
+);
+
+const COUNTED: &[Counted] = &[
+    // Nobody votes.
+    (10_000, &[3000, 6000], &[], 1_000_000, (0, 0), &[]),
     // A tie is decided by file order.
-    let tie = election(&rt, alloc, 2000, &[1000, 1000], &[&[0, 1], &[0, 1]])?;
-    let both = [elected(0, 500, 1000), elected(1, 500, 1000)];
-    counts_as(&rt, alloc, &tie, &no_raise, 1000, 0, &both)?;
-    // Rounding up collects more than the cost.
-    let thirds = election(&rt, alloc, 100, &[100], &[&[0], &[0], &[0]])?;
-    counts_as(
-        &rt,
-        alloc,
-        &thirds,
-        &standard,
-        133,
-        1,
-        &[elected(0, 34, 102)],
-    )?;
-    // The outcome before the one that is over.
-    let rivals = election(&rt, alloc, 1000, &[1000, 1000], &[&[0], &[1]])?;
-    counts_as(&rt, alloc, &rivals, &standard, 900, 4, &[])?;
-    // Nobody supports the first project, and it does not keep the raises going.
-    let lone = election(&rt, alloc, 1000, &[500, 400], &[&[1]])?;
-    counts_as(
-        &rt,
-        alloc,
-        &lone,
-        &standard,
-        1000,
+    (
+        2000,
+        &[1000, 1000],
+        &[&[0, 1], &[0, 1]],
         0,
-        &[elected(1, 400, 400)],
-    )
-}
+        (1000, 0),
+        &[(0, 500, 1000), (1, 500, 1000)],
+    ),
+    // Rounding up collects more than the cost.
+    (
+        100,
+        &[100],
+        &[&[0], &[0], &[0]],
+        1_000_000,
+        (133, 1),
+        &[(0, 34, 102)],
+    ),
+    // The outcome before the one that is over.
+    (1000, &[1000, 1000], &[&[0], &[1]], 1_000_000, (900, 4), &[]),
+    // Nobody supports the first project, and it does not keep the raises going.
+    (
+        1000,
+        &[500, 400],
+        &[&[1]],
+        1_000_000,
+        (1000, 0),
+        &[(1, 400, 400)],
+    ),
+];
 
-/// One project of this cost, and a thousand voters of whom the first alone approves it; the budget would pay for it.
-fn one_of_a_thousand(rt: &impl Abort, alloc: Global, cost: u64) -> Result<Election, Fail> {
-    let mut election = election(rt, alloc, cost, &[cost], &[&[0]])?;
-    for _ in 1..1000 {
-        add_voter(rt, alloc, &mut election, &[])?;
+#[test]
+fn counts(rt: HostRuntime) {
+    for (budget, costs, ballots, max_raises, share, winners) in COUNTED {
+        let election = numbered(&rt, rt.alloc(), *budget, costs, ballots);
+        let options = options(100, *max_raises, 1);
+        counts_as(&rt, rt.alloc(), &election, &options, *share, winners);
     }
-    Ok(election)
 }
 
 #[test]
-fn spends_the_raises(rt: HostRuntime) -> Result<(), Fail> {
-    let alloc = rt.alloc();
-    let standard = CountOptions::standard();
-    let none = CountOptions {
-        max_raises: 0,
-        ..standard
-    };
-    let one_too_few = CountOptions {
-        max_raises: 4,
-        ..standard
-    };
-    let ten = CountOptions {
-        max_raises: 10,
-        ..standard
-    };
-    let spent = Some(CountFault::RaisesSpent);
-    let three = three_voters(&rt, alloc)?;
-    assert_eq!(rt; fault_of(&rt, alloc, &three, &none), spent);
-    assert_eq!(rt; fault_of(&rt, alloc, &three, &one_too_few), spent);
-    let large = one_of_a_thousand(&rt, alloc, 1_000_000_000_000_000)?;
-    assert_eq!(rt; fault_of(&rt, alloc, &large, &ten), spent);
-    Ok(())
+fn spends_the_raises(rt: HostRuntime) {
+    let three = three_voters(&rt, rt.alloc());
+    for max_raises in [0, 4] {
+        let fault = fault_of(&rt, rt.alloc(), &three, &options(100, max_raises, 1));
+        same(&rt, fault, Some(CountFault::RaisesSpent), "too few raises");
+    }
 }
 
-/// Four voters and four projects: p1 costs 12.00 (v1, v2, v3), p2 19.00 (v1, v2, v4), p3 6.50 and p4 9.90 (v4).
-fn four_voters(rt: &impl Abort, alloc: Global) -> Result<Election, Fail> {
-    election(
-        rt,
-        alloc,
-        4000,
-        &[1200, 1900, 650, 990],
-        &[&[0, 1], &[0, 1], &[0], &[1, 2, 3]],
-    )
+/// One project of the largest cost, and a thousand voters of whom the first alone approves it; the budget would pay
+/// for it.
+#[test]
+fn spends_the_raises_of_a_thousand(rt: HostRuntime) {
+    let large = 1_000_000_000_000_000;
+    let mut election = numbered(&rt, rt.alloc(), large, &[large], &[&[0]]);
+    for _ in 1..1000 {
+        add_next_voter(&rt, rt.alloc(), &mut election, &[]);
+    }
+    let fault = fault_of(&rt, rt.alloc(), &election, &options(100, 10, 1));
+    same(&rt, fault, Some(CountFault::RaisesSpent), "ten raises");
 }
 
 /// Counts how often it is met.
@@ -242,194 +192,271 @@ impl Gate for CountingGate {
     }
 }
 
+/// Workers, the prices computed in each round, and how often the gate is met.
+const QUEUES: &[(u32, &[u64], u32)] = &[
+    (1, &[4, 2, 2], 8),
+    (2, &[4, 2, 2], 8),
+    (3, &[4, 3, 2], 9),
+    (64, &[4, 3, 2], 9),
+];
+
+/// The winners of the four voters.
+const FOUR: &[Winner] = &[(0, 400, 1200), (2, 650, 650)];
+
+/// Four voters and four projects: p1 costs 12.00 (v1, v2, v3), p2 19.00 (v1, v2, v4), p3 6.50 and p4 9.90 (v4).
+fn four_voters(rt: &impl Abort, alloc: Global) -> Election {
+    let ballots: &[&[u32]] = &[&[0, 1], &[0, 1], &[0], &[1, 2, 3]];
+    numbered(rt, alloc, 4000, &[1200, 1900, 650, 990], ballots)
+}
+
+/// A run of the four voters at their share, which meets the gate so often.
+fn runs_as<R: Abort + Threads + Sync>(
+    rt: &R,
+    alloc: Global,
+    four: &Election,
+    workers: u32,
+    met: u32,
+) -> Outcome {
+    let gate = CountingGate {
+        met: AtomicU32::new(0),
+    };
+    let run = equal_shares(rt, alloc, four, Money(1000), workers, Measure::Votes, &gate);
+    same(rt, gate.met.load(Ordering::SeqCst), met, "the gate");
+    run.expect(rt, "an outcome")
+}
+
 #[test]
-fn prices_the_heads_of_the_queue(rt: HostRuntime) -> Result<(), Fail> {
-    let alloc = rt.alloc();
-    let four = four_voters(&rt, alloc)?;
-    let winners = [elected(0, 400, 1200), elected(2, 650, 650)];
-    let cases: [(u32, [u64; 3], u32); 4] = [
-        (1, [4, 2, 2], 8),
-        (2, [4, 2, 2], 8),
-        (3, [4, 3, 2], 9),
-        (64, [4, 3, 2], 9),
-    ];
-    for (workers, priced, met) in cases {
-        let gate = CountingGate {
-            met: AtomicU32::new(0),
-        };
-        let outcome = equal_shares(
+fn prices_the_heads_of_the_queue(rt: HostRuntime) {
+    let four = four_voters(&rt, rt.alloc());
+    for (workers, priced, met) in QUEUES {
+        let outcome = runs_as(&rt, rt.alloc(), &four, *workers, *met);
+        same(
             &rt,
-            alloc,
-            &four,
-            Money(1000),
-            workers,
-            Measure::Votes,
-            &gate,
-        )?;
-        assert_eq!(rt; outcome.share, Money(1000));
-        assert_eq!(rt; outcome.raised, 0);
-        assert_eq!(rt; outcome.elected.as_slice(), winners.as_slice());
-        assert_eq!(rt; outcome.priced.as_slice(), priced.as_slice());
-        assert_eq!(rt; gate.met.load(Ordering::SeqCst), met);
-        let options = CountOptions { workers, ..plain() };
-        let same = count(&rt, alloc, &four, &options)?;
-        assert_eq!(rt; same.elected.as_slice(), winners.as_slice());
-        assert_eq!(rt; same.rests.as_slice(), outcome.rests.as_slice());
-        assert_eq!(rt; same.priced.as_slice(), priced.as_slice());
+            (outcome.share.0, outcome.raised),
+            (1000, 0),
+            "the share",
+        );
+        elects(&rt, &outcome, FOUR);
+        same(&rt, outcome.priced.as_slice(), *priced, "the prices");
     }
-    Ok(())
 }
 
-/// An election, and by each measure whom a plain count elects and how many prices each round takes with one worker.
-#[derive(Drop)]
-struct Measured<'a> {
-    budget: u64,
-    costs: &'a [u64],
-    ballots: &'a [&'a [u32]],
-    votes: (&'a [Elected], &'a [u64]),
-    cost: (&'a [Elected], &'a [u64]),
-}
-
+/// A plain count has the outcome of the run.
 #[test]
-fn counts_by_both_measures(rt: HostRuntime) -> Result<(), Fail> {
-    let alloc = rt.alloc();
-    let both: [&[u32]; 2] = [&[0, 1], &[0, 1]];
-    let cases = [
-        Measured {
-            budget: 4000,
-            costs: &[1000, 3000],
-            ballots: &[&[0, 1], &[0, 1], &[1], &[1]],
-            votes: (&[elected(0, 500, 1000), elected(1, 1000, 3000)], &[2, 1, 0]),
-            cost: (&[elected(1, 750, 3000)], &[2, 1]),
-        },
-        Measured {
-            budget: 600,
-            costs: &[100, 300],
-            ballots: &[&[0, 1], &[0, 1], &[0, 1]],
-            votes: (&[elected(0, 34, 102), elected(1, 100, 300)], &[2, 1, 0]),
-            cost: (&[elected(1, 100, 300), elected(0, 34, 102)], &[2, 1, 0]),
-        },
-        Measured {
-            budget: 6000,
-            costs: &[1000, 2000],
-            ballots: &both,
-            votes: (&[elected(0, 500, 1000), elected(1, 1000, 2000)], &[2, 1, 0]),
-            cost: (&[elected(0, 500, 1000), elected(1, 1000, 2000)], &[2, 1, 0]),
-        },
-        Measured {
-            budget: 6000,
-            costs: &[2000, 1000],
-            ballots: &both,
-            votes: (&[elected(1, 500, 1000), elected(0, 1000, 2000)], &[2, 1, 0]),
-            cost: (&[elected(0, 1000, 2000), elected(1, 500, 1000)], &[2, 1, 0]),
-        },
-    ];
-    for case in cases {
-        let election = election(&rt, alloc, case.budget, case.costs, case.ballots)?;
-        let by_measure = [(Measure::Votes, case.votes), (Measure::Cost, case.cost)];
-        for (measure, (winners, priced)) in by_measure {
-            let options = CountOptions { measure, ..plain() };
-            let outcome = count(&rt, alloc, &election, &options)?;
-            assert_eq!(rt; outcome.elected.as_slice(), winners);
-            assert_eq!(rt; outcome.priced.as_slice(), priced);
-        }
-    }
-    Ok(())
-}
-
-#[test]
-fn leaves_rests(rt: HostRuntime) -> Result<(), Fail> {
-    let three = three_voters(&rt, rt.alloc())?;
-    let outcome = count(&rt, rt.alloc(), &three, &plain())?;
-    assert_eq!(rt;
-        outcome.rests.as_slice(),
-        [Money(1833), Money(1833), Money(3333)].as_slice()
-    );
-    assert_eq!(rt; outcome.priced.as_slice(), [2, 1].as_slice());
-    Ok(())
-}
-
-#[test]
-fn refuses_options(rt: HostRuntime) -> Result<(), Fail> {
-    let plain = plain();
-    let election = three_voters(&rt, rt.alloc())?;
-    let cases = [
-        (0, 100, 0, CountFault::WorkerCount),
-        (65, 100, 0, CountFault::WorkerCount),
-        (0, 0, 0, CountFault::WorkerCount),
-        (1, 0, 0, CountFault::StepRange),
-        (1, 1_000_000_001, 0, CountFault::StepRange),
-        (1, 100, 1_000_001, CountFault::RaisesRange),
-    ];
-    for (workers, step, max_raises, fault) in cases {
+fn counts_by_the_queue(rt: HostRuntime) {
+    let four = four_voters(&rt, rt.alloc());
+    for (workers, priced, met) in QUEUES {
+        let outcome = runs_as(&rt, rt.alloc(), &four, *workers, *met);
         let options = CountOptions {
-            workers,
-            step: Money(step),
-            max_raises,
-            ..plain
+            workers: *workers,
+            ..plain()
         };
-        let given = fault_of(&rt, rt.alloc(), &election, &options);
-        assert_eq!(rt; given, Some(fault));
+        let same_run = count(&rt, rt.alloc(), &four, &options).expect(&rt, "an outcome");
+        elects(&rt, &same_run, FOUR);
+        let (rests, wanted) = (same_run.rests.as_slice(), outcome.rests.as_slice());
+        same(&rt, rests, wanted, "the rests");
+        same(&rt, same_run.priced.as_slice(), *priced, "the prices");
     }
-    let refused = equal_shares(
+}
+
+/// An election by budget, costs and ballots, a measure, whom a plain count elects by it, and how many prices each
+/// round takes with one worker.
+type Measured = (
+    u64,
+    &'static [u64],
+    &'static [&'static [u32]],
+    Measure,
+    &'static [Winner],
+    &'static [u64],
+);
+
+const MEASURED: &[Measured] = &[
+    (
+        4000,
+        &[1000, 3000],
+        &[&[0, 1], &[0, 1], &[1], &[1]],
+        Measure::Votes,
+        &[(0, 500, 1000), (1, 1000, 3000)],
+        &[2, 1, 0],
+    ),
+    (
+        4000,
+        &[1000, 3000],
+        &[&[0, 1], &[0, 1], &[1], &[1]],
+        Measure::Cost,
+        &[(1, 750, 3000)],
+        &[2, 1],
+    ),
+    (
+        600,
+        &[100, 300],
+        &[&[0, 1], &[0, 1], &[0, 1]],
+        Measure::Votes,
+        &[(0, 34, 102), (1, 100, 300)],
+        &[2, 1, 0],
+    ),
+    (
+        600,
+        &[100, 300],
+        &[&[0, 1], &[0, 1], &[0, 1]],
+        Measure::Cost,
+        &[(1, 100, 300), (0, 34, 102)],
+        &[2, 1, 0],
+    ),
+    (
+        6000,
+        &[1000, 2000],
+        &[&[0, 1], &[0, 1]],
+        Measure::Votes,
+        &[(0, 500, 1000), (1, 1000, 2000)],
+        &[2, 1, 0],
+    ),
+    (
+        6000,
+        &[1000, 2000],
+        &[&[0, 1], &[0, 1]],
+        Measure::Cost,
+        &[(0, 500, 1000), (1, 1000, 2000)],
+        &[2, 1, 0],
+    ),
+    (
+        6000,
+        &[2000, 1000],
+        &[&[0, 1], &[0, 1]],
+        Measure::Votes,
+        &[(1, 500, 1000), (0, 1000, 2000)],
+        &[2, 1, 0],
+    ),
+    (
+        6000,
+        &[2000, 1000],
+        &[&[0, 1], &[0, 1]],
+        Measure::Cost,
+        &[(0, 1000, 2000), (1, 500, 1000)],
+        &[2, 1, 0],
+    ),
+];
+
+#[test]
+fn counts_by_both_measures(rt: HostRuntime) {
+    for (budget, costs, ballots, measure, winners, priced) in MEASURED {
+        let election = numbered(&rt, rt.alloc(), *budget, costs, ballots);
+        let options = CountOptions {
+            measure: *measure,
+            ..plain()
+        };
+        let outcome = count(&rt, rt.alloc(), &election, &options).expect(&rt, "an outcome");
+        elects(&rt, &outcome, winners);
+        same(&rt, outcome.priced.as_slice(), *priced, "the prices");
+    }
+}
+
+#[test]
+fn leaves_rests(rt: HostRuntime) {
+    let three = three_voters(&rt, rt.alloc());
+    let outcome = count(&rt, rt.alloc(), &three, &plain()).expect(&rt, "an outcome");
+    let wanted = [Money(1833), Money(1833), Money(3333)];
+    same(
+        &rt,
+        outcome.rests.as_slice(),
+        wanted.as_slice(),
+        "the rests",
+    );
+    same(
+        &rt,
+        outcome.priced.as_slice(),
+        [2, 1].as_slice(),
+        "the prices",
+    );
+}
+
+/// Workers, the step, the most raises, and the fault of a plain count, if it has one.
+const OPTIONS: &[(u32, u64, u32, Option<CountFault>)] = &[
+    (0, 100, 0, Some(CountFault::WorkerCount)),
+    (65, 100, 0, Some(CountFault::WorkerCount)),
+    (0, 0, 0, Some(CountFault::WorkerCount)),
+    (1, 0, 0, Some(CountFault::StepRange)),
+    (1, 1_000_000_001, 0, Some(CountFault::StepRange)),
+    (1, 100, 1_000_001, Some(CountFault::RaisesRange)),
+    (1, 1, 0, None),
+    (64, 1_000_000_000, 1_000_000, None),
+];
+
+#[test]
+fn refuses_options(rt: HostRuntime) {
+    let three = three_voters(&rt, rt.alloc());
+    for (workers, step, max_raises, wanted) in OPTIONS {
+        let options = CountOptions {
+            completion: Completion::Plain,
+            ..options(*step, *max_raises, *workers)
+        };
+        let fault = fault_of(&rt, rt.alloc(), &three, &options);
+        same(&rt, fault, *wanted, "options");
+    }
+}
+
+#[test]
+fn refuses_65_workers(rt: HostRuntime) {
+    let three = three_voters(&rt, rt.alloc());
+    let run = equal_shares(
         &rt,
         rt.alloc(),
-        &election,
+        &three,
         Money(100),
         65,
         Measure::Votes,
         &NoGate,
     );
-    assert!(rt; matches!(refused, Err(CountFault::WorkerCount)));
-    let ends = [(1, 1, 0), (64, 1_000_000_000, 1_000_000)];
-    for (workers, step, max_raises) in ends {
-        let options = CountOptions {
-            workers,
-            step: Money(step),
-            max_raises,
-            ..plain
-        };
-        assert_eq!(rt; fault_of(&rt, rt.alloc(), &election, &options), None);
-    }
-    Ok(())
+    same(&rt, run.err(), Some(CountFault::WorkerCount), "a run");
+}
+
+#[test]
+fn keys_have_their_parts(rt: HostRuntime) {
+    let key = Key::new(Money(400), 3, 2);
+    let parts = (key.price().0, key.weight(), key.place());
+    same(&rt, parts, (400, 3, 2), "a key");
+}
+
+/// Price, weight and place of two keys, of which the first comes before the second.
+const KEYS: &[((u64, u64, u32), (u64, u64, u32))] = &[
+    ((399, 3, 3), (400, 3, 2)),
+    ((400, 3, 2), (400, 3, 3)),
+    ((800, 6, 1), (400, 3, 2)),
+    ((400, 3, 2), (800, 6, 3)),
+    ((400, 4, 9), (400, 3, 2)),
+    ((400, 3, 1), (800, 6, 2)),
+    ((400, 3, 2), (800, 6, 2)),
+    ((u64::MAX - 1, u64::MAX, 9), (u64::MAX, u64::MAX, 0)),
+];
+
+fn key(rt: &impl Abort, parts: (u64, u64, u32)) -> Key {
+    let (price, weight, place) = parts;
+    assert!(rt; 1 <= weight);
+    Key::new(Money(price), weight, place)
 }
 
 #[test]
 fn orders_keys(rt: HostRuntime) {
-    let key = Key::new(Money(400), 3, 2);
-    assert_eq!(rt; key.price(), Money(400));
-    assert_eq!(rt; key.weight(), 3);
-    assert_eq!(rt; key.place(), 2);
-    let largest = u64::MAX;
-    let before = [
-        (Key::new(Money(399), 3, 3), key),
-        (key, Key::new(Money(400), 3, 3)),
-        (Key::new(Money(800), 6, 1), key),
-        (key, Key::new(Money(800), 6, 3)),
-        (Key::new(Money(400), 4, 9), key),
-        (Key::new(Money(400), 3, 1), Key::new(Money(800), 6, 2)),
-        (Key::new(Money(400), 3, 2), Key::new(Money(800), 6, 2)),
-        (
-            Key::new(Money(largest - 1), largest, 9),
-            Key::new(Money(largest), largest, 0),
-        ),
-    ];
-    for (first, second) in before {
-        assert!(rt; first < second && second > first && first != second);
+    for (first, second) in KEYS {
+        let (first, second) = (key(&rt, *first), key(&rt, *second));
+        holds(&rt, first < second, "less");
+        holds(&rt, second > first, "greater");
+        holds(&rt, first != second, "not equal");
     }
 }
 
+/// The faults in the order of their numbers, and their names.
+const FAULTS: &[(CountFault, u32, &str)] = &[
+    (CountFault::WorkerCount, 1, "WorkerCount"),
+    (CountFault::StepRange, 2, "StepRange"),
+    (CountFault::RaisesRange, 3, "RaisesRange"),
+    (CountFault::RaisesSpent, 4, "RaisesSpent"),
+    (CountFault::NoMemory, 5, "NoMemory"),
+];
+
 #[test]
 fn numbers_faults(rt: HostRuntime) {
-    let faults = [
-        (CountFault::WorkerCount, "WorkerCount"),
-        (CountFault::StepRange, "StepRange"),
-        (CountFault::RaisesRange, "RaisesRange"),
-        (CountFault::RaisesSpent, "RaisesSpent"),
-        (CountFault::NoMemory, "NoMemory"),
-    ];
-    for (i, (fault, name)) in faults.iter().enumerate() {
-        assert_eq!(rt; fault.number() as usize, i + 1);
-        assert_eq!(rt; fault.name(), *name);
+    for (fault, number, name) in FAULTS {
+        same(&rt, (fault.number(), fault.name()), (*number, *name), name);
     }
 }

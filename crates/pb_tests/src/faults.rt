@@ -1,64 +1,64 @@
 //! What the desk's faults say of themselves: number, name and text.
 
+use crate::checks::tells;
 use pb_desk::audit_fault::AuditFault;
 use pb_desk::desk_fault::DeskFault;
 use pb_desk::write_fault::WriteFault;
-use std::test::Fail;
+
+const DESK_FAULTS: &[(DeskFault, &str)] = &[
+    (DeskFault::JournalFull, "1 JournalFull: the journal is full"),
+    (DeskFault::NoMemory, "2 NoMemory: out of memory"),
+];
 
 #[test]
-fn a_desk_tells_its_faults(rt: HostRuntime) -> Result<(), Fail> {
-    let faults = [
-        (DeskFault::JournalFull, "1 JournalFull: the journal is full"),
-        (DeskFault::NoMemory, "2 NoMemory: out of memory"),
-    ];
-    for (fault, wanted) in faults {
-        let shown = format!(in rt.alloc(); "{} {}: {}", fault.number(), fault.name(), fault)?;
-        assert_eq!(rt; shown.as_str(), wanted);
+fn a_desk_tells_its_faults(rt: HostRuntime) {
+    for (fault, wanted) in DESK_FAULTS {
+        let named = (fault.number(), fault.name());
+        tells(&rt, rt.alloc(), named, fault, wanted);
     }
-    Ok(())
 }
 
-#[test]
-fn a_journals_text_tells_its_faults(rt: HostRuntime) -> Result<(), Fail> {
-    let faults = [
-        (WriteFault::WriteFailed, "1 WriteFailed: the writer failed"),
-        (WriteFault::NoMemory, "2 NoMemory: out of memory"),
-    ];
-    for (fault, wanted) in faults {
-        let shown = format!(in rt.alloc(); "{} {}: {}", fault.number(), fault.name(), fault)?;
-        assert_eq!(rt; shown.as_str(), wanted);
-    }
-    Ok(())
-}
+const WRITE_FAULTS: &[(WriteFault, &str)] = &[
+    (WriteFault::WriteFailed, "1 WriteFailed: the writer failed"),
+    (WriteFault::NoMemory, "2 NoMemory: out of memory"),
+];
 
 #[test]
-fn an_audit_tells_its_faults(rt: HostRuntime) -> Result<(), Fail> {
-    let faults = [
-        (
-            AuditFault::ReadFailed(7),
-            "1 ReadFailed: the reader failed at row 7",
-        ),
-        (
-            AuditFault::BadRow(7),
-            "2 BadRow: row 7 has not the form of an entry",
-        ),
-        (
-            AuditFault::WrongNumber(7),
-            "3 WrongNumber: row 7 has another number",
-        ),
-        (
-            AuditFault::JournalFull(7),
-            "4 JournalFull: there is no room for row 7",
-        ),
-        (
-            AuditFault::WrongAnswer(7),
-            "5 WrongAnswer: row 7 has another answer than the desk gives",
-        ),
-        (AuditFault::NoMemory, "6 NoMemory: out of memory"),
-    ];
-    for (fault, wanted) in faults {
-        let shown = format!(in rt.alloc(); "{} {}: {}", fault.number(), fault.name(), fault)?;
-        assert_eq!(rt; shown.as_str(), wanted);
+fn a_journals_text_tells_its_faults(rt: HostRuntime) {
+    for (fault, wanted) in WRITE_FAULTS {
+        let named = (fault.number(), fault.name());
+        tells(&rt, rt.alloc(), named, fault, wanted);
     }
-    Ok(())
+}
+
+const AUDIT_FAULTS: &[(AuditFault, &str)] = &[
+    (
+        AuditFault::ReadFailed(7),
+        "1 ReadFailed: the reader failed at row 7",
+    ),
+    (
+        AuditFault::BadRow(7),
+        "2 BadRow: row 7 has not the form of an entry",
+    ),
+    (
+        AuditFault::WrongNumber(7),
+        "3 WrongNumber: row 7 has another number",
+    ),
+    (
+        AuditFault::JournalFull(7),
+        "4 JournalFull: there is no room for row 7",
+    ),
+    (
+        AuditFault::WrongAnswer(7),
+        "5 WrongAnswer: row 7 has another answer than the desk gives",
+    ),
+    (AuditFault::NoMemory, "6 NoMemory: out of memory"),
+];
+
+#[test]
+fn an_audit_tells_its_faults(rt: HostRuntime) {
+    for (fault, wanted) in AUDIT_FAULTS {
+        let named = (fault.number(), fault.name());
+        tells(&rt, rt.alloc(), named, fault, wanted);
+    }
 }

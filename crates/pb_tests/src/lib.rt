@@ -1,10 +1,17 @@
 //! Tests of the library crates: what no contract says, and each public call once with ample memory.
 //!
-//! They stand apart, since a crate that has tests is proved a second time with them.
+//! They stand apart, since a crate that has tests is proved a second time with them. A test is a table and a short
+//! body, which compares by `checks`: an assertion in a body takes the prover seconds, a call next to nothing.
 #![tactic(auto)]
 
 #[cfg(test)]
+mod auditing;
+#[cfg(test)]
+mod checks;
+#[cfg(test)]
 mod counting;
+#[cfg(test)]
+mod elections;
 #[cfg(test)]
 mod faults;
 #[cfg(test)]
@@ -17,6 +24,8 @@ mod reading;
 mod rows;
 #[cfg(test)]
 mod serving;
+#[cfg(test)]
+mod sharing;
 #[cfg(test)]
 mod values;
 #[cfg(test)]

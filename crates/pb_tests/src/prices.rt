@@ -3,12 +3,10 @@ ghost use Rattle.std.specs.Bool.{OnTrue};
 ghost use Rattle.pb_core.specs.Election.{most_projects};
 ghost use Rattle.pb_price.specs.Price.{AreRests};
 
-use pb_core::ballot::Ballot;
-use pb_core::election::Election;
+use crate::checks::{holds, same, tells};
+use crate::elections;
+use crate::elections::{add_next_voter, numbered};
 use pb_core::money::Money;
-use pb_core::project::Project;
-use pb_core::voter::Voter;
-use pb_core::voter_id::VoterId;
 use pb_price::gate::{Gate, NoGate};
 use pb_price::price::price;
 use pb_price::{PriceFault, Supporters, Tally, price_all, price_in_steps};
@@ -16,57 +14,18 @@ use std::alloc::Global;
 use std::process::Abort;
 use std::sync::atomic::Ordering::SeqCst;
 use std::sync::atomic::{AtomicBool, AtomicU32};
-use std::test::Fail;
 use std::thread::{Threads, yield_now};
 
 /// The largest share of a voter.
 const LARGEST_SHARE: Money = Money(2_000_000_000_000_000);
 
-fn add_project(
-    rt: &impl Abort,
-    alloc: Global,
-    election: &mut Election,
-    cost: u64,
-) -> Result<(), Fail> {
-    let place = election.projects().len();
-    let id = format!(in alloc; "p{place}")?;
-    let name = String::new(alloc);
-    assert!(rt; !id.is_empty() && 0 < cost && cost <= 1_000_000_000_000_000);
-    let project = Project::new(id, name, Money(cost));
-    assert!(rt; election.voters().is_empty() && place < 10_000);
-    assert!(rt; !election.has_project(project.id()));
-    election.add_project(project)?;
-    Ok(())
-}
-
-fn add_voter(
-    rt: &impl Abort,
-    alloc: Global,
-    election: &mut Election,
-    places: &[u32],
-) -> Result<(), Fail> {
-    let position = election.voters().len();
-    let text = format!(in alloc; "v{position}")?;
-    let id = VoterId::new(alloc, text.as_str())?.expect(rt, "an id");
-    let ballot = Ballot::of(alloc, places)?;
-    assert!(rt; position < 1_000_000 && !election.has_voter(&id) && election.knows(&ballot));
-    election.add_voter(Voter { id, ballot })?;
-    Ok(())
-}
-
 /// The supporters of one project of this cost, whom this many voters all support.
-fn all_support(
-    rt: &impl Abort,
-    alloc: Global,
-    cost: u64,
-    voters: usize,
-) -> Result<Supporters, Fail> {
-    let mut election = Election::start(alloc, Money(0));
-    add_project(rt, alloc, &mut election, cost)?;
+fn all_support(rt: &impl Abort, alloc: Global, cost: u64, voters: usize) -> Supporters {
+    let mut election = numbered(rt, alloc, 0, &[cost], &[]);
     for _ in 0..voters {
-        add_voter(rt, alloc, &mut election, &[0])?;
+        add_next_voter(rt, alloc, &mut election, &[0]);
     }
-    Ok(Supporters::build(alloc, &election)?)
+    Supporters::build(alloc, &election).expect(rt, "memory")
 }
 
 /// Whether there is a rest for each voter, none above the largest share, and a project at each of these places.
@@ -81,6 +40,15 @@ fn can_price(supporters: &Supporters, rests: &[Money], projects: &[u32]) -> bool
         && rests.iter().all(|rest| *rest <= LARGEST_SHARE)
 }
 
+/// These amounts, in hundredths.
+fn amounts(rt: &impl Abort, alloc: Global, hundredths: &[u64]) -> Vec<Money> {
+    let mut amounts = Vec::new(alloc);
+    for amount in hundredths {
+        amounts.push(Money(*amount)).expect(rt, "memory");
+    }
+    amounts
+}
+
 /// The price of the project at this place by `price` and by `price_in_steps`, which have to agree.
 fn priced(
     rt: &impl Abort,
@@ -88,13 +56,14 @@ fn priced(
     supporters: &Supporters,
     rests: &[Money],
     place: u32,
-) -> Result<Option<Money>, Fail> {
+) -> Option<Money> {
     assert!(rt; can_price(supporters, rests, &[]) && place < supporters.projects());
     let mut tally = Tally::new();
-    let sorted = price(alloc, supporters, rests, place, &mut tally)?;
-    assert_eq!(rt; tally.count(), 1);
-    assert_eq!(rt; price_in_steps(supporters, rests, place), sorted);
-    Ok(sorted)
+    let sorted = price(alloc, supporters, rests, place, &mut tally).expect(rt, "memory");
+    same(rt, tally.count(), 1, "the tally");
+    let in_steps = price_in_steps(supporters, rests, place);
+    same(rt, in_steps, sorted, "in steps");
+    sorted
 }
 
 /// The prices of all these projects by this many workers, and how far the tally grew.
@@ -116,60 +85,64 @@ fn all_priced<R: Threads + Abort + Sync, G: Gate>(
 }
 
 /// The election of the three voters: a costs 30.00, b costs 60.00; the voters approve a; a and b; b.
-fn three_voters(rt: &impl Abort, alloc: Global) -> Result<Supporters, Fail> {
-    let mut election = Election::start(alloc, Money(10_000));
-    add_project(rt, alloc, &mut election, 3000)?;
-    add_project(rt, alloc, &mut election, 6000)?;
-    add_voter(rt, alloc, &mut election, &[0])?;
-    add_voter(rt, alloc, &mut election, &[0, 1])?;
-    add_voter(rt, alloc, &mut election, &[1])?;
-    Ok(Supporters::build(alloc, &election)?)
+fn three_voters(rt: &impl Abort, alloc: Global) -> Supporters {
+    let election = elections::three_voters(rt, alloc);
+    Supporters::build(alloc, &election).expect(rt, "memory")
+}
+
+/// The project at this place has these supporters and this cost.
+fn is_supported(rt: &impl Abort, supporters: &Supporters, place: u32, by: &[u32], cost: u64) {
+    assert!(rt; place < supporters.projects());
+    same(rt, supporters.of(place), by, "supporters");
+    same(rt, supporters.cost(place), Money(cost), "a cost");
 }
 
 #[test]
-fn lists_supporters(rt: HostRuntime) -> Result<(), Fail> {
-    let supporters = three_voters(&rt, rt.alloc())?;
-    assert_eq!(rt; supporters.projects(), 2);
-    assert_eq!(rt; supporters.voters(), 3);
-    assert_eq!(rt; supporters.of(0), [0, 1].as_slice());
-    assert_eq!(rt; supporters.of(1), [1, 2].as_slice());
-    assert_eq!(rt; supporters.cost(0), Money(3000));
-    assert_eq!(rt; supporters.cost(1), Money(6000));
-    Ok(())
+fn lists_supporters(rt: HostRuntime) {
+    let supporters = three_voters(&rt, rt.alloc());
+    same(&rt, supporters.projects(), 2, "projects");
+    same(&rt, supporters.voters(), 3, "voters");
+    is_supported(&rt, &supporters, 0, &[0, 1], 3000);
+    is_supported(&rt, &supporters, 1, &[1, 2], 6000);
 }
 
+/// A cost, what is left to each supporter, and the price.
+const PRICES: &[(u64, &[u64], Option<u64>)] = &[
+    (1, &[5], Some(1)),
+    (7, &[3, 3, 3], Some(3)),
+    (6, &[4, 1, 4], Some(3)),
+    (1000, &[0, 1000, 0], Some(1000)),
+    (1001, &[0, 1000, 0], None),
+    (1900, &[600, 600, 1000], Some(700)),
+    (5, &[], None),
+    (
+        1_000_000_000_000_000,
+        &[
+            2_000_000_000_000_000,
+            2_000_000_000_000_000,
+            2_000_000_000_000_000,
+        ],
+        Some(333_333_333_333_334),
+    ),
+    (
+        1_000_000_000_000_000,
+        &[
+            2_000_000_000_000_000,
+            100_000_000_000_000,
+            100_000_000_000_000,
+        ],
+        Some(800_000_000_000_000),
+    ),
+];
+
 #[test]
-fn prices_by_what_is_left(rt: HostRuntime) -> Result<(), Fail> {
-    let alloc = rt.alloc();
-    let large = 1_000_000_000_000_000;
-    let cases: [(u64, &[Money], Option<Money>); 9] = [
-        (1, &[Money(5)], Some(Money(1))),
-        (7, &[Money(3), Money(3), Money(3)], Some(Money(3))),
-        (6, &[Money(4), Money(1), Money(4)], Some(Money(3))),
-        (1000, &[Money(0), Money(1000), Money(0)], Some(Money(1000))),
-        (1001, &[Money(0), Money(1000), Money(0)], None),
-        (
-            1900,
-            &[Money(600), Money(600), Money(1000)],
-            Some(Money(700)),
-        ),
-        (5, &[], None),
-        (
-            large,
-            &[LARGEST_SHARE, LARGEST_SHARE, LARGEST_SHARE],
-            Some(Money(333_333_333_333_334)),
-        ),
-        (
-            large,
-            &[LARGEST_SHARE, Money(large / 10), Money(large / 10)],
-            Some(Money(800_000_000_000_000)),
-        ),
-    ];
-    for (cost, rests, wanted) in cases {
-        let supporters = all_support(&rt, alloc, cost, rests.len())?;
-        assert_eq!(rt; priced(&rt, alloc, &supporters, rests, 0)?, wanted);
+fn prices_by_what_is_left(rt: HostRuntime) {
+    for (cost, rests, wanted) in PRICES {
+        let supporters = all_support(&rt, rt.alloc(), *cost, rests.len());
+        let rests = amounts(&rt, rt.alloc(), rests);
+        let found = priced(&rt, rt.alloc(), &supporters, &rests, 0);
+        same(&rt, found.map(|price| price.0), *wanted, "a price");
     }
-    Ok(())
 }
 
 /// The next number of a fixed sequence that looks random.
@@ -193,32 +166,63 @@ fn by_trial(cost: u64, supporters: &[u32], rests: &[Money]) -> Option<Money> {
     None
 }
 
-/// Elections with one project and a few voters, most of whom support it, and less than 20 left to each. Their prices are
-/// those found by trial. With a large part left to each more, the sorted rests and the steps still agree.
+/// The supporters of one project of this cost: of as many voters as there are numbers, those whose number is not 0.
+fn some_support(rt: &impl Abort, alloc: Global, cost: u64, numbers: &[u32]) -> Supporters {
+    let mut election = numbered(rt, alloc, 0, &[cost], &[]);
+    for number in numbers {
+        let places: &[u32] = if *number > 0 { &[0] } else { &[] };
+        add_next_voter(rt, alloc, &mut election, places);
+    }
+    Supporters::build(alloc, &election).expect(rt, "memory")
+}
+
+/// This many of the next numbers, each below the limit.
+fn draws(rt: &impl Abort, alloc: Global, state: &mut u32, count: u32, limit: u32) -> Vec<u32> {
+    assert!(rt; 0 < limit);
+    let mut drawn = Vec::new(alloc);
+    for _ in 0..count {
+        drawn.push(next(state) % limit).expect(rt, "memory");
+    }
+    drawn
+}
+
+/// These many parts to each.
+fn rests_of(rt: &impl Abort, alloc: Global, parts: &[u32], part: u64) -> Vec<Money> {
+    assert!(rt; part <= 100_000_000_000_000);
+    let mut rests = Vec::new(alloc);
+    for number in parts {
+        rests
+            .push(Money(u64::from(*number % 20) * part))
+            .expect(rt, "memory");
+    }
+    rests
+}
+
+/// The price where these parts of 1 are left is the one found by trial. With as many large parts left, the sorted
+/// rests and the steps still agree.
+fn agrees_with_a_trial(rt: &impl Abort, alloc: Global, cost: u64, support: &[u32], parts: &[u32]) {
+    let supporters = some_support(rt, alloc, cost, support);
+    let small = rests_of(rt, alloc, parts, 1);
+    let found = priced(rt, alloc, &supporters, &small, 0);
+    assert!(rt; 0 < supporters.projects());
+    let wanted = by_trial(cost, supporters.of(0), &small);
+    same(rt, found, wanted, "a price by trial");
+    let large = rests_of(rt, alloc, parts, 100_000_000_000_000);
+    priced(rt, alloc, &supporters, &large, 0);
+}
+
+/// Elections with one project and a few voters, most of whom support it, and less than 20 left to each.
 #[test]
-fn agrees_with_the_trials(rt: HostRuntime) -> Result<(), Fail> {
+fn agrees_with_the_trials(rt: HostRuntime) {
     let alloc = rt.alloc();
     let mut state = 20;
     for _ in 0..300 {
         let cost = u64::from(next(&mut state) % 60) + 1;
-        let mut election = Election::start(alloc, Money(0));
-        add_project(&rt, alloc, &mut election, cost)?;
-        let mut small = Vec::new(alloc);
-        let mut large = Vec::new(alloc);
-        for _ in 0..next(&mut state) % 9 {
-            let places: &[u32] = if next(&mut state) % 4 > 0 { &[0] } else { &[] };
-            add_voter(&rt, alloc, &mut election, places)?;
-            let rest = u64::from(next(&mut state) % 20);
-            small.push(Money(rest))?;
-            large.push(Money(rest * 100_000_000_000_000))?;
-        }
-        let supporters = Supporters::build(alloc, &election)?;
-        let answer = priced(&rt, alloc, &supporters, &small, 0)?;
-        assert!(rt; 0 < supporters.projects());
-        assert_eq!(rt; answer, by_trial(cost, supporters.of(0), &small));
-        priced(&rt, alloc, &supporters, &large, 0)?;
+        let voters = next(&mut state) % 9;
+        let support = draws(&rt, alloc, &mut state, voters, 4);
+        let parts = draws(&rt, alloc, &mut state, voters, 20);
+        agrees_with_a_trial(&rt, alloc, cost, &support, &parts);
     }
-    Ok(())
 }
 
 /// Counts how often each piece came to the gate.
@@ -235,60 +239,82 @@ impl Gate for Visits {
     }
 }
 
-/// Each piece comes to the gate once, and the tally grows by the pieces, for every number of workers: the answers are
-/// those of one worker.
-#[test]
-fn prices_all_by_any_number_of_workers(rt: HostRuntime) -> Result<(), Fail> {
-    let alloc = rt.alloc();
-    let supporters = three_voters(&rt, alloc)?;
-    let share = [Money(3333), Money(3333), Money(3333)];
-    let (a, b) = (Some(Money(1500)), Some(Money(3000)));
-    let cases: [(&[u32], &[Option<Money>]); 4] = [
-        (&[], &[]),
-        (&[1], &[b]),
-        (&[0, 1], &[a, b]),
-        (&[1, 0, 1, 1], &[b, a, b, b]),
+/// Projects to be priced where 33.33 is left to each of the three voters, and their prices.
+const BATCHES: &[(&[u32], &[u64])] = &[
+    (&[], &[]),
+    (&[1], &[3000]),
+    (&[0, 1], &[1500, 3000]),
+    (&[1, 0, 1, 1], &[3000, 1500, 3000, 3000]),
+];
+
+/// What is left to each of the three voters.
+const SHARE: [Money; 3] = [Money(3333), Money(3333), Money(3333)];
+
+/// Each project has this price.
+fn are_prices(rt: &impl Abort, prices: &[Option<Money>], wanted: &[u64]) {
+    same(rt, prices.len(), wanted.len(), "the number of prices");
+    for (price, hundredths) in prices.iter().zip(wanted) {
+        same(rt, *price, Some(Money(*hundredths)), "a price");
+    }
+}
+
+/// A gate that has seen nothing.
+fn no_visits() -> Visits {
+    let pieces = [
+        AtomicU32::new(0),
+        AtomicU32::new(0),
+        AtomicU32::new(0),
+        AtomicU32::new(0),
     ];
+    Visits { pieces }
+}
+
+/// These workers give these prices. Each piece comes to the gate once, and the tally grows by the pieces.
+fn prices_as<R: Threads + Abort + Sync>(
+    rt: &R,
+    alloc: Global,
+    workers: u32,
+    projects: &[u32],
+    wanted: &[u64],
+) {
+    let supporters = three_voters(rt, alloc);
+    let gate = no_visits();
+    let (answer, count) = all_priced(rt, alloc, workers, &gate, projects, &supporters, &SHARE);
+    let prices = answer.expect(rt, "prices");
+    are_prices(rt, prices.as_slice(), wanted);
+    same(rt, count, (projects.len() as u64), "the tally");
+    for (piece, visits) in gate.pieces.iter().enumerate() {
+        let once = if piece < projects.len() { 1 } else { 0 };
+        same(rt, visits.load(SeqCst), once, "visits");
+    }
+}
+
+/// The answers are those of one worker, for every number of workers.
+#[test]
+fn prices_all_by_any_number_of_workers(rt: HostRuntime) {
     for workers in [1, 2, 3, 64] {
-        for (projects, wanted) in cases {
-            let pieces = [
-                AtomicU32::new(0),
-                AtomicU32::new(0),
-                AtomicU32::new(0),
-                AtomicU32::new(0),
-            ];
-            let gate = Visits { pieces };
-            let (answer, count) = all_priced(
-                &rt,
-                alloc,
-                workers,
-                &gate,
-                projects,
-                &supporters,
-                &share,
-            );
-            assert_eq!(rt; answer?.as_slice(), wanted);
-            assert_eq!(rt; count, projects.len() as u64);
-            for (piece, visits) in gate.pieces.iter().enumerate() {
-                let once = if piece < projects.len() { 1 } else { 0 };
-                assert_eq!(rt; visits.load(SeqCst), once);
-            }
+        for (projects, wanted) in BATCHES {
+            prices_as(&rt, rt.alloc(), workers, projects, wanted);
         }
     }
+}
+
+#[test]
+fn refuses_a_number_of_workers(rt: HostRuntime) {
+    let supporters = three_voters(&rt, rt.alloc());
     for workers in [0, 65, u32::MAX] {
         let (answer, count) = all_priced(
             &rt,
-            alloc,
+            rt.alloc(),
             workers,
             &NoGate,
             &[0, 1],
             &supporters,
-            &share,
+            &SHARE,
         );
-        assert_eq!(rt; answer.err(), Some(PriceFault::WorkerCount));
-        assert_eq!(rt; count, 0);
+        same(&rt, answer.err(), Some(PriceFault::WorkerCount), "workers");
+        same(&rt, count, 0, "the tally");
     }
-    Ok(())
 }
 
 /// Each of two pieces waits at the gate until the other has come there too, for a bounded number of turns.
@@ -314,40 +340,40 @@ impl Gate for Meeting {
 
 /// The workers run side by side: of two pieces neither could be priced before the other was drawn.
 #[test]
-fn prices_side_by_side(rt: HostRuntime) -> Result<(), Fail> {
-    let alloc = rt.alloc();
-    let supporters = three_voters(&rt, alloc)?;
-    let share = [Money(3333), Money(3333), Money(3333)];
+fn prices_side_by_side(rt: HostRuntime) {
+    let supporters = three_voters(&rt, rt.alloc());
     let gate = Meeting {
         came: [AtomicBool::new(false), AtomicBool::new(false)],
         met: [AtomicBool::new(false), AtomicBool::new(false)],
     };
-    let (answer, count) = all_priced(&rt, alloc, 2, &gate, &[0, 1], &supporters, &share);
-    assert_eq!(rt;
-        answer?.as_slice(),
-        [Some(Money(1500)), Some(Money(3000))].as_slice()
+    let (answer, count) = all_priced(&rt, rt.alloc(), 2, &gate, &[0, 1], &supporters, &SHARE);
+    let prices = answer.expect(&rt, "prices");
+    are_prices(&rt, prices.as_slice(), &[1500, 3000]);
+    same(&rt, count, 2, "the tally");
+    holds(
+        &rt,
+        gate.met[0].load(SeqCst),
+        "the first has met the second",
     );
-    assert_eq!(rt; count, 2);
-    assert!(rt; gate.met[0].load(SeqCst) && gate.met[1].load(SeqCst));
-    Ok(())
+    holds(
+        &rt,
+        gate.met[1].load(SeqCst),
+        "the second has met the first",
+    );
 }
 
+const FAULTS: &[(PriceFault, &str)] = &[
+    (
+        PriceFault::WorkerCount,
+        "1 WorkerCount: the number of workers is not 1 to 64",
+    ),
+    (PriceFault::NoMemory, "2 NoMemory: out of memory"),
+];
+
 #[test]
-fn names_its_faults(rt: HostRuntime) -> Result<(), Fail> {
-    let alloc = rt.alloc();
-    let cases = [
-        (
-            PriceFault::WorkerCount,
-            1,
-            "WorkerCount",
-            "the number of workers is not 1 to 64",
-        ),
-        (PriceFault::NoMemory, 2, "NoMemory", "out of memory"),
-    ];
-    for (fault, number, name, text) in cases {
-        assert_eq!(rt; fault.number(), number);
-        assert_eq!(rt; fault.name(), name);
-        assert_eq!(rt; format!(in alloc; "{fault}")?.as_str(), text);
+fn names_its_faults(rt: HostRuntime) {
+    for (fault, wanted) in FAULTS {
+        let named = (fault.number(), fault.name());
+        tells(&rt, rt.alloc(), named, fault, wanted);
     }
-    Ok(())
 }

@@ -1,3 +1,4 @@
+use crate::checks::{holds, same, shows};
 use csv::StringRecord;
 use pb_rows::{
     Records, RecordsFault, RowsWriter, read_number, read_place_list, read_places, rows_come_back,
@@ -7,29 +8,31 @@ use std::alloc::Global;
 use std::io;
 use std::io::{ErrorKind, Read};
 use std::process::Abort;
-use std::test::Fail;
+
+/// Each field in brackets, and a bar.
+fn show_row(rt: &impl Abort, shown: &mut String, row: &StringRecord) {
+    for field in row.iter() {
+        write!(shown, "[{field}]").expect(rt, "memory");
+    }
+    shown.push('|').expect(rt, "memory");
+}
 
 /// The records of a text: each field in brackets, and a bar after each record.
-fn shown(alloc: Global, text: &[u8]) -> Result<String, Fail> {
+fn shown(rt: &impl Abort, alloc: Global, text: &[u8]) -> String {
     let mut records = Records::new(alloc, text);
     let mut row = StringRecord::new(alloc);
     let mut shown = String::new(alloc);
     for _ in 0..100 {
-        if !records.read(&mut row)? {
-            return Ok(shown);
+        if !records.read(&mut row).expect(rt, "a record") {
+            break;
         }
-        for field in row.iter() {
-            shown.push_str("[")?;
-            shown.push_str(field)?;
-            shown.push_str("]")?;
-        }
-        shown.push_str("|")?;
+        show_row(rt, &mut shown, &row);
     }
-    Ok(shown)
+    shown
 }
 
 /// Texts, and their records as `shown` gives them.
-const RECORDS: [(&str, &str); 8] = [
+const RECORDS: &[(&str, &str)] = &[
     ("", ""),
     ("a;b\nc;d;e\nf", "[a][b]|[c][d][e]|[f]|"),
     ("\"x;y\";\"say \"\"hi\"\"\"\r\nz", "[x;y][say \"hi\"]|[z]|"),
@@ -41,12 +44,11 @@ const RECORDS: [(&str, &str); 8] = [
 ];
 
 #[test]
-fn records(rt: HostRuntime) -> Result<(), Fail> {
-    for (text, want) in RECORDS {
-        let answer = shown(rt.alloc(), text.as_bytes())?;
-        assert_eq!(rt; answer.as_str(), want);
+fn records(rt: HostRuntime) {
+    for (text, wanted) in RECORDS {
+        let found = shown(&rt, rt.alloc(), text.as_bytes());
+        same(&rt, found.as_str(), *wanted, text);
     }
-    Ok(())
 }
 
 /// Gives its text byte by byte, and then an error, and then an end.
@@ -73,67 +75,82 @@ impl<'a> Read for Broken<'a> {
     }
 }
 
+/// Reads go on like this, one after the other.
+fn reads<R: Read>(
+    rt: &impl Abort,
+    alloc: Global,
+    records: &mut Records<R>,
+    answers: &[Result<bool, RecordsFault>],
+) {
+    let mut row = StringRecord::new(alloc);
+    for answer in answers {
+        same(rt, records.read(&mut row), *answer, "a read");
+    }
+}
+
 #[test]
-fn stops(rt: HostRuntime) -> Result<(), Fail> {
+fn stops_at_the_end(rt: HostRuntime) {
     let mut row = StringRecord::new(rt.alloc());
     let mut records = Records::new(rt.alloc(), b"a\n".as_slice());
     for found in [true, false, false] {
-        assert_eq!(rt; records.read(&mut row), Ok(found));
-        assert_eq!(rt; row.is_empty(), !found);
+        same(&rt, records.read(&mut row), Ok(found), "a read");
+        holds(&rt, row.is_empty() != found, "its record");
     }
+}
 
+#[test]
+fn stops_at_what_is_no_text(rt: HostRuntime) {
     let mut records = Records::new(rt.alloc(), b"a\nb;\xff\nc\n".as_slice());
-    let not_text = Err(RecordsFault::NotText);
-    for answer in [Ok(true), not_text, not_text] {
-        assert_eq!(rt; records.read(&mut row), answer);
-    }
+    let no_text = Err(RecordsFault::NotText);
+    reads(&rt, rt.alloc(), &mut records, &[Ok(true), no_text, no_text]);
+}
 
+#[test]
+fn stops_at_a_failed_reader(rt: HostRuntime) {
     let broken = Broken {
         text: b"a;b\nc",
         has_failed: false,
     };
     let mut records = Records::new(rt.alloc(), broken);
     let failed = Err(RecordsFault::ReadFailed);
-    for answer in [Ok(true), failed, failed] {
-        assert_eq!(rt; records.read(&mut row), answer);
-    }
-    Ok(())
+    reads(&rt, rt.alloc(), &mut records, &[Ok(true), failed, failed]);
 }
 
 #[test]
-fn tells_faults(rt: HostRuntime) -> Result<(), Fail> {
-    let faults = [
-        (RecordsFault::ReadFailed, "the reader failed"),
-        (RecordsFault::NotText, "a field is not UTF-8"),
-        (
-            RecordsFault::from(csv::Error::out_of_memory()),
-            "out of memory",
-        ),
+fn tells_faults(rt: HostRuntime) {
+    let (alloc, no_memory) = (rt.alloc(), csv::Error::out_of_memory());
+    shows(&rt, alloc, &RecordsFault::ReadFailed, "the reader failed");
+    shows(&rt, alloc, &RecordsFault::NotText, "a field is not UTF-8");
+    let fault = RecordsFault::from(no_memory);
+    shows(&rt, alloc, &fault, "out of memory");
+}
+
+/// The text of these rows.
+fn written(rt: &impl Abort, alloc: Global, rows: &[&[&str]]) -> Vec<u8> {
+    let mut text = RowsWriter::start(alloc);
+    for row in rows {
+        text.put_row(row).expect(rt, "memory");
+    }
+    text.finish().expect(rt, "memory")
+}
+
+#[test]
+fn rows(rt: HostRuntime) {
+    let rows: &[&[&str]] = &[
+        &["budget", "10.00"],
+        &["a;b", "say \"hi\"", "two\nlines", " c,d "],
+        &[""],
+        &["", ""],
     ];
-    for (fault, wanted) in faults {
-        let shown = format!(in rt.alloc(); "{fault}")?;
-        assert_eq!(rt; shown.as_str(), wanted);
-    }
-    Ok(())
-}
-
-#[test]
-fn rows(rt: HostRuntime) -> Result<(), Fail> {
-    let mut rows = RowsWriter::start(rt.alloc());
-    rows.put_row(&["budget", "10.00"])?;
-    rows.put_row(&["a;b", "say \"hi\"", "two\nlines", " c,d "])?;
-    rows.put_row(&[""])?;
-    rows.put_row(&["", ""])?;
-    let text = rows.finish()?;
-    let want = "budget;10.00\n\"a;b\";\"say \"\"hi\"\"\";\"two\nlines\"; c,d \n\"\"\n;\n";
-    assert_eq!(rt; text.as_slice(), want.as_bytes());
-    let nothing = RowsWriter::start(rt.alloc()).finish()?;
-    assert!(rt; nothing.is_empty());
-    Ok(())
+    let found = written(&rt, rt.alloc(), rows);
+    let wanted = "budget;10.00\n\"a;b\";\"say \"\"hi\"\"\";\"two\nlines\"; c,d \n\"\"\n;\n";
+    same(&rt, found.as_slice(), wanted.as_bytes(), "four rows");
+    let nothing = written(&rt, rt.alloc(), &[]);
+    holds(&rt, nothing.is_empty(), "no row");
 }
 
 /// Fields that need quotes, and some that need none.
-const FIELDS: [&str; 12] = [
+const FIELDS: &[&str] = &[
     "1",
     "",
     "a;b",
@@ -148,46 +165,51 @@ const FIELDS: [&str; 12] = [
     "\u{feff}",
 ];
 
-/// The record has these fields, and no others.
-fn has_fields(rt: &impl Abort, row: &StringRecord, wanted: &[&str]) {
-    assert_eq!(rt; row.len(), wanted.len());
+/// The next record has these fields, and no others.
+fn reads_row<R: Read>(rt: &impl Abort, alloc: Global, records: &mut Records<R>, wanted: &[&str]) {
+    let mut row = StringRecord::new(alloc);
+    same(rt, records.read(&mut row), Ok(true), "a row");
+    same(rt, row.len(), wanted.len(), "the number of fields");
     for (i, field) in wanted.iter().enumerate() {
-        assert_eq!(rt; row.get(i), Some(*field));
+        same(rt, row.get(i), Some(*field), "a field");
     }
+}
+
+/// These two rows are read back from their text, and no others.
+fn come_back(rt: &impl Abort, alloc: Global, first: &[&str], second: &[&str]) {
+    let mut rows = RowsWriter::start(alloc);
+    rows.put_row(first).expect(rt, "memory");
+    rows.put_row(second).expect(rt, "memory");
+    let text = rows.finish().expect(rt, "memory");
+    let mut records = Records::new(alloc, text.as_slice());
+    reads_row(rt, alloc, &mut records, first);
+    reads_row(rt, alloc, &mut records, second);
+    let mut row = StringRecord::new(alloc);
+    same(rt, records.read(&mut row), Ok(false), "the end");
 }
 
 #[test]
-fn rows_come_back_whole(rt: HostRuntime) -> Result<(), Fail> {
-    let alloc = rt.alloc();
+fn rows_come_back_whole(rt: HostRuntime) {
     rows_come_back();
-    let mut long = String::new(alloc);
+    let mut long = String::new(rt.alloc());
     for _ in 0..10_000 {
-        long.push_str("\";x\r\n")?;
+        long.push_str("\";x\r\n").expect(&rt, "memory");
     }
-    let mut wide = Vec::new(alloc);
-    for place in 0..1_000usize {
-        wide.push(FIELDS[place % 12])?;
-    }
-    let mut rows = RowsWriter::start(alloc);
-    rows.put_row(&FIELDS)?;
-    rows.put_row(&[long.as_str(), "end"])?;
-    rows.put_row(wide.as_slice())?;
-    let text = rows.finish()?;
+    come_back(&rt, rt.alloc(), FIELDS, &[long.as_str(), "end"]);
+}
 
-    let mut records = Records::new(alloc, text.as_slice());
-    let mut row = StringRecord::new(alloc);
-    assert_eq!(rt; records.read(&mut row), Ok(true));
-    has_fields(&rt, &row, &FIELDS);
-    assert_eq!(rt; records.read(&mut row), Ok(true));
-    has_fields(&rt, &row, &[long.as_str(), "end"]);
-    assert_eq!(rt; records.read(&mut row), Ok(true));
-    has_fields(&rt, &row, wide.as_slice());
-    assert_eq!(rt; records.read(&mut row), Ok(false));
-    Ok(())
+#[test]
+fn a_thousand_fields_come_back(rt: HostRuntime) {
+    let mut wide = Vec::new(rt.alloc());
+    for place in 0..1_000usize {
+        let field = FIELDS.get(place % 12).expect(&rt, "a field");
+        wide.push(*field).expect(&rt, "memory");
+    }
+    come_back(&rt, rt.alloc(), wide.as_slice(), FIELDS);
 }
 
 /// Texts, and the number that each spells.
-const NUMBERS: [(&str, Option<u32>); 14] = [
+const NUMBERS: &[(&str, Option<u32>)] = &[
     ("0", Some(0)),
     ("7", Some(7)),
     ("10", Some(10)),
@@ -206,13 +228,13 @@ const NUMBERS: [(&str, Option<u32>); 14] = [
 
 #[test]
 fn numbers(rt: HostRuntime) {
-    for (text, want) in NUMBERS {
-        assert_eq!(rt; read_number(text), want, "at {text}");
+    for (text, wanted) in NUMBERS {
+        same(&rt, read_number(text), *wanted, text);
     }
 }
 
 /// Texts, whether each is a list of places, and whether that list rises.
-const PLACES: [(&str, bool, bool); 12] = [
+const PLACES: &[(&str, bool, bool)] = &[
     ("", true, true),
     ("0", true, true),
     ("0,2,9", true, true),
@@ -227,24 +249,36 @@ const PLACES: [(&str, bool, bool); 12] = [
     ("1;2", false, false),
 ];
 
+fn shown_places(rt: &impl Abort, alloc: Global, places: &[u32]) -> String {
+    let mut text = String::new(alloc);
+    write_places(places, &mut text).expect(rt, "memory");
+    text
+}
+
 #[test]
-fn places(rt: HostRuntime) -> Result<(), Fail> {
-    let alloc = rt.alloc();
-    let mut list = Vec::new(alloc);
+fn places(rt: HostRuntime) {
+    let mut list = Vec::new(rt.alloc());
     for (text, is_list, is_rising) in PLACES {
-        assert_eq!(rt; read_place_list(text, &mut list), Ok(is_list), "at {text}");
-        if is_list {
-            let mut back = String::new(alloc);
-            write_places(list.as_slice(), &mut back)?;
-            assert_eq!(rt; back.as_str(), text);
+        same(&rt, read_place_list(text, &mut list), Ok(*is_list), text);
+        if *is_list {
+            let back = shown_places(&rt, rt.alloc(), list.as_slice());
+            same(&rt, back.as_str(), *text, "a list written");
         }
-        assert_eq!(rt; read_places(text, &mut list), Ok(is_rising), "at {text}");
+        same(&rt, read_places(text, &mut list), Ok(*is_rising), text);
     }
-    assert_eq!(rt; read_place_list("7,0,7", &mut list), Ok(true));
-    assert_eq!(rt; list.as_slice(), [7, 0, 7].as_slice());
-    let mut after = String::new(alloc);
-    after.push_str("places ")?;
-    write_places(&[0, 2, 10], &mut after)?;
-    assert_eq!(rt; after.as_str(), "places 0,2,10");
-    Ok(())
+}
+
+#[test]
+fn places_in_any_order(rt: HostRuntime) {
+    let mut list = Vec::new(rt.alloc());
+    same(&rt, read_place_list("7,0,7", &mut list), Ok(true), "7,0,7");
+    same(&rt, list.as_slice(), [7, 0, 7].as_slice(), "7,0,7");
+}
+
+#[test]
+fn places_go_after_a_text(rt: HostRuntime) {
+    let mut after = String::new(rt.alloc());
+    after.push_str("places ").expect(&rt, "memory");
+    write_places(&[0, 2, 10], &mut after).expect(&rt, "memory");
+    same(&rt, after.as_str(), "places 0,2,10", "after a text");
 }

@@ -1,13 +1,14 @@
+use crate::checks::{holds, same, shows, tells};
+use crate::elections::{add_voter, ballot, election, shown, voter, voter_id};
 use pb_core::devices::{FailsAfter, FailsAt, TakesNone, TakesOne};
 use pb_core::laws::{money_is_what_its_text_names, money_reads_back};
-use pb_core::{Ballot, Election, Money, MoneyFault, NoMemory, Project, Request, Voter, VoterId};
+use pb_core::{Ballot, Money, MoneyFault, NoMemory, Request, VoterId};
 use std::alloc::Global;
 use std::io::{Read, Write};
 use std::process::Abort;
-use std::test::Fail;
 
 /// Texts that are amounts, in hundredths.
-const AMOUNTS: [(&str, u64); 16] = [
+const AMOUNTS: &[(&str, u64)] = &[
     ("0", 0),
     ("7", 700),
     ("007", 700),
@@ -27,7 +28,7 @@ const AMOUNTS: [(&str, u64); 16] = [
 ];
 
 /// Texts that are none, and why.
-const NO_AMOUNTS: [(&str, MoneyFault); 32] = [
+const NO_AMOUNTS: &[(&str, MoneyFault)] = &[
     ("", MoneyFault::BadMoney),
     (" ", MoneyFault::BadMoney),
     (" 5", MoneyFault::BadMoney),
@@ -66,211 +67,270 @@ const NO_AMOUNTS: [(&str, MoneyFault); 32] = [
 fn reads_money(rt: HostRuntime) {
     money_is_what_its_text_names();
     for (text, hundredths) in AMOUNTS {
-        assert_eq!(rt; Money::read(text), Ok(Money(hundredths)), "at {text}");
+        same(&rt, Money::read(text), Ok(Money(*hundredths)), text);
     }
     for (text, fault) in NO_AMOUNTS {
-        assert_eq!(rt; Money::read(text), Err(fault), "at {text}");
+        same(&rt, Money::read(text), Err(*fault), text);
+    }
+}
+
+/// Amounts in hundredths, and their texts.
+const TEXTS: &[(u64, &str)] = &[
+    (0, "0.00"),
+    (1, "0.01"),
+    (1234, "12.34"),
+    (u64::MAX, "184467440737095516.15"),
+];
+
+#[test]
+fn writes_money(rt: HostRuntime) {
+    for (hundredths, wanted) in TEXTS {
+        let text = Money(*hundredths).text(rt.alloc()).expect(&rt, "memory");
+        same(&rt, text.as_str(), *wanted, "a text of money");
     }
 }
 
 #[test]
-fn writes_money(rt: HostRuntime) -> Result<(), Fail> {
-    let cases = [
-        (0, "0.00"),
-        (1, "0.01"),
-        (1234, "12.34"),
-        (u64::MAX, "184467440737095516.15"),
-    ];
-    for (hundredths, wanted) in cases {
-        let text = Money(hundredths).text(rt.alloc())?;
-        assert_eq!(rt; text.as_str(), wanted);
-    }
+fn reads_its_own_money(rt: HostRuntime) {
     let amount = Money(120_050);
     money_reads_back(amount);
-    let text = amount.text(rt.alloc())?;
-    assert_eq!(rt; Money::read(text.as_str()), Ok(amount));
-    Ok(())
+    let text = amount.text(rt.alloc()).expect(&rt, "memory");
+    same(&rt, Money::read(text.as_str()), Ok(amount), "1200.50");
+}
+
+/// Faults, and what is said of them.
+const FAULTS: &[(MoneyFault, &str)] = &[
+    (MoneyFault::BadMoney, "1 BadMoney: not an amount of money"),
+    (
+        MoneyFault::MoneyTooFine,
+        "2 MoneyTooFine: finer than a hundredth",
+    ),
+    (
+        MoneyFault::MoneyTooLarge,
+        "3 MoneyTooLarge: above ten million million",
+    ),
+];
+
+#[test]
+fn tells_faults(rt: HostRuntime) {
+    for (fault, wanted) in FAULTS {
+        let named = (fault.number(), fault.name());
+        tells(&rt, rt.alloc(), named, fault, wanted);
+    }
+    shows(&rt, rt.alloc(), &NoMemory, "out of memory");
+}
+
+/// Texts of which nothing is left.
+const BLANKS: &[&str] = &["", " \t ", "\r\n", "\u{a0}\u{3000}"];
+
+/// Texts, and the ids that are left of them.
+const IDS: &[(&str, &str)] = &[
+    ("ann", "ann"),
+    ("  ann b ", "ann b"),
+    ("\tann\r\n", "ann"),
+    ("a;\"b", "a;\"b"),
+];
+
+/// The text has this id, and so has a copy of it.
+fn is_trimmed(rt: &impl Abort, alloc: Global, text: &str, wanted: &str) {
+    let id = voter_id(rt, alloc, text);
+    same(rt, id.text(), wanted, text);
+    let copy = id.copy(alloc).expect(rt, "memory");
+    same(rt, copy.text(), wanted, text);
 }
 
 #[test]
-fn tells_faults(rt: HostRuntime) -> Result<(), Fail> {
-    let faults = [
-        (MoneyFault::BadMoney, "1 BadMoney: not an amount of money"),
-        (
-            MoneyFault::MoneyTooFine,
-            "2 MoneyTooFine: finer than a hundredth",
-        ),
-        (
-            MoneyFault::MoneyTooLarge,
-            "3 MoneyTooLarge: above ten million million",
-        ),
-    ];
-    for (fault, wanted) in faults {
-        let shown = format!(in rt.alloc(); "{} {}: {}", fault.number(), fault.name(), fault)?;
-        assert_eq!(rt; shown.as_str(), wanted);
+fn trims_voter_ids(rt: HostRuntime) {
+    for blank in BLANKS {
+        let id = VoterId::new(rt.alloc(), blank).expect(&rt, "memory");
+        holds(&rt, id.is_none(), blank);
     }
-    let shown = format!(in rt.alloc(); "{}", NoMemory)?;
-    assert_eq!(rt; shown.as_str(), "out of memory");
-    Ok(())
-}
-
-fn id(rt: &impl Abort, alloc: Global, text: &str) -> VoterId {
-    VoterId::new(alloc, text)
-        .expect(rt, "memory")
-        .expect(rt, "an id")
+    for (text, wanted) in IDS {
+        is_trimmed(&rt, rt.alloc(), text, wanted);
+    }
 }
 
 #[test]
-fn trims_voter_ids(rt: HostRuntime) -> Result<(), Fail> {
-    let alloc = rt.alloc();
-    for blank in ["", " \t ", "\r\n", "\u{a0}\u{3000}"] {
-        assert!(rt; VoterId::new(alloc, blank)?.is_none());
-    }
-    let cases = [
-        ("ann", "ann"),
-        ("  ann b ", "ann b"),
-        ("\tann\r\n", "ann"),
-        ("a;\"b", "a;\"b"),
-    ];
-    for (text, wanted) in cases {
-        let ann = id(&rt, alloc, text);
-        assert_eq!(rt; ann.text(), wanted);
-        assert_eq!(rt; ann.copy(alloc)?.text(), wanted);
-    }
-    let mut long = String::new(alloc);
+fn keeps_a_long_id(rt: HostRuntime) {
+    let mut long = String::new(rt.alloc());
     for _ in 0..1_000 {
-        long.push_str("Łódź ")?;
+        long.push_str("Łódź ").expect(&rt, "memory");
     }
-    let copy = id(&rt, alloc, long.as_str()).copy(alloc)?;
-    assert_eq!(rt; copy.text(), long.as_str().trim());
-    Ok(())
+    is_trimmed(&rt, rt.alloc(), long.as_str(), long.as_str().trim());
+}
+
+/// The ballot has these places, and so has a copy of it.
+fn has_places(rt: &impl Abort, alloc: Global, ballot: &Ballot, wanted: &[u32]) {
+    same(rt, ballot.places(), wanted, "a ballot");
+    let copy = ballot.copy(alloc).expect(rt, "memory");
+    same(rt, copy.places(), wanted, "its copy");
 }
 
 #[test]
-fn orders_ballots(rt: HostRuntime) -> Result<(), Fail> {
-    let alloc = rt.alloc();
-    let ballot = Ballot::of(alloc, &[9, 0, 2, 9])?;
-    assert_eq!(rt; ballot.places(), [0, 2, 9].as_slice());
-    assert!(rt; ballot.has(2));
-    assert!(rt; !ballot.has(3));
-    assert_eq!(rt; ballot.copy(alloc)?.places(), [0, 2, 9].as_slice());
+fn orders_ballots(rt: HostRuntime) {
+    let ballot = ballot(&rt, rt.alloc(), &[9, 0, 2, 9]);
+    has_places(&rt, rt.alloc(), &ballot, &[0, 2, 9]);
+    holds(&rt, ballot.has(2), "2 of 0, 2, 9");
+    holds(&rt, !ballot.has(3), "3 of 0, 2, 9");
+}
 
+/// The places below 10,000, rising.
+fn ten_thousand(rt: &impl Abort, alloc: Global) -> Vec<u32> {
     let mut places = Vec::new(alloc);
-    let mut wanted = Vec::new(alloc);
     for place in 0..10_000u32 {
-        places.push(9_999 - place)?;
-        places.push(place)?;
-        wanted.push(place)?;
+        places.push(place).expect(rt, "memory");
     }
-    let all = Ballot::of(alloc, places.as_slice())?;
-    assert_eq!(rt; all.places(), wanted.as_slice());
-    assert_eq!(rt; all.copy(alloc)?.places(), wanted.as_slice());
-
-    assert!(rt; Ballot::rising(alloc, places.as_slice())?.is_none());
-    assert!(rt; Ballot::rising(alloc, &[3, 3])?.is_none());
-    for rising in [[].as_slice(), [5].as_slice(), wanted.as_slice()] {
-        let ballot = Ballot::rising(alloc, rising)?.ok_or("no ballot")?;
-        assert_eq!(rt; ballot.places(), rising);
-    }
-    Ok(())
+    places
 }
 
 #[test]
-fn holds_an_election(rt: HostRuntime) -> Result<(), Fail> {
-    let alloc = rt.alloc();
-    let mut election = Election::start(alloc, Money(10_000));
-    assert_eq!(rt; election.max_length(), None);
-    let park = Project::new(
-        String::from_str(alloc, "a")?,
-        String::from_str(alloc, "Park")?,
-        Money(3000),
-    );
-    assert_eq!(rt; park.id(), "a");
-    assert_eq!(rt; park.name(), "Park");
-    assert_eq!(rt; park.cost(), Money(3000));
-    assert!(rt; !election.has_project("a"));
-    election.add_project(park)?;
-    assert!(rt; election.has_project("a"));
-    assert!(rt; !election.has_project("Park"));
+fn orders_ten_thousand_places(rt: HostRuntime) {
+    let mut places = Vec::new(rt.alloc());
+    for place in 0..10_000u32 {
+        places.push(9_999 - place).expect(&rt, "memory");
+        places.push(place).expect(&rt, "memory");
+    }
+    let all = ballot(&rt, rt.alloc(), places.as_slice());
+    let wanted = ten_thousand(&rt, rt.alloc());
+    has_places(&rt, rt.alloc(), &all, wanted.as_slice());
+}
 
+/// Whether a ballot is made of these places as they stand. It then has them.
+fn is_rising(rt: &impl Abort, alloc: Global, places: &[u32]) -> bool {
+    match Ballot::rising(alloc, places).expect(rt, "memory") {
+        None => false,
+        Some(ballot) => {
+            has_places(rt, alloc, &ballot, places);
+            true
+        }
+    }
+}
+
+#[test]
+fn takes_rising_places(rt: HostRuntime) {
+    let alloc = rt.alloc();
+    holds(&rt, is_rising(&rt, alloc, &[]), "no place");
+    holds(&rt, is_rising(&rt, alloc, &[5]), "one place");
+    holds(&rt, !is_rising(&rt, alloc, &[3, 3]), "a place twice");
+    holds(&rt, !is_rising(&rt, alloc, &[9, 0]), "two that fall");
+    let all = ten_thousand(&rt, alloc);
+    holds(&rt, is_rising(&rt, alloc, all.as_slice()), "ten thousand");
+}
+
+#[test]
+fn holds_projects(rt: HostRuntime) {
+    let election = election(&rt, rt.alloc(), 10_000, &[("a", "Park", 3000)], &[]);
+    let text = shown(&rt, rt.alloc(), &election);
+    same(&rt, text.as_str(), "10000;a,Park,3000;|", "a project");
+    holds(&rt, election.has_project("a"), "a");
+    holds(&rt, !election.has_project("Park"), "no id");
+    let (known, unknown) = (
+        ballot(&rt, rt.alloc(), &[0]),
+        ballot(&rt, rt.alloc(), &[0, 1]),
+    );
+    holds(&rt, election.knows(&known), "a known place");
+    holds(&rt, !election.knows(&unknown), "an unknown place");
+}
+
+#[test]
+fn holds_voters(rt: HostRuntime) {
+    let mut election = election(&rt, rt.alloc(), 10_000, &[("a", "Park", 3000)], &[]);
+    let v1 = voter_id(&rt, rt.alloc(), "v1");
+    holds(&rt, !election.has_voter(&v1), "before v1");
+    add_voter(&rt, &mut election, voter(&rt, rt.alloc(), "v1", &[0]));
+    holds(&rt, election.has_voter(&v1), "after v1");
+    let text = shown(&rt, rt.alloc(), &election);
+    same(&rt, text.as_str(), "10000;a,Park,3000;|v1 0;", "a voter");
+}
+
+#[test]
+fn holds_the_limit_on_a_ballot(rt: HostRuntime) {
+    let mut election = election(&rt, rt.alloc(), 10_000, &[("a", "Park", 3000)], &[]);
+    same(&rt, election.max_length(), None, "at first");
     election.set_max_length(Some(0));
-    let voter = Voter {
-        id: id(&rt, alloc, "v1"),
-        ballot: Ballot::of(alloc, &[0])?,
-    };
-    let v1 = id(&rt, alloc, "v1");
-    assert!(rt; !election.has_voter(&v1));
-    assert!(rt; election.knows(&voter.ballot));
-    assert!(rt; !election.knows(&Ballot::of(alloc, &[0, 1])?));
-    election.add_voter(voter)?;
-    assert!(rt; election.has_voter(&v1));
-    assert_eq!(rt; election.max_length(), Some(0));
+    add_voter(&rt, &mut election, voter(&rt, rt.alloc(), "v1", &[0]));
+    same(&rt, election.max_length(), Some(0), "set");
     election.set_max_length(None);
-    assert_eq!(rt; election.max_length(), None);
-    assert_eq!(rt; election.budget(), Money(10_000));
-    assert_eq!(rt; election.projects().len(), 1);
-    assert_eq!(rt; election.voters().len(), 1);
-    Ok(())
+    same(&rt, election.max_length(), None, "taken back");
 }
 
 /// A request as a line.
-fn shown(alloc: Global, request: &Request) -> Result<String, Fail> {
+fn line_of(rt: &impl Abort, alloc: Global, request: &Request) -> String {
     let (word, voter, ballot) = match request {
         Request::Cast(voter, ballot) => ("cast", voter.text(), ballot.places()),
         Request::Replace(voter, ballot) => ("replace", voter.text(), ballot.places()),
         Request::Withdraw(voter) => ("withdraw", voter.text(), [].as_slice()),
         Request::Shut => ("shut", "", [].as_slice()),
     };
-    let mut line = format!(in alloc; "{word} {voter}")?;
+    let mut line = format!(in alloc; "{word} {voter}").expect(rt, "memory");
     for place in ballot {
-        write!(line, " {place}")?;
+        write!(line, " {place}").expect(rt, "memory");
     }
-    Ok(line)
+    line
+}
+
+/// The request is this line, and so is its copy.
+fn copies(rt: &impl Abort, alloc: Global, request: Request, wanted: &str) {
+    let copy = request.copy(alloc).expect(rt, "memory");
+    same(
+        rt,
+        line_of(rt, alloc, &request).as_str(),
+        wanted,
+        "a request",
+    );
+    same(rt, line_of(rt, alloc, &copy).as_str(), wanted, "its copy");
 }
 
 #[test]
-fn copies_requests(rt: HostRuntime) -> Result<(), Fail> {
+fn copies_requests(rt: HostRuntime) {
     let alloc = rt.alloc();
-    let requests = [
-        (
-            Request::Cast(id(&rt, alloc, "ann"), Ballot::of(alloc, &[1, 0])?),
-            "cast ann 0 1",
-        ),
-        (
-            Request::Replace(id(&rt, alloc, "bob"), Ballot::of(alloc, &[])?),
-            "replace bob",
-        ),
-        (Request::Withdraw(id(&rt, alloc, "c;d")), "withdraw c;d"),
-        (Request::Shut, "shut "),
-    ];
-    for (request, wanted) in &requests {
-        let copy = request.copy(alloc)?;
-        assert_eq!(rt; shown(alloc, &copy)?.as_str(), *wanted);
-        assert_eq!(rt; shown(alloc, request)?.as_str(), *wanted);
-    }
-    Ok(())
+    let (ann, bob, c) = (
+        voter(&rt, alloc, "ann", &[1, 0]),
+        voter(&rt, alloc, "bob", &[]),
+        voter_id(&rt, alloc, "c;d"),
+    );
+    copies(
+        &rt,
+        alloc,
+        Request::Cast(ann.id, ann.ballot),
+        "cast ann 0 1",
+    );
+    copies(
+        &rt,
+        alloc,
+        Request::Replace(bob.id, bob.ballot),
+        "replace bob",
+    );
+    copies(&rt, alloc, Request::Withdraw(c), "withdraw c;d");
+    copies(&rt, alloc, Request::Shut, "shut ");
 }
 
 #[test]
-fn fails_on_purpose(rt: HostRuntime) -> Result<(), Fail> {
-    let alloc = rt.alloc();
-    let mut bytes = Vec::new(alloc);
-    assert!(rt; FailsAfter::new(b"abc").read_to_end(&mut bytes).is_err());
-    assert_eq!(rt; bytes.as_slice(), b"abc".as_slice());
+fn fails_after_its_bytes(rt: HostRuntime) {
+    let mut bytes = Vec::new(rt.alloc());
+    let end = FailsAfter::new(b"abc").read_to_end(&mut bytes);
+    holds(&rt, end.is_err(), "a reader that fails");
+    same(&rt, bytes.as_slice(), b"abc".as_slice(), "what it gave");
+}
 
-    let mut two = FailsAt::new(Vec::new(alloc), 2);
-    assert!(rt; two.write_all(b"ab").is_ok());
-    assert!(rt; two.flush().is_ok());
-    assert!(rt; two.write_all(b"cd").is_ok());
-    assert!(rt; two.flush().is_err());
-    assert!(rt; two.write_all(b"ef").is_err());
-    assert_eq!(rt; two.into_inner().as_slice(), b"abcd".as_slice());
+#[test]
+fn fails_at_a_write(rt: HostRuntime) {
+    let mut two = FailsAt::new(Vec::new(rt.alloc()), 2);
+    holds(&rt, two.write_all(b"ab").is_ok(), "the first write");
+    holds(&rt, two.flush().is_ok(), "a flush after the first");
+    holds(&rt, two.write_all(b"cd").is_ok(), "the second write");
+    holds(&rt, two.flush().is_err(), "a flush after the second");
+    holds(&rt, two.write_all(b"ef").is_err(), "the third write");
+    let taken = two.into_inner();
+    same(&rt, taken.as_slice(), b"abcd".as_slice(), "what it took");
+}
 
-    assert!(rt; TakesNone.write_all(b"ab").is_err());
-
-    let mut one = TakesOne::new(Vec::new(alloc));
-    assert!(rt; one.write_all(b"abc").is_ok());
-    assert!(rt; one.flush().is_ok());
-    assert_eq!(rt; one.into_inner().as_slice(), b"abc".as_slice());
-    Ok(())
+#[test]
+fn takes_little(rt: HostRuntime) {
+    holds(&rt, TakesNone.write_all(b"ab").is_err(), "takes none");
+    let mut one = TakesOne::new(Vec::new(rt.alloc()));
+    holds(&rt, one.write_all(b"abc").is_ok(), "takes one at a time");
+    holds(&rt, one.flush().is_ok(), "a flush");
+    let taken = one.into_inner();
+    same(&rt, taken.as_slice(), b"abc".as_slice(), "what it took");
 }

@@ -1,0 +1,413 @@
+//! The shared desk, on one thread. What the answers have to be is the one-clerk desk's table, worked by hand.
+
+ghost use Rattle.std.specs.Prelude.{◌≡◌, All};
+
+use crate::checks::{holds, same, shows, tells};
+use crate::serving::{desk_with_room, has_text, request};
+use pb_core::answer::Answer;
+use pb_core::request::Request;
+use pb_desk::desk::Desk;
+use pb_desk::into_fault::IntoFault;
+use pb_shared::busy::Busy;
+use pb_shared::clerk::Clerk;
+use pb_shared::share_fault::ShareFault;
+use pb_shared::shared_desk::SharedDesk;
+use pb_shared::shared_fault::SharedFault;
+use pb_shared::unfinished::Unfinished;
+use std::alloc::Global;
+use std::process::Abort;
+
+/// A desk of the three voters, shared among these clerks.
+fn shared_by(rt: &impl Abort, alloc: Global, room: u32, clerks: u32) -> (SharedDesk, Vec<Clerk>)
+    ensures { All (λ clerk. clerk.desk ≡ result.0) result.1.items }
+{
+    let desk = desk_with_room(rt, alloc, room);
+    SharedDesk::share(alloc, desk, clerks).expect(rt, "shared")
+}
+
+/// The last clerk of the list.
+fn last_of(rt: &impl Abort, shared: &SharedDesk, clerks: &mut Vec<Clerk>) -> Clerk
+    requires { All (λ clerk. clerk.desk ≡ shared.now) clerks.old.items }
+    ensures clerk { result.desk ≡ shared.now }
+    ensures left { All (λ clerk. clerk.desk ≡ shared.now) clerks.new.items }
+{
+    let _ = shared;
+    clerks.pop().expect(rt, "a clerk")
+}
+
+/// Puts a clerk of this desk onto a list of its clerks.
+fn joins(rt: &impl Abort, shared: &SharedDesk, clerks: &mut Vec<Clerk>, clerk: Clerk)
+    requires own { clerk.desk ≡ shared.now }
+    requires all { All (λ c. c.desk ≡ shared.now) clerks.old.items }
+    ensures { All (λ c. c.desk ≡ shared.now) clerks.new.items }
+{
+    let _ = shared;
+    clerks.push(clerk).expect(rt, "memory");
+}
+
+/// Takes these clerks back, and the desk has this text as its journal.
+fn finishes(
+    rt: &impl Abort,
+    alloc: Global,
+    shared: SharedDesk,
+    clerks: Vec<Clerk>,
+    text: &str,
+) -> Desk
+    requires { All (λ clerk. clerk.desk ≡ shared) clerks.items }
+{
+    let desk = shared.finish(clerks).expect(rt, "a desk");
+    has_text(rt, alloc, &desk, text);
+    desk
+}
+
+/// A word, a voter and places, and what is answered.
+type Row = (
+    &'static str,
+    &'static str,
+    &'static [u32],
+    Result<Answer, SharedFault>,
+);
+
+/// The clerk asks this, and is answered so.
+fn asks_one(rt: &impl Abort, alloc: Global, shared: &SharedDesk, clerk: &mut Clerk, row: &Row)
+    requires { clerk.old.desk ≡ shared.now }
+    ensures { clerk.new.desk ≡ shared.now }
+{
+    let (word, id, places, said) = row;
+    let request = request(rt, alloc, word, id, places);
+    let served = shared.serve(clerk, &request);
+    same(rt, served, *said, word);
+}
+
+/// The clerk asks each of these in turn, and is answered so.
+fn asks(rt: &impl Abort, alloc: Global, shared: &SharedDesk, clerk: &mut Clerk, rows: &[Row])
+    requires { clerk.old.desk ≡ shared.now }
+    ensures { clerk.new.desk ≡ shared.now }
+{
+    for row in rows {
+        asks_one(rt, alloc, shared, clerk, row);
+    }
+}
+
+const FIVE: &[Row] = &[
+    ("cast", "ann", &[0], Ok(Answer::Done)),
+    ("cast", "ann", &[1], Ok(Answer::AlreadyCast)),
+    ("replace", "ann", &[0, 1], Ok(Answer::Done)),
+    ("withdraw", "ann", &[], Ok(Answer::Done)),
+    ("replace", "ann", &[0], Ok(Answer::NoBallot)),
+];
+
+const AFTER_SHUT: &[Row] = &[
+    ("shut", "", &[], Ok(Answer::Done)),
+    ("cast", "ann", &[0], Ok(Answer::DeskShut)),
+    ("shut", "", &[], Ok(Answer::DeskShut)),
+];
+
+const FULL: &[Row] = &[
+    ("shut", "", &[], Ok(Answer::Done)),
+    ("shut", "", &[], Ok(Answer::DeskShut)),
+    ("shut", "", &[], Err(SharedFault::JournalFull)),
+];
+
+const UNKNOWN: &[Row] = &[("cast", "ann", &[0, 2, 9], Ok(Answer::UnknownPlace(2)))];
+
+/// The room, what one clerk asks, and the journal.
+const SERVED: &[(u32, &[Row], &str)] = &[
+    (
+        10,
+        FIVE,
+        "journal;2\n1;0;cast;ann;0;done\n2;0;cast;ann;1;already-cast\n3;0;replace;ann;0,1;done\n4;0;withdraw;ann;;done\n5;0;replace;ann;0;no-ballot\n",
+    ),
+    (
+        10,
+        AFTER_SHUT,
+        "journal;2\n1;0;shut;;;done\n2;0;cast;ann;0;desk-shut\n3;0;shut;;;desk-shut\n",
+    ),
+    (
+        2,
+        FULL,
+        "journal;2\n1;0;shut;;;done\n2;0;shut;;;desk-shut\n",
+    ),
+    (
+        10,
+        UNKNOWN,
+        "journal;2\n1;0;cast;ann;0,2,9;unknown-place 2\n",
+    ),
+];
+
+/// One clerk, who is then handed back.
+fn serves(rt: &impl Abort, alloc: Global, room: u32, rows: &[Row], text: &str) {
+    let (shared, mut clerks) = shared_by(rt, alloc, room, 1);
+    let mut clerk = last_of(rt, &shared, &mut clerks);
+    asks(rt, alloc, &shared, &mut clerk, rows);
+    joins(rt, &shared, &mut clerks, clerk);
+    finishes(rt, alloc, shared, clerks, text);
+}
+
+#[test]
+fn one_clerk_is_served_as_by_the_desk(rt: HostRuntime) {
+    for (room, rows, text) in SERVED {
+        serves(&rt, rt.alloc(), *room, rows, text);
+    }
+}
+
+/// The clerk tries once, and then five times for another voter, and these are the answers.
+fn tries(
+    rt: &impl Abort,
+    alloc: Global,
+    shared: &SharedDesk,
+    clerk: &mut Clerk,
+    said: Result<Answer, SharedFault>,
+)
+    requires { clerk.old.desk ≡ shared.now }
+    ensures { clerk.new.desk ≡ shared.now }
+{
+    let ann = request(rt, alloc, "cast", "ann", &[0]);
+    let bob = request(rt, alloc, "cast", "bob", &[1]);
+    let once = shared.serve(clerk, &ann);
+    same(rt, once, said, "one try");
+    let within = shared.serve_within(clerk, &bob, 5);
+    same(rt, within, said, "five tries");
+}
+
+/// While clerk 0 has the desk, this clerk is turned away, and nothing is appended.
+fn is_turned_away(
+    rt: &impl Abort,
+    alloc: Global,
+    shared: &SharedDesk,
+    desk: &Desk,
+    other: Clerk,
+) -> Clerk
+    requires { other.desk ≡ shared.now }
+    ensures { result.desk ≡ shared.now }
+{
+    let mut other = other;
+    tries(rt, alloc, shared, &mut other, Err(SharedFault::Busy(0)));
+    same(rt, desk.entries(), 0, "entries while a clerk looks");
+    other
+}
+
+/// The clerk looks, while the other is turned away.
+fn looks(
+    rt: &impl Abort,
+    alloc: Global,
+    shared: &SharedDesk,
+    clerk: &mut Clerk,
+    other: Clerk,
+) -> Clerk
+    requires clerk { clerk.old.desk ≡ shared.now }
+    requires other { other.desk ≡ shared.now }
+    ensures clerk { clerk.new.desk ≡ shared.now }
+    ensures other { result.desk ≡ shared.now }
+{
+    let looked = shared.look(clerk, |desk| is_turned_away(rt, alloc, shared, desk, other));
+    looked.expect(rt, "the lock")
+}
+
+/// While one clerk looks, another is turned away. Afterwards it is served.
+#[test]
+fn a_clerk_who_looks_turns_others_away(rt: HostRuntime) {
+    let alloc = rt.alloc();
+    let (shared, mut clerks) = shared_by(&rt, alloc, 10, 2);
+    let other = last_of(&rt, &shared, &mut clerks);
+    let mut clerk = last_of(&rt, &shared, &mut clerks);
+    let mut other = looks(&rt, alloc, &shared, &mut clerk, other);
+    tries(&rt, alloc, &shared, &mut other, Ok(Answer::Done));
+    joins(&rt, &shared, &mut clerks, clerk);
+    joins(&rt, &shared, &mut clerks, other);
+    let text = "journal;2\n1;1;cast;ann;0;done\n2;1;cast;bob;1;done\n";
+    finishes(&rt, alloc, shared, clerks, text);
+}
+
+/// A look that answers the desk's room as an error.
+fn looks_at_the_room(rt: &impl Abort, shared: &SharedDesk, clerk: &mut Clerk, room: u32)
+    requires { clerk.old.desk ≡ shared.now }
+    ensures { clerk.new.desk ≡ shared.now }
+{
+    let looked: Result<Result<(), u32>, Busy> = shared.look(clerk, |desk| Err(desk.room()));
+    same(rt, looked, Ok(Err(room)), "a look");
+}
+
+const CAST_ANN: &[Row] = &[("cast", "ann", &[0], Ok(Answer::Done))];
+
+const CAST_BOB: &[Row] = &[("cast", "bob", &[0], Ok(Answer::Done))];
+
+#[test]
+fn a_look_that_answers_an_error_leaves_the_lock_free(rt: HostRuntime) {
+    let alloc = rt.alloc();
+    let (shared, mut clerks) = shared_by(&rt, alloc, 10, 2);
+    let mut other = last_of(&rt, &shared, &mut clerks);
+    let mut clerk = last_of(&rt, &shared, &mut clerks);
+    looks_at_the_room(&rt, &shared, &mut clerk, 10);
+    asks(&rt, alloc, &shared, &mut other, CAST_ANN);
+    asks(&rt, alloc, &shared, &mut clerk, CAST_BOB);
+}
+
+const REPLACE_ANN: &[Row] = &[("replace", "ann", &[1], Ok(Answer::Done))];
+
+/// The number of entries, and the places of this voter's ballot as a text.
+fn seen_of(rt: &impl Abort, alloc: Global, desk: &Desk, voter: &str) -> (u32, String) {
+    let id = crate::elections::voter_id(rt, alloc, voter);
+    let ballot = desk.ballot_of(&id).expect(rt, "a ballot");
+    let places = format!(in alloc; "{:?}", ballot.places()).expect(rt, "memory");
+    (desk.entries(), places)
+}
+
+/// The clerk sees two entries, and the ballot with place 1 that ann has.
+fn looks_at_ann(rt: &impl Abort, alloc: Global, shared: &SharedDesk, clerk: &mut Clerk)
+    requires { clerk.old.desk ≡ shared.now }
+    ensures { clerk.new.desk ≡ shared.now }
+{
+    let looked = shared.look(clerk, |desk| seen_of(rt, alloc, desk, "ann"));
+    let (entries, places) = looked.expect(rt, "the lock");
+    same(rt, (entries, places.as_str()), (2, "[1]"), "what is seen");
+}
+
+/// What one clerk wrote another reads, by the desk and by the front word, also one that has made no call before.
+#[test]
+fn clerks_read_what_others_wrote(rt: HostRuntime) {
+    let alloc = rt.alloc();
+    let (shared, mut clerks) = shared_by(&rt, alloc, 10, 3);
+    let mut two = last_of(&rt, &shared, &mut clerks);
+    let mut one = last_of(&rt, &shared, &mut clerks);
+    let mut clerk = last_of(&rt, &shared, &mut clerks);
+    let numbers = (clerk.number(), one.number(), two.number());
+    same(&rt, numbers, (0, 1, 2), "numbers");
+    asks(&rt, alloc, &shared, &mut clerk, CAST_ANN);
+    asks(&rt, alloc, &shared, &mut one, REPLACE_ANN);
+    looks_at_ann(&rt, alloc, &shared, &mut clerk);
+    let fronts = (shared.front(&mut clerk), shared.front(&mut two));
+    same(&rt, fronts, (2, 2), "the front word");
+}
+
+/// A note that another clerk meets takes nothing away, and one that nobody met may be dropped.
+#[test]
+fn a_note_may_be_met_or_dropped(rt: HostRuntime) {
+    let alloc = rt.alloc();
+    let (shared, mut clerks) = shared_by(&rt, alloc, 10, 2);
+    let mut one = last_of(&rt, &shared, &mut clerks);
+    let mut clerk = last_of(&rt, &shared, &mut clerks);
+    asks(&rt, alloc, &shared, &mut one, CAST_ANN);
+    let note = shared.note(&mut one);
+    shared.meet(&mut clerk, note);
+    same(&rt, shared.front(&mut clerk), 1, "the front word");
+    drop(shared.note(&mut one));
+    joins(&rt, &shared, &mut clerks, clerk);
+    joins(&rt, &shared, &mut clerks, one);
+    let text = "journal;2\n1;1;cast;ann;0;done\n";
+    finishes(&rt, alloc, shared, clerks, text);
+}
+
+const SHUT: &[Row] = &[("shut", "", &[], Ok(Answer::Done))];
+
+const SHUT_AGAIN: &[Row] = &[
+    ("shut", "", &[], Ok(Answer::DeskShut)),
+    ("shut", "", &[], Err(SharedFault::JournalFull)),
+];
+
+/// Two clerks fill a journal of two entries. Neither is then served, by one try or by more.
+#[test]
+fn two_clerks_fill_a_journal(rt: HostRuntime) {
+    let alloc = rt.alloc();
+    let (shared, mut clerks) = shared_by(&rt, alloc, 2, 2);
+    let mut one = last_of(&rt, &shared, &mut clerks);
+    let mut clerk = last_of(&rt, &shared, &mut clerks);
+    asks(&rt, alloc, &shared, &mut clerk, SHUT);
+    asks(&rt, alloc, &shared, &mut one, SHUT_AGAIN);
+    let within = shared.serve_within(&mut clerk, &Request::Shut, 3);
+    same(&rt, within, Err(SharedFault::JournalFull), "three tries");
+    joins(&rt, &shared, &mut clerks, clerk);
+    joins(&rt, &shared, &mut clerks, one);
+    let text = "journal;2\n1;0;shut;;;done\n2;1;shut;;;desk-shut\n";
+    finishes(&rt, alloc, shared, clerks, text);
+}
+
+/// A number of clerks outside 1 to 64 hands the desk back, with its journal.
+fn hands_back(rt: &impl Abort, alloc: Global, desk: Desk, clerks: u32) -> Desk {
+    match SharedDesk::share(alloc, desk, clerks) {
+        Err(ShareFault::ClerkCount(desk)) => desk,
+        _ => panic!(rt; "shared among {clerks}"),
+    }
+}
+
+/// A desk on which clerk 5 has served one request.
+fn desk_in_use(rt: &impl Abort, alloc: Global) -> Desk {
+    let mut desk = desk_with_room(rt, alloc, 10);
+    let ann = request(rt, alloc, "cast", "ann", &[0]);
+    same(rt, desk.serve(5, &ann), Ok(Answer::Done), "before sharing");
+    desk
+}
+
+#[test]
+fn a_desk_is_shared_among_1_to_64(rt: HostRuntime) {
+    let mut desk = desk_in_use(&rt, rt.alloc());
+    for clerks in [0, 65] {
+        desk = hands_back(&rt, rt.alloc(), desk, clerks);
+        same(&rt, desk.entries(), 1, "a desk handed back");
+    }
+    let shared = SharedDesk::share(rt.alloc(), desk, 64);
+    holds(&rt, shared.is_ok(), "64 clerks");
+}
+
+/// Clerks need not be handed back: where none holds the lock, `finish` gives the desk. It isn't shut.
+#[test]
+fn a_desk_comes_back_without_its_clerks(rt: HostRuntime) {
+    let alloc = rt.alloc();
+    let desk = desk_in_use(&rt, alloc);
+    let (shared, _clerks) = SharedDesk::share(alloc, desk, 64).expect(&rt, "shared");
+    let text = "journal;2\n1;5;cast;ann;0;done\n";
+    let desk = finishes(&rt, alloc, shared, Vec::new(alloc), text);
+    let is_not_shut = matches!(desk.into_election(), Err(IntoFault::NotShut(_)));
+    holds(&rt, is_not_shut, "not shut");
+}
+
+/// A desk that clerks have shut gives its election.
+#[test]
+fn a_shut_desk_comes_back(rt: HostRuntime) {
+    let alloc = rt.alloc();
+    let desk = desk_in_use(&rt, alloc);
+    let (shared, mut clerks) = SharedDesk::share(alloc, desk, 1).expect(&rt, "shared");
+    let mut clerk = last_of(&rt, &shared, &mut clerks);
+    asks(&rt, alloc, &shared, &mut clerk, SHUT);
+    joins(&rt, &shared, &mut clerks, clerk);
+    let text = "journal;2\n1;5;cast;ann;0;done\n2;0;shut;;;done\n";
+    let desk = finishes(&rt, alloc, shared, clerks, text);
+    let election = desk.into_election().expect(&rt, "an election");
+    same(&rt, election.voters().len(), 4, "voters");
+}
+
+/// Why a request is not served, and what is said of it.
+const FAULTS: &[(SharedFault, &str)] = &[
+    (SharedFault::Busy(3), "1 Busy: clerk 3 holds the lock"),
+    (
+        SharedFault::JournalFull,
+        "2 JournalFull: the journal is full",
+    ),
+    (SharedFault::NoMemory, "3 NoMemory: out of memory"),
+];
+
+#[test]
+fn tells_faults(rt: HostRuntime) {
+    for (fault, wanted) in FAULTS {
+        let named = (fault.number(), fault.name());
+        tells(&rt, rt.alloc(), named, fault, wanted);
+    }
+    shows(&rt, rt.alloc(), &Busy(3), "clerk 3 holds the lock");
+    shows(&rt, rt.alloc(), &Unfinished(4), "the lock word is 4");
+}
+
+/// The fault tells this of itself.
+fn tells_share_fault(rt: &impl Abort, alloc: Global, fault: ShareFault, wanted: &str) {
+    let named = (fault.number(), fault.name());
+    tells(rt, alloc, named, &fault, wanted);
+}
+
+#[test]
+fn tells_share_faults(rt: HostRuntime) {
+    let count = ShareFault::ClerkCount(desk_with_room(&rt, rt.alloc(), 1));
+    let wanted = "1 ClerkCount: the number of clerks is not 1 to 64";
+    tells_share_fault(&rt, rt.alloc(), count, wanted);
+    let memory = ShareFault::NoMemory(desk_with_room(&rt, rt.alloc(), 1));
+    let wanted = "2 NoMemory: out of memory";
+    tells_share_fault(&rt, rt.alloc(), memory, wanted);
+}
