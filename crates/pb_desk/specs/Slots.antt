@@ -23,7 +23,8 @@ pub record IsOrder (slots : List (Option ℕ)) (slot_of : List ℕ) : Type 0 whe
   pub count : length (filed slots) ≡ length slot_of
 
 -- each ballot stands in one slot, and no two are of the same voter
-pub record IsListing (ballots : List (List ℕ × List ℕ)) (slots : List (Option ℕ)) (slot_of : List ℕ) : Type 0 where
+pub record IsListing (ballots : List (List ℕ × List ℕ)) (slots : List (Option ℕ)) (slot_of : List ℕ)
+    : Type 0 where
   pub order : IsOrder slots slot_of
   pub each : length slot_of ≡ length ballots
   pub unique : IsDistinct bytes_eq (keys_of ballots)

@@ -54,7 +54,10 @@ where
     requires room { length election.old.voters < most_voters }
     requires new_id { ¬ Contains (voter_ids election.old) voter.now }
     requires known { AreKnown election.old ballot.now }
-    ensures { OnOk result (election.new ≡ record election.old { voters = election.old.voters ++ record { id = voter.now; ballot = ballot.now } ∷ [] }) }
+    ensures { OnOk result (election.new ≡ record election.old {
+      voters =
+          election.old.voters ++ record { id = voter.now; ballot = ballot.now } ∷ [];
+    }) }
 {
     let id = voter.copy(alloc)?;
     let ballot = ballot.copy(alloc)?;

@@ -14,9 +14,11 @@ pub(crate) fn push<A: Allocator>(
 ) -> Result<(), NoMemory>
     requires { IsOrder slots.old.items slot_of.old.items }
     ensures order { IsOrder slots.new.items slot_of.new.items }
-    ensures slots { OnOk result (slots.new.items ≡ slots.old.items ++ Some (length slot_of.old.items) ∷ []) }
+    ensures slots { OnOk result (slots.new.items
+        ≡ slots.old.items ++ Some (length slot_of.old.items) ∷ []) }
     ensures len { OnOk result (length slot_of.new.items ≡ length slot_of.old.items + 1) }
-    ensures err { OnErr result ((slots.new.items ≡ slots.old.items) × (slot_of.new.items ≡ slot_of.old.items)) }
+    ensures err { OnErr result ((slots.new.items ≡ slots.old.items)
+        × (slot_of.new.items ≡ slot_of.old.items)) }
 {
     let slot = slots.len();
     slot_of.reserve(1)?;
@@ -36,7 +38,8 @@ fn leave_gap<A: Allocator>(
     ensures order { IsOrder slots.new.items slot_of.new.items }
     ensures len { length slot_of.new.items + 1 ≡ length slot_of.old.items }
     ensures filed { (slot : ℕ) × (slice_get slot_of.old.items index ≡ Some slot)
-        × (filed slots.new.items ≡ map (moved (length slot_of.new.items) index) (filed (slice_set slots.old.items slot None))) }
+        × (filed slots.new.items
+        ≡ map (moved (length slot_of.new.items) index) (filed (slice_set slots.old.items slot None))) }
 {
     let slot = slot_of.swap_remove(index);
     slots[slot] = None;
@@ -55,9 +58,12 @@ fn keep_filed<A: Allocator>(slots: &mut Vec<Option<usize>, A>)
 
 /// Writes down where each index stands.
 fn number<A: Allocator>(slots: &Vec<Option<usize>, A>, slot_of: &mut Vec<usize, A>)
-    requires within { (s i : ℕ) → slice_get slots.now.items s ≡ Some (Some i) → i < length slot_of.old.items }
-    requires once { (s t i : ℕ) → slice_get slots.now.items s ≡ Some (Some i) → slice_get slots.now.items t ≡ Some (Some i) → s ≡ t }
-    ensures back { (s i : ℕ) → slice_get slots.now.items s ≡ Some (Some i) → slice_get slot_of.new.items i ≡ Some s }
+    requires within { (s i : ℕ) → slice_get slots.now.items s ≡ Some (Some i)
+        → i < length slot_of.old.items }
+    requires once { (s t i : ℕ) → slice_get slots.now.items s ≡ Some (Some i)
+        → slice_get slots.now.items t ≡ Some (Some i) → s ≡ t }
+    ensures back { (s i : ℕ) → slice_get slots.now.items s ≡ Some (Some i)
+        → slice_get slot_of.new.items i ≡ Some s }
     ensures len { length slot_of.new.items ≡ length slot_of.old.items }
 {
     for slot in 0..slots.len() {
@@ -89,7 +95,8 @@ pub(crate) fn remove<A: Allocator>(
     ensures order { IsOrder slots.new.items slot_of.new.items }
     ensures len { length slot_of.new.items + 1 ≡ length slot_of.old.items }
     ensures filed { (slot : ℕ) × (slice_get slot_of.old.items index ≡ Some slot)
-        × (filed slots.new.items ≡ map (moved (length slot_of.new.items) index) (filed (slice_set slots.old.items slot None))) }
+        × (filed slots.new.items
+        ≡ map (moved (length slot_of.new.items) index) (filed (slice_set slots.old.items slot None))) }
 {
     leave_gap(slots, slot_of, index);
     if slot_of.len() <= slots.len() / 2 {
