@@ -106,7 +106,10 @@ fn priced(heap: Heap<'_>, election: &Election, nth: u64) -> Result<bool, NoMemor
     heap.refuse(nth);
     match price(heap, &supporters, &RESTS, 1, &mut tally) {
         Ok(answer) => Ok(answer == Some(Money(700)) && tally.count() == 1),
-        Err(NoMemory) => refused(tally.count() == 0),
+        Err(NoMemory) => refused(
+            tally.count() == 0
+                && price(heap, &supporters, &RESTS, 1, &mut tally) == Ok(Some(Money(700))),
+        ),
     }
 }
 

@@ -1,8 +1,8 @@
 //! Two clerks of a shared desk, for `tools/refuse`, which runs this program with each of its allocations refused
 //! in turn.
 //!
-//! It says `served` where both clerks are served as ever, and `serve refused` where memory was refused to the
-//! first, who then saw the desk as it was, and both were served after that. It says `share refused` where the desk
+//! It says `served` where both clerks are served as ever, and `serve refused` where memory was refused to one of
+//! them, who then saw the desk as it was, and both were answered after that. It says `share refused` where the desk
 //! came back from a call to share it, and could then be shared, and `out of memory` where there was none before.
 //! `other` is wrong.
 #![tactic(auto)]
@@ -91,7 +91,7 @@ fn visit(shared: &SharedDesk, mut clerks: Vec<Clerk>, ann: &Request, bob: &Reque
         return "other";
     };
     match shared.serve(&mut first, ann) {
-        Ok(Answer::Done) => match shared.serve(&mut second, bob) {
+        Ok(Answer::Done) => match shared.serve_within(&mut second, bob, 5) {
             Ok(Answer::Done) => "served",
             Err(SharedFault::NoMemory) => after_refusal(shared, &mut second, &mut first, bob, 1),
             _ => "other",
