@@ -115,7 +115,7 @@ HaveAsked-fault clerks (Some rows) (Some rest) count lists fault have next = rec
   next = let P : ℕ → Type 0 = λ n. IsNextScriptFault clerks n (Some rest) fault in subst P (sym have.count_is) next;
 }
 
--- want of memory is no fault of the rows
+-- refused memory is no fault of the rows
 pub memory_fault : (clerks : ℕ) (all : Option (List Fields)) → IfSome all (λ rows. IsFaultOfScript clerks rows NoMemory)
 memory_fault clerks None = tt
 memory_fault clerks (Some rows) = record { before = []; script = []; left = rows; records_are = refl; rows = tt; next = tt }

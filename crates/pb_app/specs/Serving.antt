@@ -68,7 +68,7 @@ pub record AreBack (d : SharedView) (lists : List (List RequestView)) (clerks : 
 abbrev pub AreClerks : ℕ → Type 0
 AreClerks clerks = (0 < clerks) × (clerks ≤ most_clerks)
 
--- why requests were not served: the number of clerks, or want of memory
+-- why requests were not served: the number of clerks, or memory was refused
 abbrev pub IsServingFault : ℕ → AppFault → Type 0
 IsServingFault clerks ClerkCount = ¬ AreClerks clerks
 IsServingFault clerks Memory = ⊤

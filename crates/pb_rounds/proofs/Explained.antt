@@ -26,7 +26,7 @@ pub record Explains (s : SupportView) (before left : List ℕ) (run : RunView) (
   pub one_each : length run.rests ≡ s.voters
   pub paid : AllZip (PaysFor s run.rests) run.elected payments
   pub endowed : (v : ℕ) → sum_by (λ row. slice_index row v) payments + slice_index run.rests v ≡ slice_index before v
-  pub too_dear : (place : ℕ) → is_listed left place ≡ true → All (λ w. w.place ≢ place) run.elected
+  pub too_expensive : (place : ℕ) → is_listed left place ≡ true → All (λ w. w.place ≢ place) run.elected
       → total_rest (supporters_at s place) run.rests < cost_at s place
   -- what is spent and what is left is no more than what was there
   pub within : spent_on s run.elected + sum run.rests ≤ sum before
@@ -75,7 +75,7 @@ explained_none s rests left round none = (
     one_each = round.one_each;
     paid = tt;
     endowed = λ v. omega arith;
-    too_dear = λ place among _. short_from_no_price (supporters_at s place) rests (cost_at s place) (none place among);
+    too_expensive = λ place among _. short_from_no_price (supporters_at s place) rests (cost_at s place) (none place among);
     within = omega arith;
   },
 )
@@ -101,9 +101,9 @@ explained_some m s h rests left round b bid run (payments, later) =
               payment_at supporters b.price rests v,
               payment-within_rest supporters b.price rests v,
             );
-        too_dear = λ place among others.
+        too_expensive = λ place among others.
             let other : place ≢ b.place = λ e. All-head (λ w. w.place ≢ place) (elected_by s rests b) run.elected others (sym e) in
-            later.too_dear place (is_listed-without left b.place place other ∙ among)
+            later.too_expensive place (is_listed-without left b.place place other ∙ among)
             (All-tail (λ w. w.place ≢ place) (elected_by s rests b) run.elected others);
         within = omega (
           arith,
@@ -168,7 +168,7 @@ run_has_price_system m s h share =
       record {
         paid = found.1.paid;
         endowed = λ v below. found.1.endowed v ∙ get_or-replicate s.voters v share 0 below;
-        too_dear = λ place below others. found.1.too_dear place (is_listed-range 0 (length s.costs) place (omega arith) (omega arith)) others;
+        too_expensive = λ place below others. found.1.too_expensive place (is_listed-range 0 (length s.costs) place (omega arith) (omega arith)) others;
       },
     )
 

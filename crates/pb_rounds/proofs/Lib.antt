@@ -12,7 +12,7 @@ pub mod ChargeStep
 pub mod Charged
 pub mod Collected
 pub mod RaisesEnd
-pub mod Completion
+pub mod Completing
 pub mod Explained
 pub mod Listed
 pub mod BestBid

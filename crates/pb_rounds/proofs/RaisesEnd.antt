@@ -16,7 +16,7 @@ use Rattle.pb_rounds.specs.declared.options.Completion.{Completion}
 use Rattle.pb_rounds.specs.declared.options.Completion.TheVariants.{Add1}
 use Rattle.pb_rounds.specs.Outcome.{OutcomeView}
 use Rattle.pb_rounds.specs.Run.{ElectedView, is_elected}
-use Rattle.pb_rounds.proofs.Completion.{opening_not_over, within_from_not_over}
+use Rattle.pb_rounds.proofs.Completing.{opening_not_over, within_from_not_over}
 use Rattle.pb_rounds.proofs.Exhausted.{over_from_more, over_from_within}
 
 not_elected_from : (elected : List ElectedView) (place : ℕ) → All (λ w. w.place ≢ place) elected → is_elected elected place ≡ false

@@ -17,7 +17,7 @@ three = record {
   voters = record { id = codes "v1"; ballot = 0 ∷ [] } ∷ record { id = codes "v2"; ballot = 0 ∷ 1 ∷ [] } ∷ record { id = codes "v3"; ballot = 1 ∷ [] } ∷ [];
 }
 
--- at 33.33 each the first is elected at 15.00, and the second is too dear
+-- at 33.33 each the first is elected at 15.00, and the second is too expensive
 plain : count_of three (record { step = 100; max_raises = 0; workers = 1; completion = Plain; measure = Votes })
     ≡ Some (record { share = 3333; raised = 0; elected = record { place = 0; price = 1500; collected = 3000 } ∷ []; rests = 1833 ∷ 1833 ∷ 3333 ∷ [] })
 unfolding best_of charged run_from run_of price_of supporters_of

@@ -13,7 +13,7 @@ use Rattle.pb_rounds.specs.Outcome.{OutcomeView, Settled}
 use Rattle.pb_rounds.specs.Queue.{AreMarked, IsWholeRun, is_above}
 use Rattle.pb_rounds.specs.RaiseEnds.{IsRaiseEnd}
 use Rattle.pb_rounds.specs.Run.{ElectedView, run_of}
-use Rattle.pb_rounds.proofs.Completion.{decided_before, decided_here}
+use Rattle.pb_rounds.proofs.Completing.{decided_before, decided_here}
 use Rattle.pb_rounds.proofs.RunQueue.{some_worker}
 
 -- the end of a run that was whole, within the budget

@@ -20,14 +20,25 @@ name_of NoMemory = codes "NoMemory"
 abbrev pub is_within : ℕ → ℕ → ℕ → Bool
 is_within low high n = nat_le low n && nat_le n high
 
--- 1 to 64 workers
+-- the most workers
+abbrev pub most_workers : ℕ
+most_workers = 64
+
+-- the most that a raise can lift everyone's share by, in hundredths
+abbrev pub largest_step : ℕ
+largest_step = 1000000000
+
+-- the most raises
+abbrev pub most_raises : ℕ
+most_raises = 1000000
+
 abbrev pub is_worker_count : ℕ → Bool
-is_worker_count workers = is_within 1 64 workers
+is_worker_count workers = is_within 1 most_workers workers
 
 -- the first of the options that is out of its range, whatever the completion
 abbrev pub refusal_of : CountOptions → Option CountFault
 refusal_of options =
     if not (is_worker_count options.workers) then Some WorkerCount
-    else (if not (is_within 1 1000000000 options.step) then Some StepRange
-    else (if not (is_within 0 1000000 options.max_raises) then Some RaisesRange
+    else (if not (is_within 1 largest_step options.step) then Some StepRange
+    else (if not (is_within 0 most_raises options.max_raises) then Some RaisesRange
     else None))

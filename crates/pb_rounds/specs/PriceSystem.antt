@@ -26,7 +26,7 @@ pub record IsPriceSystem (s : SupportView) (share : ℕ) (elected : List Elected
   pub endowed : (v : ℕ) → v < s.voters → sum_by (λ row. slice_index row v) payments + slice_index rests v
       ≡ share
   -- a project that is not elected costs more than its supporters have left together
-  pub too_dear : (place : ℕ) → place < length s.costs → All (λ w. w.place ≢ place) elected
+  pub too_expensive : (place : ℕ) → place < length s.costs → All (λ w. w.place ≢ place) elected
       → total_rest (supporters_at s place) rests < cost_at s place
 
 -- Priceability (Peters and Skowron 2020; Peters, Pierczynski and Skowron 2021), in whole payments. No round is named.

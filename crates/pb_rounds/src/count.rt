@@ -5,7 +5,7 @@ ghost use Rattle.pb_price.specs.Supporters.{IsSupport, support_of};
 ghost use Rattle.pb_rounds.specs.Cheapest.{EachWasCheapest};
 ghost use Rattle.pb_rounds.specs.Completed.{IsCompleted};
 ghost use Rattle.pb_rounds.specs.Count.{add1_of, count_of, opening_share, settled_after, spent_on, IsCountFault, IsCompletionFault};
-ghost use Rattle.pb_rounds.specs.CountFault.{is_worker_count, refusal_of};
+ghost use Rattle.pb_rounds.specs.CountFault.{is_worker_count, largest_step, most_raises, refusal_of};
 ghost use Rattle.pb_rounds.specs.Outcome.{settled, settled_by};
 ghost use Rattle.pb_rounds.specs.PriceSystem.{HasPriceSystem};
 ghost use Rattle.pb_rounds.specs.PricingRecord.{HasPricing};
@@ -13,7 +13,7 @@ ghost use Rattle.pb_rounds.specs.Run.{outcome_of};
 
 use crate::count_fault::CountFault;
 use crate::measure::Measure;
-use crate::options::{Completion, CountOptions};
+use crate::options::{Completion, CountOptions, LARGEST_STEP, MOST_RAISES, MOST_WORKERS};
 use crate::outcome::Outcome;
 use crate::pricing::Pricing;
 use crate::reach::{raised_share, raises_with_room};
@@ -33,7 +33,7 @@ use std::thread::Threads;
 fn is_worker_count(workers: u32) -> bool
     ensures { result ≡ is_worker_count workers }
 {
-    (1..=64).contains(&workers)
+    (1..=MOST_WORKERS).contains(&workers)
 }
 
 /// The first of the options that is out of its range.
@@ -43,10 +43,10 @@ fn refusal_of(options: &CountOptions) -> Option<CountFault>
     if !is_worker_count(options.workers) {
         return Some(CountFault::WorkerCount);
     }
-    if options.step < Money(1) || options.step > Money(1_000_000_000) {
+    if options.step < Money(1) || options.step > LARGEST_STEP {
         return Some(CountFault::StepRange);
     }
-    if options.max_raises > 1_000_000 {
+    if options.max_raises > MOST_RAISES {
         return Some(CountFault::RaisesRange);
     }
     None
@@ -175,8 +175,8 @@ pub(crate) fn outcome_after<
     raised: u32,
 ) -> Result<Outcome<A>, NoMemory>
     requires workers { is_worker_count pricing.now.workers ≡ true }
-    requires step { step ≤ 1000000000 }
-    requires raised { raised ≤ 1000000 }
+    requires step { step ≤ largest_step }
+    requires raised { raised ≤ most_raises }
     requires supporters { pricing.now.supporters.now ≡ support_of election.now }
     ensures settled { IfOk result (λ o. settled o ≡ settled_after pricing.now.measure election.now step raised) }
     ensures priced { IfOk result (λ o.
@@ -192,7 +192,7 @@ pub(crate) fn outcome_after<
 /// Where the raises end that are run one after the other, each by all workers: one worker has all of them, several have the
 /// first alone, since it may decide.
 fn end_in_turn(workers: u32, first: u32, max_raises: u32) -> u32
-    requires raises { max_raises ≤ 1000000 }
+    requires raises { max_raises ≤ most_raises }
     requires first { first ≤ max_raises + 1 }
     ensures first { first ≤ result }
     ensures some { 0 < result }
@@ -213,8 +213,8 @@ fn complete<R: Threads + Sync, G: Gate, A: Allocator + Copy + Send + Sync, B: Al
     max_raises: u32,
 ) -> Result<Outcome<A>, CountFault>
     requires workers { is_worker_count pricing.now.workers ≡ true }
-    requires step { step ≤ 1000000000 }
-    requires raises { max_raises ≤ 1000000 }
+    requires step { step ≤ largest_step }
+    requires raises { max_raises ≤ most_raises }
     requires supporters { pricing.now.supporters.now ≡ support_of election.now }
     ensures decided { IfOk result (λ o. add1_of pricing.now.measure election.now step max_raises ≡ Some o.raised) }
     ensures settled { IfOk result (λ o.

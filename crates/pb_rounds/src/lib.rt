@@ -17,3 +17,10 @@ mod run;
 mod run_end;
 mod side_by_side;
 mod standing;
+
+pub use count::equal_shares;
+pub use count_fault::CountFault;
+pub use key::Key;
+pub use measure::Measure;
+pub use options::{Completion, CountOptions};
+pub use outcome::Outcome;

@@ -3,6 +3,7 @@
 ghost use Rattle.std.specs.Prelude.{◌≡◌, ◌+◌, ◌*◌, ◌<◌, ◌≤◌, ◌⊎◌, ℕ, Some, true};
 ghost use Rattle.pb_core.specs.Money.{largest_money};
 ghost use Rattle.pb_price.specs.Price.{largest_share};
+ghost use Rattle.pb_rounds.specs.CountFault.{largest_step, most_raises};
 ghost use Rattle.pb_rounds.specs.Reach.{LeavesRoom};
 
 use pb_core::money::Money;
@@ -12,8 +13,8 @@ use std::alloc::Allocator;
 /// The share after this many raises.
 pub(crate) fn raised_share(opening: Money, raised: u32, step: Money) -> Money
     requires opening { opening ≤ largest_money }
-    requires raised { raised ≤ 1000000 }
-    requires step { step ≤ 1000000000 }
+    requires raised { raised ≤ most_raises }
+    requires step { step ≤ largest_step }
     ensures share { result ≡ opening + raised * step }
     ensures small { result ≤ largest_share }
 {
@@ -61,8 +62,8 @@ pub(crate) fn raises_with_room<A: Allocator>(
     max_raises: u32,
 ) -> u32
     requires opening { opening ≤ largest_money }
-    requires step { step ≤ 1000000000 }
-    requires raises { max_raises ≤ 1000000 }
+    requires step { step ≤ largest_step }
+    requires raises { max_raises ≤ most_raises }
     ensures few { result ≤ max_raises + 1 }
     ensures room { (raises : ℕ) → raises < result
         → LeavesRoom supporters.now budget (opening + raises * step) }

@@ -5,7 +5,7 @@ ghost use Rattle.pb_core.specs.Money.{largest_money};
 ghost use Rattle.pb_price.specs.Price.{largest_share};
 ghost use Rattle.pb_price.specs.Supporters.{IsSupport, support_of};
 ghost use Rattle.pb_rounds.specs.Count.{add1_of, is_decisive, settled_after, IsCompletionFault};
-ghost use Rattle.pb_rounds.specs.CountFault.{is_worker_count};
+ghost use Rattle.pb_rounds.specs.CountFault.{is_worker_count, largest_step, most_raises};
 ghost use Rattle.pb_rounds.specs.Outcome.{settled};
 ghost use Rattle.pb_rounds.specs.PricingRecord.{HasPricing};
 ghost use Rattle.pb_rounds.specs.RaiseEnds.{IsRaiseEnd};
@@ -84,8 +84,8 @@ impl<A: Allocator> Trial<A> {
     where
         A: Copy + Send + Sync,
         requires opening { opening ≤ largest_money }
-        requires raised { raised ≤ 1000000 }
-        requires step { step ≤ 1000000000 }
+        requires raised { raised ≤ most_raises }
+        requires step { step ≤ largest_step }
         ensures { IfOk self.new.end (IsRaiseEnd pricing.now.measure pricing.now.supporters.now budget
             (opening + raised * step)) }
     {
@@ -113,17 +113,17 @@ fn try_group<R: Threads + Sync, G: Gate, A: Allocator + Copy + Send + Sync>(
     next: u32,
 )
     requires opening { opening ≤ largest_money }
-    requires step { step ≤ 1000000000 }
+    requires step { step ≤ largest_step }
     requires some { 0 < length trials.old.items }
-    requires few { next + length trials.old.items ≤ 1000001 }
+    requires few { next + length trials.old.items ≤ most_raises + 1 }
     ensures len { length trials.new.items ≡ length trials.old.items }
     ensures ends { (i : ℕ) (d : _) → i < length trials.old.items → IfOk (slice_index_or trials.new.items i d).end
         (IsRaiseEnd pricing.now.measure pricing.now.supporters.now budget (opening + (next + i) * step)) }
 {
     let try_one = |i: usize, trial: &mut Trial<A>|
         requires opening { opening ≤ largest_money }
-        requires raised { next + i ≤ 1000000 }
-        requires step { step ≤ 1000000000 }
+        requires raised { next + i ≤ most_raises }
+        requires step { step ≤ largest_step }
         ensures { IfOk trial.new.end (IsRaiseEnd pricing.entry.now.measure
             pricing.entry.now.supporters.now budget (opening + (next + i) * step)) }
     { trial.try_raise(pricing, budget, opening, step, next + i as u32) };
@@ -141,8 +141,8 @@ fn try_raises<R: Threads + Sync, G: Gate, A: Allocator + Copy + Send + Sync, B: 
     max_raises: u32,
     next: u32,
 ) -> Result<Option<u32>, NoMemory>
-    requires step { step ≤ 1000000000 }
-    requires raises { max_raises ≤ 1000000 }
+    requires step { step ≤ largest_step }
+    requires raises { max_raises ≤ most_raises }
     requires supporters { pricing.now.supporters.now ≡ support_of election.now }
     requires some { (0 < next) × (0 < length trials.old.items) }
     requires few { next + length trials.old.items ≤ max_raises + 1 }
@@ -200,8 +200,8 @@ pub(crate) fn complete_side_by_side<
     from: u32,
 ) -> Result<Outcome<A>, CountFault>
     requires workers { is_worker_count pricing.now.workers ≡ true }
-    requires step { step ≤ 1000000000 }
-    requires raises { max_raises ≤ 1000000 }
+    requires step { step ≤ largest_step }
+    requires raises { max_raises ≤ most_raises }
     requires supporters { pricing.now.supporters.now ≡ support_of election.now }
     requires from { (0 < from) × (from ≤ max_raises + 1) }
     requires tried { (raises : ℕ) → raises < from

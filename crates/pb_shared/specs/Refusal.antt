@@ -19,7 +19,7 @@ Refuses c (Busy holder) words c' = TurnsAway c holder words c'
 Refuses c JournalFull words c' = Sees c c'.seen (words ++ 0 ∷ []) c' × (length c'.seen ≡ c.desk.start.room)
 Refuses c NoMemory words c' = Sees c c'.seen (words ++ 0 ∷ []) c'
 
--- how many exchanges were lost before the last, where there were at most so many: all that were allowed, if the
+-- how many exchanges were lost before the last, where at most this many were allowed: all that were allowed, if the
 -- last was lost too
 abbrev pub IsWithin : ℕ → List ℕ → SharedFault → Type 0
 IsWithin tries words (Busy holder) = length words + 1 ≡ tries

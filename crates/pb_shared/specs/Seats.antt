@@ -78,7 +78,7 @@ IsDeskOf m desk journal = desk ≡ desk_at m.0.about journal
 abbrev pub HasServed : Sitter → DeskView → Type 0
 HasServed m desk = (x : EntryView) × (x.clerk ≡ m.0.sheet.number) × IsDeskOf m desk (m.0.sheet.seen ++ x ∷ [])
 
--- a new table with this desk for so many clerks, and its first seat
+-- a new table with this desk for this many clerks, and its first seat
 pub record IsLaid (desk : DeskView) (clerks : ℕ) (id : TableId) (a : About) (its : TableId)
     (m : Sitter) : Type 0 where
   pub table : IsTable id a

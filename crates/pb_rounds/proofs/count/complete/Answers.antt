@@ -4,7 +4,7 @@ use Rattle.pb_rounds.specs.Count.{settled_after}
 use Rattle.pb_rounds.specs.Outcome.{OutcomeView, settled}
 use Rattle.pb_rounds.specs.PricingRecord.{HasPricing}
 use Rattle.pb_rounds.proofs.Room.{room_goes_on}
-use Rattle.pb_rounds.proofs.Completion.{exhausted_decides, exhausted_settled, goes_on, next_priced, next_settled, over_decides, over_settled, raised_once}
+use Rattle.pb_rounds.proofs.Completing.{exhausted_decides, exhausted_settled, goes_on, next_priced, next_settled, over_decides, over_settled, raised_once}
 use Rattle.pb_rounds.proofs.RunQueue.{over_from_end, whole_from_end}
 use Rattle.pb_rounds.proofs.count.complete.Goals as goal
 

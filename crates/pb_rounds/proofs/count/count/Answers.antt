@@ -1,4 +1,4 @@
-use Rattle.pb_rounds.proofs.Completion.{first_cheapest, first_within, first_priced, all_cheapest, all_within, all_priced_well}
+use Rattle.pb_rounds.proofs.Completing.{first_cheapest, first_within, first_priced, all_cheapest, all_within, all_priced_well}
 use Rattle.pb_rounds.proofs.RaisesEnd.{all_completed}
 use Rattle.pb_rounds.proofs.RunQueue.{whole_without_limit}
 use Rattle.pb_rounds.proofs.count.count.Goals as goal

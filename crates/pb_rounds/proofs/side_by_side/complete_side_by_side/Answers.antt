@@ -1,5 +1,5 @@
 use Rattle.std.proofs.Common.{◌+◌, ◌-◌, ◌*◌, length, arith}
-use Rattle.pb_rounds.proofs.Completion.{raises_spent}
+use Rattle.pb_rounds.proofs.Completing.{raises_spent}
 use Rattle.pb_rounds.proofs.Trials.{group_size}
 use Rattle.pb_rounds.proofs.side_by_side.complete_side_by_side.Goals as goal
 

@@ -67,7 +67,7 @@ module _ (m : Measure) (e : ElectionView) (step limit : ℕ) where
       ap (option_map (λ n. if is_over_after m e step n then n - 1 else n)) (end_found raises within tried (or_right _ _ exhausted))
       ∙ ap (λ n. Some n) (cond-false _ _ _ within_budget)
 
--- what the code computes of an outcome is what the definition says after so many raises
+-- what the code computes of an outcome is what the definition says after this many raises
 module _ (m : Measure) (e : ElectionView) (step raises : ℕ) (s : SupportView) (same : s ≡ support_of e) (budget : ℕ) (budget_is : budget ≡ e.budget)
     (o : OutcomeView) (settled_is : settled o ≡ settled_after m e step raises) where
   elected_is : o.elected ≡ elected_after m e step raises
