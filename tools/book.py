@@ -214,7 +214,7 @@ def contracts_of(crate):
     source = TOP / "crates" / crate / "src"
     root = source / ("main.rt" if (source / "main.rt").exists() else "lib.rt")
     modules, exported = public_names(root)
-    files = [p for p in sorted(source.glob("**/*.rt")) if "tests" not in p.parts and p.stem != "tests"]
+    files = [p for p in sorted(source.glob("**/*.rt")) if "tests" not in p.relative_to(source).parts and p.stem != "tests"]
     parsed = {path: items_of(path.read_text()) for path in files}
 
     def is_public(path, name):
