@@ -125,13 +125,14 @@ desk_text bytes rows clerks e lists d served =
       text_is = ap (λ (o : OpeningView). journal_text o.version d.journal) served.opening;
     }
 
-pub desk_written : (files scripts : Option (List ℕ)) (clerks : ℕ) (e : ElectionView) (lists : List (List RequestView)) (d : DeskView) (before after : Option (List ℕ)) →
-    IsServed files scripts clerks e lists d → Appends before after (journal_text d.opening.version d.journal) →
+pub desk_written : (files scripts : Option (List ℕ)) (clerks : ℕ) (e : ElectionView) (lists : List (List RequestView)) (d : DeskView) (before after : Option (List ℕ)) (text : List ℕ) →
+    IsServed files scripts clerks e lists d → Appends before after text → text ≡ journal_text d.opening.version d.journal →
     IfBothKnown files scripts (λ bytes rows. HasWritten (DeskWrites bytes rows clerks) before after)
-desk_written None scripts clerks e lists d before after served appends = tt
-desk_written (Some bytes) None clerks e lists d before after served appends = tt
-desk_written (Some bytes) (Some rows) clerks e lists d before after served appends =
-    (journal_text d.opening.version d.journal, desk_text bytes rows clerks e lists d served, appends)
+desk_written None scripts clerks e lists d before after text served appends is = tt
+desk_written (Some bytes) None clerks e lists d before after text served appends is = tt
+desk_written (Some bytes) (Some rows) clerks e lists d before after text served appends is =
+    let P : List ℕ → Type 0 = DeskWrites bytes rows clerks in
+    (text, subst P (sym is) (desk_text bytes rows clerks e lists d served), appends)
 
 pub desk_unwritten : (files scripts : Option (List ℕ)) (clerks : ℕ) (e : ElectionView) (lists : List (List RequestView)) (d : DeskView) →
     IsServed files scripts clerks e lists d → IfBothKnown files scripts (λ bytes rows. (text : List ℕ) × DeskWrites bytes rows clerks text)

@@ -7,10 +7,10 @@ ghost use Rattle.pb_app.specs.Fault.{merged};
 
 use crate::fault::AppFault;
 use crate::run_audit::ROOM;
+use crate::run_count::write_out;
 use crate::script::read_script;
 use crate::serve_script::serve_script;
 use pb_desk::desk::Desk;
-use pb_desk::write_fault::WriteFault;
 use pb_price::gate::Gate;
 use pb_read::read_pb;
 use std::alloc::Global;
@@ -26,7 +26,8 @@ use std::thread::Threads;
 /// row's place among the clerk's own rows, from 0.
 ///
 /// The file is refused before the script, and the script before the number of clerks, 1 to 64. Nothing is
-/// written but the whole journal. Where the fault is `Write`, some of it may have gone out.
+/// written but the whole journal. Where the fault is `Write` some of it may have gone out; on any other fault the
+/// writer is as it was.
 pub fn run_desk<T: Threads + Sync, P: Read + Drop, S: Read + Drop, G: Gate, W: Write>(
     rt: &T,
     alloc: Global,
@@ -53,9 +54,8 @@ pub fn run_desk<T: Threads + Sync, P: Read + Drop, S: Read + Drop, G: Gate, W: W
     // The file is judged first, whatever is known of the script.
     ensures file { IfSome (P.remaining file) (λ bytes. JudgesFile bytes result) }
 
-    // A fault writes nothing, unless it is the writer's, or memory was refused.
-    ensures unchanged { IfErr result (λ fault.
-        fault ≢ AppFault.Write → fault ≢ AppFault.Memory → writer.new ≡ writer.old) }
+    // A fault writes nothing, unless it is the writer's.
+    ensures unchanged { IfErr result (λ fault. fault ≢ AppFault.Write → writer.new ≡ writer.old) }
 
     // Out of memory is one fault.
     ensures merged { IfErr result (λ fault. merged fault ≡ fault) }
@@ -71,9 +71,11 @@ pub fn run_desk<T: Threads + Sync, P: Read + Drop, S: Read + Drop, G: Gate, W: W
     };
     // Its journal is legal, and fits the room.
     let _entries = desk.entries();
-    match desk.write_journal(alloc, writer) {
+    let Ok(text) = desk.journal_text(alloc) else {
+        return Err(AppFault::Memory);
+    };
+    match write_out(writer, text.as_slice()) {
         Ok(()) => Ok(()),
-        Err(WriteFault::WriteFailed) => Err(AppFault::Write),
-        Err(WriteFault::NoMemory) => Err(AppFault::Memory),
+        Err(_) => Err(AppFault::Write),
     }
 }

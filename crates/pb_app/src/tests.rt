@@ -2,9 +2,11 @@ use crate::fault::AppFault;
 use crate::laws::one_report;
 use crate::run_audit::run_audit;
 use crate::run_count::run_count;
+use crate::run_desk::run_desk;
 use crate::script_fault::ScriptFault;
 use pb_core::money::Money;
 use pb_desk::AuditFault;
+use pb_price::gate::NoGate;
 use pb_read::{ReadFault, ReadKind};
 use pb_rounds::count_fault::CountFault;
 use pb_rounds::options::{Completion, CountOptions};
@@ -287,6 +289,34 @@ impl Write for Stuck {
     fn flush(&mut self) -> io::Result<()> {
         Err(io::Error::from(io::ErrorKind::Other))
     }
+}
+
+/// A writer in memory that has no room.
+#[derive(Drop)]
+struct Full;
+
+impl Write for Full {
+    fn write(&mut self, _text: &[u8]) -> io::Result<usize> {
+        Err(io::Error::from(io::ErrorKind::OutOfMemory))
+    }
+
+    fn flush(&mut self) -> io::Result<()> {
+        Ok(())
+    }
+}
+
+#[test]
+fn a_writer_without_room_is_a_failed_writer(rt: HostRuntime) -> Result<(), Fail> {
+    let alloc = rt.alloc();
+    let file = THREE_VOTERS.as_bytes();
+    let nothing: &[u8] = b"";
+    let counted = run_count(&rt, alloc, file, &mut Full, &standard());
+    assert_eq!(rt; counted, Err(AppFault::Write));
+    let audited = run_audit(&rt, alloc, file, nothing, &mut Full, &standard());
+    assert_eq!(rt; audited, Err(AppFault::Write));
+    let served = run_desk(&rt, alloc, file, nothing, 1, &NoGate, &mut Full);
+    assert_eq!(rt; served, Err(AppFault::Write));
+    Ok(())
 }
 
 #[test]

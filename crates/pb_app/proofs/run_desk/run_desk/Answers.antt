@@ -1,4 +1,4 @@
-use Rattle.std.proofs.Common.{◌≡◌, ◌∙◌, List, ap, subst}
+use Rattle.std.proofs.Common.{◌≡◌, ◌∙◌, List, ap, subst, rules}
 use Rattle.pb_desk.specs.Desk.{DeskView}
 use Rattle.pb_core.specs.Request.{RequestView}
 use Rattle.pb_app.specs.Serving.{ServesAll}
@@ -13,12 +13,12 @@ pub returns-in_err-lists-clause-accepts : goal.returns-in_err-lists-clause-accep
 returns-in_err-lists-clause-accepts g c =
     accepted_by_script _ _ c.args.clerks _ c.in_err-lists.field-0.0 c.from_residual-in_err-lists.ensures.1 c.in_err-lists.ensures.fault
 
-pub returns-in-Ok-write_journal-clause-ok : goal.returns-in-Ok-write_journal-clause-ok
-returns-in-Ok-write_journal-clause-ok g c =
+pub returns-in-Ok-write_out-clause-ok : goal.returns-in-Ok-write_out-clause-ok
+returns-in-Ok-write_out-clause-ok g c =
     let start = c.in-Ok in
     let served = c.in-Ok-serve_script in
     let entries = c.entries-entries.ensures in
-    desk_written _ _ c.args.clerks c.in_ok-election.election c.in_ok-lists.lists.items served.desk _ _
+    desk_written _ _ c.args.clerks c.in_ok-election.election c.in_ok-lists.lists.items served.desk _ _ _
     (record {
       stands = c.in_ok-election.ensures.ok;
       splits = c.in_ok-lists.ensures.script;
@@ -28,10 +28,10 @@ returns-in-Ok-write_journal-clause-ok g c =
       room = ap (λ (d : DeskView). d.room) served.ensures.ok.0 ∙ ap (λ (d : DeskView). d.room) start.ensures.ok;
       legal = entries.legal;
       fits = entries.fits;
-    }) c.in-Ok-write_journal.ensures
+    }) c.in-Ok-write_out.ensures.ok (search rules)
 
-pub returns-in-Err-WriteFailed-clause-fault : goal.returns-in-Err-WriteFailed-clause-fault
-returns-in-Err-WriteFailed-clause-fault g c =
+pub returns-clause-fault : goal.returns-clause-fault
+returns-clause-fault g c =
     let start = c.in-Ok in
     let served = c.in-Ok-serve_script in
     let entries = c.entries-entries.ensures in
