@@ -14,7 +14,7 @@ pub const MOST: u64 = 1_000;
 /// Judges a run in which the nth allocation of a call was to be refused, and says whether there is another.
 ///
 /// A run answers true where all is as with ample memory, and false where it is not. Where an allocation was
-/// refused it may answer want of memory too; the run that meets no refusal is the last.
+/// refused it may answer out of memory too; the run that meets no refusal is the last.
 pub fn goes_on(
     rt: &impl Abort,
     heap: &Refusing<Global>,
@@ -31,7 +31,7 @@ pub fn goes_on(
     false
 }
 
-/// What a run answers whose call found no memory: want of memory, where all was as before and the call, made
+/// What a run answers whose call found no memory: out of memory, where all was as before and the call, made
 /// again with memory, answered as ever.
 pub fn refused(is_as_before: bool) -> Result<bool, NoMemory> {
     if is_as_before {
