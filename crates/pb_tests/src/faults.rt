@@ -37,6 +37,10 @@ const AUDIT_FAULTS: &[(AuditFault, &str)] = &[
         "1 ReadFailed: the reader failed at row 7",
     ),
     (
+        AuditFault::BadRow(0),
+        "2 BadRow: the first row says no version that there is",
+    ),
+    (
         AuditFault::BadRow(7),
         "2 BadRow: row 7 has not the form of an entry",
     ),
