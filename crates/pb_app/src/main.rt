@@ -2,34 +2,13 @@
 //! the desk that took its ballots.
 #![tactic(auto)]
 
-mod close_and_count;
-mod close_fault;
-mod closing;
-#[cfg(test)]
-mod closing_tests;
 mod command_line;
 #[cfg(test)]
 mod command_line_tests;
-#[cfg(test)]
-mod desk_tests;
-mod fault;
-mod fault_line;
-mod laws;
 mod perform;
-mod report;
-mod requests;
-mod run_audit;
-mod run_count;
-mod run_desk;
-mod script;
-mod script_fault;
-mod serve_script;
-#[cfg(test)]
-mod tests;
 
-use crate::fault::AppFault;
-use crate::fault_line::BAD_ARGUMENTS;
 use clap::error::ErrorKind;
+use pb_commands::{AppFault, BAD_ARGUMENTS};
 use std::process::ExitCode;
 use std::rt::{Env, Files};
 use std::thread::Threads;

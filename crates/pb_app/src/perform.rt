@@ -1,10 +1,10 @@
 // What the command line asks for, done on real files.
 
 use crate::command_line::{Source, Task};
-use crate::fault::AppFault;
-use crate::run_audit::run_audit;
-use crate::run_count::run_count;
-use crate::run_desk::run_desk;
+use pb_commands::AppFault;
+use pb_commands::run_audit::run_audit;
+use pb_commands::run_count::run_count;
+use pb_commands::run_desk::run_desk;
 use pb_price::gate::NoGate;
 use std::rt::Files;
 use std::thread::Threads;

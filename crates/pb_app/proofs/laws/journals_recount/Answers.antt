@@ -1,6 +1,0 @@
-use Rattle.pb_app.proofs.Closings.{report_of_count}
-use Rattle.pb_app.proofs.Recounts.{accepted, recounted, written}
-use Rattle.pb_app.proofs.laws.journals_recount.Goals as goal
-
-pub returns : goal.returns
-returns c = record { accepted = accepted; recounted = recounted; written = written; winners = report_of_count }

@@ -1,6 +1,0 @@
-use Rattle.pb_app.proofs.Accepted.{one_text}
-use Rattle.pb_app.proofs.AuditAccepted.{one_audit}
-use Rattle.pb_app.proofs.laws.one_report.Goals as goal
-
-pub returns : goal.returns
-returns c = record { counted = one_text; audited = one_audit }

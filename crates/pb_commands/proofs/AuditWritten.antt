@@ -1,0 +1,107 @@
+-- Runs of `audit` whose bytes may be known.
+use Rattle.std.proofs.Common.{◌≡◌, ℕ, List, Option, Some, None, Ok, Err, sym, subst}
+use Rattle.std.specs.Prelude.{IfErr, IfSome, IsErrAnd, Result}
+use Rattle.pb_core.specs.Election.{ElectionView}
+use Rattle.pb_desk.specs.Audit.{IsFaultOfJournal}
+use Rattle.pb_desk.specs.Desk.{DeskView}
+use Rattle.pb_desk.specs.declared.audit_fault.AuditFault.{AuditFault}
+use Rattle.pb_desk.specs.declared.audit_fault.AuditFault.TheVariants as audit
+use Rattle.pb_read.specs.FirstFault.{IsFaultAt}
+use Rattle.pb_read.specs.StandsFor.{StandsFor}
+use Rattle.pb_read.specs.declared.fault.ReadFault.{ReadFault}
+use Rattle.pb_read.specs.declared.fault.ReadKind.{ReadKind}
+use Rattle.pb_read.specs.declared.fault.ReadKind.TheVariants.{NoMemory}
+use Rattle.pb_rounds.specs.declared.count_fault.CountFault.{CountFault}
+use Rattle.pb_rounds.specs.declared.count_fault.CountFault.TheVariants as count
+use Rattle.pb_rounds.specs.declared.options.CountOptions.{CountOptions}
+use Rattle.pb_rows.specs.Reading.{records_of}
+use Rattle.pb_commands.specs.Audited.{AuditFails, AuditWrites, IsDeskOf, IsRefusedDesk, IsTextOf, program_room}
+use Rattle.pb_commands.specs.Ends.{IfBothKnown, IsElectionFile, IsFileOf, JudgesFile}
+use Rattle.pb_commands.specs.Fault.{merged}
+use Rattle.pb_commands.specs.declared.fault.AppFault.{AppFault}
+use Rattle.pb_commands.specs.declared.fault.AppFault.TheVariants.{Read, Audit, Count, Write}
+use Rattle.pb_commands.proofs.Accepted.{given_fault}
+use Rattle.pb_commands.proofs.AuditAccepted.{IsAudited, desk_of}
+
+-- what is to be written is known where the bytes are, and then a writer that fails is the fault
+pub write_fails : (files journals : Option (List ℕ)) (options : CountOptions) (e : ElectionView) (d : DeskView) (text : List ℕ) (r : Result (Unit {0}) AppFault)
+    → IfErr r (λ fault. fault ≡ Write) → IsAudited files journals e d → IsTextOf d options text
+    → IfErr r (λ fault. IfBothKnown files journals (λ bytes journal. AuditFails bytes journal options fault))
+write_fails files journals options e d text (Ok done) is_write audited written = tt
+write_fails None journals options e d text (Err fault) is_write audited written = tt
+write_fails (Some bytes) None options e d text (Err fault) is_write audited written = tt
+write_fails (Some bytes) (Some journal) options e d text (Err fault) is_write audited written =
+    let writes : AuditWrites bytes journal options text = (d, desk_of bytes journal e d audited, written) in
+    subst (AuditFails bytes journal options) (sym is_write) (text, writes)
+
+journal_fails : (bytes journal : List ℕ) (options : CountOptions) (fault : AuditFault) → IsFileOf bytes (λ e. IsFaultOfJournal e program_room (records_of journal) fault)
+    → AuditFails bytes journal options (merged (Audit fault))
+journal_fails bytes journal options audit.NoMemory fails = tt
+journal_fails bytes journal options fault fails = fails
+
+pub refused_by_journal : (files journals : Option (List ℕ)) (options : CountOptions) (e : ElectionView) (fault : AuditFault) (r : Result (Unit {0}) AppFault)
+    → IsErrAnd r (λ app. app ≡ merged (Audit fault))
+    → IfSome files (λ bytes. StandsFor (records_of bytes) e) → IfSome journals (λ journal. IsFaultOfJournal e program_room (records_of journal) fault)
+    → IfErr r (λ app. IfBothKnown files journals (λ bytes journal. AuditFails bytes journal options app))
+refused_by_journal None journals options e fault r is stands fails = given_fault (λ app. Unit {0}) r (merged (Audit fault)) is tt
+refused_by_journal (Some bytes) None options e fault r is stands fails = given_fault (λ app. Unit {0}) r (merged (Audit fault)) is tt
+refused_by_journal (Some bytes) (Some journal) options e fault r is stands fails =
+    given_fault (AuditFails bytes journal options) r (merged (Audit fault)) is
+    (journal_fails bytes journal options fault (e, stands, fails))
+
+desk_fails : (bytes journal : List ℕ) (options : CountOptions) (fault : CountFault) → (d : DeskView) × IsDeskOf bytes journal d × IsRefusedDesk d options fault
+    → AuditFails bytes journal options (merged (Count fault))
+desk_fails bytes journal options count.NoMemory fails = tt
+desk_fails bytes journal options fault fails = fails
+
+pub refused_by_desk : (files journals : Option (List ℕ)) (options : CountOptions) (e : ElectionView) (d : DeskView) (fault : CountFault) (r : Result (Unit {0}) AppFault)
+    → IsErrAnd r (λ app. app ≡ merged (Count fault)) → IsAudited files journals e d → IsRefusedDesk d options fault
+    → IfErr r (λ app. IfBothKnown files journals (λ bytes journal. AuditFails bytes journal options app))
+refused_by_desk None journals options e d fault r is audited refused = given_fault (λ app. Unit {0}) r (merged (Count fault)) is tt
+refused_by_desk (Some bytes) None options e d fault r is audited refused = given_fault (λ app. Unit {0}) r (merged (Count fault)) is tt
+refused_by_desk (Some bytes) (Some journal) options e d fault r is audited refused =
+    given_fault (AuditFails bytes journal options) r (merged (Count fault)) is
+    (desk_fails bytes journal options fault (d, desk_of bytes journal e d audited, refused))
+
+-- an error that is a given fault, judged by the file
+judged : (files : Option (List ℕ)) (fault : AppFault) (r : Result (Unit {0}) AppFault)
+    → IsErrAnd r (λ app. app ≡ fault) → IfSome files (λ bytes. JudgesFile bytes (Err fault)) → IfSome files (λ bytes. JudgesFile bytes r)
+judged files fault (Ok done) is judges = absurd is
+judged None fault (Err app) is judges = tt
+judged (Some bytes) fault (Err app) is judges = subst (λ app. JudgesFile bytes (Err app)) (sym is) judges
+
+reader_judges : (bytes : List ℕ) (kind : ReadKind) (at : ℕ) → IsFaultAt (records_of bytes) kind at
+    → JudgesFile bytes (Err (merged (Read (record { kind = kind; at = at }))))
+reader_judges bytes NoMemory at fails = tt
+reader_judges bytes kind at fails = fails
+
+pub judged_by_reader : (files : Option (List ℕ)) (fault : ReadFault) (r : Result (Unit {0}) AppFault)
+    → IsErrAnd r (λ app. app ≡ merged (Read fault)) → IfSome files (λ bytes. IsFaultAt (records_of bytes) fault.kind fault.at)
+    → IfSome files (λ bytes. JudgesFile bytes r)
+judged_by_reader None fault r is fails = tt
+judged_by_reader (Some bytes) fault r is fails = judged (Some bytes) (merged (Read fault)) r is (reader_judges bytes fault.kind fault.at fails)
+
+audit_judges : (bytes : List ℕ) (fault : AuditFault) → IsElectionFile bytes → JudgesFile bytes (Err (merged (Audit fault)))
+audit_judges bytes audit.NoMemory is = tt
+audit_judges bytes fault is = is
+
+pub judged_by_audit : (files : Option (List ℕ)) (e : ElectionView) (fault : AuditFault) (r : Result (Unit {0}) AppFault)
+    → IsErrAnd r (λ app. app ≡ merged (Audit fault)) → IfSome files (λ bytes. StandsFor (records_of bytes) e) → IfSome files (λ bytes. JudgesFile bytes r)
+judged_by_audit None e fault r is stands = tt
+judged_by_audit (Some bytes) e fault r is stands = judged (Some bytes) (merged (Audit fault)) r is (audit_judges bytes fault (e, stands))
+
+count_judges : (bytes : List ℕ) (fault : CountFault) → IsElectionFile bytes → JudgesFile bytes (Err (merged (Count fault)))
+count_judges bytes count.NoMemory is = tt
+count_judges bytes fault is = is
+
+pub judged_by_count : (files : Option (List ℕ)) (e : ElectionView) (fault : CountFault) (r : Result (Unit {0}) AppFault)
+    → IsErrAnd r (λ app. app ≡ merged (Count fault)) → IfSome files (λ bytes. StandsFor (records_of bytes) e) → IfSome files (λ bytes. JudgesFile bytes r)
+judged_by_count None e fault r is stands = tt
+judged_by_count (Some bytes) e fault r is stands = judged (Some bytes) (merged (Count fault)) r is (count_judges bytes fault (e, stands))
+
+-- a run that comes to the writing has read an election
+pub judged_by_writer : (files : Option (List ℕ)) (e : ElectionView) (r : Result (Unit {0}) AppFault)
+    → IfErr r (λ fault. fault ≡ Write) → IfSome files (λ bytes. StandsFor (records_of bytes) e) → IfSome files (λ bytes. JudgesFile bytes r)
+judged_by_writer None e r is stands = tt
+judged_by_writer (Some bytes) e (Ok done) is stands = (e, stands)
+judged_by_writer (Some bytes) e (Err fault) is stands = subst (λ app. JudgesFile bytes (Err app)) (sym is) (e, stands)

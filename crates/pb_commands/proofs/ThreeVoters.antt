@@ -1,0 +1,38 @@
+-- The definitions, computed on an election of three voters.
+use Rattle.std.proofs.Common.{◌≡◌, [], ◌∷◌, None, codes, refl}
+use Rattle.csv.specs.Writing.{escaped, fields_text, is_blank}
+use Rattle.std.specs.Fmt.{digits}
+use Rattle.pb_core.specs.Election.{ElectionView}
+use Rattle.pb_price.specs.Supporters.{supporters_of}
+use Rattle.pb_read.specs.declared.fault.ReadKind.TheVariants.{MoneyTooFine}
+use Rattle.pb_rounds.specs.Outcome.{Settled}
+use Rattle.pb_rows.specs.Writing.{text_of_row, text_of_rows}
+use Rattle.pb_commands.specs.Fault.{line_of}
+use Rattle.pb_commands.specs.Report.{report_of}
+use Rattle.pb_commands.specs.declared.fault.AppFault.TheVariants.{Read}
+
+-- budget 100.00; the first two voters approve the first project, the last two the second
+abbrev e : ElectionView
+e = record {
+  budget = 10000;
+  projects = record { id = codes "a"; name = []; cost = 3000 } ∷ record { id = codes "b"; name = []; cost = 6000 } ∷ [];
+  voters = record { id = codes "v1"; ballot = 0 ∷ [] } ∷ record { id = codes "v2"; ballot = 0 ∷ 1 ∷ [] } ∷ record { id = codes "v3"; ballot = 1 ∷ [] } ∷ [];
+  max_length = None;
+}
+
+-- after five raises both are elected
+abbrev o : Settled
+o = record {
+  share = 3833;
+  raised = 5;
+  elected = record { place = 0; price = 1500; collected = 3000 } ∷ record { place = 1; price = 3667; collected = 6000 } ∷ [];
+  rests = 2333 ∷ 0 ∷ 166 ∷ [];
+}
+
+report : report_of e o ≡ codes "budget;100.00\nvoters;3\nshare;38.33\nraises;5\nelected;a;30.00;15.00\nelected;b;60.00;36.67\nspent;90.00\nsurplus;0.00\n"
+unfolding report_of text_of_rows text_of_row fields_text is_blank escaped digits supporters_of
+report = refl
+
+too_fine : line_of (Read (record { kind = MoneyTooFine; at = 7 })) ≡ codes "fault;read;12;MoneyTooFine;7\n"
+unfolding digits
+too_fine = refl

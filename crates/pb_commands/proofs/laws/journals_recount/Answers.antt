@@ -1,0 +1,6 @@
+use Rattle.pb_commands.proofs.Closings.{report_of_count}
+use Rattle.pb_commands.proofs.Recounts.{accepted, recounted, written}
+use Rattle.pb_commands.proofs.laws.journals_recount.Goals as goal
+
+pub returns : goal.returns
+returns c = record { accepted = accepted; recounted = recounted; written = written; winners = report_of_count }

@@ -1,0 +1,15 @@
+use Rattle.std.proofs.Common.{◌≡◌, ◌∙◌, arith}
+use Rattle.pb_commands.proofs.ReportSums.{spent_more, spent_more_le, the_winner}
+use Rattle.pb_commands.proofs.report.spent_for.Goals as goal
+
+pub overflow_add-spent : goal.overflow_add-spent
+overflow_add-spent c =
+    let winner = the_winner c.args.election.now _ _ _ _ _ _ c.requires.known c.loop-winner-test.true c.winner-item.is c.winner.view_is c.projects-projects.ensures.projects c.index-projects-winner.is in
+    let cost : c.spent.inside.0 ≡ c.index-projects-winner.result.cost = c.spent.view_is ∙ c.cost.ensures.cost in
+    omega (arith, spent_more_le _ _ _ _ _ winner)
+
+pub loop-winner-preserved : goal.loop-winner-preserved
+loop-winner-preserved c =
+    let winner = the_winner c.args.election.now _ _ _ _ _ _ c.requires.known c.loop-winner-test.true c.winner-item.is c.winner.view_is c.projects-projects.ensures.projects c.index-projects-winner.is in
+    let cost : c.spent.inside.0 ≡ c.index-projects-winner.result.cost = c.spent.view_is ∙ c.cost.ensures.cost in
+    omega (arith, spent_more _ _ _ _ _ winner)

@@ -1,0 +1,50 @@
+use Rattle.pb_commands.proofs.AuditAccepted.{audited_by_desk, audited_by_journal, audited_by_reader}
+use Rattle.pb_commands.proofs.AuditWritten.{judged_by_audit, judged_by_count, judged_by_reader, judged_by_writer, refused_by_desk, refused_by_journal, write_fails}
+use Rattle.pb_commands.proofs.run_audit.run_audit.Goals as goal
+
+pub returns-clause-fault : goal.returns-clause-fault
+returns-clause-fault g c =
+    let desk = c.in_ok-desk.ensures in
+    let text = c.in_ok-put_desk.ensures.ok in
+    write_fails _ _ _ c.in_ok-election.election c.in_ok-desk.desk text.0 _ c.write_out.ensures.fault
+    (record { stands = c.in_ok-election.ensures.ok; election = desk.opening; room = desk.room; sound = desk.sound; rows = desk.rows }) text.1
+
+pub returns-clause-file : goal.returns-clause-file
+returns-clause-file g c = judged_by_writer _ c.in_ok-election.election _ c.write_out.ensures.fault c.in_ok-election.ensures.ok
+
+pub returns-in_err-election-clause-accepts : goal.returns-in_err-election-clause-accepts
+returns-in_err-election-clause-accepts g c =
+    audited_by_reader _ _ c.args.options.now c.in_err-election.field-0.0 _ c.from_residual.ensures.1 c.in_err-election.ensures.accepts
+
+pub returns-in_err-election-clause-file : goal.returns-in_err-election-clause-file
+returns-in_err-election-clause-file g c = judged_by_reader _ c.in_err-election.field-0.0 _ c.from_residual.ensures.1 c.in_err-election.ensures.fault
+
+pub returns-in_err-desk-clause-fault : goal.returns-in_err-desk-clause-fault
+returns-in_err-desk-clause-fault g c =
+    refused_by_journal _ _ c.args.options.now c.in_ok-election.election c.in_err-desk.field-0.0 _ c.from_residual-in_err-desk.ensures.1
+    c.in_ok-election.ensures.ok c.in_err-desk.ensures.fault
+
+pub returns-in_err-desk-clause-accepts : goal.returns-in_err-desk-clause-accepts
+returns-in_err-desk-clause-accepts g c =
+    audited_by_journal _ _ c.args.options.now c.in_ok-election.election c.in_err-desk.field-0.0 _ c.from_residual-in_err-desk.ensures.1
+    c.in_ok-election.ensures.ok c.in_err-desk.ensures.fault
+
+pub returns-in_err-desk-clause-file : goal.returns-in_err-desk-clause-file
+returns-in_err-desk-clause-file g c =
+    judged_by_audit _ c.in_ok-election.election c.in_err-desk.field-0.0 _ c.from_residual-in_err-desk.ensures.1 c.in_ok-election.ensures.ok
+
+pub returns-in_err-put_desk-clause-fault : goal.returns-in_err-put_desk-clause-fault
+returns-in_err-put_desk-clause-fault g c =
+    let desk = c.in_ok-desk.ensures in
+    refused_by_desk _ _ c.args.options.now c.in_ok-election.election c.in_ok-desk.desk c.in_err-put_desk.field-0.0 _ c.from_residual-in_err-put_desk.ensures.1
+    (record { stands = c.in_ok-election.ensures.ok; election = desk.opening; room = desk.room; sound = desk.sound; rows = desk.rows }) c.in_err-put_desk.ensures.fault
+
+pub returns-in_err-put_desk-clause-accepts : goal.returns-in_err-put_desk-clause-accepts
+returns-in_err-put_desk-clause-accepts g c =
+    let desk = c.in_ok-desk.ensures in
+    audited_by_desk _ _ c.args.options.now c.in_ok-election.election c.in_ok-desk.desk c.in_err-put_desk.field-0.0 _ c.from_residual-in_err-put_desk.ensures.1
+    (record { stands = c.in_ok-election.ensures.ok; election = desk.opening; room = desk.room; sound = desk.sound; rows = desk.rows }) c.in_err-put_desk.ensures.fault
+
+pub returns-in_err-put_desk-clause-file : goal.returns-in_err-put_desk-clause-file
+returns-in_err-put_desk-clause-file g c =
+    judged_by_count _ c.in_ok-election.election c.in_err-put_desk.field-0.0 _ c.from_residual-in_err-put_desk.ensures.1 c.in_ok-election.ensures.ok

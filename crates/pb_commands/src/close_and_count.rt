@@ -1,0 +1,72 @@
+//! From a shared desk to its winners: its clerks come back, and where it is shut its ballots are counted.
+
+ghost use Rattle.std.specs.Prelude.{◌≡◌, ◌≢◌, ℕ, All, IfErr, IfOk};
+ghost use Rattle.pb_shared.specs.Clerk.{AreAll};
+ghost use Rattle.pb_commands.specs.Closed.{IsClosedAs, IsCloseFault, IsClosing, IsDeskFault};
+
+use crate::close_fault::CloseFault;
+use crate::closing::{Closing, DeskCount};
+use pb_desk::desk::Desk;
+use pb_desk::into_fault::IntoFault;
+use pb_rounds::count::count;
+use pb_rounds::options::CountOptions;
+use pb_shared::clerk::Clerk;
+use pb_shared::shared_desk::SharedDesk;
+use pb_shared::unfinished::Unfinished;
+use std::alloc::Global;
+use std::thread::Threads;
+
+/// Takes the clerks of a shared desk back. Where the desk is shut, the ballots that its journal leaves are
+/// counted with these options; else the desk is the answer, whatever the options are.
+///
+/// To publish the journal, write it by a clerk's `look` before: what a clerk has seen begins the journal, and
+/// is all of it where it has as many entries as the answer says.
+pub fn close_and_count<T: Threads + Sync>(
+    rt: &T,
+    alloc: Global,
+    shared: SharedDesk,
+    clerks: Vec<Clerk>,
+    options: &CountOptions,
+) -> Result<Closing, CloseFault>
+    requires own { All (λ clerk. clerk.desk ≡ shared) clerks.items }
+    // The headline: there is one journal, and the answer is what it comes to.
+    ensures ok { IfOk result (IsClosedAs shared clerks.items options.now) }
+
+    // When each refusal comes.
+    ensures fault { IfErr result (IsCloseFault shared clerks.items options.now) }
+
+    // With all clerks handed back the lock is never the reason.
+    ensures all { AreAll shared clerks.items
+        → IfErr result (λ fault. (word : ℕ) → fault ≢ CloseFault.Unfinished word) }
+{
+    match shared.finish(clerks) {
+        Ok(desk) => count_desk(rt, alloc, desk, options),
+        Err(Unfinished(word)) => Err(CloseFault::Unfinished(word)),
+    }
+}
+
+/// Counts the ballots that a desk's journal leaves, where the desk is shut; else the desk is the answer.
+pub fn count_desk<T: Threads + Sync>(
+    rt: &T,
+    alloc: Global,
+    desk: Desk,
+    options: &CountOptions,
+) -> Result<Closing, CloseFault>
+    ensures ok { IfOk result (IsClosing desk options.now) }
+    ensures fault { IfErr result (IsDeskFault desk options.now) }
+{
+    let entries = desk.entries();
+    let election = match desk.into_election() {
+        Ok(election) => election,
+        Err(IntoFault::NotShut(desk)) => return Ok(Closing::Open(desk)),
+        Err(IntoFault::NoMemory(desk)) => return Err(CloseFault::NoMemory(desk)),
+    };
+    match count(rt, alloc, &election, options) {
+        Ok(outcome) => Ok(Closing::Counted(DeskCount {
+            entries,
+            election,
+            outcome,
+        })),
+        Err(fault) => Err(CloseFault::NotCounted(fault, election)),
+    }
+}

@@ -1,0 +1,46 @@
+// Laws of the definitions.
+
+ghost use Rattle.std.specs.Prelude.{◌≡◌, ◌↔◌, ◌++◌, ℕ, List};
+ghost use Rattle.pb_desk.specs.Audit.{IsSound};
+ghost use Rattle.pb_desk.specs.Desk.{DeskView};
+ghost use Rattle.pb_desk.specs.Rows.{journal_text};
+ghost use Rattle.pb_read.specs.StandsFor.{StandsFor};
+ghost use Rattle.pb_rows.specs.Reading.{records_of};
+ghost use Rattle.pb_rows.specs.Writing.{text_of_row};
+ghost use Rattle.pb_rounds.specs.Outcome.{settled};
+ghost use Rattle.pb_rounds.specs.declared.options.CountOptions.{CountOptions};
+ghost use Rattle.pb_commands.specs.Audited.{AuditWrites, IsDeskOf, IsTextOf, entries_row, program_room};
+ghost use Rattle.pb_commands.specs.Closed.{IsCountOfDesk};
+ghost use Rattle.pb_commands.specs.Counted.{CountWrites};
+ghost use Rattle.pb_commands.specs.Desked.{DeskWrites};
+ghost use Rattle.pb_commands.specs.Report.{report_of};
+ghost use Rattle.pb_commands.specs.declared.closing.DeskCount.{DeskCount};
+
+/// What is written is a function of the bytes that are read and of the options: a file has one report at
+/// most, and a file and a journal have one text at most.
+pub fn one_report()
+    ensures counted { (bytes : List ℕ) (options : CountOptions) (first second : List ℕ)
+        → CountWrites bytes options first → CountWrites bytes options second → first ≡ second }
+    ensures audited { (bytes journal : List ℕ) (options : CountOptions) (first second : List ℕ)
+        → AuditWrites bytes journal options first → AuditWrites bytes journal options second
+        → first ≡ second }
+{}
+
+/// The recount. For every file that stands for an election, and every legal journal of its desk that fits the
+/// room: an audit of the journal's text on the file accepts it as this desk's, and writes just what is to be
+/// written of this desk, its row and where it is shut the report of the ballots that its journal leaves. What
+/// `desk` writes is the text of such a journal. So who recounts what `desk` wrote gets the desk's winners: where
+/// such a desk is closed and counted, the audit's report is that of this very count.
+pub fn journals_recount()
+    ensures accepted { (bytes : List ℕ) (d : DeskView) → StandsFor (records_of bytes) d.opening.election
+        → d.room ≡ program_room → IsSound d.opening d.room d.journal
+        → IsDeskOf bytes (journal_text d.opening.version d.journal) d }
+    ensures recounted { (bytes journal : List ℕ) (d : DeskView) (options : CountOptions) (text : List ℕ)
+        → IsDeskOf bytes journal d → AuditWrites bytes journal options text ↔ IsTextOf d options text }
+    ensures written { (bytes rows : List ℕ) (clerks : ℕ) (journal : List ℕ)
+        → DeskWrites bytes rows clerks journal → (d : DeskView) × IsDeskOf bytes journal d }
+    ensures winners { (d : DeskView) (options : CountOptions) (count : DeskCount)
+        → IsCountOfDesk d options count
+        → IsTextOf d options
+        (text_of_row (entries_row d) ++ report_of count.election (settled count.outcome)) }
+{}

@@ -1,0 +1,137 @@
+// The report of a count.
+
+ghost use Rattle.std.specs.Prelude.{◌≡◌, ◌<◌, ◌^◌, ◌++◌, ◌∷◌, [], All, OnOk, codes, decimal, length, map};
+ghost use Rattle.pb_core.specs.MoneyText.{money_text};
+ghost use Rattle.pb_price.specs.Supporters.{support_of};
+ghost use Rattle.pb_rounds.specs.Count.{spent_on};
+ghost use Rattle.pb_rounds.specs.Outcome.{settled};
+ghost use Rattle.pb_rows.specs.Writing.{text_of_row, text_of_rows};
+ghost use Rattle.pb_commands.specs.Report.{closing_rows, collected_for, elected_row, opening_rows, report_of};
+ghost use Rattle.pb_commands.specs.Printable.{IsPrintable};
+
+use itoa::Buffer;
+use pb_core::election::Election;
+use pb_core::money::Money;
+use pb_core::no_memory::NoMemory;
+use pb_rounds::outcome::{Elected, Outcome};
+use pb_rows::RowsWriter;
+use std::alloc::Global;
+
+/// Writes the report of a count of this election after the rows that stand there.
+///
+/// It fails only where memory is refused, and then no text comes of the rows.
+pub(crate) fn put_report(
+    rows: &mut RowsWriter,
+    alloc: Global,
+    election: &Election,
+    outcome: &Outcome,
+) -> Result<(), NoMemory>
+    requires { IsPrintable election.now outcome.now.elected }
+    ensures { OnOk result (rows.new.text ≡ rows.old.text ++ report_of election.now (settled outcome.now)) }
+{
+    put_opening(rows, alloc, election, outcome)?;
+    put_elected(rows, alloc, election, outcome.elected.as_slice())?;
+    put_closing(rows, alloc, election, outcome.elected.as_slice())?;
+    Ok(())
+}
+
+/// The rows above the elected projects.
+fn put_opening(
+    rows: &mut RowsWriter,
+    alloc: Global,
+    election: &Election,
+    outcome: &Outcome,
+) -> Result<(), NoMemory>
+    ensures { OnOk result (rows.new.text ≡ rows.old.text
+        ++ text_of_rows (opening_rows election.now (settled outcome.now))) }
+{
+    put_amount(rows, alloc, "budget", election.budget())?;
+    put_number(rows, "voters", election.voters().len() as u64)?;
+    put_amount(rows, alloc, "share", outcome.share)?;
+    put_number(rows, "raises", u64::from(outcome.raised))?;
+    Ok(())
+}
+
+/// One row for each elected project.
+fn put_elected(
+    rows: &mut RowsWriter,
+    alloc: Global,
+    election: &Election,
+    elected: &[Elected],
+) -> Result<(), NoMemory>
+    requires { All (λ w. w.place < length election.now.projects) elected.now }
+    ensures { OnOk result (rows.new.text ≡ rows.old.text
+        ++ text_of_rows (map (elected_row election.now) elected.now)) }
+{
+    let projects = election.projects();
+    for winner in elected {
+        let project = &projects[winner.place as usize];
+        let cost = project.cost().text(alloc)?;
+        let price = winner.price.text(alloc)?;
+        rows.put_row(&["elected", project.id(), cost.as_str(), price.as_str()])?;
+    }
+    Ok(())
+}
+
+/// The sums below.
+fn put_closing(
+    rows: &mut RowsWriter,
+    alloc: Global,
+    election: &Election,
+    elected: &[Elected],
+) -> Result<(), NoMemory>
+    requires { IsPrintable election.now elected.now }
+    ensures { OnOk result (rows.new.text ≡ rows.old.text
+        ++ text_of_rows (closing_rows election.now elected.now)) }
+{
+    let spent = spent_for(election, elected);
+    let surplus = collected_for(elected).saturating_sub(spent);
+    put_amount(rows, alloc, "spent", Money(spent))?;
+    put_amount(rows, alloc, "surplus", Money(surplus))?;
+    Ok(())
+}
+
+/// What the elected cost together, in hundredths.
+fn spent_for(election: &Election, elected: &[Elected]) -> u64
+    requires known { All (λ w. w.place < length election.now.projects) elected.now }
+    requires fits { spent_on (support_of election.now) elected.now < 2 ^ 64 }
+    ensures { result ≡ spent_on (support_of election.now) elected.now }
+{
+    let projects = election.projects();
+    let mut spent = 0;
+    for winner in elected {
+        spent += projects[winner.place as usize].cost().0;
+    }
+    spent
+}
+
+/// What was paid for the elected together, in hundredths.
+fn collected_for(elected: &[Elected]) -> u64
+    requires { collected_for elected.now < 2 ^ 64 }
+    ensures { result ≡ collected_for elected.now }
+{
+    elected.iter().map(|winner| winner.collected.0).sum()
+}
+
+/// A row of a name and an amount.
+fn put_amount(
+    rows: &mut RowsWriter,
+    alloc: Global,
+    name: &str,
+    amount: Money,
+) -> Result<(), NoMemory>
+    ensures { OnOk result (rows.new.text ≡ rows.old.text ++ text_of_row (name.now ∷ money_text amount ∷ [])) }
+{
+    let text = amount.text(alloc)?;
+    rows.put_row(&[name, text.as_str()])?;
+    Ok(())
+}
+
+/// A row of a name and a number.
+fn put_number(rows: &mut RowsWriter, name: &str, number: u64) -> Result<(), NoMemory>
+    ensures { OnOk result (rows.new.text ≡ rows.old.text ++ text_of_row (name.now ∷ decimal number ∷ [])) }
+{
+    let mut digits = Buffer::new();
+    rows.put_row(&[name, digits.format(number)])?;
+    Ok(())
+}

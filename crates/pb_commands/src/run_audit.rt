@@ -1,0 +1,114 @@
+// The command `audit`: what a journal says of a file.
+
+ghost use Rattle.std.specs.Prelude.{◌≡◌, ◌≢◌, ◌++◌, ℕ, List, IfErr, IfSome, OnOk, codes, if◌then◌else◌};
+ghost use Rattle.pb_rows.specs.Writing.{text_of_row};
+ghost use Rattle.pb_commands.specs.Audited.{AuditFails, AuditWrites, IsRefusedDesk, IsTextOf, entries_row};
+ghost use Rattle.pb_commands.specs.Ends.{Accepts, HasWritten, IfBothKnown, JudgesFile};
+ghost use Rattle.pb_commands.specs.Fault.{merged};
+
+use crate::close_and_count::count_desk;
+use crate::close_fault::CloseFault;
+use crate::closing::Closing;
+use crate::fault::AppFault;
+use crate::report::put_report;
+use crate::run_count::write_out;
+use itoa::Buffer;
+use pb_core::no_memory::NoMemory;
+use pb_desk::{Desk, audit};
+use pb_read::read_pb;
+use pb_rounds::count_fault::CountFault;
+use pb_rounds::options::CountOptions;
+use pb_rows::RowsWriter;
+use std::alloc::Global;
+use std::io::{Read, Write};
+use std::thread::Threads;
+
+/// The most entries that the journal of a desk of the program has.
+pub(crate) const ROOM: u32 = 4_294_967_295;
+
+/// Reads a .pb file and a journal, audits the journal, and writes how many entries it has and whether
+/// its desk is shut. Where it is shut, the ballots that it leaves are counted with these options, and
+/// their report follows.
+///
+/// The file is refused before the journal, and the journal before the options. Nothing is written but
+/// the whole text. Where the fault is `Write` some of it may have gone out; on any other fault the writer
+/// is as it was.
+pub fn run_audit<T: Threads + Sync, P: Read + Drop, J: Read + Drop, W: Write>(
+    rt: &T,
+    alloc: Global,
+    file: P,
+    journal: J,
+    writer: &mut W,
+    options: &CountOptions,
+) -> Result<(), AppFault>
+    // Where the bytes of both readers are known, they alone and the options decide what is written,
+    ensures ok { OnOk result (IfBothKnown (P.remaining file) (J.remaining journal) (λ bytes rows.
+        HasWritten (AuditWrites bytes rows options.now) (W.contents writer.old) (W.contents writer.new))) }
+
+    // and which fault comes.
+    ensures fault { IfErr result (λ fault. IfBothKnown (P.remaining file) (J.remaining journal) (λ bytes rows.
+        AuditFails bytes rows options.now fault)) }
+
+    // A file and a journal that have a text get it, unless a device fails or memory is refused.
+    ensures accepts { IfBothKnown (P.remaining file) (J.remaining journal) (λ bytes rows.
+        Accepts (AuditWrites bytes rows options.now) result) }
+
+    // The file is judged first, whatever is known of the journal.
+    ensures file { IfSome (P.remaining file) (λ bytes. JudgesFile bytes result) }
+
+    // A fault writes nothing, unless it is the writer's.
+    ensures unchanged { IfErr result (λ fault. fault ≢ AppFault.Write → writer.new ≡ writer.old) }
+
+    // Out of memory is one fault.
+    ensures merged { IfErr result (λ fault. merged fault ≡ fault) }
+{
+    let election = read_pb(alloc, file)?;
+    let desk = audit(alloc, election, ROOM, journal)?;
+    let mut rows = RowsWriter::start(alloc);
+    put_desk(rt, alloc, &mut rows, desk, options)?;
+    let text = rows.finish()?;
+    write_out(writer, text.as_slice())
+}
+
+/// Writes what is said of a desk.
+fn put_desk<T: Threads + Sync>(
+    rt: &T,
+    alloc: Global,
+    rows: &mut RowsWriter,
+    desk: Desk,
+    options: &CountOptions,
+) -> Result<(), CountFault>
+    ensures ok { OnOk result ((text : List ℕ)
+        × IsTextOf desk options.now text × (rows.new.text ≡ rows.old.text ++ text)) }
+    ensures fault { IfErr result (IsRefusedDesk desk options.now) }
+{
+    put_entries(rows, &desk)?;
+    match count_desk(rt, alloc, desk, options) {
+        Ok(Closing::Open(_)) => Ok(()),
+        Ok(Closing::Counted(counted)) => {
+            // What is true of every election bounds the sums of its report.
+            let _budget = counted.election.budget();
+            put_report(rows, alloc, &counted.election, &counted.outcome)?;
+            Ok(())
+        }
+        Err(CloseFault::NotCounted(fault, _)) => Err(fault),
+        Err(CloseFault::NoMemory(_) | CloseFault::Unfinished(_)) => Err(CountFault::NoMemory),
+    }
+}
+
+/// Writes the row of a desk.
+fn put_entries(rows: &mut RowsWriter, desk: &Desk) -> Result<(), NoMemory>
+    ensures { OnOk result (rows.new.text ≡ rows.old.text ++ text_of_row (entries_row desk.now)) }
+{
+    let mut digits = Buffer::new();
+    let state = state_of(desk.is_shut());
+    rows.put_row(&["entries", digits.format(desk.entries()), state])?;
+    Ok(())
+}
+
+/// Whether a desk is shut, as its row says it.
+fn state_of(is_shut: bool) -> &'static str
+    ensures { result.now ≡ (if is_shut then codes "shut" else codes "open") }
+{
+    if is_shut { "shut" } else { "open" }
+}

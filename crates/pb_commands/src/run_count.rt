@@ -1,0 +1,86 @@
+// The command `count`: a file's report.
+
+ghost use Rattle.std.specs.Prelude.{◌≡◌, ◌≢◌, ◌++◌, ℕ, List, IfErr, IfSome, OnOk};
+ghost use Rattle.std.specs.Io.KnownBytes.{Appends};
+ghost use Rattle.pb_rounds.specs.Count.{IsCountFault};
+ghost use Rattle.pb_commands.specs.Counted.{CountFails, CountWrites, IsReportOf};
+ghost use Rattle.pb_commands.specs.Ends.{Accepts, HasWritten};
+ghost use Rattle.pb_commands.specs.Fault.{merged};
+
+use crate::fault::AppFault;
+use crate::report::put_report;
+use pb_core::election::Election;
+use pb_read::read_pb;
+use pb_rounds::count::count;
+use pb_rounds::count_fault::CountFault;
+use pb_rounds::options::CountOptions;
+use pb_rows::RowsWriter;
+use std::alloc::Global;
+use std::io::{Read, Write};
+use std::thread::Threads;
+
+/// Reads a .pb file, counts it with these options, and writes the report.
+///
+/// The file is refused before the options are looked at, and nothing is written but the whole report.
+/// Where the fault is `Write` some of the report may have gone out; on any other fault the writer is as it
+/// was.
+pub fn run_count<T: Threads + Sync, R: Read + Drop, W: Write>(
+    rt: &T,
+    alloc: Global,
+    reader: R,
+    writer: &mut W,
+    options: &CountOptions,
+) -> Result<(), AppFault>
+    // Where the reader's bytes are known, they alone and the options decide what is written,
+    ensures ok { OnOk result (IfSome (R.remaining reader) (λ bytes.
+        HasWritten (CountWrites bytes options.now) (W.contents writer.old) (W.contents writer.new))) }
+
+    // and which fault comes.
+    ensures fault { IfErr result (λ fault. IfSome (R.remaining reader) (λ bytes.
+        CountFails bytes options.now fault)) }
+
+    // A file that has a report gets it, unless a device fails or memory is refused.
+    ensures accepts { IfSome (R.remaining reader) (λ bytes. Accepts (CountWrites bytes options.now) result) }
+
+    // A fault writes nothing, unless it is the writer's.
+    ensures unchanged { IfErr result (λ fault. fault ≢ AppFault.Write → writer.new ≡ writer.old) }
+
+    // Out of memory is one fault.
+    ensures merged { IfErr result (λ fault. merged fault ≡ fault) }
+{
+    let election = read_pb(alloc, reader)?;
+    let mut rows = RowsWriter::start(alloc);
+    put_count(rt, alloc, &mut rows, &election, options)?;
+    let text = rows.finish()?;
+    write_out(writer, text.as_slice())
+}
+
+/// Counts an election, and puts the report after the rows that stand there.
+pub(crate) fn put_count<T: Threads + Sync>(
+    rt: &T,
+    alloc: Global,
+    rows: &mut RowsWriter,
+    election: &Election,
+    options: &CountOptions,
+) -> Result<(), CountFault>
+    ensures ok { OnOk result ((text : List ℕ)
+        × IsReportOf election.now options.now text × (rows.new.text ≡ rows.old.text ++ text)) }
+    ensures fault { IfErr result (IsCountFault election.now options.now) }
+{
+    // What is true of every election bounds the sums of its report.
+    let _budget = election.budget();
+    let outcome = count(rt, alloc, election, options)?;
+    put_report(rows, alloc, election, &outcome)?;
+    Ok(())
+}
+
+/// Writes the whole text, and sees that it leaves the writer.
+pub(crate) fn write_out<W: Write>(writer: &mut W, text: &[u8]) -> Result<(), AppFault>
+    ensures ok { OnOk result (Appends (W.contents writer.old) (W.contents writer.new) text.now) }
+    ensures fault { IfErr result (λ fault. fault ≡ AppFault.Write) }
+{
+    if writer.write_all(text).is_err() || writer.flush().is_err() {
+        return Err(AppFault::Write);
+    }
+    Ok(())
+}

@@ -1,0 +1,81 @@
+//! The command `desk`: a script's requests, served by the clerks of one desk.
+
+ghost use Rattle.std.specs.Prelude.{◌≡◌, ◌≢◌, IfErr, IfSome, OnOk};
+ghost use Rattle.pb_commands.specs.Desked.{DeskFails, DeskWrites};
+ghost use Rattle.pb_commands.specs.Ends.{Accepts, HasWritten, IfBothKnown, JudgesFile};
+ghost use Rattle.pb_commands.specs.Fault.{merged};
+
+use crate::fault::AppFault;
+use crate::run_audit::ROOM;
+use crate::run_count::write_out;
+use crate::script::read_script;
+use crate::serve_script::serve_script;
+use pb_desk::desk::Desk;
+use pb_price::gate::Gate;
+use pb_read::read_pb;
+use std::alloc::Global;
+use std::io::{Read, Write};
+use std::thread::Threads;
+
+/// Reads a .pb file and a script, lets this many clerks serve the script's requests on one desk, side by
+/// side, and writes the desk's journal.
+///
+/// Each clerk serves its own rows in their order, by at most 1,000 tries of the lock for each. One who finds
+/// the desk busy all that time stops; what the clerks leave over is served after all of them have stopped,
+/// clerks in rising number. Before the first try of a row the gate is called with the clerk's number and the
+/// row's place among the clerk's own rows, from 0.
+///
+/// The file is refused before the script, and the script before the number of clerks, 1 to 64. Nothing is
+/// written but the whole journal. Where the fault is `Write` some of it may have gone out; on any other fault the
+/// writer is as it was.
+pub fn run_desk<T: Threads + Sync, P: Read + Drop, S: Read + Drop, G: Gate, W: Write>(
+    rt: &T,
+    alloc: Global,
+    file: P,
+    script: S,
+    clerks: u32,
+    gate: &G,
+    writer: &mut W,
+) -> Result<(), AppFault>
+    // Where the bytes of both readers are known, what is written is a journal that they and the number of
+    // clerks allow,
+    ensures ok { OnOk result (IfBothKnown (P.remaining file) (S.remaining script)
+        (λ bytes rows.
+        HasWritten (DeskWrites bytes rows clerks) (W.contents writer.old) (W.contents writer.new))) }
+
+    // and they decide which fault comes.
+    ensures fault { IfErr result (λ fault. IfBothKnown (P.remaining file) (S.remaining script)
+        (λ bytes rows. DeskFails bytes rows clerks fault)) }
+
+    // A file and a script that have a journal get one, unless a device fails or memory is refused.
+    ensures accepts { IfBothKnown (P.remaining file) (S.remaining script)
+        (λ bytes rows. Accepts (DeskWrites bytes rows clerks) result) }
+
+    // The file is judged first, whatever is known of the script.
+    ensures file { IfSome (P.remaining file) (λ bytes. JudgesFile bytes result) }
+
+    // A fault writes nothing, unless it is the writer's.
+    ensures unchanged { IfErr result (λ fault. fault ≢ AppFault.Write → writer.new ≡ writer.old) }
+
+    // Out of memory is one fault.
+    ensures merged { IfErr result (λ fault. merged fault ≡ fault) }
+{
+    let election = read_pb(alloc, file)?;
+    let lists = read_script(alloc, script, clerks)?;
+    let Ok(desk) = Desk::start(alloc, election, ROOM) else {
+        return Err(AppFault::Memory);
+    };
+    let desk = match serve_script(rt, alloc, desk, &lists, clerks, gate) {
+        Ok(desk) => desk,
+        Err(fault) => return Err(fault),
+    };
+    // Its journal is legal, and fits the room.
+    let _entries = desk.entries();
+    let Ok(text) = desk.journal_text(alloc) else {
+        return Err(AppFault::Memory);
+    };
+    match write_out(writer, text.as_slice()) {
+        Ok(()) => Ok(()),
+        Err(_) => Err(AppFault::Write),
+    }
+}
