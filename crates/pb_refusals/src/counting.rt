@@ -18,7 +18,6 @@ use pb_rounds::measure::Measure;
 use pb_rounds::options::CountOptions;
 use std::alloc::Global;
 use std::process::Abort;
-use std::test::Fail;
 use std::thread::Threads;
 
 /// Four voters and four projects. At a share of 10.00 p1 is elected at 4.00, and then p3 at 6.50.
@@ -56,19 +55,15 @@ impl Call {
 }
 
 /// Refuses each allocation of the call in turn.
-fn walk<R: Threads + Sync + Abort>(rt: &R, alloc: Global, call: Call) -> Result<(), Fail> {
-    let election = match read_pb(alloc, FOUR_VOTERS.as_bytes()) {
-        Ok(election) => election,
-        Err(_) => return Err(Fail::new("the file was refused")),
-    };
+fn walk<R: Threads + Sync + Abort>(rt: &R, alloc: Global, call: Call) {
+    let election = read_pb(alloc, FOUR_VOTERS.as_bytes()).expect(rt, "accepted");
     for nth in 1..=MOST {
         let heap = Refusing::new(alloc);
         let answer = call.run(rt, &heap, &election, nth);
         if !goes_on(rt, &heap, nth, answer) {
-            return Ok(());
+            return;
         }
     }
-    Ok(())
 }
 
 fn supported(heap: Heap<'_>, election: &Election, nth: u64) -> Result<bool, NoMemory> {
@@ -187,31 +182,31 @@ fn counted<R: Threads + Sync>(
 }
 
 #[test]
-fn supporters_are_found_or_memory_is_refused(rt: HostRuntime) -> Result<(), Fail> {
-    walk(&rt, rt.alloc(), Call::Supporters)
+fn supporters_are_found_or_memory_is_refused(rt: HostRuntime) {
+    walk(&rt, rt.alloc(), Call::Supporters);
 }
 
 #[test]
-fn a_price_is_found_or_memory_is_refused(rt: HostRuntime) -> Result<(), Fail> {
-    walk(&rt, rt.alloc(), Call::Price)
+fn a_price_is_found_or_memory_is_refused(rt: HostRuntime) {
+    walk(&rt, rt.alloc(), Call::Price);
 }
 
 #[test]
-fn prices_are_found_or_memory_is_refused(rt: HostRuntime) -> Result<(), Fail> {
-    walk(&rt, rt.alloc(), Call::Prices(1))
+fn prices_are_found_or_memory_is_refused(rt: HostRuntime) {
+    walk(&rt, rt.alloc(), Call::Prices(1));
 }
 
 #[test]
-fn workers_find_prices_or_memory_is_refused(rt: HostRuntime) -> Result<(), Fail> {
-    walk(&rt, rt.alloc(), Call::Prices(2))
+fn workers_find_prices_or_memory_is_refused(rt: HostRuntime) {
+    walk(&rt, rt.alloc(), Call::Prices(2));
 }
 
 #[test]
-fn a_run_ends_or_memory_is_refused(rt: HostRuntime) -> Result<(), Fail> {
-    walk(&rt, rt.alloc(), Call::Shares)
+fn a_run_ends_or_memory_is_refused(rt: HostRuntime) {
+    walk(&rt, rt.alloc(), Call::Shares);
 }
 
 #[test]
-fn a_count_ends_or_memory_is_refused(rt: HostRuntime) -> Result<(), Fail> {
-    walk(&rt, rt.alloc(), Call::Count)
+fn a_count_ends_or_memory_is_refused(rt: HostRuntime) {
+    walk(&rt, rt.alloc(), Call::Count);
 }

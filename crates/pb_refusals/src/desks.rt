@@ -1,9 +1,10 @@
 // Desks that serve: a refused call leaves the journal and every ballot as they were.
 
+use crate::checks::same;
 use crate::elections::{id, one_voter};
 use crate::refusing::Refusing;
 use crate::walk::{Heap, MOST, goes_on, refused};
-use pb_core::{Answer, Ballot, NoMemory, Request};
+use pb_core::{Answer, Ballot, Election, NoMemory, Request};
 use pb_desk::{Desk, DeskFault, IntoFault, StartFault};
 use std::alloc::Global;
 use std::process::Abort;
@@ -22,14 +23,20 @@ enum Call {
 impl Call {
     /// Makes ready, lets the nth allocation from then on be refused, calls, and answers whether all is as it
     /// should be.
-    fn run(self, heap: Heap<'_>, nth: u64) -> Result<bool, NoMemory> {
+    fn run(self, rt: &impl Abort, heap: Heap<'_>, nth: u64) -> Result<bool, NoMemory> {
         match self {
-            Call::Start => started(heap, nth),
-            Call::Cast => served(heap, nth, cast(heap, "ann", 0)?, Answer::Done, 2),
-            Call::Replace => served(heap, nth, replace(heap)?, Answer::Done, 1),
-            Call::Withdraw => served(heap, nth, withdraw(heap)?, Answer::Done, 0),
-            Call::Unknown => served(heap, nth, cast(heap, "ann", 9)?, Answer::UnknownPlace(9), 1),
-            Call::Leave => left(heap, nth),
+            Call::Start => started(rt, heap, nth),
+            Call::Cast => served(rt, heap, nth, cast(rt, heap, 0), (Answer::Done, 2)),
+            Call::Replace => served(rt, heap, nth, replace(rt, heap), (Answer::Done, 1)),
+            Call::Withdraw => served(rt, heap, nth, withdraw(rt, heap), (Answer::Done, 0)),
+            Call::Unknown => served(
+                rt,
+                heap,
+                nth,
+                cast(rt, heap, 9),
+                (Answer::UnknownPlace(9), 1),
+            ),
+            Call::Leave => left(rt, heap, nth),
         }
     }
 }
@@ -38,31 +45,31 @@ impl Call {
 fn walk(rt: &impl Abort, alloc: Global, call: Call) {
     for nth in 1..=MOST {
         let heap = Refusing::new(alloc);
-        let answer = call.run(&heap, nth);
+        let answer = call.run(rt, &heap, nth);
         if !goes_on(rt, &heap, nth, answer) {
             return;
         }
     }
 }
 
-fn cast<'a>(heap: Heap<'a>, name: &str, place: u32) -> Result<Request<Heap<'a>>, NoMemory> {
-    Ok(Request::Cast(id(heap, name)?, Ballot::of(heap, &[place])?))
+/// A ballot of ann's for this place.
+fn cast<'a>(rt: &impl Abort, heap: Heap<'a>, place: u32) -> Request<Heap<'a>> {
+    let ballot = Ballot::of(heap, &[place]).expect(rt, "memory");
+    Request::Cast(id(rt, heap, "ann"), ballot)
 }
 
-fn replace<'a>(heap: Heap<'a>) -> Result<Request<Heap<'a>>, NoMemory> {
-    Ok(Request::Replace(id(heap, "v1")?, Ballot::of(heap, &[])?))
+fn replace<'a>(rt: &impl Abort, heap: Heap<'a>) -> Request<Heap<'a>> {
+    let ballot = Ballot::of(heap, &[]).expect(rt, "memory");
+    Request::Replace(id(rt, heap, "v1"), ballot)
 }
 
-fn withdraw<'a>(heap: Heap<'a>) -> Result<Request<Heap<'a>>, NoMemory> {
-    Ok(Request::Withdraw(id(heap, "v1")?))
+fn withdraw<'a>(rt: &impl Abort, heap: Heap<'a>) -> Request<Heap<'a>> {
+    Request::Withdraw(id(rt, heap, "v1"))
 }
 
 /// A desk opened on one voter, with room for two entries.
-fn desk<'a>(heap: Heap<'a>) -> Result<Desk<Heap<'a>>, NoMemory> {
-    match Desk::start(heap, one_voter(heap)?, 2) {
-        Ok(desk) => Ok(desk),
-        Err(_) => Err(NoMemory),
-    }
+fn desk<'a>(rt: &impl Abort, heap: Heap<'a>) -> Desk<Heap<'a>> {
+    Desk::start(heap, one_voter(rt, heap), 2).expect(rt, "a desk")
 }
 
 /// Whether the desk is as it was opened: no entry, and one ballot, v1's for project 0.
@@ -74,62 +81,71 @@ fn is_as_opened(desk: &Desk<Heap<'_>>) -> bool {
     has_its_ballot && desk.ballots() == 1 && desk.entries() == 0 && !desk.is_shut()
 }
 
-fn started(heap: Heap<'_>, nth: u64) -> Result<bool, NoMemory> {
-    let election = one_voter(heap)?;
+fn started(rt: &impl Abort, heap: Heap<'_>, nth: u64) -> Result<bool, NoMemory> {
+    let election = one_voter(rt, heap);
     heap.refuse(nth);
     match Desk::start(heap, election, 2) {
         Ok(desk) => Ok(is_as_opened(&desk)),
-        Err(StartFault::NoMemory(election)) => match Desk::start(heap, election, 2) {
-            Ok(desk) => refused(is_as_opened(&desk)),
-            Err(_) => Ok(false),
-        },
+        Err(StartFault::NoMemory(election)) => started_again(rt, heap, election),
     }
+}
+
+/// An election that was handed back opens a desk as ever.
+fn started_again<'a>(
+    rt: &impl Abort,
+    heap: Heap<'a>,
+    election: Election<Heap<'a>>,
+) -> Result<bool, NoMemory> {
+    let desk = Desk::start(heap, election, 2).expect(rt, "a desk");
+    refused(is_as_opened(&desk))
 }
 
 /// The request is answered so, and this many ballots are left; or memory is refused, and it is so when it is
 /// made again.
 fn served<'a>(
+    rt: &impl Abort,
     heap: Heap<'a>,
     nth: u64,
     request: Request<Heap<'a>>,
-    answer: Answer,
-    ballots: u32,
+    wanted: (Answer, u32),
 ) -> Result<bool, NoMemory> {
-    let mut desk = desk(heap)?;
+    let mut desk = desk(rt, heap);
     heap.refuse(nth);
     match desk.serve(0, &request) {
-        Ok(said) => Ok(said == answer && desk.ballots() == ballots && desk.entries() == 1),
+        Ok(answer) => Ok((answer, desk.ballots()) == wanted && desk.entries() == 1),
         Err(DeskFault::JournalFull) => Ok(false),
-        Err(DeskFault::NoMemory) => refused(
-            is_as_opened(&desk)
-                && desk.serve(0, &request) == Ok(answer)
-                && desk.ballots() == ballots,
-        ),
+        Err(DeskFault::NoMemory) => refused(serves_again(rt, &mut desk, &request, wanted)),
     }
 }
 
-fn left(heap: Heap<'_>, nth: u64) -> Result<bool, NoMemory> {
-    let mut desk = desk(heap)?;
-    if desk.serve(0, &Request::Shut) != Ok(Answer::Done) {
-        return Ok(false);
-    }
+/// Whether the desk is as it was opened, and then answers so.
+fn serves_again<'a>(
+    rt: &impl Abort,
+    desk: &mut Desk<Heap<'a>>,
+    request: &Request<Heap<'a>>,
+    wanted: (Answer, u32),
+) -> bool {
+    let was_as_opened = is_as_opened(desk);
+    let answer = desk.serve(0, request).expect(rt, "an answer");
+    was_as_opened && (answer, desk.ballots()) == wanted
+}
+
+fn left(rt: &impl Abort, heap: Heap<'_>, nth: u64) -> Result<bool, NoMemory> {
+    let mut desk = desk(rt, heap);
+    same(rt, desk.serve(0, &Request::Shut), Ok(Answer::Done), 1);
     heap.refuse(nth);
     match desk.into_election() {
         Ok(election) => Ok(election.voters().len() == 1),
         Err(IntoFault::NotShut(_)) => Ok(false),
-        Err(IntoFault::NoMemory(desk)) => left_again(desk),
+        Err(IntoFault::NoMemory(desk)) => left_again(rt, desk),
     }
 }
 
 /// A desk that was handed back still has its ballot and its entry, and then leaves its election.
-fn left_again(desk: Desk<Heap<'_>>) -> Result<bool, NoMemory> {
-    if desk.ballots() != 1 || desk.entries() != 1 {
-        return Ok(false);
-    }
-    match desk.into_election() {
-        Ok(election) => refused(election.voters().len() == 1),
-        Err(_) => Ok(false),
-    }
+fn left_again(rt: &impl Abort, desk: Desk<Heap<'_>>) -> Result<bool, NoMemory> {
+    let is_whole = desk.ballots() == 1 && desk.entries() == 1;
+    let election = desk.into_election().expect(rt, "an election");
+    refused(is_whole && election.voters().len() == 1)
 }
 
 #[test]

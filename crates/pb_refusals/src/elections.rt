@@ -3,102 +3,98 @@
 use crate::refusing::Refusing;
 use crate::walk::{Heap, MOST, goes_on, refused};
 use pb_core::{Ballot, Election, Money, NoMemory, Project, Voter, VoterId};
-use std::alloc::Global;
 use std::process::Abort;
 
 /// An id of this text.
-pub fn id<'a>(heap: Heap<'a>, text: &str) -> Result<VoterId<Heap<'a>>, NoMemory> {
-    VoterId::new(heap, text)?.ok_or(NoMemory)
+pub fn id<'a>(rt: &impl Abort, heap: Heap<'a>, text: &str) -> VoterId<Heap<'a>> {
+    VoterId::new(heap, text)
+        .expect(rt, "memory")
+        .expect(rt, "an id")
 }
 
 /// A project of this id that costs 30.00.
-fn project<'a>(heap: Heap<'a>, name: &str) -> Result<Project<Heap<'a>>, NoMemory> {
-    let text = String::from_str(heap, name)?;
-    if text.is_empty() {
-        return Err(NoMemory);
-    }
-    Ok(Project::new(text, String::new(heap), Money(3_000)))
+fn project<'a>(rt: &impl Abort, heap: Heap<'a>, name: &str) -> Project<Heap<'a>> {
+    let text = String::from_str(heap, name).expect(rt, "memory");
+    assert!(rt; !text.is_empty());
+    Project::new(text, String::new(heap), Money(3_000))
 }
 
 /// A voter of this id who approves project 0.
-fn voter<'a>(heap: Heap<'a>, name: &str) -> Result<Voter<Heap<'a>>, NoMemory> {
-    Ok(Voter {
-        id: id(heap, name)?,
-        ballot: Ballot::of(heap, &[0])?,
-    })
+fn voter<'a>(rt: &impl Abort, heap: Heap<'a>, name: &str) -> Voter<Heap<'a>> {
+    Voter {
+        id: id(rt, heap, name),
+        ballot: Ballot::of(heap, &[0]).expect(rt, "memory"),
+    }
 }
 
-/// Adds a project, where the election can take it.
+/// Adds a project, which the election can take.
 fn add_project<'a>(
+    rt: &impl Abort,
     election: &mut Election<Heap<'a>>,
     project: Project<Heap<'a>>,
-) -> Result<bool, NoMemory> {
-    if !election.voters().is_empty()
-        || election.projects().len() >= 10_000
-        || election.has_project(project.id())
-    {
-        return Ok(false);
-    }
-    election.add_project(project)?;
-    Ok(true)
+) -> Result<(), NoMemory> {
+    assert!(rt; election.voters().is_empty() && election.projects().len() < 10_000);
+    assert!(rt; !election.has_project(project.id()));
+    election.add_project(project)
 }
 
-/// Adds a voter, where the election can take it.
+/// Adds a voter, whom the election can take.
 fn add_voter<'a>(
+    rt: &impl Abort,
     election: &mut Election<Heap<'a>>,
     voter: Voter<Heap<'a>>,
-) -> Result<bool, NoMemory> {
-    if election.voters().len() >= 1_000_000
-        || election.has_voter(&voter.id)
-        || !election.knows(&voter.ballot)
-    {
-        return Ok(false);
-    }
-    election.add_voter(voter)?;
-    Ok(true)
+) -> Result<(), NoMemory> {
+    assert!(rt; election.voters().len() < 1_000_000 && !election.has_voter(&voter.id));
+    assert!(rt; election.knows(&voter.ballot));
+    election.add_voter(voter)
 }
 
 /// One project.
-fn one_project<'a>(heap: Heap<'a>) -> Result<Election<Heap<'a>>, NoMemory> {
+fn one_project<'a>(rt: &impl Abort, heap: Heap<'a>) -> Election<Heap<'a>> {
     let mut election = Election::start(heap, Money(10_000));
-    add_project(&mut election, project(heap, "a")?)?;
-    Ok(election)
+    add_project(rt, &mut election, project(rt, heap, "a")).expect(rt, "memory");
+    election
 }
 
 /// One project, and one voter, v1, who approves it.
-pub fn one_voter<'a>(heap: Heap<'a>) -> Result<Election<Heap<'a>>, NoMemory> {
-    let mut election = one_project(heap)?;
-    add_voter(&mut election, voter(heap, "v1")?)?;
-    Ok(election)
+pub fn one_voter<'a>(rt: &impl Abort, heap: Heap<'a>) -> Election<Heap<'a>> {
+    let mut election = one_project(rt, heap);
+    add_voter(rt, &mut election, voter(rt, heap, "v1")).expect(rt, "memory");
+    election
 }
 
-fn project_added(heap: Heap<'_>, nth: u64) -> Result<bool, NoMemory> {
+/// Whether the election has no project still, and takes the one that it had no room for.
+fn takes_project<'a>(rt: &impl Abort, heap: Heap<'a>, election: &mut Election<Heap<'a>>) -> bool {
+    let was_empty = election.projects().is_empty();
+    add_project(rt, election, project(rt, heap, "a")).expect(rt, "memory");
+    was_empty && election.has_project("a")
+}
+
+fn project_added(rt: &impl Abort, heap: Heap<'_>, nth: u64) -> Result<bool, NoMemory> {
     let mut election = Election::start(heap, Money(10_000));
-    let (first, again) = (project(heap, "a")?, project(heap, "a")?);
+    let project = project(rt, heap, "a");
     heap.refuse(nth);
-    match add_project(&mut election, first) {
-        Ok(is_added) => Ok(is_added && election.projects().len() == 1),
-        Err(NoMemory) => refused(
-            election.projects().is_empty()
-                && add_project(&mut election, again)?
-                && election.has_project("a"),
-        ),
+    match add_project(rt, &mut election, project) {
+        Ok(()) => Ok(election.projects().len() == 1),
+        Err(NoMemory) => refused(takes_project(rt, heap, &mut election)),
     }
 }
 
-fn voter_added(heap: Heap<'_>, nth: u64) -> Result<bool, NoMemory> {
-    let mut election = one_project(heap)?;
-    let (first, again) = (voter(heap, "v1")?, voter(heap, "v1")?);
-    let name = id(heap, "v1")?;
+/// Whether the election has no voter still, and takes the one whom it had no room for.
+fn takes_voter<'a>(rt: &impl Abort, heap: Heap<'a>, election: &mut Election<Heap<'a>>) -> bool {
+    let name = id(rt, heap, "v1");
+    let was_empty = election.voters().is_empty() && !election.has_voter(&name);
+    add_voter(rt, election, voter(rt, heap, "v1")).expect(rt, "memory");
+    was_empty && election.has_voter(&name)
+}
+
+fn voter_added(rt: &impl Abort, heap: Heap<'_>, nth: u64) -> Result<bool, NoMemory> {
+    let mut election = one_project(rt, heap);
+    let (voter, name) = (voter(rt, heap, "v1"), id(rt, heap, "v1"));
     heap.refuse(nth);
-    match add_voter(&mut election, first) {
-        Ok(is_added) => Ok(is_added && election.has_voter(&name)),
-        Err(NoMemory) => refused(
-            !election.has_voter(&name)
-                && election.voters().is_empty()
-                && add_voter(&mut election, again)?
-                && election.has_voter(&name),
-        ),
+    match add_voter(rt, &mut election, voter) {
+        Ok(()) => Ok(election.has_voter(&name)),
+        Err(NoMemory) => refused(takes_voter(rt, heap, &mut election)),
     }
 }
 
@@ -106,7 +102,7 @@ fn voter_added(heap: Heap<'_>, nth: u64) -> Result<bool, NoMemory> {
 fn projects_are_added_or_memory_is_refused(rt: HostRuntime) {
     for nth in 1..=MOST {
         let heap = Refusing::new(rt.alloc());
-        let answer = project_added(&heap, nth);
+        let answer = project_added(&rt, &heap, nth);
         if !goes_on(&rt, &heap, nth, answer) {
             return;
         }
@@ -117,7 +113,7 @@ fn projects_are_added_or_memory_is_refused(rt: HostRuntime) {
 fn voters_are_added_or_memory_is_refused(rt: HostRuntime) {
     for nth in 1..=MOST {
         let heap = Refusing::new(rt.alloc());
-        let answer = voter_added(&heap, nth);
+        let answer = voter_added(&rt, &heap, nth);
         if !goes_on(&rt, &heap, nth, answer) {
             return;
         }

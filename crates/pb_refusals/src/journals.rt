@@ -1,17 +1,18 @@
 // A journal that is cut or damaged, whose reader fails, or whose writer fails.
 
-use crate::files::{three_voters, whole_lines};
+use crate::checks::same;
+use crate::files::{first, three_voters, whole_lines};
 use crate::refusing::Refusing;
 use crate::walk::{Heap, MOST, goes_on};
 use pb_core::devices::{FailsAfter, FailsAt, TakesNone, TakesOne};
-use pb_core::{NoMemory, Request};
+use pb_core::{Answer, NoMemory, Request};
 use pb_desk::audit;
 use pb_desk::audit_fault::AuditFault;
 use pb_desk::desk::Desk;
 use pb_desk::write_fault::WriteFault;
 use std::alloc::Global;
-use std::io::Read;
-use std::test::Fail;
+use std::io::{Read, Write};
+use std::process::Abort;
 
 /// Five requests of clerk 0 for the voter ann.
 const FIVE_ROWS: &str =
@@ -35,98 +36,103 @@ const EXCHANGED: [&str; 4] = [
 ];
 
 /// How many entries the journal has that a reader gives, or its fault.
-fn audited<R: Read + Drop>(alloc: Global, reader: R) -> Result<Result<u64, AuditFault>, Fail> {
-    match audit(alloc, three_voters(alloc)?, 10, reader) {
-        Ok(desk) => Ok(Ok(u64::from(desk.entries()))),
-        Err(fault) => Ok(Err(fault)),
+fn audited<R: Read + Drop>(rt: &impl Abort, alloc: Global, reader: R) -> Result<u32, AuditFault> {
+    match audit(alloc, three_voters(rt, alloc), 10, reader) {
+        Ok(desk) => Ok(desk.entries()),
+        Err(fault) => Err(fault),
     }
 }
 
+/// What an audit answers to the first bytes of the five rows, this many: the rows so far, or the row that is cut.
+fn cut_at(bytes: &[u8], size: usize) -> Result<u32, AuditFault> {
+    let lines = whole_lines(bytes);
+    if bytes.is_empty() || bytes.ends_with(b"\n") {
+        return Ok(lines);
+    }
+    if FIVE_ROWS.as_bytes().get(size) == Some(&b'\n') {
+        return Ok(lines.wrapping_add(1));
+    }
+    Err(AuditFault::BadRow(u64::from(lines.wrapping_add(1))))
+}
+
 #[test]
-fn a_cut_row_is_a_bad_row(rt: HostRuntime) -> Result<(), Fail> {
-    let alloc = rt.alloc();
+fn a_cut_row_is_a_bad_row(rt: HostRuntime) {
     for size in 0..=FIVE_ROWS.len() {
-        let bytes = FIVE_ROWS.as_bytes().get(..size).ok_or("no such size")?;
-        let lines = whole_lines(bytes) as u64;
-        let ends_a_line = bytes.is_empty() || bytes.ends_with(b"\n");
-        let ends_a_row = FIVE_ROWS.as_bytes().get(size) == Some(&b'\n');
-        let wanted = if ends_a_line {
-            Ok(lines)
-        } else if ends_a_row {
-            Ok(lines.wrapping_add(1))
-        } else {
-            Err(AuditFault::BadRow(lines.wrapping_add(1)))
-        };
-        assert_eq!(rt; audited(alloc, bytes)?, wanted, "the first {size} bytes");
+        let bytes = first(&rt, FIVE_ROWS, size);
+        let found = audited(&rt, rt.alloc(), bytes);
+        same(&rt, found, cut_at(bytes, size), size);
     }
-    Ok(())
 }
 
 #[test]
-fn a_reader_that_fails_is_told_at_the_row(rt: HostRuntime) -> Result<(), Fail> {
-    let alloc = rt.alloc();
+fn a_reader_that_fails_is_told_at_the_row(rt: HostRuntime) {
     for size in 0..=FIVE_ROWS.len() {
-        let bytes = FIVE_ROWS.as_bytes().get(..size).ok_or("no such size")?;
-        let row = (whole_lines(bytes) as u64).wrapping_add(1);
-        let wanted = Err(AuditFault::ReadFailed(row));
-        assert_eq!(rt;
-            audited(alloc, FailsAfter::new(bytes))?,
-            wanted,
-            "after {size} bytes"
-        );
+        let bytes = first(&rt, FIVE_ROWS, size);
+        let row = u64::from(whole_lines(bytes).wrapping_add(1));
+        let found = audited(&rt, rt.alloc(), FailsAfter::new(bytes));
+        same(&rt, found, Err(AuditFault::ReadFailed(row)), size);
     }
-    Ok(())
 }
 
 #[test]
-fn damage_is_told_at_its_row(rt: HostRuntime) -> Result<(), Fail> {
-    let alloc = rt.alloc();
-    let mut row = 0u64;
-    for text in WRONG_ANSWERS {
-        row = row.wrapping_add(1);
-        let wanted = Err(AuditFault::WrongAnswer(row));
-        assert_eq!(rt; audited(alloc, text.as_bytes())?, wanted, "at row {row}");
+fn damage_is_told_at_its_row(rt: HostRuntime) {
+    for (i, text) in WRONG_ANSWERS.iter().enumerate() {
+        let row = (i as u64).wrapping_add(1);
+        let found = audited(&rt, rt.alloc(), text.as_bytes());
+        same(&rt, found, Err(AuditFault::WrongAnswer(row)), i);
     }
-    row = 0;
-    for text in EXCHANGED {
-        row = row.wrapping_add(1);
-        let wanted = Err(AuditFault::WrongNumber(row));
-        assert_eq!(rt; audited(alloc, text.as_bytes())?, wanted, "at row {row}");
+    for (i, text) in EXCHANGED.iter().enumerate() {
+        let row = (i as u64).wrapping_add(1);
+        let found = audited(&rt, rt.alloc(), text.as_bytes());
+        same(&rt, found, Err(AuditFault::WrongNumber(row)), i);
     }
-    Ok(())
 }
 
-#[test]
-fn a_writer_that_fails_is_told(rt: HostRuntime) -> Result<(), Fail> {
-    let alloc = rt.alloc();
-    let Ok(mut desk) = Desk::start(alloc, three_voters(alloc)?, 10) else {
-        return Err(Fail::new("no desk"));
-    };
-    desk.serve(7, &Request::Shut)?;
-    let mut ample = Vec::new(alloc);
-    desk.write_journal(alloc, &mut ample)?;
+/// The journal of a desk that clerk 7 has shut.
+const SHUT: &[u8] = b"journal;2\n1;7;shut;;;done\n";
 
-    // The second fails at the flush.
+/// A desk with that journal.
+fn shut_desk(rt: &impl Abort, alloc: Global) -> Desk {
+    let mut desk = Desk::start(alloc, three_voters(rt, alloc), 10).expect(rt, "a desk");
+    same(rt, desk.serve(7, &Request::Shut), Ok(Answer::Done), 1);
+    desk
+}
+
+/// Writing to this writer ends so.
+fn writes_so<W: Write>(
+    rt: &impl Abort,
+    alloc: Global,
+    desk: &Desk,
+    writer: &mut W,
+    wanted: Result<(), WriteFault>,
+) {
+    same(rt, desk.write_journal(alloc, writer), wanted, 1);
+}
+
+/// Of two writes the first fails, or the flush after it does.
+#[test]
+fn a_writer_that_fails_is_told(rt: HostRuntime) {
+    let alloc = rt.alloc();
+    let desk = shut_desk(&rt, alloc);
+    let failed = Err(WriteFault::WriteFailed);
     for writes in [0, 1] {
         let mut writer = FailsAt::new(Vec::new(alloc), writes);
-        assert_eq!(rt;
-            desk.write_journal(alloc, &mut writer),
-            Err(WriteFault::WriteFailed)
-        );
+        writes_so(&rt, alloc, &desk, &mut writer, failed);
     }
-    assert_eq!(rt;
-        desk.write_journal(alloc, &mut TakesNone),
-        Err(WriteFault::WriteFailed)
-    );
+    writes_so(&rt, alloc, &desk, &mut TakesNone, failed);
+}
 
+#[test]
+fn a_writer_that_takes_little_gets_it_all(rt: HostRuntime) {
+    let alloc = rt.alloc();
+    let desk = shut_desk(&rt, alloc);
+    let mut ample = Vec::new(alloc);
+    writes_so(&rt, alloc, &desk, &mut ample, Ok(()));
+    same(&rt, ample.as_slice(), SHUT, 0);
     let mut one = TakesOne::new(Vec::new(alloc));
-    desk.write_journal(alloc, &mut one)?;
-    assert_eq!(rt; one.into_inner().as_slice(), ample.as_slice());
-    assert_eq!(rt;
-        ample.as_slice(),
-        b"journal;2\n1;7;shut;;;done\n".as_slice()
-    );
-    Ok(())
+    writes_so(&rt, alloc, &desk, &mut one, Ok(()));
+    let taken = one.into_inner();
+    same(&rt, taken.as_slice(), SHUT, 1);
 }
 
 /// Whether a journal of one row goes into a writer in memory, whose nth allocation is refused.
@@ -134,23 +140,20 @@ fn written(alloc: Global, heap: Heap<'_>, desk: &Desk, nth: u64) -> Result<bool,
     let mut writer = Vec::new(heap);
     heap.refuse(nth);
     match desk.write_journal(alloc, &mut writer) {
-        Ok(()) => Ok(writer.as_slice() == b"journal;2\n1;7;shut;;;done\n".as_slice()),
+        Ok(()) => Ok(writer.as_slice() == SHUT),
         Err(WriteFault::NoMemory) => Err(NoMemory),
         Err(WriteFault::WriteFailed) => Ok(false),
     }
 }
 
 #[test]
-fn a_writer_without_room_is_out_of_memory(rt: HostRuntime) -> Result<(), Fail> {
-    let alloc = rt.alloc();
-    let mut desk = Desk::start(alloc, three_voters(alloc)?, 10)?;
-    desk.serve(7, &Request::Shut)?;
+fn a_writer_without_room_is_out_of_memory(rt: HostRuntime) {
+    let desk = shut_desk(&rt, rt.alloc());
     for nth in 1..=MOST {
-        let heap = Refusing::new(alloc);
-        let answer = written(alloc, &heap, &desk, nth);
+        let heap = Refusing::new(rt.alloc());
+        let answer = written(rt.alloc(), &heap, &desk, nth);
         if !goes_on(&rt, &heap, nth, answer) {
-            return Ok(());
+            return;
         }
     }
-    Ok(())
 }

@@ -3,6 +3,8 @@
 #![tactic(auto)]
 
 #[cfg(test)]
+mod checks;
+#[cfg(test)]
 mod counting;
 #[cfg(test)]
 mod desks;
@@ -13,8 +15,6 @@ mod files;
 #[cfg(test)]
 mod journals;
 pub mod refusing;
-#[cfg(test)]
-mod sharing;
 #[cfg(test)]
 mod values;
 #[cfg(test)]

@@ -1,5 +1,6 @@
 // Values that hold memory: an amount's text, ids, ballots and copies.
 
+use crate::elections::id;
 use crate::refusing::Refusing;
 use crate::walk::{Heap, MOST, goes_on};
 use pb_core::{Ballot, Money, NoMemory, Request, VoterId};
@@ -29,14 +30,14 @@ enum Call {
 impl Call {
     /// Makes ready, lets the nth allocation from then on be refused, calls, and answers whether all is as it
     /// should be.
-    fn run(self, heap: Heap<'_>, nth: u64) -> Result<bool, NoMemory> {
+    fn run(self, rt: &impl Abort, heap: Heap<'_>, nth: u64) -> Result<bool, NoMemory> {
         match self {
             Call::Text => text(heap, nth),
             Call::Id => voter_id(heap, nth),
             Call::Places => ballot(heap, nth),
-            Call::CopiedId => copied_id(heap, nth),
-            Call::CopiedPlaces => copied_ballot(heap, nth),
-            Call::CopiedRequest => copied_request(heap, nth),
+            Call::CopiedId => copied_id(rt, heap, nth),
+            Call::CopiedPlaces => copied_ballot(rt, heap, nth),
+            Call::CopiedRequest => copied_request(rt, heap, nth),
             Call::PlacesRead => places_read(heap, nth),
             Call::PlacesWritten => places_written(heap, nth),
         }
@@ -47,7 +48,7 @@ impl Call {
 fn walk(rt: &impl Abort, alloc: Global, call: Call) {
     for nth in 1..=MOST {
         let heap = Refusing::new(alloc);
-        let answer = call.run(&heap, nth);
+        let answer = call.run(rt, &heap, nth);
         if !goes_on(rt, &heap, nth, answer) {
             return;
         }
@@ -61,7 +62,10 @@ fn text(heap: Heap<'_>, nth: u64) -> Result<bool, NoMemory> {
 
 fn voter_id(heap: Heap<'_>, nth: u64) -> Result<bool, NoMemory> {
     heap.refuse(nth);
-    Ok(VoterId::new(heap, " ann ")?.is_some_and(|id| id.text() == "ann"))
+    match VoterId::new(heap, " ann ")? {
+        Some(id) => Ok(id.text() == "ann"),
+        None => Ok(false),
+    }
 }
 
 fn ballot(heap: Heap<'_>, nth: u64) -> Result<bool, NoMemory> {
@@ -78,32 +82,34 @@ fn counts_up(places: &[u32]) -> bool {
             .all(|(i, place)| *place as usize == i)
 }
 
-/// The id ann.
-fn ann<'a>(heap: Heap<'a>) -> Result<VoterId<Heap<'a>>, NoMemory> {
-    VoterId::new(heap, "ann")?.ok_or(NoMemory)
-}
-
-fn copied_id(heap: Heap<'_>, nth: u64) -> Result<bool, NoMemory> {
-    let ann = ann(heap)?;
+fn copied_id(rt: &impl Abort, heap: Heap<'_>, nth: u64) -> Result<bool, NoMemory> {
+    let ann = id(rt, heap, "ann");
     heap.refuse(nth);
     Ok(ann.copy(heap)?.text() == "ann")
 }
 
-fn copied_ballot(heap: Heap<'_>, nth: u64) -> Result<bool, NoMemory> {
-    let ballot = Ballot::of(heap, &MIXED)?;
+fn copied_ballot(rt: &impl Abort, heap: Heap<'_>, nth: u64) -> Result<bool, NoMemory> {
+    let ballot = Ballot::of(heap, &MIXED).expect(rt, "memory");
     heap.refuse(nth);
     Ok(counts_up(ballot.copy(heap)?.places()))
 }
 
-fn copied_request(heap: Heap<'_>, nth: u64) -> Result<bool, NoMemory> {
-    let replace = Request::Replace(ann(heap)?, Ballot::of(heap, &[0, 1])?);
-    heap.refuse(nth);
-    match replace.copy(heap)? {
+/// Whether ann asks to replace her ballot by one of the places 0 and 1.
+fn is_the_request(request: &Request<Heap<'_>>) -> bool {
+    match request {
         Request::Replace(voter, ballot) => {
-            Ok(voter.text() == "ann" && ballot.places() == [0, 1].as_slice())
+            voter.text() == "ann" && ballot.places() == [0, 1].as_slice()
         }
-        _ => Ok(false),
+        _ => false,
     }
+}
+
+fn copied_request(rt: &impl Abort, heap: Heap<'_>, nth: u64) -> Result<bool, NoMemory> {
+    let ballot = Ballot::of(heap, &[0, 1]).expect(rt, "memory");
+    let request = Request::Replace(id(rt, heap, "ann"), ballot);
+    heap.refuse(nth);
+    let copy = request.copy(heap)?;
+    Ok(is_the_request(&copy))
 }
 
 fn places_read(heap: Heap<'_>, nth: u64) -> Result<bool, NoMemory> {

@@ -322,6 +322,29 @@ fn two_clerks_fill_a_journal(rt: HostRuntime) {
     finishes(&rt, alloc, shared, clerks, text);
 }
 
+/// Two requests for which a full journal has no room.
+const NO_ROOM: &[Row] = &[
+    ("cast", "bob", &[0], Err(SharedFault::JournalFull)),
+    ("withdraw", "ann", &[], Err(SharedFault::JournalFull)),
+];
+
+/// A full journal is told to whoever asks, and the lock is free after it.
+#[test]
+fn a_full_journal_frees_the_lock(rt: HostRuntime) {
+    let alloc = rt.alloc();
+    let (shared, mut clerks) = shared_by(&rt, alloc, 1, 2);
+    let mut one = last_of(&rt, &shared, &mut clerks);
+    let mut clerk = last_of(&rt, &shared, &mut clerks);
+    asks(&rt, alloc, &shared, &mut clerk, CAST_ANN);
+    asks(&rt, alloc, &shared, &mut one, NO_ROOM);
+    asks(&rt, alloc, &shared, &mut clerk, NO_ROOM);
+    same(&rt, shared.front(&mut one), 1, "the front word");
+    joins(&rt, &shared, &mut clerks, clerk);
+    joins(&rt, &shared, &mut clerks, one);
+    let text = "journal;2\n1;0;cast;ann;0;done\n";
+    finishes(&rt, alloc, shared, clerks, text);
+}
+
 /// A number of clerks outside 1 to 64 hands the desk back, with its journal.
 fn hands_back(rt: &impl Abort, alloc: Global, desk: Desk, clerks: u32) -> Desk {
     match SharedDesk::share(alloc, desk, clerks) {
