@@ -35,7 +35,8 @@ impl<A: Allocator> Ballot<A> {
 
     /// A ballot that approves these places where they rise, none twice; `None` where they don't.
     pub fn rising(alloc: A, places: &[u32]) -> Result<Option<Ballot<A>>, NoMemory>
-        ensures { IfOk result (λ found. MatchOption found (¬ IsBallot places.now) (λ ballot. ballot ≡ places.now)) }
+        ensures { IfOk result (λ found.
+            MatchOption found (¬ IsBallot places.now) (λ ballot. ballot ≡ places.now)) }
     {
         if !is_rising(places) {
             return Ok(None);

@@ -67,7 +67,8 @@ impl<W: Write> Write for FailsAt<W> {
 
     fn write(&mut self, buf: &[u8]) -> Result<usize>
         ensures bound { WritesAtMost result buf.now }
-        ensures bytes { WriteAppends (W.contents self.old.writer) (W.contents self.new.writer) result buf.now }
+        ensures bytes { WriteAppends (W.contents self.old.writer) (W.contents self.new.writer)
+            result buf.now }
         ensures fails { self.old.writes_left ≡ 0 → IsErr result }
         ensures counts { self.new.writes_left ≡ self.old.writes_left - 1 }
     {
@@ -137,7 +138,8 @@ impl<W: Write> Write for TakesOne<W> {
 
     fn write(&mut self, buf: &[u8]) -> Result<usize>
         ensures bound { WritesAtMost result buf.now }
-        ensures bytes { WriteAppends (W.contents self.old.writer) (W.contents self.new.writer) result buf.now }
+        ensures bytes { WriteAppends (W.contents self.old.writer) (W.contents self.new.writer)
+            result buf.now }
         ensures one { IfOk result (λ count. count ≤ 1) }
     {
         match buf {
