@@ -1,4 +1,5 @@
 mod NumberFacts
+mod OnlyThese
 pub mod PlacesText
 mod RecordFacts
 pub mod RecordsRead

@@ -44,7 +44,7 @@ none_in_empty cfg zero = refl
 none_in_empty cfg (suc n) = refl
 
 -- a count above the text's length is enough, and how far above does not matter
-records_enough : (cfg : Config) (n m : ℕ) (s : State) (xs : List ℕ) → length xs < n → length xs < m
+pub records_enough : (cfg : Config) (n m : ℕ) (s : State) (xs : List ℕ) → length xs < n → length xs < m
     → records_from cfg n s xs ≡ records_from cfg m s xs
 unfolding records_from
 records_enough cfg zero m s xs a b = absurd (omega arith)

@@ -20,7 +20,7 @@ right_of true b h = h
 right_of false b h = cc h
 
 -- rows, written one after the other, are read back
-rows_read_back : (rows : List Fields)
+pub rows_read_back : (rows : List Fields)
     → records_from pb_config (length (text_of_rows rows) + 1) st.StartRecord (text_of_rows rows) ≡ map read_back rows
 unfolding text_of_row text_of_rows
 rows_read_back [] = none_in_empty pb_config 1
@@ -37,7 +37,7 @@ read_back_same ([] ∷ rows) some =
 read_back_same ((x ∷ rest) ∷ rows) some = ap (λ (t : List Fields). (x ∷ rest) ∷ t) (read_back_same rows (λ k d within. some (suc k) d (omega arith)))
 
 -- a text that begins with no byte order mark loses none
-no_mark : (text : List ℕ) → ((rest : List ℕ) → text ≢ byte_order_mark ++ rest) → strip_bom text ≡ text
+pub no_mark : (text : List ℕ) → ((rest : List ℕ) → text ≢ byte_order_mark ++ rest) → strip_bom text ≡ text
 unfolding strip_bom
 no_mark [] other = refl
 no_mark (a ∷ []) other = refl
@@ -70,7 +70,7 @@ field_first x c tail ascii next = elim (cases_Bool (list_any (needs_byte pb_writ
     first [] a = next
     first (b ∷ bs) a = a
 
-row_first : (x : List ℕ) (rest : Fields) (tail : List ℕ) → get_or x 0 0 < 128 → get_or (text_of_row (x ∷ rest) ++ tail) 0 0 < 128
+pub row_first : (x : List ℕ) (rest : Fields) (tail : List ℕ) → get_or x 0 0 < 128 → get_or (text_of_row (x ∷ rest) ++ tail) 0 0 < 128
 unfolding text_of_row is_blank fields_text
 row_first x rest tail ascii = elim (cases_Bool (is_blank pb_writer (x ∷ rest))) [
   | inl blank ↦ blank_first x rest blank

@@ -15,7 +15,7 @@ or-left : (a b : Bool) → (a || b) ≡ false → a ≡ false
 or-left false b e = refl
 or-left true b e = cc e
 
-or-right : (a b : Bool) → (a || b) ≡ false → b ≡ false
+pub or-right : (a b : Bool) → (a || b) ≡ false → b ≡ false
 or-right false b e = e
 or-right true b e = cc e
 

@@ -5,7 +5,8 @@ ghost use Rattle.pb_rows.specs.Reading.{Fields, records_of};
 ghost use Rattle.pb_rows.specs.Writing.{ComeBack, text_of_rows};
 
 /// What is written as rows is read back as just these records, if each row has a field and the text
-/// doesn't begin with a byte order mark. The fields may hold `;`, quotes and line ends.
+/// doesn't begin with a byte order mark, and only then. The fields may hold `;`, quotes and line ends.
 pub fn rows_come_back()
-    ensures { (rows : List Fields) → ComeBack rows → records_of (text_of_rows rows) ≡ rows }
+    ensures back { (rows : List Fields) → ComeBack rows → records_of (text_of_rows rows) ≡ rows }
+    ensures only { (rows : List Fields) → records_of (text_of_rows rows) ≡ rows → ComeBack rows }
 {}
