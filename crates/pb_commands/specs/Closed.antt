@@ -50,7 +50,7 @@ pub record IsClosedAs (shared : SharedView) (clerks : List ClerkView) (options :
     (answer : Closing) : Type 0 where
   pub journal : List EntryView
   pub merge : IsMergeOf shared clerks journal
-  pub answer_is : IsClosing (desk_with shared journal) options answer
+  pub answer_is : IsClosing (desk_with shared.start journal) options answer
 
 -- why a shut desk is not counted: out of memory it is handed back; or its election is, whose count is refused
 abbrev pub IsDeskFault : DeskView → CountOptions → CloseFault → Type 0
@@ -65,4 +65,4 @@ abbrev pub IsCloseFault : SharedView → List ClerkView → CountOptions → Clo
 IsCloseFault shared clerks options (Unfinished word) = IsHeldByAnother shared clerks word
 IsCloseFault shared clerks options fault =
     (journal : List EntryView) × IsMergeOf shared clerks journal
-    × IsDeskFault (desk_with shared journal) options fault
+    × IsDeskFault (desk_with shared.start journal) options fault

@@ -1,5 +1,5 @@
 -- What the steps of a call come to for its clerk.
-use Rattle.std.proofs.Common.{◌≡◌, ℕ, zero, suc, ◌+◌, ◌<◌, ◌≤◌, List, [], ◌∷◌, ◌++◌, length, drop, Result, Ok, Err, IfOk, IfErr, Option, Some, unwrap_or, slice_get, slice_index_or, refl, ap, ◌∙◌, subst, arith, append_assoc}
+use Rattle.std.proofs.Common.{◌≡◌, ℕ, zero, suc, ◌+◌, ◌<◌, ◌≤◌, List, [], ◌∷◌, ◌++◌, length, drop, Result, Ok, Err, IfOk, IfErr, Option, Some, sym, unwrap_or, slice_get, slice_index_or, refl, ap, ◌∙◌, subst, arith, append_assoc}
 use Rattle.std.proofs.Math.Seq.{drop-append_seam}
 use Rattle.std.proofs.lemmas.Option.{none-some}
 use Rattle.std.proofs.lemmas.List.Elements.{All-append, All-cons, All-nil}
@@ -8,9 +8,9 @@ use Rattle.pb_core.specs.Request.{EntryView, RequestView}
 use Rattle.pb_core.specs.declared.answer.Answer.{Answer}
 use Rattle.pb_desk.specs.Desk.{DeskView}
 use Rattle.pb_desk.specs.Replay.{IsLegal}
-use Rattle.pb_shared.specs.Clerk.{ClerkView, IsAnother, Serves, AreLost}
+use Rattle.pb_shared.specs.Clerk.{ClerkView, IsAnother, Serves, AreLost, desk_with}
 use Rattle.pb_shared.specs.Refusal.{Refuses}
-use Rattle.pb_shared.specs.Rule.{Sitter, desk_at}
+use Rattle.pb_shared.specs.Rule.{Sitter}
 use Rattle.pb_shared.specs.Plays.{CanSee, won, freed, published}
 use Rattle.pb_shared.specs.Seats.{clerk_view}
 use Rattle.pb_shared.specs.declared.seat_view.SeatView.{SeatView}
@@ -19,7 +19,7 @@ use Rattle.pb_shared.specs.declared.shared_fault.SharedFault.TheVariants.{Busy, 
 
 -- a call that was answered
 pub serves : (id id' : TableId) (m m1 m2 : Sitter) (c : ClerkView) (desk desk' : DeskView) (seen : List EntryView) (x : EntryView)
-    → clerk_view id m ≡ c → id' ≡ id → CanSee m.0 seen → m1.0 ≡ won m.0 seen → desk ≡ desk_at m.0.about seen
+    → clerk_view id m ≡ c → id' ≡ id → CanSee m.0 seen → m1.0 ≡ won m.0 seen → desk ≡ desk_with m.0.about.desk.value seen
     → desk'.opening ≡ desk.opening → desk'.room ≡ desk.room → desk'.journal ≡ desk.journal ++ x ∷ [] → IsLegal desk'.opening desk'.journal → length desk'.journal ≤ desk'.room
     → m2 ≡ (freed (published m1.0 desk'.journal), []) → x.clerk ≡ m.0.sheet.number → Serves c x.request x.answer (0 ∷ []) (clerk_view id' m2)
 serves id id' m m1 m2 c desk desk' seen x view ids can was is_desk opening room journal legal fits after by =
@@ -31,14 +31,17 @@ serves id id' m m1 m2 c desk desk' seen x view ids can was is_desk opening room 
     let mine : v.sheet.mine ++ drop (length seen) desk'.journal ≡ v.sheet.mine ++ last ∷ [] =
     ap (λ l. v.sheet.mine ++ l) ((λ i. drop (length (can.begins.1 i)) (grown i)) ∙ drop-append_seam (v.sheet.seen ++ between) (last ∷ [])) in
     let after' : m2 ≡ (freed (published (won v seen) desk'.journal), []) = after ∙ (λ i. (freed (published (was i) desk'.journal), [])) in
+    let journal_is : (clerk_view id' m2).seen ≡ desk'.journal = λ i. (clerk_view id' (after' i)).seen in
+    let seen_is : (clerk_view id' m2).seen ≡ (v.sheet.seen ++ between) ++ last ∷ [] = journal_is ∙ grown in
     subst (λ (d : ClerkView). Serves d x.request x.answer (0 ∷ []) (clerk_view id' m2)) view (
       between,
+      seen_is,
+      (λ i. clerk_view (ids i) (after' i)) ∙ (λ i. record (clerk_view id m) { seen = sym journal_is i; mine = mine i; found = v.sheet.found ++ 0 ∷ [] }),
       (
-        subst (λ (d : DeskView). IsLegal d.opening ((v.sheet.seen ++ between) ++ last ∷ [])) is_desk (subst (λ j. IsLegal desk.opening j) grown (subst (λ o. IsLegal o desk'.journal) opening legal)),
-        subst (λ (d : DeskView). length ((v.sheet.seen ++ between) ++ last ∷ []) ≤ d.room) is_desk (subst (λ j. length j ≤ desk.room) grown (subst (λ n. length desk'.journal ≤ n) room fits)),
-        (between ++ last ∷ [], append_assoc v.sheet.seen between (last ∷ [])),
+        subst (λ (d : DeskView). IsLegal d.opening (clerk_view id' m2).seen) is_desk (subst (λ j. IsLegal desk.opening j) (sym journal_is) (subst (λ o. IsLegal o desk'.journal) opening legal)),
+        subst (λ (d : DeskView). length (clerk_view id' m2).seen ≤ d.room) is_desk (subst (λ j. length j ≤ desk.room) (sym journal_is) (subst (λ n. length desk'.journal ≤ n) room fits)),
+        (between ++ last ∷ [], seen_is ∙ append_assoc v.sheet.seen between (last ∷ [])),
       ),
-      (λ i. clerk_view (ids i) (after' i)) ∙ (λ i. record (clerk_view id m) { seen = grown i; mine = mine i; found = v.sheet.found ++ 0 ∷ [] }),
     )
 
 -- the clerk after exchanges that it lost
@@ -51,10 +54,11 @@ serves_later c c' words request answer s = (
   s.0,
   s.1,
   s.2 ∙ (λ i. record c {
-    seen = (c.seen ++ s.0) ++ record { clerk = c.number; request = request; answer = answer } ∷ [];
+    seen = c'.seen;
     mine = c.mine ++ record { clerk = c.number; request = request; answer = answer } ∷ [];
     found = append_assoc c.found words (0 ∷ []) i;
   }),
+  s.3,
 )
 
 -- how it is refused after lost exchanges

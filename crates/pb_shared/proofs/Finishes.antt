@@ -7,8 +7,8 @@ use Rattle.atomic_table.specs.Seated.{TableId}
 use Rattle.atomic_table.specs.Table.{State, Final, Seen}
 use Rattle.pb_core.specs.Request.{EntryView}
 use Rattle.pb_desk.specs.Desk.{DeskView}
-use Rattle.pb_shared.specs.Clerk.{SharedView, ClerkView, AgreesWith, AreAll, IsMergeOf, IsHeldByAnother, desk_with, newcomer}
-use Rattle.pb_shared.specs.Rule.{history, desk_at, GuestFits, RoleFits, Runs, DeskRule}
+use Rattle.pb_shared.specs.Clerk.{SharedView, ClerkView, AgreesWith, AreAll, IsMergeOf, IsHeldByAnother, clerk_of, desk_with, newcomer}
+use Rattle.pb_shared.specs.Rule.{history, RoleFits, Runs, DeskRule}
 use Rattle.pb_shared.specs.Seats.{shared_view, sheet_of}
 use Rattle.pb_shared.specs.declared.seat_view.About.{About}
 use Rattle.pb_shared.specs.declared.seat_view.Role.TheVariants.{Guest}
@@ -37,8 +37,8 @@ pub record IsLast (a : About) (word : ℕ) (slot : Option DeskView) (id : ℕ) (
   pub seat_of : ℕ → ℕ
   pub views : List SeatView
   pub runs : Runs a word home later seat_of views
-  pub guest : GuestFits a word home later seat_of id v
-  pub back : word ≡ 0 → slot ≡ Some (desk_at a (history a later))
+  pub guest : RoleFits a word home later seat_of Guest id v
+  pub back : word ≡ 0 → slot ≡ Some (desk_with a.desk.value (history a later))
 
 pub ends : (a : About) (id : ℕ) (v : SeatView) (words : List ℕ) (slots : List S) (word : ℕ) (slot : Option DeskView) → v.role ≡ Guest → Final (Seen (DeskRule a) id v) words slots
     → get_elem? words 0 ≡ some word → get_elem? slots 0 ≡ some slot → IsLast a word slot id v
@@ -55,7 +55,7 @@ ends a id v words slots word slot role f found took =
       runs = runs;
       guest = subst (λ ρ. RoleFits a word home later seat_of ρ id v) role (runs.each id v f.1.1);
       back = λ free.
-          let d : DeskView = desk_at a (history a later) in
+          let d : DeskView = desk_with a.desk.value (history a later) in
           let at_home : get_elem? s.homes 0 ≡ some (some (Some d)) = ap (λ (h : List Slot). get_elem? h 0) rule.5 ∙ ap some (runs.free free) in
           some-injective slot (Some d) (sym took ∙ f.4 0 (Some d) at_home);
     }
@@ -69,21 +69,21 @@ some_inside x y e = ap (desk_in x) e
 
 -- the desk comes back with the merge of the clerks' entries as its journal
 pub merges : (a : About) (tid : TableId) (id : ℕ) (v : SeatView) (d : SharedView) (clerks : List ClerkView) (word : ℕ) (slot : Option DeskView) (desk : DeskView) → IsLast a word slot id v
-    → shared_view tid a ≡ d → v.returned ≡ map sheet_of clerks → word ≡ 0 → slot ≡ Some desk → (desk ≡ desk_with d desk.journal) × IsMergeOf d clerks desk.journal
+    → shared_view tid a ≡ d → v.returned ≡ map sheet_of clerks → word ≡ 0 → slot ≡ Some desk → (desk ≡ desk_with d.start desk.journal) × IsMergeOf d clerks desk.journal
 merges a tid id v d clerks word slot desk last view same free is =
     let runs = last.runs in
     let whole : List EntryView = history a last.later in
-    let desk_is : desk_at a whole ≡ desk = some_inside (desk_at a whole) desk (sym (last.back free) ∙ is) in
-    subst (λ (e : DeskView). (e ≡ desk_with d e.journal) × IsMergeOf d clerks e.journal) desk_is
-    (subst (λ (e : SharedView). (desk_at a whole ≡ desk_with e whole) × IsMergeOf e clerks whole) view (
+    let desk_is : desk_with a.desk.value whole ≡ desk = some_inside (desk_with a.desk.value whole) desk (sym (last.back free) ∙ is) in
+    subst (λ (e : DeskView). (e ≡ desk_with d.start e.journal) × IsMergeOf d clerks e.journal) desk_is
+    (subst (λ (e : SharedView). (desk_with a.desk.value whole ≡ desk_with e.start whole) × IsMergeOf e clerks whole) view (
       refl,
       record {
         later = last.later;
         journal_is = refl;
         legal = runs.legal;
         fits = runs.fits;
-        agrees = of_clerks (λ (x : Sheet). AgreesWith whole last.later record { desk = shared_view tid a; number = x.number; seen = x.seen; mine = x.mine; found = x.found; read = x.read }) clerks v.returned same
-            (λ k e inside. let f = last.guest.returned k e inside in (f.begins, f.mine));
+        agrees = of_clerks (λ (x : Sheet). AgreesWith whole last.later (clerk_of (shared_view tid a) x)) clerks v.returned same
+            (λ k e inside. let f = last.guest.2 k e inside in (f.begins, f.mine));
         by_clerks = runs.by_clerks;
       },
     ))
@@ -98,7 +98,7 @@ is_held a tid id v d clerks (suc holder) slot last view same held =
       (let known = last.runs.lock_known in omega arith),
       omega arith,
       of_clerks (λ (x : Sheet). x.number ≢ holder) clerks v.returned same
-          (λ k e inside. let f = last.guest.returned k e inside in λ its. not_its (suc holder) _ f.holding (omega arith)),
+          (λ k e inside. let f = last.guest.2 k e inside in λ its. not_its (suc holder) _ f.holding (omega arith)),
     )
 
 -- where all clerks were handed back, nobody holds the lock

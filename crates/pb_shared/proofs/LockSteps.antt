@@ -1,6 +1,6 @@
 -- The steps on the words keep the rule: the exchange, the two stores, and the load of the front word.
 use Rattle.std.proofs.Common.{◌≡◌, ◌≢◌, ℕ, ◌+◌, ◌<◌, ◌≤◌, ◌==◌, true, false, List, [], ◌∷◌, ◌++◌, length, All, set, Option, Some, sym, refl, ap, ◌∙◌, subst, arith, eq-eqb, ne_eqb, eqb-true, true≢false, slice_index, length-append, cond}
-use mathlib.Core.Option.{none, some}
+use mathlib.Core.Option.{none, some, some-injective, some-ne-none}
 use mathlib.Core.List.{append-nil}
 use prog.Atomic.{either}
 use lib.ListN.{get_elem?}
@@ -11,19 +11,23 @@ use Rattle.atomic_table.proofs.Lists.{exchanged, set_here}
 use Rattle.pb_core.specs.Request.{EntryView}
 use Rattle.pb_desk.specs.Desk.{DeskView}
 use Rattle.pb_desk.specs.Replay.{IsLegal}
-use Rattle.pb_shared.specs.Clerk.{Begins, entries_of}
-use Rattle.pb_shared.specs.Rule.{history, desk_at, Holds, IsIn, IsWordFor, ClerkFits, RoleFits, Runs, DeskRule, Sitter}
+use Rattle.pb_shared.specs.Clerk.{Begins, desk_with, entries_of}
+use Rattle.pb_shared.specs.Rule.{history, ClerkFits, RoleFits, Runs, DeskRule, Sitter}
 use Rattle.pb_shared.specs.Plays.{CanSee, won, lost, published, freed, has_read, tries_lock, publishes, frees, reads}
 use Rattle.pb_shared.specs.declared.seat_view.About.{About}
 use Rattle.pb_shared.specs.declared.seat_view.Role.TheVariants.{Clerk}
 use Rattle.pb_shared.specs.declared.seat_view.SeatView.{SeatView}
-use Rattle.pb_shared.proofs.Moves.{Begins-all, Begins-more, history-more, not_its, seat_moves, each_of, stays_there, there}
+use Rattle.pb_shared.proofs.Moves.{Begins-all, Begins-more, history-more, Holds, not_its, seat_moves, each_of, stays_there, there}
 
 abbrev pub Slot : Type 0
 Slot = mathlib.Core.Option.Option (Option DeskView)
 
 abbrev pub S : Type 0
 S = Option DeskView
+
+-- a word that the clerk's exchanges can find
+abbrev its_word : ℕ → ℕ → ℕ → Type 0
+its_word clerks number word = (word ≤ clerks) × (word ≢ number + 1)
 
 -- a state of the table with these words and this in the slot
 abbrev running : ℕ → ℕ → Slot → List SeatView → State S SeatView
@@ -58,13 +62,13 @@ module _ (a : About) (lock : ℕ) (home : Slot) (later : List EntryView) (seat_o
   }
 
   -- a step that changes neither the lock nor the slot nor the history
-  quiet : (w : SeatView) → w.role ≡ Clerk → ((n : ℕ) → Holds n v → Holds n w) → ClerkFits a lock home later seat_of id w → Runs a lock home later seat_of (set views id w)
+  quiet : (w : SeatView) → w.role ≡ Clerk → (Holds v → Holds w) → ClerkFits a lock home later seat_of id w → Runs a lock home later seat_of (set views id w)
   quiet w role' keep own = record {
     legal = r.legal;
     fits = r.fits;
     by_clerks = r.by_clerks;
     lock_known = r.lock_known;
-    holder = λ n e. stays_there (Holds n) views id v w at (keep n) (seat_of n) (r.holder n e);
+    holder = λ n e. stays_there Holds views id v w at keep (seat_of n) (r.holder n e);
     free = r.free;
     in_slot = r.in_slot;
     each = each_of (λ j u. RoleFits a lock home later seat_of u.role j u) views id w (subst (λ ρ. RoleFits a lock home later seat_of ρ id w) (sym role') own) (λ j u other there. r.each j u there);
@@ -74,8 +78,8 @@ module _ (a : About) (lock : ℕ) (home : Slot) (later : List EntryView) (seat_o
   moves : (lock' : ℕ) (home' : Slot) (later' more : List EntryView) → later' ≡ later ++ more → ((n : ℕ) → n ≢ v.sheet.number → (lock ≢ n + 1) × (lock' ≢ n + 1) × (entries_of n more ≡ []))
       → (w : SeatView) → w.role ≡ Clerk → ClerkFits a lock' home' later' seat_of id w
       → IsLegal a.desk.value.opening (history a later') → length (history a later') ≤ a.desk.value.room → All (λ x. x.clerk < a.clerks) more → lock' ≤ a.clerks
-      → ((n : ℕ) → lock' ≡ n + 1 → (u : SeatView) × (get_elem? (set views id w) (seat_of n) ≡ some u) × Holds n u)
-      → (lock' ≡ 0 → home' ≡ some (Some (desk_at a (history a later')))) → IsIn home' (desk_at a (history a later'))
+      → ((n : ℕ) → lock' ≡ n + 1 → (u : SeatView) × (get_elem? (set views id w) (seat_of n) ≡ some u) × Holds u)
+      → (lock' ≡ 0 → home' ≡ some (Some (desk_with a.desk.value (history a later')))) → ((x : Option DeskView) → home' ≡ some x → x ≡ Some (desk_with a.desk.value (history a later')))
       → Runs a lock' home' later' seat_of (set views id w)
   moves lock' home' later' more grows others w role' own legal' fits' by' known' holder' free' in_slot' = record {
     legal = legal';
@@ -107,8 +111,8 @@ locks a slots id v role idle away = goes_on a slots id (v, []) 0 (λ n. either (
     exchanged lock 0 (k + 1) (λ x. (w : SeatView) × (act : Act S) × Valid (home ∷ []) [] act × DeskRule a (stepped (running lock (length seen) home views) 0 x id [] w act) × tries_lock (v, []) lock (w, carried_after [] act))
     (λ e. (
       won v seen,
-      takes 0 (Some (desk_at v.about seen)),
-      ap some (r.free e) ∙ ap (λ (z : About). some (some (Some (desk_at z seen)))) (sym own.about),
+      takes 0 (Some (desk_with v.about.desk.value seen)),
+      ap some (r.free e) ∙ ap (λ (z : About). some (some (Some (desk_with z.desk.value seen)))) (sym own.about),
       (
         k + 1,
         none,
@@ -127,7 +131,7 @@ locks a slots id v role idle away = goes_on a slots id (v, []) 0 (λ n. either (
                 mine = f.mine;
                 holding = eq-eqb (k + 1) (k + 1) refl;
                 whole = λ _. refl;
-                found = All-append (IsWordFor a.clerks k) v.sheet.found (0 ∷ []) f.found (one (IsWordFor a.clerks k) 0 (omega arith, λ is. omega arith));
+                found = All-append (its_word a.clerks k) v.sheet.found (0 ∷ []) f.found (one (its_word a.clerks k) 0 (omega arith, λ is. omega arith));
                 read = all_read v.sheet.seen seen v.sheet.read f.begins f.read;
               };
               told = own.told;
@@ -137,9 +141,9 @@ locks a slots id v role idle away = goes_on a slots id (v, []) 0 (λ n. either (
             (λ n is. let same : n ≡ k = omega arith in (
               won v seen,
               ap (get_elem? (set views id (won v seen))) (ap seat_of same ∙ f.its_seat) ∙ set_here views id (won v seen) (there views id v at),
-              (role, sym same, refl),
+              (role, refl),
             ))
-            (λ is. absurd (omega arith)) tt,
+            (λ is. absurd (omega arith)) (λ x is. absurd (some-ne-none x (sym is))),
       ),
       ((λ _. (seen, can_see a lock home later seat_of views id v role r at, refl)), (λ ne. absurd (ne e))),
     ))
@@ -154,7 +158,7 @@ locks a slots id v role idle away = goes_on a slots id (v, []) 0 (λ n. either (
         seat_of,
         refl,
         refl,
-        quiet a lock home later seat_of views id v role r at (lost v lock) role (λ n h. h) record {
+        quiet a lock home later seat_of views id v role r at (lost v lock) role (λ h. h) record {
           about = own.about;
           sheet = record {
             known = f.known;
@@ -163,7 +167,7 @@ locks a slots id v role idle away = goes_on a slots id (v, []) 0 (λ n. either (
             mine = f.mine;
             holding = f.holding;
             whole = f.whole;
-            found = All-append (IsWordFor a.clerks k) v.sheet.found (lock ∷ []) f.found (one (IsWordFor a.clerks k) lock (r.lock_known, others));
+            found = All-append (its_word a.clerks k) v.sheet.found (lock ∷ []) f.found (one (its_word a.clerks k) lock (r.lock_known, others));
             read = f.read;
           };
           told = own.told;
@@ -190,7 +194,7 @@ loads a slots id me role = goes_on a slots id me 1 (λ n. n) (reads me) (λ view
         seat_of,
         refl,
         refl,
-        quiet a lock home later seat_of views id v role r at (has_read v seen (length seen)) role (λ n h. h) record {
+        quiet a lock home later seat_of views id v role r at (has_read v seen (length seen)) role (λ h. h) record {
           about = own.about;
           sheet = record {
             known = f.known;
@@ -211,7 +215,7 @@ loads a slots id me role = goes_on a slots id me 1 (λ n. n) (reads me) (λ view
 
 -- the store that frees the lock, with what is in the slot after it
 free_from : (a : About) (lock : ℕ) (home home' : Slot) (later : List EntryView) (seat_of : ℕ → ℕ) (views : List SeatView) (id : ℕ) (v : SeatView) → v.role ≡ Clerk → v.holds ≡ true
-    → Runs a lock home later seat_of views → get_elem? views id ≡ some v → home' ≡ some (Some (desk_at a (history a later))) → Runs a 0 home' later seat_of (set views id (freed v))
+    → Runs a lock home later seat_of views → get_elem? views id ≡ some v → home' ≡ some (Some (desk_with a.desk.value (history a later))) → Runs a 0 home' later seat_of (set views id (freed v))
 free_from a lock home home' later seat_of views id v role on r at back =
     let k : ℕ = v.sheet.number in
     let own = fits a lock home later seat_of views id v role r at in
@@ -236,7 +240,7 @@ free_from a lock home home' later seat_of views id v role on r at back =
     }
     r.legal r.fits (All-nil (λ (x : EntryView). x.clerk < a.clerks)) (omega arith)
     (λ n is. absurd (omega arith))
-    (λ _. back) (subst (λ h. IsIn h (desk_at a (history a later))) (sym back) refl)
+    (λ _. back) (λ x is. some-injective x (Some (desk_with a.desk.value (history a later))) (sym is ∙ back))
 
 -- where the clerk has brought the desk back before
 pub frees_home : (a : About) (slots id : ℕ) (v : SeatView) → v.role ≡ Clerk → v.home ≡ true → Allows (DeskRule a) slots id (v, []) 0 (λ _. 0) (λ _. frees (v, []) 0)
@@ -246,23 +250,23 @@ frees_home a slots id v role at_home = goes_on a slots id (v, []) 0 (λ _. 0) (�
 
 -- where the desk is brought back now, as it was taken out
 pub frees_out : (a : About) (slots id : ℕ) (v : SeatView) → v.role ≡ Clerk → v.holds ≡ true
-    → Allows (DeskRule a) slots id (v, (0, Some (desk_at v.about v.sheet.seen)) ∷ []) 0 (λ _. 0) (λ _. frees (v, (0, Some (desk_at v.about v.sheet.seen)) ∷ []) 0)
+    → Allows (DeskRule a) slots id (v, (0, Some (desk_with v.about.desk.value v.sheet.seen)) ∷ []) 0 (λ _. 0) (λ _. frees (v, (0, Some (desk_with v.about.desk.value v.sheet.seen)) ∷ []) 0)
 frees_out a slots id v role on =
-    let me : Sitter = (v, (0, Some (desk_at v.about v.sheet.seen)) ∷ []) in
+    let me : Sitter = (v, (0, Some (desk_with v.about.desk.value v.sheet.seen)) ∷ []) in
     goes_on a slots id me 0 (λ _. 0) (λ _. frees me 0) (λ views lock home later seat_of r at.
     let own = fits a lock home later seat_of views id v role r at in
-    let home' : Slot = some (Some (desk_at v.about v.sheet.seen)) in
-    let back : home' ≡ some (Some (desk_at a (history a later))) = λ i. some (Some (desk_at (own.about i) (own.sheet.whole on i))) in
+    let home' : Slot = some (Some (desk_with v.about.desk.value v.sheet.seen)) in
+    let back : home' ≡ some (Some (desk_with a.desk.value (history a later))) = λ i. some (Some (desk_with (own.about i).desk.value (own.sheet.whole on i))) in
     (freed v, gives, tt, (0, home', later, seat_of, refl, refl, free_from a lock home home' later seat_of views id v role on r at back), refl))
 
 -- the store that publishes an entry, which the desk has that is brought back
 pub stores : (a : About) (slots id : ℕ) (v : SeatView) (x : EntryView) (entries : ℕ) → v.role ≡ Clerk → v.holds ≡ true
     → x.clerk ≡ v.sheet.number → IsLegal v.about.desk.value.opening (v.sheet.seen ++ x ∷ []) → length (v.sheet.seen ++ x ∷ []) ≤ v.about.desk.value.room → entries ≡ length (v.sheet.seen ++ x ∷ [])
-    → Allows (DeskRule a) slots id (v, (0, Some (desk_at v.about (v.sheet.seen ++ x ∷ []))) ∷ []) 1 (λ _. entries)
-    (λ _. publishes (v, (0, Some (desk_at v.about (v.sheet.seen ++ x ∷ []))) ∷ []) entries)
+    → Allows (DeskRule a) slots id (v, (0, Some (desk_with v.about.desk.value (v.sheet.seen ++ x ∷ []))) ∷ []) 1 (λ _. entries)
+    (λ _. publishes (v, (0, Some (desk_with v.about.desk.value (v.sheet.seen ++ x ∷ []))) ∷ []) entries)
 stores a slots id v x entries role on by legal room count =
     let journal : List EntryView = v.sheet.seen ++ x ∷ [] in
-    let me : Sitter = (v, (0, Some (desk_at v.about journal)) ∷ []) in
+    let me : Sitter = (v, (0, Some (desk_with v.about.desk.value journal)) ∷ []) in
     let w : SeatView = published v journal in
     goes_on a slots id me 1 (λ _. entries) (λ _. publishes me entries) (λ views lock home later seat_of r at.
     let k : ℕ = v.sheet.number in
@@ -270,9 +274,9 @@ stores a slots id v x entries role on by legal room count =
     let f = own.sheet in
     let its : lock ≡ k + 1 = eqb-true lock (k + 1) (f.holding ∙ on) in
     let later' : List EntryView = later ++ x ∷ [] in
-    let home' : Slot = some (Some (desk_at v.about journal)) in
+    let home' : Slot = some (Some (desk_with v.about.desk.value journal)) in
     let grown : history a later' ≡ journal = history-more a later (x ∷ []) ∙ ap (λ j. j ++ x ∷ []) (sym (f.whole on)) in
-    let back : home' ≡ some (Some (desk_at a (history a later'))) = λ i. some (Some (desk_at (own.about i) (sym grown i))) in
+    let back : home' ≡ some (Some (desk_with a.desk.value (history a later'))) = λ i. some (Some (desk_with (own.about i).desk.value (sym grown i))) in
     let mine : entries_of k (x ∷ []) ≡ x ∷ [] = ap (λ b. cond b (x ∷ []) []) (eq-eqb x.clerk k by) in
     let more : (front : List EntryView) → Begins front (history a later) → Begins front (history a later') = λ front b. subst (Begins front) (sym (history-more a later (x ∷ []))) (Begins-more front (history a later) (x ∷ []) b) in (
       w,
@@ -306,8 +310,8 @@ stores a slots id v x entries role on by legal room count =
             (subst (λ (z : About). length (history a later') ≤ z.desk.value.room) own.about (subst (λ j. length j ≤ v.about.desk.value.room) (sym grown) room))
             (one (λ (y : EntryView). y.clerk < a.clerks) x (subst (λ n. n < a.clerks) (sym by) f.known))
             r.lock_known
-            (λ n is. stays_there (Holds n) views id v w at (λ h. h) (seat_of n) (r.holder n is))
-            (λ is. absurd (omega arith)) (subst (λ h. IsIn h (desk_at a (history a later'))) (sym back) refl),
+            (λ n is. stays_there Holds views id v w at (λ h. h) (seat_of n) (r.holder n is))
+            (λ is. absurd (omega arith)) (λ x is. some-injective x (Some (desk_with a.desk.value (history a later'))) (sym is ∙ back)),
       ),
       refl,
     ))

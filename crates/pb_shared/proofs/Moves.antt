@@ -1,5 +1,5 @@
 -- What a step of one seat leaves true of the others.
-use Rattle.std.proofs.Common.{◌≡◌, ◌≢◌, ◌⊎◌, ℕ, zero, suc, ◌+◌, ◌<◌, ◌==◌, Bool, false, List, [], ◌∷◌, ◌++◌, length, set, Option, sym, refl, ap, ◌∙◌, subst, ⊎_elim, inl, inr, arith, append_assoc, eq-eqb, ne_eqb, true≢false}
+use Rattle.std.proofs.Common.{◌≡◌, ◌≢◌, ◌⊎◌, ℕ, zero, suc, ◌+◌, ◌<◌, ◌==◌, Bool, true, false, List, [], ◌∷◌, ◌++◌, length, set, Option, sym, refl, ap, ◌∙◌, subst, ⊎_elim, inl, inr, arith, append_assoc, eq-eqb, ne_eqb, true≢false}
 use mathlib.Core.Option.{none, some, some-injective, some-ne-none}
 use mathlib.Core.Logic.{dite}
 use mathlib.Core.List.{append-nil}
@@ -9,8 +9,8 @@ use Rattle.std.proofs.lemmas.List.Elements.{filter-append}
 use Rattle.atomic_table.proofs.Lists.{at_set, set_here, set_else}
 use Rattle.pb_core.specs.Request.{EntryView}
 use Rattle.pb_desk.specs.Desk.{DeskView}
-use Rattle.pb_shared.specs.Clerk.{Begins, entries_of}
-use Rattle.pb_shared.specs.Rule.{history, blank, SheetFits, RoleFits}
+use Rattle.pb_shared.specs.Clerk.{Begins, blank, entries_of}
+use Rattle.pb_shared.specs.Rule.{history, SheetFits, RoleFits}
 use Rattle.pb_shared.specs.declared.seat_view.About.{About}
 use Rattle.pb_shared.specs.declared.seat_view.Role.{Role}
 use Rattle.pb_shared.specs.declared.seat_view.Role.TheVariants.{Stock, Clerk, Guest, Spent}
@@ -43,6 +43,10 @@ history-more a later more = sym (append_assoc a.desk.value.journal later more)
 pub not_its : (lock number : ℕ) → (lock == number + 1) ≡ false → lock ≢ number + 1
 not_its lock number e same = true≢false (sym (eq-eqb lock (number + 1) same) ∙ e)
 
+-- the seat of a clerk who holds the lock
+abbrev pub Holds : SeatView → Type 0
+Holds v = (v.role ≡ Clerk) × (v.holds ≡ true)
+
 -- a step of one seat, the sheet of another
 module _ (a : About) (lock lock' : ℕ) (home home' : mathlib.Core.Option.Option (Option DeskView)) (later later' more : List EntryView) (seat_of : ℕ → ℕ) (grows : later' ≡ later ++ more)
     (mover : ℕ)
@@ -69,10 +73,8 @@ module _ (a : About) (lock lock' : ℕ) (home home' : mathlib.Core.Option.Option
 
   -- what another seat knows stays true
   pub seat_moves : (role : Role) (seat : ℕ) (v : SeatView) → seat_of mover ≢ seat → RoleFits a lock home later seat_of role seat v → RoleFits a lock' home' later' seat_of role seat v
-  seat_moves Stock seat v apart f = record {
-    about = f.about;
-    blanks = λ n from below. let b = f.blanks n from below in (sheet_moves seat false (blank a n) (λ same. apart (ap seat_of (sym same) ∙ b.its_seat)) b).1;
-  }
+  seat_moves Stock seat v apart f =
+      (f.0, λ n from below. let b = f.1 n from below in (sheet_moves seat false (blank a.desk.value.journal n) (λ same. apart (ap seat_of (sym same) ∙ b.its_seat)) b).1)
   seat_moves Clerk seat v apart f =
       let s = sheet_moves seat v.holds v.sheet (λ same. apart (ap seat_of (sym same) ∙ f.sheet.its_seat)) f.sheet in record {
         about = f.about;
@@ -80,11 +82,8 @@ module _ (a : About) (lock lock' : ℕ) (home home' : mathlib.Core.Option.Option
         told = longer v.told f.told;
         brought = λ home_is. absurd (true≢false (sym (f.brought home_is).0 ∙ s.0));
       }
-  seat_moves Guest seat v apart f = record {
-    about = f.about;
-    begins = longer v.sheet.seen f.begins;
-    returned = λ k d inside. let x = f.returned k d inside in (sheet_moves seat false _ (λ same. apart (ap seat_of (sym same) ∙ x.its_seat)) x).1;
-  }
+  seat_moves Guest seat v apart f =
+      (f.0, longer v.sheet.seen f.1, λ k d inside. let x = f.2 k d inside in (sheet_moves seat false _ (λ same. apart (ap seat_of (sym same) ∙ x.its_seat)) x).1)
   seat_moves Spent seat v apart f = tt
 
 -- a clerk gets another seat, the sheet and the seat of whoever stays
@@ -102,21 +101,14 @@ module _ (a : About) (lock : ℕ) (home : mathlib.Core.Option.Option (Option Des
   }
 
   pub seat_stays : (role : Role) (seat : ℕ) (v : SeatView) → ((n : ℕ) → seat_of n ≡ seat → seat_of' n ≡ seat) → RoleFits a lock home later seat_of role seat v → RoleFits a lock home later seat_of' role seat v
-  seat_stays Stock seat v same f = record {
-    about = f.about;
-    blanks = λ n from below. let b = f.blanks n from below in sheet_stays seat seat false (blank a n) (same n b.its_seat) b;
-  }
+  seat_stays Stock seat v same f = (f.0, λ n from below. let b = f.1 n from below in sheet_stays seat seat false (blank a.desk.value.journal n) (same n b.its_seat) b)
   seat_stays Clerk seat v same f = record {
     about = f.about;
     sheet = sheet_stays seat seat v.holds v.sheet (same v.sheet.number f.sheet.its_seat) f.sheet;
     told = f.told;
     brought = f.brought;
   }
-  seat_stays Guest seat v same f = record {
-    about = f.about;
-    begins = f.begins;
-    returned = λ k d inside. let x = f.returned k d inside in sheet_stays seat seat false _ (same _ x.its_seat) x;
-  }
+  seat_stays Guest seat v same f = (f.0, f.1, λ k d inside. let x = f.2 k d inside in sheet_stays seat seat false _ (same _ x.its_seat) x)
   seat_stays Spent seat v same f = tt
 
 -- the views after the step of one seat

@@ -8,8 +8,8 @@ use Rattle.atomic_table.specs.Table.{Allows, Splits, rest, opening}
 use Rattle.pb_core.specs.Request.{EntryView}
 use Rattle.pb_desk.specs.Desk.{DeskView}
 use Rattle.pb_desk.specs.Replay.{IsLegal}
-use Rattle.pb_shared.specs.Clerk.{SharedView, ClerkView, NoteView, newcomer}
-use Rattle.pb_shared.specs.Rule.{DeskRule, Sitter, desk_at, blank, seated, stock}
+use Rattle.pb_shared.specs.Clerk.{SharedView, ClerkView, NoteView, blank, desk_with, newcomer}
+use Rattle.pb_shared.specs.Rule.{DeskRule, Sitter, seated, stock}
 use Rattle.pb_shared.specs.Plays.{tries_lock, frees, publishes, dealt_left, dealt_right}
 use Rattle.pb_shared.specs.Seats.{shared_view, clerk_view, note_view, IsIdle}
 use Rattle.pb_shared.specs.declared.seat_view.About.{About}
@@ -36,27 +36,27 @@ locks_at a slots id number word m idle its =
 pub in_hand : (m m' : Sitter) (desk : DeskView) → m.1 ≡ (0, None) ∷ [] → m' ≡ (m.0, (0, Some desk) ∷ rest m.1) → m' ≡ (m.0, (0, Some desk) ∷ [])
 in_hand m m' desk taken put = put ∙ (λ i. (m.0, (0, Some desk) ∷ rest (taken i)))
 
-pub frees_at : (a : About) (slots id : ℕ) (v : SeatView) (desk : DeskView) (m : Sitter) → v.role ≡ Clerk → v.holds ≡ true → desk ≡ desk_at v.about v.sheet.seen → m ≡ (v, (0, Some desk) ∷ [])
+pub frees_at : (a : About) (slots id : ℕ) (v : SeatView) (desk : DeskView) (m : Sitter) → v.role ≡ Clerk → v.holds ≡ true → desk ≡ desk_with v.about.desk.value v.sheet.seen → m ≡ (v, (0, Some desk) ∷ [])
     → Allows (DeskRule a) slots id m 0 (λ _. 0) (λ _. frees m 0)
 frees_at a slots id v desk m role on is_desk out =
-    let same : (v, (0, Some (desk_at v.about v.sheet.seen)) ∷ []) ≡ m = (λ i. (v, (0, Some (sym is_desk i)) ∷ [])) ∙ sym out in
+    let same : (v, (0, Some (desk_with v.about.desk.value v.sheet.seen)) ∷ []) ≡ m = (λ i. (v, (0, Some (sym is_desk i)) ∷ [])) ∙ sym out in
     subst (λ (z : Sitter). Allows (DeskRule a) slots id z 0 (λ _. 0) (λ _. frees z 0)) same (frees_out a slots id v role on)
 
 pub frees_again : (a : About) (slots id : ℕ) (v : SeatView) (m : Sitter) → v.role ≡ Clerk → v.home ≡ true → m ≡ (v, []) → Allows (DeskRule a) slots id m 0 (λ _. 0) (λ _. frees m 0)
 frees_again a slots id v m role at_home is = subst (λ (z : Sitter). Allows (DeskRule a) slots id z 0 (λ _. 0) (λ _. frees z 0)) (sym is) (frees_home a slots id v role at_home)
 
 pub stores_at : (a : About) (slots id : ℕ) (v : SeatView) (desk : DeskView) (x : EntryView) (entries : ℕ) (m : Sitter) → v.role ≡ Clerk → v.holds ≡ true
-    → x.clerk ≡ v.sheet.number → desk ≡ desk_at v.about (v.sheet.seen ++ x ∷ []) → IsLegal desk.opening desk.journal → length desk.journal ≤ desk.room → entries ≡ length desk.journal → m ≡ (v, (0, Some desk) ∷ [])
+    → x.clerk ≡ v.sheet.number → desk ≡ desk_with v.about.desk.value (v.sheet.seen ++ x ∷ []) → IsLegal desk.opening desk.journal → length desk.journal ≤ desk.room → entries ≡ length desk.journal → m ≡ (v, (0, Some desk) ∷ [])
     → Allows (DeskRule a) slots id m 1 (λ _. entries) (λ _. publishes m entries)
 stores_at a slots id v desk x entries m role on by is_desk legal room count out =
-    let d : DeskView = desk_at v.about (v.sheet.seen ++ x ∷ []) in
+    let d : DeskView = desk_with v.about.desk.value (v.sheet.seen ++ x ∷ []) in
     let same : (v, (0, Some d) ∷ []) ≡ m = (λ i. (v, (0, Some (sym is_desk i)) ∷ [])) ∙ sym out in
     subst (λ (z : Sitter). Allows (DeskRule a) slots id z 1 (λ _. entries) (λ _. publishes z entries)) same
     (stores a slots id v x entries role on by (subst (λ (z : DeskView). IsLegal z.opening z.journal) is_desk legal) (subst (λ (z : DeskView). length z.journal ≤ z.room) is_desk room)
     (count ∙ ap (λ (z : DeskView). length z.journal) is_desk))
 
 -- the seat that has the clerks from k on in stock
-pub deals_at : (a b : About) (id k : ℕ) (v : SeatView) → b ≡ a → v ≡ seated Stock b (blank b k) → k < a.clerks → Splits (DeskRule a) id v (dealt_left v) (dealt_right v)
+pub deals_at : (a b : About) (id k : ℕ) (v : SeatView) → b ≡ a → v ≡ seated Stock b (blank b.desk.value.journal k) → k < a.clerks → Splits (DeskRule a) id v (dealt_left v) (dealt_right v)
 deals_at a b id k v same is few = deals a id v (ap (λ z. z.role) is) (subst (λ n. n < a.clerks) (sym (ap (λ z. z.sheet.number) is)) few)
 
 pub carries : (l : List (ℕ × S)) (x : S) → l ≡ (0, x) ∷ [] → l ≡ (0, x) ∷ rest l
@@ -69,9 +69,9 @@ starts_at a desk entries slots is laid count legal fits =
     (starts a (subst (λ (d : DeskView). IsLegal d.opening d.journal) (sym is) legal) (subst (λ (d : DeskView). length d.journal ≤ d.room) (sym is) fits))
 
 -- the seat of a clerk who leaves the stock
-pub dealt : (a : About) (k : ℕ) (v : SeatView) (m : Sitter) → v ≡ seated Stock a (blank a k) → m ≡ (dealt_right v, []) → k < a.clerks → a.clerks ≤ 64 → IsIdle k m
+pub dealt : (a : About) (k : ℕ) (v : SeatView) (m : Sitter) → v ≡ seated Stock a (blank a.desk.value.journal k) → m ≡ (dealt_right v, []) → k < a.clerks → a.clerks ≤ 64 → IsIdle k m
 dealt a k v m is out known few =
-    let same : m ≡ (seated Clerk a (blank a k), []) = out ∙ ap (λ (z : SeatView). (dealt_right z, [])) is in
+    let same : m ≡ (seated Clerk a (blank a.desk.value.journal k), []) = out ∙ ap (λ (z : SeatView). (dealt_right z, [])) is in
     subst (IsIdle k) (sym same) record { role = refl; number_is = refl; known = known; few = few; free = refl; away = refl; empty = refl }
 
 -- one newcomer more

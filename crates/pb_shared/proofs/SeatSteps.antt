@@ -1,6 +1,6 @@
 -- Making the table keeps the rule, and so do the splits and joins of seats.
 use Rattle.std.proofs.Common.{◌≡◌, ◌≢◌, ℕ, ◌+◌, ◌<◌, ◌≤◌, ◌==◌, Bool, true, false, List, [], ◌∷◌, ◌++◌, length, set, Some, sym, refl, ap, ◌∙◌, subst, arith, eq-eqb, ne_eqb, true≢false, if◌then◌else◌, slice_index_or}
-use mathlib.Core.Option.{some, some-ne-none}
+use mathlib.Core.Option.{some, some-injective, some-ne-none}
 use mathlib.Core.Logic.{dite}
 use mathlib.Core.List.{append-nil}
 use native.Mathlib.Decide.{ℕ_discrete}
@@ -10,13 +10,14 @@ use Rattle.atomic_table.specs.Table.{opening, Enters, Splits, Joins}
 use Rattle.atomic_table.proofs.Lists.{set_again, set_else, at_longer}
 use Rattle.pb_core.specs.Request.{EntryView}
 use Rattle.pb_desk.specs.Replay.{IsLegal}
-use Rattle.pb_shared.specs.Rule.{history, desk_at, blank, seated, stock, Holds, SheetFits, GuestFits, StockFits, RoleFits, Runs, DeskRule, IsWordFor}
+use Rattle.pb_shared.specs.Clerk.{blank, desk_with}
+use Rattle.pb_shared.specs.Rule.{history, seated, stock, SheetFits, RoleFits, Runs, DeskRule}
 use Rattle.pb_shared.specs.Plays.{visits, dealt_left, dealt_right, note_of, informed, handed, nobody}
 use Rattle.pb_shared.specs.declared.seat_view.About.{About}
 use Rattle.pb_shared.specs.declared.seat_view.Role.{Role}
 use Rattle.pb_shared.specs.declared.seat_view.Role.TheVariants.{Stock, Clerk, Guest, Spent}
 use Rattle.pb_shared.specs.declared.seat_view.SeatView.{SeatView}
-use Rattle.pb_shared.proofs.Moves.{not_its, sheet_stays, seat_stays, each_of, each_and, stays_there}
+use Rattle.pb_shared.proofs.Moves.{Holds, not_its, sheet_stays, seat_stays, each_of, each_and, stays_there}
 use Rattle.pb_shared.proofs.LockSteps.{Slot, fits}
 
 -- whether a role is a clerk's
@@ -27,13 +28,13 @@ is_clerk Guest = false
 is_clerk Spent = false
 
 -- who is no clerk does not hold the lock
-holds_not : (n : ℕ) (v : SeatView) → is_clerk v.role ≡ false → ¬ (Holds n v)
-holds_not n v no_clerk h = true≢false (sym (ap is_clerk h.0) ∙ no_clerk)
+holds_not : (v : SeatView) → is_clerk v.role ≡ false → ¬ (Holds v)
+holds_not v no_clerk h = true≢false (sym (ap is_clerk h.0) ∙ no_clerk)
 
 module _ (a : About) (lock : ℕ) (home : Slot) (later : List EntryView) (seat_of : ℕ → ℕ) where
   -- only the views change, and who holds what
   views_change : (seat_of' : ℕ → ℕ) (views views' : List SeatView) → Runs a lock home later seat_of views
-      → ((n : ℕ) → lock ≡ n + 1 → (v : SeatView) × (get_elem? views' (seat_of' n) ≡ some v) × Holds n v)
+      → ((n : ℕ) → lock ≡ n + 1 → (v : SeatView) × (get_elem? views' (seat_of' n) ≡ some v) × Holds v)
       → ((j : ℕ) (v : SeatView) → get_elem? views' j ≡ some v → RoleFits a lock home later seat_of' v.role j v) → Runs a lock home later seat_of' views'
   views_change seat_of' views views' r holder each = record {
     legal = r.legal;
@@ -71,28 +72,28 @@ starts a legal room =
         by_clerks = All-nil (λ (x : EntryView). x.clerk < a.clerks);
         lock_known = omega arith;
         holder = λ n is. absurd (omega arith);
-        free = λ _. λ i. some (Some (desk_at a (sym same i)));
-        in_slot = λ i. Some (desk_at a (sym same i));
-        each = each_and (λ j u. RoleFits a 0 home [] seat_of u.role j u) [] (stock a) record {
-          about = refl;
-          blanks = λ n from below. record {
+        free = λ _. λ i. some (Some (desk_with a.desk.value (sym same i)));
+        in_slot = λ x is. some-injective x (Some (desk_with a.desk.value (history a []))) (sym is ∙ (λ i. some (Some (desk_with a.desk.value (sym same i)))));
+        each = each_and (λ j u. RoleFits a 0 home [] seat_of u.role j u) [] (stock a) (
+          refl,
+          λ n from below. record {
             known = below;
             its_seat = refl;
             begins = ([], refl);
             mine = refl;
             holding = ne_eqb 0 (n + 1) (λ is. omega arith);
             whole = λ is. absurd (true≢false (sym is));
-            found = All-nil (IsWordFor a.clerks n);
+            found = All-nil (λ word. (word ≤ a.clerks) × (word ≢ n + 1));
             read = All-nil (λ word. word ≤ length a.desk.value.journal);
-          };
-        } (λ j u none_there. absurd (some-ne-none u (sym none_there)));
+          },
+        ) (λ j u none_there. absurd (some-ne-none u (sym none_there)));
       },
     )
 
 -- a seat to hand the clerks back to
 pub comes_to_finish : (a : About) (slots : ℕ) → Enters (DeskRule a) slots 0 (λ n w. visits (stock a, []) n (w, []))
 comes_to_finish a slots s r count small =
-    let w : SeatView = seated Guest a (blank a 0) in
+    let w : SeatView = seated Guest a (blank a.desk.value.journal 0) in
     let lock : ℕ = r.0 in let home : Slot = r.1 in let later : List EntryView = r.2 in let seat_of : ℕ → ℕ = r.3 in (
       w,
       (
@@ -102,11 +103,7 @@ comes_to_finish a slots s r count small =
         seat_of,
         r.4,
         r.5,
-        comes a lock home later seat_of s.views w r.6 record {
-          about = refl;
-          begins = (later, refl);
-          returned = All-nil (SheetFits a lock home later seat_of (length s.views) false);
-        },
+        comes a lock home later seat_of s.views w r.6 (refl, (later, refl), All-nil (SheetFits a lock home later seat_of (length s.views) false)),
       ),
       refl,
     )
@@ -124,27 +121,23 @@ writes a id v role s r at =
       seat_of,
       r.4,
       r.5,
-      comes a lock home later seat_of s.views w r.6 record {
-        about = own.about;
-        begins = own.sheet.begins;
-        returned = All-nil (SheetFits a lock home later seat_of (length s.views) false);
-      },
+      comes a lock home later seat_of s.views w r.6 (own.about, own.sheet.begins, All-nil (SheetFits a lock home later seat_of (length s.views) false)),
     )
 
 -- what the seat knows that is another's no more
 module _ (a : About) (lock : ℕ) (home : Slot) (later : List EntryView) (seat_of seat_of' : ℕ → ℕ) (views : List SeatView) (id other : ℕ) (v w both : SeatView) (r : Runs a lock home later seat_of views)
     (at : get_elem? views id ≡ some v) (apart : other ≢ id) (that : get_elem? views other ≡ some w) where
   -- a seat takes in what another knows, which has it no more
-  merges : (keep : (n : ℕ) → Holds n v → Holds n both) → (none_of : (n : ℕ) → ¬ (Holds n w)) → ((n : ℕ) → lock ≡ n + 1 → seat_of' n ≡ seat_of n)
+  merges : (keep : Holds v → Holds both) → (none_of : ¬ (Holds w)) → ((n : ℕ) → lock ≡ n + 1 → seat_of' n ≡ seat_of n)
       → ((j : ℕ) → j ≢ id → j ≢ other → (n : ℕ) → seat_of n ≡ j → seat_of' n ≡ j)
       → RoleFits a lock home later seat_of' both.role id both → Runs a lock home later seat_of' (set (set views id both) other nobody)
   merges keep none_of held still own =
       let Fits : ℕ → SeatView → Type 0 = λ j u. RoleFits a lock home later seat_of' u.role j u in
       views_change a lock home later seat_of seat_of' views (set (set views id both) other nobody) r
       (λ n is. let h = r.holder n is in
-      subst (λ j. (u : SeatView) × (get_elem? (set (set views id both) other nobody) j ≡ some u) × Holds n u) (sym (held n is))
-      (stays_there (Holds n) (set views id both) other w nobody (set_else views id other both apart ∙ that) (λ no. absurd (none_of n no)) (seat_of n)
-      (stays_there (Holds n) views id v both at (keep n) (seat_of n) h)))
+      subst (λ j. (u : SeatView) × (get_elem? (set (set views id both) other nobody) j ≡ some u) × Holds u) (sym (held n is))
+      (stays_there Holds (set views id both) other w nobody (set_else views id other both apart ∙ that) (λ no. absurd (none_of no)) (seat_of n)
+      (stays_there Holds views id v both at keep (seat_of n) h)))
       (each_of Fits (set views id both) other nobody tt
       (λ j u not_other there_. each_of (λ i x. i ≢ other → Fits i x) views id both (λ _. own)
       (λ i x not_id at_i not_other_i. seat_stays a lock home later seat_of seat_of' x.role i x (still i not_id not_other_i) (r.each i x at_i)) j u there_ not_other))
@@ -156,7 +149,7 @@ tells a id other v w role role' s r at apart that =
     let both : SeatView = informed v w in
     let there_ : get_elem? s.views other ≡ some w = sym (set_else s.views id other both apart) ∙ that in
     let own = fits a lock home later seat_of s.views id v role r.6 at in
-    let its : GuestFits a lock home later seat_of other w = subst (λ ρ. RoleFits a lock home later seat_of ρ other w) role' (r.6.each other w there_) in (
+    let its : RoleFits a lock home later seat_of Guest other w = subst (λ ρ. RoleFits a lock home later seat_of ρ other w) role' (r.6.each other w there_) in (
       lock,
       home,
       later,
@@ -164,11 +157,11 @@ tells a id other v w role role' s r at apart that =
       r.4,
       r.5,
       merges a lock home later seat_of seat_of s.views id other v w both r.6 at apart there_
-          (λ n h. h) (λ n. holds_not n w (ap is_clerk role')) (λ n is. refl) (λ j _ _ n e. e)
+          (λ h. h) (holds_not w (ap is_clerk role')) (λ n is. refl) (λ j _ _ n e. e)
           (subst (λ ρ. RoleFits a lock home later seat_of ρ id both) (sym role) record {
             about = own.about;
             sheet = own.sheet;
-            told = its.begins;
+            told = its.1;
             brought = own.brought;
           }),
     )
@@ -196,8 +189,8 @@ deals a id v role few s r at =
     let seat : ℕ = length views' in
     let seat_of' : ℕ → ℕ = reseated seat_of k seat in
     let runs = r.6 in
-    let own : StockFits a lock home later seat_of id v = subst (λ ρ. RoleFits a lock home later seat_of ρ id v) role (runs.each id v at) in
-    let its = own.blanks k (omega arith) few in
+    let own : RoleFits a lock home later seat_of Stock id v = subst (λ ρ. RoleFits a lock home later seat_of ρ id v) role (runs.each id v at) in
+    let its = own.1 k (omega arith) few in
     let Fits : ℕ → SeatView → Type 0 = λ j u. RoleFits a lock home later seat_of' u.role j u in (
       lock,
       home,
@@ -208,22 +201,22 @@ deals a id v role few s r at =
       views_change a lock home later seat_of seat_of' s.views (views' ++ right ∷ []) runs
           (λ n is.
           let other : n ≢ k = λ same. not_its lock k its.holding (is ∙ ap (λ m. m + 1) same) in
-          let h = stays_there (Holds n) s.views id v left at (λ h. absurd (holds_not n v (ap is_clerk role) h)) (seat_of n) (runs.holder n is) in
-          subst (λ j. (u : SeatView) × (get_elem? (views' ++ right ∷ []) j ≡ some u) × Holds n u) (sym (reseated-else seat_of k seat n other))
+          let h = stays_there Holds s.views id v left at (λ h. absurd (holds_not v (ap is_clerk role) h)) (seat_of n) (runs.holder n is) in
+          subst (λ j. (u : SeatView) × (get_elem? (views' ++ right ∷ []) j ≡ some u) × Holds u) (sym (reseated-else seat_of k seat n other))
           (h.0, at_longer views' (right ∷ []) (seat_of n) h.0 h.1, h.2))
           (each_and Fits views' right record {
-            about = own.about;
-            sheet = subst (λ z. SheetFits a lock home later seat_of' seat false (blank z k)) (sym own.about) (sheet_stays a lock home later seat_of seat_of' id seat false (blank a k) (reseated-here seat_of k seat k refl) its);
+            about = own.0;
+            sheet = subst (λ (z : About). SheetFits a lock home later seat_of' seat false (blank z.desk.value.journal k)) (sym own.0) (sheet_stays a lock home later seat_of seat_of' id seat false (blank a.desk.value.journal k) (reseated-here seat_of k seat k refl) its);
             told = (history a later, refl);
             brought = λ is. absurd (true≢false (sym is));
           } (each_of Fits s.views id left
-          (subst (λ ρ. RoleFits a lock home later seat_of' ρ id left) (sym role) record {
-            about = own.about;
-            blanks = λ n from below.
+          (subst (λ ρ. RoleFits a lock home later seat_of' ρ id left) (sym role) (
+            own.0,
+            λ n from below.
                 let other : n ≢ k = λ same. omega arith in
-                let b = own.blanks n (omega arith) below in
-                sheet_stays a lock home later seat_of seat_of' id id false (blank a n) (reseated-else seat_of k seat n other ∙ b.its_seat) b;
-          })
+                let b = own.1 n (omega arith) below in
+                sheet_stays a lock home later seat_of seat_of' id id false (blank a.desk.value.journal n) (reseated-else seat_of k seat n other ∙ b.its_seat) b,
+          ))
           (λ j u not_id there_. seat_stays a lock home later seat_of seat_of' u.role j u
           (λ n e. reseated-else seat_of k seat n (λ same. not_id (sym e ∙ (ap seat_of same ∙ its.its_seat))) ∙ e) (runs.each j u there_)))),
     )
@@ -236,7 +229,7 @@ hands_back a id other v w role role' idle s r at apart that =
     let both : SeatView = handed v w in
     let seat_of' : ℕ → ℕ = reseated seat_of k id in
     let there_ : get_elem? s.views other ≡ some w = sym (set_else s.views id other both apart) ∙ that in
-    let own : GuestFits a lock home later seat_of id v = subst (λ ρ. RoleFits a lock home later seat_of ρ id v) role (r.6.each id v at) in
+    let own : RoleFits a lock home later seat_of Guest id v = subst (λ ρ. RoleFits a lock home later seat_of ρ id v) role (r.6.each id v at) in
     let its = (fits a lock home later seat_of s.views other w role' r.6 there_).sheet in (
       lock,
       home,
@@ -245,17 +238,17 @@ hands_back a id other v w role role' idle s r at apart that =
       r.4,
       r.5,
       merges a lock home later seat_of seat_of' s.views id other v w both r.6 at apart there_
-          (λ n h. absurd (holds_not n v (ap is_clerk role) h))
-          (λ n h. true≢false (sym h.2 ∙ idle))
+          (λ h. absurd (holds_not v (ap is_clerk role) h))
+          (λ h. true≢false (sym h.1 ∙ idle))
           (λ n is. reseated-else seat_of k id n (λ same. not_its lock k (its.holding ∙ idle) (is ∙ ap (λ m. m + 1) same)))
           (λ j not_id not_other n e. reseated-else seat_of k id n (λ same. not_other (sym e ∙ (ap seat_of same ∙ its.its_seat))) ∙ e)
-          (subst (λ ρ. RoleFits a lock home later seat_of' ρ id both) (sym role) record {
-            about = own.about;
-            begins = own.begins;
-            returned = All-cons (SheetFits a lock home later seat_of' id false) w.sheet v.returned
+          (subst (λ ρ. RoleFits a lock home later seat_of' ρ id both) (sym role) (
+            own.0,
+            own.1,
+            All-cons (SheetFits a lock home later seat_of' id false) w.sheet v.returned
                 (sheet_stays a lock home later seat_of seat_of' other id false w.sheet (reseated-here seat_of k id k refl) (subst (λ b. SheetFits a lock home later seat_of other b w.sheet) idle its))
-                (λ n d inside. let x = own.returned n d inside in
+                (λ n d inside. let x = own.2 n d inside in
                 let y = slice_index_or v.returned n d in
-                sheet_stays a lock home later seat_of seat_of' id id false y (dite (ℕ_discrete y.number k) (λ same. reseated-here seat_of k id y.number same) (λ other_. reseated-else seat_of k id y.number other_ ∙ x.its_seat)) x);
-          }),
+                sheet_stays a lock home later seat_of seat_of' id id false y (dite (ℕ_discrete y.number k) (λ same. reseated-here seat_of k id y.number same) (λ other_. reseated-else seat_of k id y.number other_ ∙ x.its_seat)) x),
+          )),
     )

@@ -5,6 +5,7 @@ use Rattle.pb_core.specs.Request.{EntryView, RequestView}
 use Rattle.pb_core.specs.declared.answer.Answer.{Answer}
 use Rattle.pb_desk.specs.Desk.{DeskView}
 use Rattle.pb_desk.specs.Replay.{IsLegal}
+use Rattle.pb_shared.specs.declared.seat_view.Sheet.{Sheet}
 
 -- which shared desk it is, the desk as it was when it was shared, and the number of clerks
 pub record SharedView : Type 0 where
@@ -35,14 +36,22 @@ Begins front journal = (rest : List EntryView) × (journal ≡ front ++ rest)
 abbrev pub entries_of : ℕ → List EntryView → List EntryView
 entries_of number journal = filter (λ x. x.clerk == number) journal
 
--- the desk that was shared, with this journal
-abbrev pub desk_with : SharedView → List EntryView → DeskView
-desk_with d journal = record { opening = d.start.opening; room = d.start.room; journal = journal }
+-- the same desk with this journal
+abbrev pub desk_with : DeskView → List EntryView → DeskView
+desk_with start journal = record start { journal = journal }
+
+-- what a clerk of this desk is seen as, by what it knows
+abbrev pub clerk_of : SharedView → Sheet → ClerkView
+clerk_of d x =
+    record { desk = d; number = x.number; seen = x.seen; mine = x.mine; found = x.found; read = x.read }
+
+-- who has seen this journal, and made no call
+abbrev pub blank : List EntryView → ℕ → Sheet
+blank journal number = record { number = number; seen = journal; mine = []; found = []; read = [] }
 
 -- a clerk who has made no call
 abbrev pub newcomer : SharedView → ℕ → ClerkView
-newcomer d number =
-    record { desk = d; number = number; seen = d.start.journal; mine = []; found = []; read = [] }
+newcomer d number = clerk_of d (blank d.start.journal number)
 
 -- the clerks of a shared desk, before any call
 abbrev pub AreNewcomers : SharedView → List ClerkView → Type 0
@@ -71,13 +80,9 @@ Sees c seen words c' = IsLater c seen × (c' ≡ record c { seen = seen; found =
 abbrev pub Serves : ClerkView → RequestView → Answer → List ℕ → ClerkView → Type 0
 Serves c request answer words c' =
     let x : EntryView = record { clerk = c.number; request = request; answer = answer } in
-    (between : List EntryView)
-    × IsLater c ((c.seen ++ between) ++ x ∷ [])
-    × (c' ≡ record c {
-      seen = (c.seen ++ between) ++ x ∷ [];
-      mine = c.mine ++ x ∷ [];
-      found = c.found ++ words;
-    })
+    (between : List EntryView) × (c'.seen ≡ (c.seen ++ between) ++ x ∷ [])
+    × (c' ≡ record c { seen = c'.seen; mine = c.mine ++ x ∷ []; found = c.found ++ words })
+    × IsLater c c'.seen
 
 -- the clerk's last exchange found the lock with this other clerk, and nothing else of it has changed
 abbrev pub TurnsAway : ClerkView → ℕ → List ℕ → ClerkView → Type 0

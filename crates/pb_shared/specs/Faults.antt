@@ -1,24 +1,17 @@
--- The numbers and names of the faults.
+-- The faults' numbers and names.
 use Rattle.std.specs.Prelude.{ℕ, List, codes}
 use Rattle.pb_shared.specs.declared.share_fault.ShareFault.{ShareFault}
 use Rattle.pb_shared.specs.declared.share_fault.ShareFault.TheVariants as share
 use Rattle.pb_shared.specs.declared.shared_fault.SharedFault.{SharedFault}
 use Rattle.pb_shared.specs.declared.shared_fault.SharedFault.TheVariants.{Busy, JournalFull, NoMemory}
 
-abbrev pub share_number_of : ShareFault → ℕ
-share_number_of (share.ClerkCount desk) = 1
-share_number_of (share.NoMemory desk) = 2
+-- the number and the name of a fault of `share`
+abbrev pub share_numbered_name : ShareFault → ℕ × List ℕ
+share_numbered_name (share.ClerkCount desk) = (1, codes "ClerkCount")
+share_numbered_name (share.NoMemory desk) = (2, codes "NoMemory")
 
-abbrev pub share_name_of : ShareFault → List ℕ
-share_name_of (share.ClerkCount desk) = codes "ClerkCount"
-share_name_of (share.NoMemory desk) = codes "NoMemory"
-
-abbrev pub number_of : SharedFault → ℕ
-number_of (Busy holder) = 1
-number_of JournalFull = 2
-number_of NoMemory = 3
-
-abbrev pub name_of : SharedFault → List ℕ
-name_of (Busy holder) = codes "Busy"
-name_of JournalFull = codes "JournalFull"
-name_of NoMemory = codes "NoMemory"
+-- the number and the name of a fault of `serve`
+abbrev pub numbered_name : SharedFault → ℕ × List ℕ
+numbered_name (Busy holder) = (1, codes "Busy")
+numbered_name JournalFull = (2, codes "JournalFull")
+numbered_name NoMemory = (3, codes "NoMemory")

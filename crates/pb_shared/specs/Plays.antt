@@ -4,8 +4,8 @@ use Rattle.pb_core.specs.Request.{EntryView}
 use Rattle.pb_desk.specs.Desk.{DeskView}
 use Rattle.pb_desk.specs.Replay.{IsLegal}
 use Rattle.pb_desk.specs.declared.version.Version.TheVariants.{Two}
-use Rattle.pb_shared.specs.Clerk.{Begins}
-use Rattle.pb_shared.specs.Rule.{blank, desk_at, seated, Sitter}
+use Rattle.pb_shared.specs.Clerk.{Begins, blank, desk_with}
+use Rattle.pb_shared.specs.Rule.{seated, Sitter}
 use Rattle.pb_shared.specs.declared.seat_view.About.{About}
 use Rattle.pb_shared.specs.declared.seat_view.Role.TheVariants.{Clerk, Guest, Spent}
 use Rattle.pb_shared.specs.declared.seat_view.SeatView.{SeatView}
@@ -46,7 +46,7 @@ journal_out ((_, Some d) ∷ _) = d.journal
 abbrev pub tries_lock : Sitter → ℕ → Sitter → Type 0
 tries_lock m word m' =
     (word ≡ 0 → (seen : List EntryView) × CanSee m.0 seen
-    × (m' ≡ (won m.0 seen, (0, Some (desk_at m.0.about seen)) ∷ [])))
+    × (m' ≡ (won m.0 seen, (0, Some (desk_with m.0.about.desk.value seen)) ∷ [])))
     × (word ≢ 0 → (word ≤ m.0.about.clerks) × (word ≢ m.0.sheet.number + 1) × (m' ≡ (lost m.0 word, [])))
 
 abbrev pub publishes : Sitter → ℕ → Sitter → Type 0
@@ -60,17 +60,17 @@ reads m word m' = (seen : List EntryView) × CanSee m.0 seen × Begins m.0.told 
     × (m' ≡ (has_read m.0 seen word, m.1))
 
 abbrev pub visits : Sitter → ℕ → Sitter → Type 0
-visits m word m' = m'.0 ≡ seated Guest m.0.about (blank m.0.about 0)
+visits m word m' = m'.0 ≡ seated Guest m.0.about (blank m.0.about.desk.value.journal 0)
 
 -- the next clerk leaves the stock
 abbrev pub dealt_left : SeatView → SeatView
 dealt_left v = record v { sheet = record v.sheet { number = suc v.sheet.number } }
 
 abbrev pub dealt_right : SeatView → SeatView
-dealt_right v = seated Clerk v.about (blank v.about v.sheet.number)
+dealt_right v = seated Clerk v.about (blank v.about.desk.value.journal v.sheet.number)
 
 abbrev pub note_of : SeatView → SeatView
-note_of v = seated Guest v.about (record (blank v.about 0) { seen = v.sheet.seen })
+note_of v = seated Guest v.about (record (blank v.about.desk.value.journal 0) { seen = v.sheet.seen })
 
 abbrev pub informed : SeatView → SeatView → SeatView
 informed v note = record v { told = note.sheet.seen }
@@ -92,4 +92,4 @@ no_desk = record {
 abbrev pub nobody : SeatView
 nobody =
     let a : About = record { desk = record { marker = record {}; value = no_desk }; clerks = 0 } in
-    seated Spent a (blank a 0)
+    seated Spent a (blank [] 0)

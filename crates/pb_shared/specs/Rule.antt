@@ -6,7 +6,7 @@ use Rattle.atomic_table.specs.Table.{Me, State}
 use Rattle.pb_core.specs.Request.{EntryView}
 use Rattle.pb_desk.specs.Desk.{DeskView}
 use Rattle.pb_desk.specs.Replay.{IsLegal}
-use Rattle.pb_shared.specs.Clerk.{Begins, entries_of}
+use Rattle.pb_shared.specs.Clerk.{Begins, blank, desk_with, entries_of}
 use Rattle.pb_shared.specs.declared.seat_view.About.{About}
 use Rattle.pb_shared.specs.declared.seat_view.Role.{Role}
 use Rattle.pb_shared.specs.declared.seat_view.Role.TheVariants.{Stock, Clerk, Guest, Spent}
@@ -21,13 +21,9 @@ Sitter = Me (Option DeskView) SeatView
 abbrev pub history : About → List EntryView → List EntryView
 history a later = a.desk.value.journal ++ later
 
--- the desk that was shared, with this journal
-abbrev pub desk_at : About → List EntryView → DeskView
-desk_at a journal = record { opening = a.desk.value.opening; room = a.desk.value.room; journal = journal }
-
--- the sheet of a clerk who has made no call
-abbrev pub blank : About → ℕ → Sheet
-blank a number = record { number = number; seen = a.desk.value.journal; mine = []; found = []; read = [] }
+-- the desk with that history as its journal
+abbrev pub desk_after : About → List EntryView → DeskView
+desk_after a later = desk_with a.desk.value (history a later)
 
 -- a seat that knows this sheet, and does not hold the lock
 abbrev pub seated : Role → About → Sheet → SeatView
@@ -36,25 +32,14 @@ seated role a sheet =
 
 -- the first seat, with all clerks in stock
 abbrev pub stock : About → SeatView
-stock a = seated Stock a (blank a 0)
-
--- a word that the clerk's exchanges can find: 0, or another clerk's number and 1
-abbrev pub IsWordFor : ℕ → ℕ → ℕ → Type 0
-IsWordFor clerks number word = (word ≤ clerks) × (word ≢ number + 1)
-
--- the seat of the clerk with this number, who holds the lock
-abbrev pub Holds : ℕ → SeatView → Type 0
-Holds number v = (v.role ≡ Clerk) × (v.sheet.number ≡ number) × (v.holds ≡ true)
-
--- if the desk is in the slot, it is this one
-abbrev pub IsIn : slot.Option (Option DeskView) → DeskView → Type 0
-IsIn slot.none d = ⊤
-IsIn (slot.some x) d = x ≡ Some d
+stock a = seated Stock a (blank a.desk.value.journal 0)
 
 module _ (a : About) (lock : ℕ) (home : slot.Option (Option DeskView)) (later : List EntryView)
     (seat_of : ℕ → ℕ) where
-  -- a clerk's sheet is true: the seat is its own; what it has seen begins the history, and is all of it while the
-  -- clerk holds the lock; past the start, its own entries are those of its number
+  -- a clerk's sheet is true: the seat is its own; what it has seen begins the history, and is all of it
+  -- while the clerk holds the lock; past the start, its own entries are those of its number; each lock word
+  -- that it found is 0, or another clerk's number and 1; no front word that it read is above the length of
+  -- what it has seen
   pub record SheetFits (seat : ℕ) (holds : Bool) (x : Sheet) : Type 0 where
     pub known : x.number < a.clerks
     pub its_seat : seat_of x.number ≡ seat
@@ -62,33 +47,25 @@ module _ (a : About) (lock : ℕ) (home : slot.Option (Option DeskView)) (later 
     pub mine : entries_of x.number later ≡ x.mine
     pub holding : (lock == x.number + 1) ≡ holds
     pub whole : holds ≡ true → x.seen ≡ history a later
-    pub found : All (IsWordFor a.clerks x.number) x.found
+    pub found : All (λ word. (word ≤ a.clerks) × (word ≢ x.number + 1)) x.found
     pub read : All (λ word. word ≤ length x.seen) x.read
 
-  -- what a clerk's seat knows is true: its sheet, what it was told, and that the desk is home if it brought it
-  -- back
+  -- what a clerk's seat knows is true: its sheet, what it was told, and that the desk is home if it brought
+  -- it back
   pub record ClerkFits (seat : ℕ) (v : SeatView) : Type 0 where
     pub about : v.about ≡ a
     pub sheet : SheetFits seat v.holds v.sheet
     pub told : Begins v.told (history a later)
-    pub brought : v.home ≡ true → (v.holds ≡ true) × (home ≡ slot.some (Some (desk_at a (history a later))))
+    pub brought : v.home ≡ true → (v.holds ≡ true) × (home ≡ slot.some (Some (desk_after a later)))
 
-  -- what a note's seat knows is true, and what the seat knows that clerks are handed back to
-  pub record GuestFits (seat : ℕ) (v : SeatView) : Type 0 where
-    pub about : v.about ≡ a
-    pub begins : Begins v.sheet.seen (history a later)
-    pub returned : All (SheetFits seat false) v.returned
-
-  -- the clerks in stock have made no call
-  pub record StockFits (seat : ℕ) (v : SeatView) : Type 0 where
-    pub about : v.about ≡ a
-    pub blanks : (number : ℕ) → v.sheet.number ≤ number → number < a.clerks
-        → SheetFits seat false (blank a number)
-
+  -- what a seat knows is true: the clerks in stock have made no call; what a note has seen begins the
+  -- history; the sheets of clerks who were handed back are true
   abbrev pub RoleFits : Role → ℕ → SeatView → Type 0
-  RoleFits Stock seat v = StockFits seat v
+  RoleFits Stock seat v = (v.about ≡ a) × ((number : ℕ) → v.sheet.number ≤ number → number < a.clerks
+      → SheetFits seat false (blank a.desk.value.journal number))
   RoleFits Clerk seat v = ClerkFits seat v
-  RoleFits Guest seat v = GuestFits seat v
+  RoleFits Guest seat v =
+      (v.about ≡ a) × Begins v.sheet.seen (history a later) × All (SheetFits seat false) v.returned
   RoleFits Spent seat v = ⊤
 
   -- what is true of the running desk, with this lock word, this in the slot and these views, where this was
@@ -98,10 +75,10 @@ module _ (a : About) (lock : ℕ) (home : slot.Option (Option DeskView)) (later 
     pub fits : length (history a later) ≤ a.desk.value.room
     pub by_clerks : All (λ x. x.clerk < a.clerks) later
     pub lock_known : lock ≤ a.clerks
-    pub holder : (number : ℕ) → lock ≡ number + 1
-        → (v : SeatView) × (get_elem? views (seat_of number) ≡ slot.some v) × Holds number v
-    pub free : lock ≡ 0 → home ≡ slot.some (Some (desk_at a (history a later)))
-    pub in_slot : IsIn home (desk_at a (history a later))
+    pub holder : (number : ℕ) → lock ≡ number + 1 → (v : SeatView)
+        × (get_elem? views (seat_of number) ≡ slot.some v) × ((v.role ≡ Clerk) × (v.holds ≡ true))
+    pub free : lock ≡ 0 → home ≡ slot.some (Some (desk_after a later))
+    pub in_slot : (x : Option DeskView) → home ≡ slot.some x → x ≡ Some (desk_after a later)
     pub each : (seat : ℕ) (v : SeatView) → get_elem? views seat ≡ slot.some v → RoleFits v.role seat v
 
 -- There is one history, from the journal at the start on. The words are the lock and the number of its entries

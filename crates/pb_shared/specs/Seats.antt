@@ -3,8 +3,8 @@ use Rattle.std.specs.Prelude.{◌≡◌, ◌≢◌, ℕ, ◌+◌, ◌<◌, ◌�
 use Rattle.atomic_table.specs.Seated.{TableId}
 use Rattle.pb_core.specs.Request.{EntryView}
 use Rattle.pb_desk.specs.Desk.{DeskView}
-use Rattle.pb_shared.specs.Clerk.{SharedView, ClerkView, NoteView}
-use Rattle.pb_shared.specs.Rule.{desk_at, stock, Sitter}
+use Rattle.pb_shared.specs.Clerk.{SharedView, ClerkView, NoteView, clerk_of, desk_with}
+use Rattle.pb_shared.specs.Rule.{stock, Sitter}
 use Rattle.pb_shared.specs.Plays.{CanSee, won, lost}
 use Rattle.pb_shared.specs.declared.seat_view.About.{About}
 use Rattle.pb_shared.specs.declared.seat_view.Sheet.{Sheet}
@@ -14,15 +14,7 @@ abbrev pub shared_view : TableId → About → SharedView
 shared_view id a = record { id = id; start = a.desk.value; clerks = a.clerks }
 
 abbrev pub clerk_view : TableId → Sitter → ClerkView
-clerk_view id m =
-    record {
-      desk = shared_view id m.0.about;
-      number = m.0.sheet.number;
-      seen = m.0.sheet.seen;
-      mine = m.0.sheet.mine;
-      found = m.0.sheet.found;
-      read = m.0.sheet.read;
-    }
+clerk_view id m = clerk_of (shared_view id m.0.about) m.0.sheet
 
 -- what a clerk's seat knows of it
 abbrev pub sheet_of : ClerkView → Sheet
@@ -56,7 +48,7 @@ pub record IsNote (m : Sitter) : Type 0 where
 -- an exchange won the lock: the desk was taken out, with the whole history as its journal, which is what the
 -- clerk has now seen
 abbrev pub HasWon : Sitter → DeskView → Sitter → Type 0
-HasWon m desk m' = (seen : List EntryView) × CanSee m.0 seen × (desk ≡ desk_at m.0.about seen)
+HasWon m desk m' = (seen : List EntryView) × CanSee m.0 seen × (desk ≡ desk_with m.0.about.desk.value seen)
     × (m' ≡ (won m.0 seen, (0, None) ∷ []))
 
 -- an exchange found the lock with another clerk
@@ -72,7 +64,7 @@ pub record IsOut (m : Sitter) : Type 0 where
 
 -- the desk as it was taken out, with this journal
 abbrev pub IsDeskOf : Sitter → DeskView → List EntryView → Type 0
-IsDeskOf m desk journal = desk ≡ desk_at m.0.about journal
+IsDeskOf m desk journal = desk ≡ desk_with m.0.about.desk.value journal
 
 -- the desk as it was taken out, with one entry more, which is the clerk's
 abbrev pub HasServed : Sitter → DeskView → Type 0

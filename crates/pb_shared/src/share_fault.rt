@@ -21,11 +21,11 @@ impl fmt::Debug for ShareFault {
 
 impl ShareFault {
     ghost use Rattle.std.specs.Prelude.{◌≡◌};
-    ghost use Rattle.pb_shared.specs.Faults.{share_number_of, share_name_of};
+    ghost use Rattle.pb_shared.specs.Faults.{share_numbered_name};
 
     /// The fault's number, from 1.
     pub fn number(&self) -> u32
-        ensures { result ≡ share_number_of self.now }
+        ensures { result ≡ (share_numbered_name self.now).0 }
     {
         match self {
             ShareFault::ClerkCount(_) => 1,
@@ -35,7 +35,7 @@ impl ShareFault {
 
     /// The fault's name.
     pub fn name(&self) -> &'static str
-        ensures { result.now ≡ share_name_of self.now }
+        ensures { result.now ≡ (share_numbered_name self.now).1 }
     {
         match self {
             ShareFault::ClerkCount(_) => "ClerkCount",

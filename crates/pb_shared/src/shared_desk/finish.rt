@@ -16,7 +16,7 @@ impl SharedDesk {
     pub fn finish(self, mut clerks: Vec<Clerk>) -> Result<Desk, Unfinished>
         requires own { All (λ clerk. clerk.desk ≡ self) clerks.items }
         ensures ok { IfOk result (λ desk.
-            (desk ≡ desk_with self desk.journal) × IsMergeOf self clerks.items desk.journal) }
+            (desk ≡ desk_with self.start desk.journal) × IsMergeOf self clerks.items desk.journal) }
         ensures err { IfErr result (λ fault. IsHeldByAnother self clerks.items fault.0) }
         ensures all { AreAll self clerks.items → IsOk result }
     {

@@ -16,7 +16,7 @@ impl SharedDesk {
         requires f { F.IsAlwaysCallable f }
         ensures same { IsSame clerk.old clerk.new }
         ensures ok { IfOk result (λ answer. Sees clerk.old clerk.new.seen (0 ∷ []) clerk.new
-            × FnOnceReturnsAt F.FnOnce f (desk_with self.now clerk.new.seen) answer) }
+            × FnOnceReturnsAt F.FnOnce f (desk_with self.now.start clerk.new.seen) answer) }
         ensures err { IfErr result (λ busy. TurnsAway clerk.old busy.0 [] clerk.new) }
     {
         let desk = self.take_desk(&mut clerk.seat, clerk.number)?;
