@@ -1,5 +1,5 @@
 -- The claims on pieces: each kind of step keeps their rule, and who has all seats has all numbers, each once.
-use Rattle.std.proofs.Common.{◌≡◌, ℕ, zero, suc, ◌+◌, ◌-◌, ◌%◌, ◌^◌, ◌<◌, ◌≤◌, min, Bool, true, false, cond, List, [], ◌∷◌, ◌++◌, length, set, refl, sym, ap, subst, ◌∙◌, inl, inr, arith}
+use Rattle.std.proofs.Common.{◌≡◌, ℕ, zero, suc, ◌+◌, ◌%◌, ◌^◌, ◌<◌, ◌≤◌, min, Bool, true, false, cond, List, [], ◌∷◌, ◌++◌, set, refl, sym, ap, subst, ◌∙◌, inl, inr, arith}
 use Rattle.std.specs.Prelude.{nat_le, sum_by, slice_index}
 use Rattle.std.specs.List.{range_with_len}
 use Rattle.std.proofs.Math.Nat.{mod-eq_of_lt}
@@ -10,7 +10,7 @@ use mathlib.Core.Option.{none, some, some-injective, some-ne-none}
 use lib.ListN.{get_elem?}
 use Rattle.atomic_table.proofs.Lists.{at_set, at_snoc}
 use Rattle.atomic_table.specs.Table.{State, Me, step, keeps, Allows, Final, Joins, Seen, Splits}
-use Rattle.pb_price.specs.Claims.{drawn, draws, joined, one_seat, past_end, rest_of_seats, spent, AllBelowOnce, AreBelowOnce, AreClaims, AreViews, IsView}
+use Rattle.pb_price.specs.Claims.{drawn, draws, joined, one_seat, past_end, rest_of_seats, spent, AreBelowOnce, AreClaims, AreViews, IsView}
 use Rattle.pb_price.specs.declared.claims.drawn.Drawn.{Drawn}
 use Rattle.pb_price.proofs.BuiltLists.{range_with_len_more}
 

@@ -1,5 +1,6 @@
 pub mod BuiltLists
 pub mod ClaimSteps
+pub mod CommonRests
 pub mod FirstInRange
 pub mod Payments
 pub mod PriceSteps

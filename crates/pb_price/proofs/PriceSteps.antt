@@ -56,7 +56,7 @@ all_paid supporters rests p none =
     omega (arith, bound, nothing, paid_at_largest supporters rests (p + most) (omega arith))
 
 -- what is below a step, and what is paid at the step, where paying e more brings at most m each
-below_step : (missing m e : ℕ) → 0 < m → e < missing / m + min 1 (missing % m) → m * e < missing
+pub below_step : (missing m e : ℕ) → 0 < m → e < missing / m + min 1 (missing % m) → m * e < missing
 below_step missing m e some h =
     let step : ℕ = missing / m + min 1 (missing % m) in
     let bounds = div_ceil_times missing m some in

@@ -7,10 +7,10 @@ ghost use Rattle.pb_price.specs.Working.{IsDone};
 
 use crate::claims::Claims;
 use crate::claims::rule::Batch;
+use crate::common_rest::{common_rest, price_by};
 use crate::gate::Gate;
 use crate::gathering::{Gathered, take_in};
 use crate::price_fault::PriceFault;
-use crate::steps::price_in_steps;
 use crate::supporters::Supporters;
 use crate::tally::Tally;
 use crate::worker::{Worker, staff};
@@ -91,10 +91,11 @@ fn price_in_turn<A: Allocator, B: Allocator, G: Gate>(
     requires few { length projects.now ≤ most_projects }
     ensures { IfOk result (λ prices. prices.items ≡ map (price_at supporters.now rests.now) projects.now) }
 {
+    let common = common_rest(supporters, rests, projects.len());
     let mut prices = Vec::with_capacity(alloc, projects.len())?;
     for (piece, place) in projects.iter().enumerate() {
         gate.at(0, piece as u32);
-        prices.push(price_in_steps(supporters, rests, *place))?;
+        prices.push(price_by(supporters, rests, &common, *place))?;
     }
     Ok(prices)
 }

@@ -4,6 +4,7 @@
 mod all_prices;
 mod answer;
 mod claims;
+mod common_rest;
 pub mod gate;
 mod gathering;
 pub mod laws;

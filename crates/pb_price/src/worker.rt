@@ -6,8 +6,8 @@ ghost use Rattle.pb_price.specs.Working.{IsDone};
 
 use crate::answer::Answer;
 use crate::claims::{Claim, Claims};
+use crate::common_rest::{common_rest, price_by};
 use crate::gate::Gate;
-use crate::steps::price_in_steps;
 use crate::supporters::Supporters;
 use pb_core::money::Money;
 use pb_core::no_memory::NoMemory;
@@ -41,6 +41,7 @@ impl<A: Allocator> Worker<A> {
         ensures done { IfOk result (λ w.
             IsDone supporters.now rests.now projects.now w.claim.seat.me.0 w.answers.items) }
     {
+        let common = common_rest(supporters, rests, projects.len());
         loop {
             let number = claims.draw(&mut self.claim);
             let Some(place) = projects.get(number as usize) else {
@@ -48,7 +49,7 @@ impl<A: Allocator> Worker<A> {
             };
             let piece = number as u32;
             gate.at(self.number, piece);
-            let price = price_in_steps(supporters, rests, *place);
+            let price = price_by(supporters, rests, &common, *place);
             self.answers.push(Answer { piece, price })?;
         }
     }

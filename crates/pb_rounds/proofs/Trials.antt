@@ -14,7 +14,6 @@ use Rattle.pb_rounds.specs.Queue.{AreMarked, IsWholeRun, is_above}
 use Rattle.pb_rounds.specs.RaiseEnds.{IsRaiseEnd}
 use Rattle.pb_rounds.specs.Run.{ElectedView, run_of}
 use Rattle.pb_rounds.proofs.Completing.{decided_before, decided_here}
-use Rattle.pb_rounds.proofs.RunQueue.{some_worker}
 
 -- the end of a run that was whole, within the budget
 module _ (m : Measure) (s : SupportView) (workers share raised budget : ℕ) (o : OutcomeView) (marks : List Bool) (spent : ℕ)
@@ -62,11 +61,11 @@ few_workers : (workers : ℕ) → is_worker_count workers ≡ true → workers �
 few_workers workers e = leb-true workers 64 (and_parts _ _ e).1
 
 -- a group is at least one raise, and at most 64
-pub group_size : (workers most count left tried : ℕ) → is_worker_count workers ≡ true → most ≡ min workers left → 0 < left → count ≡ min (max tried 2) most
+pub group_size : (workers side_by_side most count left tried : ℕ) → is_worker_count workers ≡ true → 0 < side_by_side → side_by_side ≤ workers
+    → most ≡ min side_by_side left → 0 < left → count ≡ min (max tried 2) most
     → (0 < count) × (count ≤ 64) × (count ≤ left)
-group_size workers most count left tried e most_is some count_is =
-    let least : 0 < workers = some_worker workers e in
-    let few : workers ≤ 64 = few_workers workers e in (
+group_size workers side_by_side most count left tried e least within most_is some count_is =
+    let few : side_by_side ≤ 64 = (let all = few_workers workers e in omega (arith, all, within)) in (
       omega (arith, least, most_is, some, count_is),
       omega (arith, few, most_is, count_is),
       omega (arith, most_is, count_is),

@@ -170,6 +170,22 @@ fn try_raises<R: Threads + Sync, G: Gate, A: Allocator + Copy + Send + Sync, B: 
     Ok(None)
 }
 
+/// How many raises are tried side by side at most: one for each worker, and for each processor where their number is known,
+/// since what runs beside others on one processor only delays them.
+fn most_trials(rt: &impl Threads, workers: u32) -> u32
+    requires { 0 < workers }
+    ensures some { 0 < result }
+    ensures few { result ≤ workers }
+{
+    match thread::available_parallelism(rt) {
+        Ok(processors) => match u32::try_from(processors.get()) {
+            Ok(processors) => workers.min(processors),
+            Err(_) => workers,
+        },
+        Err(_) => workers,
+    }
+}
+
 /// Makes the trials this many.
 fn resize<A: Allocator + Copy>(
     alloc: A,
@@ -185,8 +201,8 @@ fn resize<A: Allocator + Copy>(
     Ok(())
 }
 
-/// Completes by raises from this number on, none before which decides, in groups that grow until each worker has a raise.
-/// The raise that is answered is run once more, with all workers.
+/// Completes by raises from this number on, none before which decides, in groups that grow until each worker has a raise, or
+/// each processor where those are fewer. The raise that is answered is run once more, with all workers.
 pub(crate) fn complete_side_by_side<
     R: Threads + Sync,
     G: Gate,
@@ -215,9 +231,10 @@ pub(crate) fn complete_side_by_side<
     ensures is_support { OnOk result (IsSupport pricing.now.supporters.now) }
 {
     let mut trials = Vec::new(pricing.alloc);
+    let side_by_side = most_trials(pricing.rt, pricing.workers);
     let mut next = from;
     while next <= max_raises {
-        let most = pricing.workers.min(max_raises + 1 - next) as usize;
+        let most = side_by_side.min(max_raises + 1 - next) as usize;
         let count = (2 * trials.len()).max(2).min(most);
         resize(pricing.alloc, &mut trials, count)?;
         let found = try_raises(pricing, election, &mut trials, step, max_raises, next)?;

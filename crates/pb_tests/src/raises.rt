@@ -2,12 +2,9 @@
 
 ghost use Rattle.std.specs.Prelude.{◌<◌};
 
-use pb_core::ballot::Ballot;
+use crate::elections::{add_next_voter, numbered};
 use pb_core::election::Election;
 use pb_core::money::Money;
-use pb_core::project::Project;
-use pb_core::voter::Voter;
-use pb_core::voter_id::VoterId;
 use pb_price::gate::NoGate;
 use pb_rounds::count::{count, equal_shares};
 use pb_rounds::count_fault::CountFault;
@@ -30,37 +27,6 @@ fn draw(seed: &mut u64, below: u64) -> u64
     (*seed >> 33) % below
 }
 
-fn add_project(
-    rt: &impl Abort,
-    alloc: Global,
-    election: &mut Election,
-    cost: u64,
-) -> Result<(), Fail> {
-    let place = election.projects().len();
-    let id = format!(in alloc; "p{place}")?;
-    assert!(rt; !id.is_empty() && 0 < cost && cost <= 1_000_000_000_000_000);
-    let project = Project::new(id, String::new(alloc), Money(cost));
-    assert!(rt; election.voters().is_empty() && place < 10_000);
-    assert!(rt; !election.has_project(project.id()));
-    election.add_project(project)?;
-    Ok(())
-}
-
-fn add_voter(
-    rt: &impl Abort,
-    alloc: Global,
-    election: &mut Election,
-    places: &[u32],
-) -> Result<(), Fail> {
-    let position = election.voters().len();
-    let text = format!(in alloc; "v{position}")?;
-    let id = VoterId::new(alloc, text.as_str())?.expect(rt, "an id");
-    let ballot = Ballot::of(alloc, places)?;
-    assert!(rt; position < 1_000_000 && !election.has_voter(&id) && election.knows(&ballot));
-    election.add_voter(Voter { id, ballot })?;
-    Ok(())
-}
-
 /// Some of these projects.
 fn draw_places(alloc: Global, seed: &mut u64, projects: u32) -> Result<Vec<u32>, Fail> {
     let mut places = Vec::new(alloc);
@@ -75,15 +41,16 @@ fn draw_places(alloc: Global, seed: &mut u64, projects: u32) -> Result<Vec<u32>,
 
 /// An election of 1 to 5 projects and up to 6 voters, with a budget below 4.00.
 fn made_election(rt: &impl Abort, alloc: Global, seed: &mut u64) -> Result<Election, Fail> {
-    let mut election = Election::start(alloc, Money(draw(seed, 400)));
+    let budget = draw(seed, 400);
     let projects = 1 + draw(seed, 5) as u32;
+    let mut costs = Vec::new(alloc);
     for _ in 0..projects {
-        let cost = 1 + draw(seed, 150);
-        add_project(rt, alloc, &mut election, cost)?;
+        costs.push(1 + draw(seed, 150))?;
     }
+    let mut election = numbered(rt, alloc, budget, costs.as_slice(), &[]);
     for _ in 0..draw(seed, 7) {
         let places = draw_places(alloc, seed, projects)?;
-        add_voter(rt, alloc, &mut election, places.as_slice())?;
+        add_next_voter(rt, alloc, &mut election, places.as_slice());
     }
     Ok(election)
 }

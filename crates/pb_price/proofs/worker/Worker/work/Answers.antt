@@ -15,7 +15,7 @@ loop-place-preserved g c =
     let projects = c.args.projects.now in
     let less : number < length projects = search rules in
     let read : c.in-Some.place.now ≡ slice_index projects number = search rules in
-    let price = c.price_in_steps-price.ensures.price ∙ ap (price_at c.args.supporters.now c.args.rests.now) read in record {
+    let price = c.price_by-price.ensures ∙ ap (price_at c.args.supporters.now c.args.rests.now) read in record {
       same = c.draw-number.ensures.same;
       working = works_on c.args.supporters.now c.args.rests.now projects c.loop-place.self.claim.seat.me.0 c.draw-number.new.claim.seat.me.0
           c.loop-place.self.answers.items c.push.new.self.items _ number c.loop-place.invariant.working c.draw-number.ensures.drawn

@@ -1,0 +1,71 @@
+//! Prices where all rests are equal, as in the first round of a run: no supporter has to be visited.
+
+ghost use Rattle.std.specs.Prelude.{◌≡◌, ◌<◌, ℕ, List, All, IfSome, length};
+ghost use Rattle.pb_price.specs.Price.{price_at, AreRests};
+
+use crate::steps::price_in_steps;
+use crate::supporters::Supporters;
+use pb_core::money::Money;
+use std::alloc::Allocator;
+
+/// The rest that all voters have, where it was found to be one. Only for a list of as many pieces as there are projects, as
+/// a first round has it, are the rests looked at: for a few projects a look would take longer than their prices.
+pub(crate) fn common_rest<A: Allocator>(
+    supporters: &Supporters<A>,
+    rests: &[Money],
+    pieces: usize,
+) -> Option<Money>
+    ensures { IfSome result (λ share. All (λ rest. rest ≡ share) rests.now) }
+{
+    if pieces < supporters.projects() as usize {
+        return None;
+    }
+    let share = *rests.first()?;
+    for rest in rests {
+        if *rest != share {
+            return None;
+        }
+    }
+    Some(share)
+}
+
+/// The price of the project at this place, where the common rest is that of all voters, if there is one.
+pub(crate) fn price_by<A: Allocator>(
+    supporters: &Supporters<A>,
+    rests: &[Money],
+    common: &Option<Money>,
+    place: u32,
+) -> Option<Money>
+    requires rests { AreRests supporters.now.voters rests.now }
+    requires known { place < length supporters.now.costs }
+    requires common { IfSome common.now (λ share. All (λ rest. rest ≡ share) rests.now) }
+    ensures { result ≡ price_at supporters.now rests.now place }
+{
+    match common {
+        Some(share) => price_at_share(supporters, *share, place),
+        None => price_in_steps(supporters, rests, place),
+    }
+}
+
+/// The price where each voter has this share left: the cost divided by the number of supporters, rounded up, unless that
+/// is more than the share.
+fn price_at_share<A: Allocator>(
+    supporters: &Supporters<A>,
+    share: Money,
+    place: u32,
+) -> Option<Money>
+    requires { place < length supporters.now.costs }
+    ensures { (rests : List ℕ) → AreRests supporters.now.voters rests → All (λ rest. rest ≡ share) rests
+        → result ≡ price_at supporters.now rests place }
+{
+    let list = supporters.of(place);
+    let cost = supporters.cost(place).0;
+    if list.is_empty() {
+        return None;
+    }
+    let payment = cost.div_ceil(list.len() as u64);
+    if payment > share.0 {
+        return None;
+    }
+    Some(Money(payment))
+}
