@@ -1,8 +1,8 @@
 -- Ids found by number or by text.
-use Rattle.std.proofs.Common.{◌≡◌, ◌≢◌, ◌+◌, ◌<◌, ◌||◌, ℕ, Bool, true, false, cond, nat_eq, List, [], ◌∷◌, ◌++◌, length, reverse, Option, Some, None, refl, ap, sym, ◌∙◌, arith, zero-add}
-use Rattle.std.specs.Prelude.{is_some, nat_lt}
+use Rattle.std.proofs.Common.{Bor, ◌≡◌, ◌≢◌, ◌+◌, ◌<◌, ◌||◌, ℕ, Bool, true, false, not, cond, nat_eq, List, [], ◌∷◌, ◌++◌, length, reverse, Option, Some, None, refl, ap, sym, ◌∙◌, arith, zero-add}
+use Rattle.std.specs.Prelude.{is_none, is_some, nat_lt}
 use Rattle.std.specs.List.{list_all, list_any, position_from}
-use Rattle.std.specs.Option.{option_or}
+use Rattle.std.specs.Option.{option_copied, option_or}
 use Rattle.std.specs.Str.{bytes_eq}
 use Rattle.std.proofs.lemmas.Bool.{and_parts, and_from, eq-eqb, eqb-true, false_from_ne_true, false≢true, ltb-true}
 use Rattle.std.proofs.lemmas.List.{reverse-append, reverse-reverse}
@@ -77,6 +77,42 @@ module _ (short : ℕ → Option ℕ) (long new : List ℕ → Option ℕ) (id t
       go : (t : Bool) → has_code text ≡ t → cond t (short (code_of text)) (new text) ≡ cond (bytes_eq id text) place (cond t (short (code_of text)) (long text))
       go true h = sym (ap (λ b. cond b place (short (code_of text))) (code_apart id text false true has h false≢true))
       go false h = updates text
+
+-- nothing lies where no borrow was given
+pub none_lent : (lent : Option (Bor ℕ)) (there : Option ℕ) → option_copied lent ≡ there → is_some lent ≡ false → is_some there ≡ false
+none_lent (Some place) there e some = absurd (false≢true (sym some))
+none_lent None there e some = ap is_some (sym e)
+
+pub said_none : (said : Bool) (o : Option ℕ) → is_some o ≡ not said → said ≡ is_none o
+said_none true (Some place) e = absurd (false≢true (sym e))
+said_none true None e = refl
+said_none false (Some place) e = refl
+said_none false None e = absurd (false≢true e)
+
+pub new_where_unknown : (rest old : Option ℕ) → is_some rest ≡ false → is_none (option_or rest old) ≡ is_none old
+new_where_unknown (Some place) old some = absurd (false≢true (sym some))
+new_where_unknown None old some = refl
+
+-- and when others are kept in order
+pub found_after_kept : (rest : List ℕ → Option ℕ) (id text : List ℕ) (place : ℕ) (old new : Option ℕ) → is_some (rest id) ≡ false → new ≡ cond (bytes_eq id text) (Some place) old →
+    option_or (rest text) new ≡ cond (bytes_eq id text) (Some place) (option_or (rest text) old)
+found_after_kept rest id text place old new unknown e = ap (option_or (rest text)) e ∙ go (bytes_eq id text) refl
+  where
+    nothing : (o : Option ℕ) → is_some o ≡ false → o ≡ None
+    nothing (Some place) some = absurd (false≢true (sym some))
+    nothing None some = refl
+
+    go : (t : Bool) → bytes_eq id text ≡ t → option_or (rest text) (cond t (Some place) old) ≡ cond t (Some place) (option_or (rest text) old)
+    go true same = ap (λ o. option_or o (Some place)) (ap rest (sym ((bytes_eq-Decides id text).0 same)) ∙ nothing (rest id) unknown)
+    go false same = refl
+
+-- what is found after an id was put among those
+pub found_after_crowded : (id text : List ℕ) (place : ℕ) (kept old new : Option ℕ) → new ≡ cond (bytes_eq id text) (Some place) old → option_or new kept ≡ cond (bytes_eq id text) (Some place) (option_or old kept)
+found_after_crowded id text place kept old new e = ap (λ o. option_or o kept) e ∙ go (bytes_eq id text)
+  where
+    go : (t : Bool) → option_or (cond t (Some place) old) kept ≡ cond t (Some place) (option_or old kept)
+    go true = refl
+    go false = refl
 
 -- what the number of a text is found to be
 pub code_some : (text : List ℕ) (code : ℕ) → cond (has_code text) (Some (code_of text)) None ≡ Some code → (has_code text ≡ true) × (code_of text ≡ code)

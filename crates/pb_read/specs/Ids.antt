@@ -2,6 +2,8 @@
 use Rattle.std.specs.Prelude.{◌≡◌, ℕ, ◌+◌, ◌*◌, Bool, ◌&&◌, nat_eq, nat_le, nat_lt, List, [], ◌∷◌, length, reverse, position, Option, if◌then◌else◌}
 use Rattle.std.specs.List.{list_all}
 use Rattle.std.specs.Str.{bytes_eq}
+use Rattle.std.specs.BTreeMap as tree
+use Rattle.std.specs.Option.{option_or}
 use Rattle.indexmap.specs.IndexMap.{get, get_by_text}
 use Rattle.pb_read.specs.declared.ids.Ids.{Ids}
 
@@ -17,9 +19,13 @@ code_of text = digits (reverse text)
 abbrev pub has_code : List ℕ → Bool
 has_code text = nat_le (length text) 8 && list_all (λ b. nat_lt b 255) text
 
--- the place of a text: by its number, or by its bytes where it has none
+-- the place of a text that is kept by hash: by its number, or by its bytes where it has none
+abbrev pub kept : Ids → List ℕ → Option ℕ
+kept ids text = if has_code text then get nat_eq ids.short (code_of text) else get_by_text ids.long text
+
+-- the place of a text that is kept in order or by hash
 abbrev pub found : Ids → List ℕ → Option ℕ
-found ids text = if has_code text then get nat_eq ids.short (code_of text) else get_by_text ids.long text
+found ids text = option_or (tree.get_by_text ids.crowded text) (kept ids text)
 
 -- the place of a text among these ids
 abbrev pub place_in : List (List ℕ) → List ℕ → Option ℕ

@@ -17,7 +17,7 @@ use pb_core::project::Project;
 use pb_core::voter::Voter;
 use std::alloc::Global;
 
-/// An election as far as its rows were read, with its ids by hash.
+/// An election as far as its rows were read, with its ids.
 #[derive(Drop)]
 pub(crate) struct Draft {
     pub(crate) election: Election,

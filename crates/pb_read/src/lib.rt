@@ -2,6 +2,7 @@
 #![tactic(auto)]
 
 mod columns;
+mod crowd;
 mod draft;
 mod fault;
 mod ids;

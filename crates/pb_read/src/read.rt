@@ -28,7 +28,8 @@ pub const MOST_RECORDS: u32 = 2_000_000;
 /// with the number of its record; the end of the file counts as a record. A reader that fails is
 /// `ReadFailed` and refused memory `NoMemory`; then the records before that number have no fault. At
 /// most 2,000,001 records are read, and the memory in use grows with the election and the longest
-/// record, not with the file. Ids are found by hash with a fixed seed.
+/// record, not with the file. Ids are found by hash with a fixed seed, and those that crowd a table are
+/// kept in order.
 pub fn read_pb<R: Read + Drop>(alloc: Global, reader: R) -> Result<Election, ReadFault>
     // What is answered is what the records stand for, and a refusal is their first fault.
     ensures ok { IfSome (R.remaining reader) (λ bytes. IfOk result (λ e. StandsFor (records_of bytes) e)) }

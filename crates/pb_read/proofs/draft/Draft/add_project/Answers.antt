@@ -53,7 +53,7 @@ returns-clause-ok c =
     let after = c.in_ok-add_project.ensures.ok in
     let size = ap length c.projects-place.ensures.projects ∙ sym (length-map e.projects (λ (p : ProjectView). p.id)) in
     let ids = finds_after c.args.self.now.project_ids (project_ids e) c.in-Ok.found.0.now c.new.result.id c.in_ok-add.field-0 c.requires.tied.project_ids_are (sym id) c.in_ok-add.ensures.new c.add.new.self c.if-not-branch.false
-    (λ t. c.in_ok-add.ensures.places t ∙ ap (λ n. cond (bytes_eq c.in-Ok.found.0.now t) (Some n) (found c.args.self.now.project_ids t)) size) in (
+    (λ t. c.in_ok-add.ensures.places c.if-not-branch.false t ∙ ap (λ n. cond (bytes_eq c.in-Ok.found.0.now t) (Some n) (found c.args.self.now.project_ids t)) size) in (
       project_checked c.args.columns row e _ _ has among room,
       after ∙ ap (λ p. record e { projects = e.projects ++ p ∷ [] }) project,
       record {

@@ -71,7 +71,7 @@ returns-clause-ok c =
     let after = c.in_ok-add_voter.ensures.ok in
     let size = ap length c.voters-place.ensures.voters ∙ sym (length-map e.voters (λ (v : VoterView). v.id)) in
     let ids = finds_after c.args.self.now.voter_ids (voter_ids e) c.text.result.now c.in-Ok.id c.in_ok-add.field-0 c.requires.voter_ids_are c.text.ensures.text c.in_ok-add.ensures.new c.add.new.self c.if-not-branch.false
-    (λ t. c.in_ok-add.ensures.places t ∙ ap (λ n. cond (bytes_eq c.text.result.now t) (Some n) (found c.args.self.now.voter_ids t)) size) in (
+    (λ t. c.in_ok-add.ensures.places c.if-not-branch.false t ∙ ap (λ n. cond (bytes_eq c.text.result.now t) (Some n) (found c.args.self.now.voter_ids t)) size) in (
       voter_checked c.args.columns row e _ has among names room,
       after ∙ ap (λ v. record e { voters = e.voters ++ v ∷ [] }) (same_voter voter (voter_of c.args.columns (project_ids e) row) has.id_is ballot),
       record {
