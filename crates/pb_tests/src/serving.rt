@@ -1,9 +1,10 @@
 //! The one-clerk desk: its answers, its ballots and its journal's text.
 
-use crate::checks::{holds, same};
+use crate::checks::same;
 use crate::elections::{add_limit, ballot, shown, three_voters, voter_id};
 use pb_core::answer::Answer;
 use pb_core::devices::FailsAt;
+use pb_core::election::Election;
 use pb_core::request::Request;
 use pb_desk::{Desk, DeskFault, IntoFault, WriteFault};
 use std::alloc::Global;
@@ -73,10 +74,6 @@ pub(crate) fn has_ballots(rt: &impl Abort, alloc: Global, desk: &Desk, wanted: &
     same(rt, text.as_str(), wanted, "ballots");
 }
 
-/// The journal of the five requests of one clerk for one voter.
-const VERSIONED_FIVE_ROWS: &str =
-    "journal;2\n1;0;cast;ann;0;done\n2;0;cast;ann;1;already-cast\n3;0;replace;ann;0,1;done\n4;0;withdraw;ann;;done\n5;0;replace;ann;0;no-ballot\n";
-
 /// Cast, cast again, replace.
 const THREE: &[Row] = &[
     ("cast", "ann", &[0], Answer::Done),
@@ -84,22 +81,14 @@ const THREE: &[Row] = &[
     ("replace", "ann", &[0, 1], Answer::Done),
 ];
 
-/// Withdraw, and replace what is gone.
-const TWO_MORE: &[Row] = &[
+/// The same, then withdraw, and replace what is gone.
+const FIVE: &[Row] = &[
+    ("cast", "ann", &[0], Answer::Done),
+    ("cast", "ann", &[1], Answer::AlreadyCast),
+    ("replace", "ann", &[0, 1], Answer::Done),
     ("withdraw", "ann", &[], Answer::Done),
     ("replace", "ann", &[0], Answer::NoBallot),
 ];
-
-#[test]
-fn serves_five_requests(rt: HostRuntime) {
-    let alloc = rt.alloc();
-    let mut desk = desk_with_room(&rt, alloc, 10);
-    asks(&rt, alloc, &mut desk, THREE);
-    has_ballots(&rt, alloc, &desk, "v1 0;v2 0 1;v3 1;ann 0 1;");
-    asks(&rt, alloc, &mut desk, TWO_MORE);
-    has_ballots(&rt, alloc, &desk, "v1 0;v2 0 1;v3 1;");
-    has_text(&rt, alloc, &desk, VERSIONED_FIVE_ROWS);
-}
 
 const AFTER_SHUT: &[Row] = &[
     ("shut", "", &[], Answer::Done),
@@ -107,46 +96,89 @@ const AFTER_SHUT: &[Row] = &[
     ("shut", "", &[], Answer::DeskShut),
 ];
 
-#[test]
-fn a_shut_desk_answers_desk_shut(rt: HostRuntime) {
-    let mut desk = desk_with_room(&rt, rt.alloc(), 10);
-    holds(&rt, !desk.is_shut(), "before shut");
-    asks(&rt, rt.alloc(), &mut desk, AFTER_SHUT);
-    holds(&rt, desk.is_shut(), "after shut");
-    same(
-        &rt,
-        (desk.entries(), desk.ballots()),
-        (3, 3),
-        "entries, ballots",
-    );
-}
-
+/// The first unknown place is named.
 const UNKNOWN: &[Row] = &[("cast", "ann", &[0, 2, 9], Answer::UnknownPlace(2))];
 
-#[test]
-fn the_first_unknown_place_is_named(rt: HostRuntime) {
-    let mut desk = desk_with_room(&rt, rt.alloc(), 10);
-    asks(&rt, rt.alloc(), &mut desk, UNKNOWN);
-    same(&rt, desk.ballots(), 3, "ballots");
-    let entry = desk.entry(1).expect(&rt, "the first entry");
-    same(&rt, entry.answer, Answer::UnknownPlace(2), "its answer");
-    holds(&rt, desk.entry(0).is_none(), "before the first entry");
-    holds(&rt, desk.entry(2).is_none(), "after the last entry");
-    let wanted = "journal;2\n1;0;cast;ann;0,2,9;unknown-place 2\n";
-    has_text(&rt, rt.alloc(), &desk, wanted);
-}
-
+/// A withdrawal closes up.
 const CLOSING_UP: &[Row] = &[
     ("withdraw", "v1", &[], Answer::Done),
     ("cast", "v1", &[1], Answer::Done),
     ("replace", "v2", &[0], Answer::Done),
 ];
 
+const WITHDRAWN: &[Row] = &[
+    ("withdraw", "v3", &[], Answer::Done),
+    ("shut", "", &[], Answer::Done),
+];
+
+/// What is asked of a new desk, whether it is shut then, its ballots, and its journal.
+const SERVED: &[(&[Row], bool, &str, &str)] = &[
+    (
+        THREE,
+        false,
+        "v1 0;v2 0 1;v3 1;ann 0 1;",
+        "journal;2\n1;0;cast;ann;0;done\n2;0;cast;ann;1;already-cast\n3;0;replace;ann;0,1;done\n",
+    ),
+    (
+        FIVE,
+        false,
+        "v1 0;v2 0 1;v3 1;",
+        "journal;2\n1;0;cast;ann;0;done\n2;0;cast;ann;1;already-cast\n3;0;replace;ann;0,1;done\n4;0;withdraw;ann;;done\n5;0;replace;ann;0;no-ballot\n",
+    ),
+    (
+        AFTER_SHUT,
+        true,
+        "v1 0;v2 0 1;v3 1;",
+        "journal;2\n1;0;shut;;;done\n2;0;cast;ann;0;desk-shut\n3;0;shut;;;desk-shut\n",
+    ),
+    (
+        UNKNOWN,
+        false,
+        "v1 0;v2 0 1;v3 1;",
+        "journal;2\n1;0;cast;ann;0,2,9;unknown-place 2\n",
+    ),
+    (
+        CLOSING_UP,
+        false,
+        "v2 0;v3 1;v1 1;",
+        "journal;2\n1;0;withdraw;v1;;done\n2;0;cast;v1;1;done\n3;0;replace;v2;0;done\n",
+    ),
+    (
+        WITHDRAWN,
+        true,
+        "v1 0;v2 0 1;",
+        "journal;2\n1;0;withdraw;v3;;done\n2;0;shut;;;done\n",
+    ),
+];
+
 #[test]
-fn a_withdrawal_closes_up(rt: HostRuntime) {
+fn serves_requests(rt: HostRuntime) {
+    for (rows, is_shut, ballots, text) in SERVED {
+        let mut desk = desk_with_room(&rt, rt.alloc(), 10);
+        same(&rt, desk.is_shut(), false, "a new desk");
+        asks(&rt, rt.alloc(), &mut desk, rows);
+        same(&rt, desk.is_shut(), *is_shut, text);
+        has_ballots(&rt, rt.alloc(), &desk, ballots);
+        has_text(&rt, rt.alloc(), &desk, text);
+    }
+}
+
+/// The answer of the entry with this number, if there is one.
+fn answer_of(desk: &Desk, number: u32) -> Option<Answer> {
+    match desk.entry(number) {
+        Some(entry) => Some(entry.answer),
+        None => None,
+    }
+}
+
+#[test]
+fn entries_have_numbers_from_one(rt: HostRuntime) {
     let mut desk = desk_with_room(&rt, rt.alloc(), 10);
-    asks(&rt, rt.alloc(), &mut desk, CLOSING_UP);
-    has_ballots(&rt, rt.alloc(), &desk, "v2 0;v3 1;v1 1;");
+    asks(&rt, rt.alloc(), &mut desk, UNKNOWN);
+    same(&rt, answer_of(&desk, 0), None, "before the first entry");
+    let first = Some(Answer::UnknownPlace(2));
+    same(&rt, answer_of(&desk, 1), first, "the first entry");
+    same(&rt, answer_of(&desk, 2), None, "after the last entry");
 }
 
 const SHUT_TWICE: &[Row] = &[
@@ -188,15 +220,19 @@ const MOVED: &[Row] = &[
     ("cast", "v1", &[1], Answer::Done),
 ];
 
+/// The desk that came back, since it is not shut.
+fn not_shut(left: Result<Election, IntoFault>) -> Option<Desk> {
+    match left {
+        Err(IntoFault::NotShut(desk)) => Some(desk),
+        _ => None,
+    }
+}
+
 #[test]
 fn a_desk_that_is_not_shut_comes_back(rt: HostRuntime) {
     let mut desk = desk_with_room(&rt, rt.alloc(), 10);
     asks(&rt, rt.alloc(), &mut desk, MOVED);
-    let desk = match desk.into_election() {
-        Err(IntoFault::NotShut(desk)) => desk,
-        Err(IntoFault::NoMemory(_)) => panic!(&rt; "out of memory"),
-        Ok(_) => panic!(&rt; "the desk is not shut"),
-    };
+    let desk = not_shut(desk.into_election()).expect(&rt, "the desk is not shut");
     same(&rt, desk.entries(), 2, "entries");
     let wanted = "journal;2\n1;0;withdraw;v1;;done\n2;0;cast;v1;1;done\n";
     has_text(&rt, rt.alloc(), &desk, wanted);
@@ -215,19 +251,6 @@ fn a_shut_desk_leaves_its_election(rt: HostRuntime) {
     let text = shown(&rt, rt.alloc(), &election);
     let wanted = "10000;a,,3000;b,,6000;|v2 0 1;v3 1;v1 1;";
     same(&rt, text.as_str(), wanted, "the election");
-}
-
-const WITHDRAWN: &[Row] = &[
-    ("withdraw", "v3", &[], Answer::Done),
-    ("shut", "", &[], Answer::Done),
-];
-
-#[test]
-fn writes_a_withdrawal_and_a_shut(rt: HostRuntime) {
-    let mut desk = desk_with_room(&rt, rt.alloc(), 10);
-    asks(&rt, rt.alloc(), &mut desk, WITHDRAWN);
-    let wanted = "journal;2\n1;0;withdraw;v3;;done\n2;0;shut;;;done\n";
-    has_text(&rt, rt.alloc(), &desk, wanted);
 }
 
 /// A writer in memory without room.

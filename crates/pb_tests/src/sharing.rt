@@ -245,12 +245,11 @@ fn a_look_that_answers_an_error_leaves_the_lock_free(rt: HostRuntime) {
 
 const REPLACE_ANN: &[Row] = &[("replace", "ann", &[1], Ok(Answer::Done))];
 
-/// The number of entries, and the places of this voter's ballot as a text.
-fn seen_of(rt: &impl Abort, alloc: Global, desk: &Desk, voter: &str) -> (u32, String) {
-    let id = crate::elections::voter_id(rt, alloc, voter);
-    let ballot = desk.ballot_of(&id).expect(rt, "a ballot");
-    let places = format!(in alloc; "{:?}", ballot.places()).expect(rt, "memory");
-    (desk.entries(), places)
+/// The number of entries, and whether ann's ballot has place 1 alone.
+fn seen_of(rt: &impl Abort, alloc: Global, desk: &Desk) -> (u32, bool) {
+    let ann = crate::elections::voter_id(rt, alloc, "ann");
+    let ballot = desk.ballot_of(&ann).expect(rt, "a ballot");
+    (desk.entries(), ballot.places() == [1].as_slice())
 }
 
 /// The clerk sees two entries, and the ballot with place 1 that ann has.
@@ -258,9 +257,8 @@ fn looks_at_ann(rt: &impl Abort, alloc: Global, shared: &SharedDesk, clerk: &mut
     requires { clerk.old.desk ≡ shared.now }
     ensures { clerk.new.desk ≡ shared.now }
 {
-    let looked = shared.look(clerk, |desk| seen_of(rt, alloc, desk, "ann"));
-    let (entries, places) = looked.expect(rt, "the lock");
-    same(rt, (entries, places.as_str()), (2, "[1]"), "what is seen");
+    let looked = shared.look(clerk, |desk| seen_of(rt, alloc, desk));
+    same(rt, looked, Ok((2, true)), "what is seen");
 }
 
 /// What one clerk wrote another reads, by the desk and by the front word, also one that has made no call before.
@@ -345,11 +343,11 @@ fn a_full_journal_frees_the_lock(rt: HostRuntime) {
     finishes(&rt, alloc, shared, clerks, text);
 }
 
-/// A number of clerks outside 1 to 64 hands the desk back, with its journal.
-fn hands_back(rt: &impl Abort, alloc: Global, desk: Desk, clerks: u32) -> Desk {
-    match SharedDesk::share(alloc, desk, clerks) {
-        Err(ShareFault::ClerkCount(desk)) => desk,
-        _ => panic!(rt; "shared among {clerks}"),
+/// The desk that a call to share it with a wrong number of clerks hands back.
+fn handed_back(shared: Result<(SharedDesk, Vec<Clerk>), ShareFault>) -> Option<Desk> {
+    match shared {
+        Err(ShareFault::ClerkCount(desk)) => Some(desk),
+        _ => None,
     }
 }
 
@@ -365,7 +363,8 @@ fn desk_in_use(rt: &impl Abort, alloc: Global) -> Desk {
 fn a_desk_is_shared_among_1_to_64(rt: HostRuntime) {
     let mut desk = desk_in_use(&rt, rt.alloc());
     for clerks in [0, 65] {
-        desk = hands_back(&rt, rt.alloc(), desk, clerks);
+        let shared = SharedDesk::share(rt.alloc(), desk, clerks);
+        desk = handed_back(shared).expect(&rt, "a desk");
         same(&rt, desk.entries(), 1, "a desk handed back");
     }
     let shared = SharedDesk::share(rt.alloc(), desk, 64);

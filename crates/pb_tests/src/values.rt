@@ -254,31 +254,23 @@ fn holds_the_limit_on_a_ballot(rt: HostRuntime) {
     same(&rt, election.max_length(), None, "taken back");
 }
 
-/// A request as a line.
-fn line_of(rt: &impl Abort, alloc: Global, request: &Request) -> String {
-    let (word, voter, ballot) = match request {
+/// A request's word, voter and places.
+type Parts<'a> = (&'static str, &'a str, &'a [u32]);
+
+fn parts(request: &Request) -> Parts<'_> {
+    match request {
         Request::Cast(voter, ballot) => ("cast", voter.text(), ballot.places()),
         Request::Replace(voter, ballot) => ("replace", voter.text(), ballot.places()),
-        Request::Withdraw(voter) => ("withdraw", voter.text(), [].as_slice()),
-        Request::Shut => ("shut", "", [].as_slice()),
-    };
-    let mut line = format!(in alloc; "{word} {voter}").expect(rt, "memory");
-    for place in ballot {
-        write!(line, " {place}").expect(rt, "memory");
+        Request::Withdraw(voter) => ("withdraw", voter.text(), &[]),
+        Request::Shut => ("shut", "", &[]),
     }
-    line
 }
 
-/// The request is this line, and so is its copy.
-fn copies(rt: &impl Abort, alloc: Global, request: Request, wanted: &str) {
+/// The request has these parts, and so has its copy.
+fn copies(rt: &impl Abort, alloc: Global, request: Request, wanted: Parts<'_>) {
     let copy = request.copy(alloc).expect(rt, "memory");
-    same(
-        rt,
-        line_of(rt, alloc, &request).as_str(),
-        wanted,
-        "a request",
-    );
-    same(rt, line_of(rt, alloc, &copy).as_str(), wanted, "its copy");
+    same(rt, parts(&request), wanted, "a request");
+    same(rt, parts(&copy), wanted, "its copy");
 }
 
 #[test]
@@ -289,20 +281,12 @@ fn copies_requests(rt: HostRuntime) {
         voter(&rt, alloc, "bob", &[]),
         voter_id(&rt, alloc, "c;d"),
     );
-    copies(
-        &rt,
-        alloc,
-        Request::Cast(ann.id, ann.ballot),
-        "cast ann 0 1",
-    );
-    copies(
-        &rt,
-        alloc,
-        Request::Replace(bob.id, bob.ballot),
-        "replace bob",
-    );
-    copies(&rt, alloc, Request::Withdraw(c), "withdraw c;d");
-    copies(&rt, alloc, Request::Shut, "shut ");
+    let cast = Request::Cast(ann.id, ann.ballot);
+    copies(&rt, alloc, cast, ("cast", "ann", &[0, 1]));
+    let replace = Request::Replace(bob.id, bob.ballot);
+    copies(&rt, alloc, replace, ("replace", "bob", &[]));
+    copies(&rt, alloc, Request::Withdraw(c), ("withdraw", "c;d", &[]));
+    copies(&rt, alloc, Request::Shut, ("shut", "", &[]));
 }
 
 #[test]
