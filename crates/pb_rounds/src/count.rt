@@ -5,10 +5,11 @@ ghost use Rattle.pb_price.specs.Supporters.{IsSupport, support_of};
 ghost use Rattle.pb_rounds.specs.Cheapest.{EachWasCheapest};
 ghost use Rattle.pb_rounds.specs.Completed.{IsCompleted};
 ghost use Rattle.pb_rounds.specs.Count.{add1_of, count_of, opening_share, settled_after, spent_on, IsCountFault, IsCompletionFault};
-ghost use Rattle.pb_rounds.specs.CountFault.{is_worker_count, largest_step, most_raises, refusal_of};
+ghost use Rattle.pb_rounds.specs.CountFault.{is_worker_count, most_raises, refusal_of};
 ghost use Rattle.pb_rounds.specs.Outcome.{settled, settled_by};
 ghost use Rattle.pb_rounds.specs.PriceSystem.{HasPriceSystem};
 ghost use Rattle.pb_rounds.specs.PricingRecord.{HasPricing};
+ghost use Rattle.pb_rounds.specs.RaiseEnds.{CanComplete};
 ghost use Rattle.pb_rounds.specs.Run.{outcome_of};
 
 use crate::count_fault::CountFault;
@@ -174,10 +175,7 @@ pub(crate) fn outcome_after<
     step: Money,
     raised: u32,
 ) -> Result<Outcome<A>, NoMemory>
-    requires workers { is_worker_count pricing.now.workers ≡ true }
-    requires step { step ≤ largest_step }
-    requires raised { raised ≤ most_raises }
-    requires supporters { pricing.now.supporters.now ≡ support_of election.now }
+    requires given { CanComplete election.now pricing.now.workers pricing.now.supporters.now step raised }
     ensures settled { IfOk result (λ o. settled o ≡ settled_after pricing.now.measure election.now step raised) }
     ensures priced { IfOk result (λ o.
         HasPricing pricing.now.measure (support_of election.now) pricing.now.workers o.share o.priced) }
@@ -212,10 +210,7 @@ fn complete<R: Threads + Sync, G: Gate, A: Allocator + Copy + Send + Sync, B: Al
     step: Money,
     max_raises: u32,
 ) -> Result<Outcome<A>, CountFault>
-    requires workers { is_worker_count pricing.now.workers ≡ true }
-    requires step { step ≤ largest_step }
-    requires raises { max_raises ≤ most_raises }
-    requires supporters { pricing.now.supporters.now ≡ support_of election.now }
+    requires given { CanComplete election.now pricing.now.workers pricing.now.supporters.now step max_raises }
     ensures decided { IfOk result (λ o. add1_of pricing.now.measure election.now step max_raises ≡ Some o.raised) }
     ensures settled { IfOk result (λ o.
         settled o ≡ settled_after pricing.now.measure election.now step o.raised) }

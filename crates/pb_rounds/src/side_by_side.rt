@@ -8,7 +8,7 @@ ghost use Rattle.pb_rounds.specs.Count.{add1_of, is_decisive, settled_after, IsC
 ghost use Rattle.pb_rounds.specs.CountFault.{is_worker_count, largest_step, most_raises};
 ghost use Rattle.pb_rounds.specs.Outcome.{settled};
 ghost use Rattle.pb_rounds.specs.PricingRecord.{HasPricing};
-ghost use Rattle.pb_rounds.specs.RaiseEnds.{IsRaiseEnd};
+ghost use Rattle.pb_rounds.specs.RaiseEnds.{CanComplete, IsRaiseEnd};
 
 use crate::count::{opening_share, outcome_after};
 use crate::count_fault::CountFault;
@@ -215,10 +215,7 @@ pub(crate) fn complete_side_by_side<
     max_raises: u32,
     from: u32,
 ) -> Result<Outcome<A>, CountFault>
-    requires workers { is_worker_count pricing.now.workers ≡ true }
-    requires step { step ≤ largest_step }
-    requires raises { max_raises ≤ most_raises }
-    requires supporters { pricing.now.supporters.now ≡ support_of election.now }
+    requires given { CanComplete election.now pricing.now.workers pricing.now.supporters.now step max_raises }
     requires from { (0 < from) × (from ≤ max_raises + 1) }
     requires tried { (raises : ℕ) → raises < from
         → is_decisive pricing.now.measure election.now step raises ≡ false }

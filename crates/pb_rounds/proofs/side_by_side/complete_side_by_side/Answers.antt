@@ -6,19 +6,19 @@ use Rattle.pb_rounds.proofs.side_by_side.complete_side_by_side.Goals as goal
 pub try_raises-requires-clause-some : goal.try_raises-requires-clause-some
 try_raises-requires-clause-some g c =
     let size = group_size c.args.pricing.now.workers c.most_trials-side_by_side.result c.min-most.result c.min-count.result (c.args.max_raises + 1 - c.loop-next.next) (2 * length c.loop-next.trials.items)
-    c.requires.workers c.most_trials-side_by_side.ensures.some c.most_trials-side_by_side.ensures.few (omega (arith, c.min-most.ensures)) (omega (arith, c.loop-next-test.true)) (omega (arith, c.min-count.ensures, c.max.ensures, c.len.ensures)) in
+    c.requires.given.few_workers c.most_trials-side_by_side.ensures.some c.most_trials-side_by_side.ensures.few (omega (arith, c.min-most.ensures)) (omega (arith, c.loop-next-test.true)) (omega (arith, c.min-count.ensures, c.max.ensures, c.len.ensures)) in
     λ κs _. (c.loop-next.invariant.some, omega (arith, size.0, c.in_ok-resize.ensures))
 
 pub loop-next-smaller : goal.loop-next-smaller
 loop-next-smaller g c =
     let size = group_size c.args.pricing.now.workers c.most_trials-side_by_side.result c.min-most.result c.min-count.result (c.args.max_raises + 1 - c.loop-next.next) (2 * length c.loop-next.trials.items)
-    c.requires.workers c.most_trials-side_by_side.ensures.some c.most_trials-side_by_side.ensures.few (omega (arith, c.min-most.ensures)) (omega (arith, c.loop-next-test.true)) (omega (arith, c.min-count.ensures, c.max.ensures, c.len.ensures)) in
+    c.requires.given.few_workers c.most_trials-side_by_side.ensures.some c.most_trials-side_by_side.ensures.few (omega (arith, c.min-most.ensures)) (omega (arith, c.loop-next-test.true)) (omega (arith, c.min-count.ensures, c.max.ensures, c.len.ensures)) in
     omega (arith, size.0, c.loop-next-test.true)
 
 pub loop-next-preserved : goal.loop-next-preserved
 loop-next-preserved g c =
     let size = group_size c.args.pricing.now.workers c.most_trials-side_by_side.result c.min-most.result c.min-count.result (c.args.max_raises + 1 - c.loop-next.next) (2 * length c.loop-next.trials.items)
-    c.requires.workers c.most_trials-side_by_side.ensures.some c.most_trials-side_by_side.ensures.few (omega (arith, c.min-most.ensures)) (omega (arith, c.loop-next-test.true)) (omega (arith, c.min-count.ensures, c.max.ensures, c.len.ensures)) in
+    c.requires.given.few_workers c.most_trials-side_by_side.ensures.some c.most_trials-side_by_side.ensures.few (omega (arith, c.min-most.ensures)) (omega (arith, c.loop-next-test.true)) (omega (arith, c.min-count.ensures, c.max.ensures, c.len.ensures)) in
     let some = c.loop-next.invariant.some in
     record {
       some = omega (arith, some);
