@@ -1,4 +1,4 @@
-ghost use Rattle.std.specs.Prelude.{◌≡◌, ◌<◌, ◌≤◌, ◌↔◌, ◌++◌, ◌∷◌, [], length, All, IsTrue, Contains};
+ghost use Rattle.std.specs.Prelude.{◌≡◌, ◌<◌, ◌≤◌, ◌↔◌, ◌++◌, ◌∷◌, [], length, map, All, IsTrue, Contains};
 ghost use Rattle.std.specs.Prelude.{OnOk, OnErr, None};
 ghost use Rattle.pb_core.specs.Money.{largest_money};
 
@@ -10,6 +10,7 @@ use crate::voter::Voter;
 use crate::voter_id::VoterId;
 use std::alloc::{Allocator, Global};
 use std::marker::Model;
+use std::mem;
 
 /// The most projects that an election has.
 pub const MOST_PROJECTS: usize = 10_000;
@@ -49,7 +50,7 @@ impl<A: Allocator> Model for Election<A> {
 }
 
 impl<A: Allocator> Election<A> {
-    ghost use Rattle.pb_core.specs.Election.{IsElection, project_ids, voter_ids, most_projects, most_voters};
+    ghost use Rattle.pb_core.specs.Election.{AreDistinct, IsElection, IsVoter, project_ids, voter_ids, most_projects, most_voters};
 
     /// An election with this budget, without a limit, and with neither projects nor voters yet.
     pub fn start(alloc: A, budget: Money) -> Election<A>
@@ -166,5 +167,16 @@ impl<A: Allocator> Election<A> {
         let _checked = (voter.id.text().len(), voter.ballot.places().len());
         self.voters.push(voter)?;
         Ok(())
+    }
+
+    /// Puts these voters in the place of its own, which it hands out. It needs no memory.
+    pub fn replace_voters(&mut self, voters: Vec<Voter<A>, A>) -> Vec<Voter<A>, A>
+        requires few { length voters.items ≤ most_voters }
+        requires are_voters { All (IsVoter (length self.old.projects)) voters.items }
+        requires differ { AreDistinct (map (λ v. v.id) voters.items) }
+        ensures handed_out { result.items ≡ self.old.voters }
+        ensures replaced { self.new ≡ record self.old { voters = voters.items } }
+    {
+        mem::replace(&mut self.voters, voters)
     }
 }

@@ -21,6 +21,6 @@ none_from_false None f = refl
 none_from_false (Some x) f = absurd (true≢false f)
 
 -- a ballot that is cast for a voter who has none goes last
-pub cast_last : (ballots inserted : List (List ℕ × List ℕ)) (voter ballot : List ℕ) → is_some (lookup (bytes_eq voter) ballots) ≡ false →
-    inserted ≡ insert_entry bytes_eq ballots voter ballot → inserted ≡ ballots ++ (voter, ballot) ∷ []
-cast_last ballots inserted voter ballot new is = is ∙ insert_entry-absent bytes_eq voter ballot ballots (absent_from_lookup (bytes_eq voter) ballots (none_from_false _ new))
+pub cast_last : {X : Type 0} (ballots inserted : List (List ℕ × X)) (voter : List ℕ) (x : X) → lookup (bytes_eq voter) ballots ≡ None →
+    inserted ≡ insert_entry bytes_eq ballots voter x → inserted ≡ ballots ++ (voter, x) ∷ []
+cast_last ballots inserted voter x new is = is ∙ insert_entry-absent bytes_eq voter x ballots (absent_from_lookup (bytes_eq voter) ballots new)

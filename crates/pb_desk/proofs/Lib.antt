@@ -1,6 +1,7 @@
 pub mod Ballots
 pub mod Orders
 pub mod Listings
+pub mod Sources
 pub mod Openings
 pub mod Replays
 pub mod Steps

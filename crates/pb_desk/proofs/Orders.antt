@@ -44,11 +44,10 @@ get-take (suc n) [] k below = refl
 get-take (suc n) (x ∷ xs) zero below = refl
 get-take (suc n) (x ∷ xs) (suc k) below = get-take n xs k (omega arith)
 
-pub get-take_cases : {X : Type 0} (n : ℕ) (xs : List X) (k : ℕ) (y : X) → slice_get (take n xs) k ≡ Some y → (slice_get xs k ≡ Some y) × (k < n)
-get-take_cases zero xs k y at = absurd (none-some y at)
-get-take_cases (suc n) [] k y at = absurd (none-some y at)
-get-take_cases (suc n) (x ∷ xs) zero y at = (at, omega arith)
-get-take_cases (suc n) (x ∷ xs) (suc k) y at = let rest = get-take_cases n xs k y at in (rest.0, omega (arith, rest.1))
+pub get-drop : {X : Type 0} (n : ℕ) (xs : List X) (k : ℕ) → slice_get xs (n + k) ≡ slice_get (drop n xs) k
+get-drop zero xs k = let same : 0 + k ≡ k = omega arith in ap (slice_get xs) same
+get-drop (suc n) [] k = refl
+get-drop (suc n) (x ∷ xs) k = let same : suc n + k ≡ suc (n + k) = omega arith in ap (slice_get (x ∷ xs)) same ∙ get-drop n xs k
 
 -- indices that move
 pub moved_last : (last removed i : ℕ) → i ≡ last → moved last removed i ≡ removed
@@ -307,9 +306,3 @@ pub filed-drop : (slots : List (Option ℕ)) (k : ℕ) (slot : Option ℕ) → s
 filed-drop [] k slot at = absurd (none-some slot at)
 filed-drop (o ∷ slots) zero slot at = ap (λ here. cons_option here (filed slots)) (same_Some o slot at)
 filed-drop (o ∷ slots) (suc k) slot at = filed-drop slots k slot at
-
-pub filed-take : (slots : List (Option ℕ)) (k : ℕ) (slot : Option ℕ) → slice_get slots k ≡ Some slot → filed (take (suc k) slots) ≡ filed (take k slots) ++ cons_option slot []
-filed-take [] k slot at = absurd (none-some slot at)
-filed-take (o ∷ slots) zero slot at = ap (λ here. cons_option here []) (same_Some o slot at)
-filed-take (None ∷ slots) (suc k) slot at = filed-take slots k slot at
-filed-take (Some i ∷ slots) (suc k) slot at = ap (λ rest. i ∷ rest) (filed-take slots k slot at)

@@ -12,3 +12,4 @@ pub mod AuditSteps
 pub mod IntoFault
 pub mod Opening
 pub mod Slots
+pub mod Sources

@@ -35,6 +35,7 @@ mod journal_rows;
 pub mod laws;
 mod row_reader;
 mod slots;
+mod source;
 pub mod start_fault;
 mod version;
 pub mod write_fault;

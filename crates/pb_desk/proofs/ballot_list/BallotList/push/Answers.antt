@@ -1,8 +1,9 @@
-use Rattle.std.proofs.Common.{◌≡◌, ◌∙◌, ◌++◌, [], ◌∷◌, ℕ, List, false, length, ap, is_some, arith, length-append}
+use Rattle.std.proofs.Common.{◌≡◌, ◌∙◌, ◌++◌, [], ◌∷◌, ℕ, List, None, length, ap, arith, length-append}
+use Rattle.std.specs.Map.{lookup}
 use Rattle.std.specs.Str.{bytes_eq}
 use Rattle.indexmap.specs.IndexMap.{insert_entry}
 use Rattle.pb_desk.specs.Slots.{filed, listed}
-use Rattle.pb_desk.specs.Step.{has_ballot}
+use Rattle.pb_desk.specs.declared.source.Source.{Source}
 use Rattle.pb_desk.proofs.Ballots.{cast_last}
 use Rattle.pb_desk.proofs.Listings.{listed-push, lookup-listed}
 use Rattle.pb_desk.proofs.ballot_list.BallotList.push.Goals as goal
@@ -12,15 +13,15 @@ invariant_of-self-2 g c =
     let inside = c.self.inside in
     let es = inside.ballots.entries in
     let voter = c.args.voter in
-    let new : has_ballot es voter ≡ false =
-    ap is_some (lookup-listed es inside.slots.items inside.slot_of.items c.self.invariant voter) ∙ ap (λ ballots. has_ballot ballots voter) c.self.view_is ∙ c.requires in
-    let inserted : c.insert.new.self.entries ≡ insert_entry bytes_eq es voter c.args.ballot = (rw c.unwrap-none.ensures at c.insert.ensures.entries) ∙ ap (λ entries. insert_entry bytes_eq entries voter c.args.ballot) c.in_ok-reserve.ensures.entries in
-    let grown = ap length (cast_last es c.insert.new.self.entries voter c.args.ballot new inserted) in
+    let new : lookup (bytes_eq voter) es ≡ None =
+    lookup-listed es inside.slots.items inside.slot_of.items c.self.invariant voter ∙ ap (lookup (bytes_eq voter)) c.self.view_is ∙ c.requires in
+    let inserted : c.insert.new.self.entries ≡ insert_entry bytes_eq es voter c.args.source = (rw c.unwrap-none.ensures at c.insert.ensures.entries) ∙ ap (λ entries. insert_entry bytes_eq entries voter c.args.source) c.in_ok-reserve.ensures.entries in
+    let grown = ap length (cast_last es c.insert.new.self.entries voter c.args.source new inserted) in
     let each = c.self.invariant.each in
     let longer = c.in_ok-push.ensures.len in
     record {
       order = c.push.ensures.order;
-      each = omega (arith, each, longer, grown, length-append es ((voter, c.args.ballot) ∷ []));
+      each = omega (arith, each, longer, grown, length-append es ((voter, c.args.source) ∷ []));
       unique = c.insert.ensures.unique;
     }
 
@@ -29,11 +30,11 @@ returns-clause-ok g c =
     let inside = c.self.inside in
     let es = inside.ballots.entries in
     let voter = c.args.voter in
-    let e : List ℕ × List ℕ = (voter, c.args.ballot) in
-    let new : has_ballot es voter ≡ false =
-    ap is_some (lookup-listed es inside.slots.items inside.slot_of.items c.self.invariant voter) ∙ ap (λ ballots. has_ballot ballots voter) c.self.view_is ∙ c.requires in
-    let inserted : c.insert.new.self.entries ≡ insert_entry bytes_eq es voter c.args.ballot = (rw c.unwrap-none.ensures at c.insert.ensures.entries) ∙ ap (λ entries. insert_entry bytes_eq entries voter c.args.ballot) c.in_ok-reserve.ensures.entries in
-    let grown = cast_last es c.insert.new.self.entries voter c.args.ballot new inserted in
+    let e : List ℕ × Source = (voter, c.args.source) in
+    let new : lookup (bytes_eq voter) es ≡ None =
+    lookup-listed es inside.slots.items inside.slot_of.items c.self.invariant voter ∙ ap (lookup (bytes_eq voter)) c.self.view_is ∙ c.requires in
+    let inserted : c.insert.new.self.entries ≡ insert_entry bytes_eq es voter c.args.source = (rw c.unwrap-none.ensures at c.insert.ensures.entries) ∙ ap (λ entries. insert_entry bytes_eq entries voter c.args.source) c.in_ok-reserve.ensures.entries in
+    let grown = cast_last es c.insert.new.self.entries voter c.args.source new inserted in
     let slots = c.in_ok-push.ensures.slots in
     (λ j. listed (grown j) (filed (slots j)))
     ∙ listed-push es inside.slots.items inside.slot_of.items e c.self.invariant ∙ ap (λ ballots. ballots ++ e ∷ []) c.self.view_is

@@ -10,11 +10,11 @@ pub returns : goal.returns
 returns g c =
     let inside = c.self.inside in
     let voter = c.args.voter.now in
-    let set = listed-set_value inside.ballots.entries inside.slots.items inside.slot_of.items c.self.invariant voter c.args.ballot in
+    let set = listed-set_value inside.ballots.entries inside.slots.items inside.slot_of.items c.self.invariant voter c.args.source in
     elim c.match-get_mut.branch [
       | in-Some w ↦ rw w.self-inside-is (rw (← c.self.view_is)
-          (ap (λ entries. listed entries (filed inside.slots.items)) (c.get_mut.follows.holds c.args.ballot).0 ∙ set))
+          (ap (λ entries. listed entries (filed inside.slots.items)) (c.get_mut.follows.holds c.args.source).0 ∙ set))
       | in-None w ↦ rw w.self-inside-is (rw (← c.self.view_is)
           (ap (λ entries. listed entries (filed inside.slots.items))
-          (ap (λ m. m.entries) c.get_mut.follows.holds-at-none ∙ sym (set_value-absent (bytes_eq voter) inside.ballots.entries c.args.ballot (sym w.in-None.ensures.value))) ∙ set))
+          (ap (λ m. m.entries) c.get_mut.follows.holds-at-none ∙ sym (set_value-absent (bytes_eq voter) inside.ballots.entries c.args.source (sym w.in-None.ensures.value))) ∙ set))
     ]
