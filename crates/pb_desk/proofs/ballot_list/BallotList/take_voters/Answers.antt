@@ -1,4 +1,4 @@
-use Rattle.std.proofs.Common.{◌≡◌, ◌∙◌, ◌+◌, ◌++◌, [], ◌∷◌, ℕ, suc, List, None, Option, Some, ap, drop, length, refl, slice_get, subst, sym, add-one, arith}
+use Rattle.std.proofs.Common.{◌≡◌, ◌∙◌, ◌+◌, ◌++◌, [], ◌∷◌, suc, None, Option, Some, ap, drop, length, refl, slice_get, subst, sym, add-one, arith}
 use Rattle.std.specs.Map.Iter.{deref_pair}
 use Rattle.std.specs.Option.{option_map, IfSome, IsSome}
 use Rattle.std.proofs.lemmas.List.{drop_all}
@@ -6,10 +6,9 @@ use Rattle.std.proofs.lemmas.Option.{slice_get-get_or}
 use Rattle.pb_core.specs.Election.{VoterView}
 use Rattle.pb_desk.specs.Desk.{voters_of}
 use Rattle.pb_desk.specs.Slots.{filed, listed, IsListing}
-use Rattle.pb_desk.specs.Sources.{ballot_at, ballots_at, IsOwnVoter}
-use Rattle.pb_desk.specs.declared.source.Source.{Source}
+use Rattle.pb_desk.specs.Sources.{ballots_at, IsOwnVoter}
 use Rattle.pb_desk.specs.declared.source.Source.TheVariants.{Opening, Entry}
-use Rattle.pb_desk.proofs.Closings.{after_entry, after_opening, entry_taken, opening_taken, room_left, taken_all, within_journal, within_opening, within_turned, pair_of, AreDistinct-sources, IsLeft, IsSoFar}
+use Rattle.pb_desk.proofs.Closings.{after_entry, after_opening, entry_taken, opening_taken, room_left, taken_all, within_journal, within_opening, within_turned, pair_of, AreDistinct-sources}
 use Rattle.pb_desk.proofs.Listings.{index_within, listed-drop, listed-drop_gap, none_after, NoneTwice-listed}
 use Rattle.pb_desk.proofs.ballot_list.BallotList.take_voters.Goals as goal
 use Rattle.pb_desk.proofs.ballot_list.BallotList.take_voters.Goals.{in-Some, in-Opening, in-Entry, in-None}
