@@ -3,8 +3,6 @@
 #![tactic(auto)]
 
 mod command_line;
-#[cfg(test)]
-mod command_line_tests;
 mod perform;
 
 use clap::error::ErrorKind;

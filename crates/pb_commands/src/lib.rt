@@ -7,10 +7,6 @@
 pub mod close_and_count;
 pub mod close_fault;
 pub mod closing;
-#[cfg(test)]
-mod closing_tests;
-#[cfg(test)]
-mod desk_tests;
 pub mod fault;
 mod fault_line;
 pub mod laws;
@@ -22,8 +18,6 @@ pub mod run_desk;
 mod script;
 pub mod script_fault;
 mod serve_script;
-#[cfg(test)]
-mod tests;
 
 pub use close_fault::CloseFault;
 pub use closing::{Closing, DeskCount};
