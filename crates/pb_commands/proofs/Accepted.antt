@@ -42,10 +42,10 @@ accepted_by_reader (Some bytes) options fault r is accepts = λ text writes.
 -- the count of an election that has a report is refused from outside alone
 pub count_from_outside : (e : ElectionView) (options : CountOptions) (text : List ℕ) → IsReportOf e options text
     → (fault : CountFault) → IsCountFault e options fault → IsFromOutside (merged (Count fault))
-count_from_outside e options text report count.WorkerCount refused = absurd (none-some _ (sym report.in_range ∙ refused))
-count_from_outside e options text report count.StepRange refused = absurd (none-some _ (sym report.in_range ∙ refused))
-count_from_outside e options text report count.RaisesRange refused = absurd (none-some _ (sym report.in_range ∙ refused))
-count_from_outside e options text report count.RaisesSpent refused = absurd (none-some _ (sym refused.1 ∙ report.counted))
+count_from_outside e options text report count.WorkerCount refused = absurd (none-some _ (sym report.1.in_range ∙ refused))
+count_from_outside e options text report count.StepRange refused = absurd (none-some _ (sym report.1.in_range ∙ refused))
+count_from_outside e options text report count.RaisesRange refused = absurd (none-some _ (sym report.1.in_range ∙ refused))
+count_from_outside e options text report count.RaisesSpent refused = absurd (none-some _ (sym refused.1 ∙ report.1.counted))
 count_from_outside e options text report count.NoMemory refused = refl
 
 pub accepted_by_count : (files : Option (List ℕ)) (options : CountOptions) (e : ElectionView) (fault : CountFault) (r : Result (Unit {0}) AppFault)
@@ -70,8 +70,8 @@ refused_by_count (Some bytes) options e fault r is stands refused =
 -- an election and options have one report
 pub one_report : (e : ElectionView) (options : CountOptions) (a b : List ℕ) → IsReportOf e options a → IsReportOf e options b → a ≡ b
 one_report e options a b first second =
-    let outcome = same_Some _ _ (sym first.counted ∙ second.counted) in
-    first.text_is ∙ ap (report_of e) outcome ∙ sym second.text_is
+    let outcome = same_Some _ _ (sym first.1.counted ∙ second.1.counted) in
+    first.2 ∙ ap (report_of e) outcome ∙ sym second.2
 
 pub one_text : (bytes : List ℕ) (options : CountOptions) (a b : List ℕ) → CountWrites bytes options a → CountWrites bytes options b → a ≡ b
 one_text bytes options a b first second =

@@ -49,10 +49,13 @@ refused_by_journal (Some bytes) (Some journal) options e fault r is stands fails
     given_fault (AuditFails bytes journal options) r (merged (Audit fault)) is
     (journal_fails bytes journal options fault (e, stands, fails))
 
-desk_fails : (bytes journal : List ℕ) (options : CountOptions) (fault : CountFault) → (d : DeskView) × IsDeskOf bytes journal d × IsRefusedDesk d options fault
+desk_fails : (bytes journal : List ℕ) (options : CountOptions) (d : DeskView) (fault : CountFault) → IsDeskOf bytes journal d → IsRefusedDesk d options fault
     → AuditFails bytes journal options (merged (Count fault))
-desk_fails bytes journal options count.NoMemory fails = tt
-desk_fails bytes journal options fault fails = fails
+desk_fails bytes journal options d count.WorkerCount is refused = (d, is, refused.0, refused.1)
+desk_fails bytes journal options d count.StepRange is refused = (d, is, refused.0, refused.1)
+desk_fails bytes journal options d count.RaisesRange is refused = (d, is, refused.0, refused.1)
+desk_fails bytes journal options d count.RaisesSpent is refused = (d, is, refused.0, refused.1)
+desk_fails bytes journal options d count.NoMemory is refused = tt
 
 pub refused_by_desk : (files journals : Option (List ℕ)) (options : CountOptions) (e : ElectionView) (d : DeskView) (fault : CountFault) (r : Result (Unit {0}) AppFault)
     → IsErrAnd r (λ app. app ≡ merged (Count fault)) → IsAudited files journals e d → IsRefusedDesk d options fault
@@ -61,7 +64,7 @@ refused_by_desk None journals options e d fault r is audited refused = given_fau
 refused_by_desk (Some bytes) None options e d fault r is audited refused = given_fault (λ app. Unit {0}) r (merged (Count fault)) is tt
 refused_by_desk (Some bytes) (Some journal) options e d fault r is audited refused =
     given_fault (AuditFails bytes journal options) r (merged (Count fault)) is
-    (desk_fails bytes journal options fault (d, desk_of bytes journal e d audited, refused))
+    (desk_fails bytes journal options d fault (desk_of bytes journal e d audited) refused)
 
 -- an error that is a given fault, judged by the file
 judged : (files : Option (List ℕ)) (fault : AppFault) (r : Result (Unit {0}) AppFault)

@@ -18,7 +18,8 @@ pub is_printable : (d : DeskView) (options : CountOptions) (count : DeskCount) �
     → IsPrintable count.election count.outcome.elected
 is_printable d options count is_election counted =
     let o = counted.outcome in
-    count_is_printable count.election options count.outcome is_election o.counted o.within_budget o.price_system
+    let is = o.counted in
+    count_is_printable count.election options count.outcome is_election is.counted is.within_budget is.price_system
 
 when_true : (b : Bool) (A B : Type 0) → b ≡ true → A → MatchBool b A B
 when_true b A B is a = subst (λ (t : Bool). MatchBool t A B) (sym is) a
@@ -29,14 +30,7 @@ pub report_of_count : (d : DeskView) (options : CountOptions) (count : DeskCount
 report_of_count d options count counted =
     let report = report_of count.election (settled count.outcome) in
     let o = counted.outcome in
-    let is_report : IsReportOf count.election options report = record {
-      in_range = o.in_range;
-      outcome = settled count.outcome;
-      counted = o.counted;
-      text_is = refl;
-      within_budget = o.within_budget;
-      price_system = o.price_system;
-    } in
+    let is_report : IsReportOf count.election options report = (count.outcome, o.counted, refl) in
     let of_closed = subst (λ (e : ElectionView). IsReportOf e options report) counted.election is_report in
     when_true (standing_of d).is_shut _ _ counted.shut (report, of_closed, refl)
 

@@ -43,7 +43,7 @@ script_from_outside : (clerks : ℕ) (records : List Fields) (said : List Script
     IsFromOutside (merged (Script fault))
 script_from_outside clerks records said fault is fails = by fault fails.left fails.records_are fails.next
   where
-    by : (fault : ScriptFault) (left : List Fields) → records ≡ fails.before ++ left → IsNextScriptFault clerks (length fails.before) (Some left) fault → IsFromOutside (merged (Script fault))
+    by : (fault : ScriptFault) (left : List Fields) → records ≡ fails.before ++ left → IsNextScriptFault clerks (length fails.before) left fault → IsFromOutside (merged (Script fault))
     by (script.ReadFailed row) left are next = refl
     by (script.BadRow row) [] are next = absurd next.2
     by (script.BadRow row) (fields ∷ rest) are next =

@@ -103,7 +103,7 @@ HaveAsked-end clerks (Some rows) left count lists have none few =
 
 -- the next row has a fault
 pub HaveAsked-fault : (clerks : ℕ) (all left : Option (List Fields)) (count : ℕ) (lists : List (List RequestView)) (fault : ScriptFault) → HaveAsked clerks all left count lists →
-    IsNextScriptFault clerks count left fault → IfSome all (λ rows. IsFaultOfScript clerks rows fault)
+    IfSome left (λ left. IsNextScriptFault clerks count left fault) → IfSome all (λ rows. IsFaultOfScript clerks rows fault)
 HaveAsked-fault clerks None left count lists fault have next = tt
 HaveAsked-fault clerks (Some rows) None count lists fault have next = absurd have.have_gone
 HaveAsked-fault clerks (Some rows) (Some rest) count lists fault have next = record {
@@ -112,7 +112,7 @@ HaveAsked-fault clerks (Some rows) (Some rest) count lists fault have next = rec
   left = rest;
   records_are = have.have_gone;
   rows = have.rows;
-  next = let P : ℕ → Type 0 = λ n. IsNextScriptFault clerks n (Some rest) fault in subst P (sym have.count_is) next;
+  next = let P : ℕ → Type 0 = λ n. IsNextScriptFault clerks n rest fault in subst P (sym have.count_is) next;
 }
 
 -- refused memory is no fault of the rows

@@ -47,12 +47,6 @@ IsTextOf d options text =
 abbrev pub AuditWrites : List ℕ → List ℕ → CountOptions → List ℕ → Type 0
 AuditWrites bytes journal options text = (d : DeskView) × IsDeskOf bytes journal d × IsTextOf d options text
 
--- the desk is shut, and the count of the ballots that its journal leaves is refused
-abbrev pub IsRefusedDesk : DeskView → CountOptions → CountFault → Type 0
-IsRefusedDesk d options NoMemory = ⊤
-IsRefusedDesk d options fault =
-    ((standing_of d).is_shut ≡ true) × IsCountFault (closed_election d) options fault
-
 -- why a run of `audit` on these bytes ends: the file's first fault; or the journal's; or the count's;
 -- or the writer failed, which is tried last
 abbrev pub AuditFails : List ℕ → List ℕ → CountOptions → AppFault → Type 0
@@ -60,7 +54,14 @@ AuditFails bytes journal options (Read fault) = IsFileFault bytes fault
 AuditFails bytes journal options (Audit fault) =
     IsFileOf bytes (λ e. IsFaultOfJournal e program_room (records_of journal) fault)
 AuditFails bytes journal options (Count fault) =
-    (d : DeskView) × IsDeskOf bytes journal d × IsRefusedDesk d options fault
+    (d : DeskView) × IsDeskOf bytes journal d × ((standing_of d).is_shut ≡ true)
+    × IsCountFault (closed_election d) options fault
 AuditFails bytes journal options Write = (text : List ℕ) × AuditWrites bytes journal options text
 AuditFails bytes journal options Memory = ⊤
 AuditFails bytes journal options fault = ⊥
+
+-- the desk is shut, and the count of the ballots that its journal leaves is refused; or memory is
+abbrev pub IsRefusedDesk : DeskView → CountOptions → CountFault → Type 0
+IsRefusedDesk d options NoMemory = ⊤
+IsRefusedDesk d options fault =
+    ((standing_of d).is_shut ≡ true) × IsCountFault (closed_election d) options fault

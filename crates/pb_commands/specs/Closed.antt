@@ -1,19 +1,18 @@
 -- What a shared desk comes to once its clerks are back.
-use Rattle.std.specs.Prelude.{◌≡◌, ◌≤◌, true, false, List, None, Some, length}
+use Rattle.std.specs.Prelude.{◌≡◌, true, false, List, length}
 use Rattle.pb_core.specs.Election.{ElectionView}
 use Rattle.pb_core.specs.Request.{EntryView}
 use Rattle.pb_desk.specs.Desk.{DeskView, closed_election, standing_of}
 use Rattle.pb_price.specs.Supporters.{support_of}
 use Rattle.pb_rounds.specs.Cheapest.{EachWasCheapest}
 use Rattle.pb_rounds.specs.Completed.{IsCompleted}
-use Rattle.pb_rounds.specs.Count.{IsCountFault, count_of, spent_on}
-use Rattle.pb_rounds.specs.CountFault.{refusal_of}
-use Rattle.pb_rounds.specs.Outcome.{OutcomeView, settled}
-use Rattle.pb_rounds.specs.PriceSystem.{HasPriceSystem}
+use Rattle.pb_rounds.specs.Count.{IsCountFault}
+use Rattle.pb_rounds.specs.Outcome.{OutcomeView}
 use Rattle.pb_rounds.specs.PricingRecord.{HasPricing}
 use Rattle.pb_rounds.specs.declared.options.Completion.TheVariants.{Add1}
 use Rattle.pb_rounds.specs.declared.options.CountOptions.{CountOptions}
 use Rattle.pb_shared.specs.Clerk.{ClerkView, IsHeldByAnother, IsMergeOf, SharedView, desk_with}
+use Rattle.pb_commands.specs.Counted.{IsCounted}
 use Rattle.pb_commands.specs.declared.close_fault.CloseFault.{CloseFault}
 use Rattle.pb_commands.specs.declared.close_fault.CloseFault.TheVariants.{Unfinished, NoMemory, NotCounted}
 use Rattle.pb_commands.specs.declared.closing.Closing.{Closing}
@@ -21,14 +20,11 @@ use Rattle.pb_commands.specs.declared.closing.Closing.TheVariants.{Open, Counted
 use Rattle.pb_commands.specs.declared.closing.DeskCount.{DeskCount}
 
 -- the outcome is exactly that of the count of this election with these options, for any number of workers:
--- the elected are within the budget, payments of each voter's share explain them, each was the cheapest of
--- its round, and the numbers of prices are those of a pricing record
+-- with Add1 it is completed, each of the elected was the cheapest of its round, and the numbers of prices are
+-- those of a pricing record
 pub record IsCountOf (e : ElectionView) (options : CountOptions) (o : OutcomeView) : Type 0 where
-  pub in_range : refusal_of options ≡ None
-  pub counted : count_of e options ≡ Some (settled o)
+  pub counted : IsCounted e options o
   pub completed : options.completion ≡ Add1 → IsCompleted options.measure e options.step o.raised
-  pub within_budget : spent_on (support_of e) o.elected ≤ e.budget
-  pub price_system : HasPriceSystem (support_of e) o.share o.elected o.rests
   pub cheapest : EachWasCheapest options.measure (support_of e) o.share o.elected
   pub priced : HasPricing options.measure (support_of e) options.workers o.share o.priced
 

@@ -2,6 +2,7 @@
 use Rattle.std.specs.Prelude.{◌≡◌, ℕ, ◌+◌, ◌≤◌, ◌++◌, ⊤, true, List, [], ◌∷◌, length, Option, None, Some}
 use Rattle.std.specs.List.{AllZip}
 use Rattle.pb_core.specs.Request.{RequestView}
+use Rattle.pb_desk.specs.Audit.{NextIs}
 use Rattle.pb_rows.specs.Reading.{Fields, IsNext}
 use Rattle.pb_commands.specs.Script.{AreAsked, HasScriptForm, IsScript, IsScriptRow, ScriptRowView, most_rows}
 use Rattle.pb_commands.specs.declared.script_fault.ScriptFault.{ScriptFault}
@@ -18,12 +19,6 @@ NoneLeft None = ⊤
 NoneLeft (Some []) = ⊤
 NoneLeft (Some (fields ∷ rest)) = ⊥
 
--- where it is known which records are left, there is one, and the first is such
-abbrev pub NextIs : Option (List Fields) → (Fields → Type 0) → Type 0
-NextIs None P = ⊤
-NextIs (Some []) P = ⊥
-NextIs (Some (fields ∷ rest)) P = P fields
-
 -- where it is known which records there were, they are those that were read, and those that are left
 abbrev pub HaveGone : Option (List Fields) → List Fields → Option (List Fields) → Type 0
 HaveGone None gone left = ⊤
@@ -32,7 +27,7 @@ HaveGone (Some all) gone (Some rest) = all ≡ gone ++ rest
 
 -- the fault of the next record, where this many came before it: within a record a reader that fails comes
 -- first, then the limit, then the form
-abbrev pub IsNextScriptFault : ℕ → ℕ → Option (List Fields) → ScriptFault → Type 0
+abbrev pub IsNextScriptFault : ℕ → ℕ → List Fields → ScriptFault → Type 0
 IsNextScriptFault clerks before left (ReadFailed row) = (row ≡ before + 1) × (before ≤ most_rows)
 IsNextScriptFault clerks before left (BadRow row) =
     (row ≡ before + 1) × (row ≤ most_rows) × NextIs left (λ fields. ¬ HasScriptForm clerks fields)
@@ -46,7 +41,7 @@ pub record IsFaultOfScript (clerks : ℕ) (records : List Fields) (fault : Scrip
   pub left : List Fields
   pub records_are : records ≡ before ++ left
   pub rows : AllZip (IsScriptRow clerks) before script
-  pub next : IsNextScriptFault clerks (length before) (Some left) fault
+  pub next : IsNextScriptFault clerks (length before) left fault
 
 -- the next record is this one, and says this
 pub record TakesScriptRow (clerks : ℕ) (left after : Option (List Fields)) (x : ScriptRowView) : Type 0 where
