@@ -22,8 +22,9 @@ use pb_shared::shared_fault::SharedFault;
 use std::alloc::{AllocError, Global};
 use std::thread::{Threads, map_vec};
 
-/// How many times a clerk tries the lock for one request.
-const TRIES: u32 = 1000;
+/// How many times a clerk tries the lock for one request, offering the processor after each lost try. It is
+/// enough for a holder without a processor to get one, and for a large journal to grow.
+const TRIES: u32 = 100_000;
 
 /// A clerk back from its work.
 #[derive(Drop)]
