@@ -1,3 +1,4 @@
+-- Tests that are joined, and their parts.
 use Rattle.std.proofs.Common.{◌≡◌, Bool, true, false, ◌&&◌, ◌||◌, ◌⊎◌, inl, inr, refl}
 
 -- what follows from a test of two parts, and what it follows from

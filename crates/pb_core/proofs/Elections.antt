@@ -1,3 +1,4 @@
+-- What may join an election, and ids among its projects and voters.
 use Rattle.std.proofs.Common.{◌≡◌, ◌≢◌, ℕ, ◌+◌, ◌<◌, List, [], ◌∷◌, ◌++◌, length, Contains, map, sym, ◌∙◌, subst, arith, length-append}
 use Rattle.std.specs.List.{slice_index_or}
 use Rattle.std.proofs.lemmas.List.{map_push, length-map, get_or-map}

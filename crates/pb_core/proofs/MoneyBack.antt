@@ -1,3 +1,4 @@
+-- What is written of an amount is read as that amount.
 use Rattle.std.proofs.Common.{◌≡◌, nat_le, subst, ℕ, ◌+◌, ◌*◌, ◌/◌, ◌%◌, ◌^◌, ◌<◌, ◌≤◌, Bool, true, ◌&&◌, Ok, List, [], ◌∷◌, ◌++◌, length, decimal, refl, sym, ◌∙◌, ap, arith, rules}
 use Rattle.std.proofs.Math.Nat.{div-add-mod}
 use Rattle.std.proofs.Math.Seq.{take-append_seam, drop-append-add}

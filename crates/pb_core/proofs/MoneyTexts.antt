@@ -1,3 +1,4 @@
+-- Digits, and the parts of a money text.
 use Rattle.std.proofs.Common.{inl, inr, suc, zero, ◌≡◌, ℕ, ◌+◌, ◌*◌, ◌-◌, ◌<◌, Bool, true, ◌&&◌, ◌==◌, not, min, List, [], ◌∷◌, ◌++◌, length, take, drop, get_or, refl, arith, rules}
 use Rattle.std.specs.Char.{is_ascii_digit, digit_value}
 use Rattle.std.specs.List.{list_all, position_or_len}

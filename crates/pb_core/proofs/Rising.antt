@@ -1,3 +1,4 @@
+-- Lists whose places rise.
 use Rattle.std.proofs.Common.{ℕ, List}
 use Rattle.std.specs.List.{dedup}
 use Rattle.std.specs.List.Sorted.{IsPermutation}

@@ -1,3 +1,4 @@
+-- Trimming twice is trimming once.
 use Rattle.std.proofs.Common.{◌≡◌, ℕ, Bool, true, false, ◌&&◌, ◌==◌, cond, List, [], ◌∷◌, length, refl, ap}
 use Rattle.pb_core.proofs.Conditions.{left_of, right_of, both}
 use Rattle.std.specs.Char.{is_whitespace}

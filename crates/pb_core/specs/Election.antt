@@ -1,3 +1,4 @@
+-- Elections: their projects, their voters and their limits.
 use Rattle.std.specs.Prelude.{◌≢◌, ℕ, ◌<◌, ◌≤◌, List, [], length, All, Option, map}
 use Rattle.std.specs.List.{AllPairs}
 use Rattle.pb_core.specs.Ballot.{IsVoterId, IsBallot}

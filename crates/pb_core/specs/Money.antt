@@ -1,3 +1,4 @@
+-- The amount that a text names.
 use Rattle.std.specs.Prelude.{ℕ, ◌^◌, List, Result, Ok, Err, if◌then◌else◌, not, nat_le}
 use Rattle.pb_core.specs.MoneyText.{has_money_form, is_in_hundredths, hundredths}
 use Rattle.pb_core.specs.declared.money_fault.MoneyFault.{MoneyFault}

@@ -28,13 +28,30 @@ impl<A: Allocator> Request<A> {
     {
         match self {
             Request::Cast(voter, ballot) => {
-                Ok(Request::Cast(voter.copy(alloc)?, ballot.copy(alloc)?))
+                let (voter, ballot) = copy_both(voter, ballot, alloc)?;
+                Ok(Request::Cast(voter, ballot))
             }
             Request::Replace(voter, ballot) => {
-                Ok(Request::Replace(voter.copy(alloc)?, ballot.copy(alloc)?))
+                let (voter, ballot) = copy_both(voter, ballot, alloc)?;
+                Ok(Request::Replace(voter, ballot))
             }
             Request::Withdraw(voter) => Ok(Request::Withdraw(voter.copy(alloc)?)),
             Request::Shut => Ok(Request::Shut),
         }
     }
+}
+
+/// Equals of both, with memory of their own.
+fn copy_both<A: Allocator, B: Allocator>(
+    voter: &VoterId<A>,
+    ballot: &Ballot<A>,
+    alloc: B,
+) -> Result<(VoterId<B>, Ballot<B>), NoMemory>
+where
+    B: Copy,
+    ensures { IfOk result (λ both. (both.0 ≡ voter.now) × (both.1 ≡ ballot.now)) }
+{
+    let voter = voter.copy(alloc)?;
+    let ballot = ballot.copy(alloc)?;
+    Ok((voter, ballot))
 }

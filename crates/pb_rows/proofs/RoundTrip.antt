@@ -7,7 +7,7 @@ use Rattle.csv.specs.Reading.{is_bom, records_from, strip_bom}
 use Rattle.csv.specs.Writing.{field_text, fields_text, is_blank, needs_byte, read_back}
 use Rattle.csv.specs.declared.parser.State.TheVariants as st
 use Rattle.pb_rows.specs.Reading.{Fields, pb_config, records_of}
-use Rattle.pb_rows.specs.Writing.{ComeBack, byte_order_mark, pb_writer, text_of_row, text_of_rows}
+use Rattle.pb_rows.specs.Writing.{ComeBack, pb_writer, text_of_row, text_of_rows}
 use Rattle.pb_rows.proofs.RecordFacts.{none_in_empty, records_more}
 use Rattle.pb_rows.proofs.RowTrip.{empty-field, head-of, read-write, row-plain, tail-of, text-head}
 
@@ -37,7 +37,7 @@ read_back_same ([] ∷ rows) some =
 read_back_same ((x ∷ rest) ∷ rows) some = ap (λ (t : List Fields). (x ∷ rest) ∷ t) (read_back_same rows (λ k d within. some (suc k) d (omega arith)))
 
 -- a text that begins with no byte order mark loses none
-pub no_mark : (text : List ℕ) → ((rest : List ℕ) → text ≢ byte_order_mark ++ rest) → strip_bom text ≡ text
+pub no_mark : (text : List ℕ) → ((rest : List ℕ) → text ≢ 0xEF ∷ 0xBB ∷ 0xBF ∷ rest) → strip_bom text ≡ text
 unfolding strip_bom
 no_mark [] other = refl
 no_mark (a ∷ []) other = refl

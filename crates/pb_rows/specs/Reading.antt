@@ -29,8 +29,8 @@ pub record Left : Type 0 where
   pub left : Option (List Fields)
   pub fault : Option RecordsFault
 
--- an answer on the next record, where it is known what is left: there is one, it has these fields, and the rest
--- is left after it; or none is left
+-- an answer on the next record, where it is known what is left: there is one, it has these fields, and the
+-- rest is left after it; or none is left
 abbrev pub IsNext : Option (List Fields) → Option (List Fields) → Bool → Fields → Type 0
 IsNext None after found fields = ⊤
 IsNext (Some []) after found fields = found ≡ false
@@ -72,9 +72,6 @@ pub record IsSetUp {R : Type 0} (reader : Reader R) : Type 0 where
 
 -- the fault that an error of csv stands for
 abbrev pub fault_of_kind : ErrorKind → RecordsFault
-fault_of_kind (kind.Io e) = ReadFailed
 fault_of_kind (kind.Utf8 pos err) = NotText
 fault_of_kind kind.OutOfMemory = NoMemory
-fault_of_kind (kind.UnequalLengths pos expected len) = ReadFailed
-fault_of_kind (kind.Serialize text) = ReadFailed
-fault_of_kind (kind.Deserialize pos err) = ReadFailed
+fault_of_kind other = ReadFailed

@@ -23,14 +23,11 @@ unfoldable pub text_of_rows : List Fields → List ℕ
 text_of_rows [] = []
 text_of_rows (row ∷ rows) = text_of_row row ++ text_of_rows rows
 
--- the byte order mark in UTF-8
-abbrev pub byte_order_mark : List ℕ
-byte_order_mark = 0xEF ∷ 0xBB ∷ 0xBF ∷ []
-
--- rows that can be read back as they were written: each has a field, and their text begins with no byte order mark
+-- rows that can be read back as they were written: each has a field, and their text doesn't begin with the
+-- three bytes of a byte order mark
 pub record ComeBack (rows : List Fields) : Type 0 where
   pub some_field : All (λ fields. 0 < length fields) rows
-  pub no_mark : (rest : List ℕ) → text_of_rows rows ≢ byte_order_mark ++ rest
+  pub no_mark : (rest : List ℕ) → text_of_rows rows ≢ 0xEF ∷ 0xBB ∷ 0xBF ∷ rest
 
 -- a writer of csv that writes rows as above, and stands at the start of one
 pub record IsAtRowStart {W : Type 0} (writer : Writer W) : Type 0 where
