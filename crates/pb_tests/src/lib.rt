@@ -9,13 +9,7 @@ mod auditing;
 #[cfg(test)]
 mod checks;
 #[cfg(test)]
-mod closing;
-#[cfg(test)]
-mod commands;
-#[cfg(test)]
 mod counting;
-#[cfg(test)]
-mod desk_command;
 #[cfg(test)]
 mod elections;
 #[cfg(test)]

@@ -1,0 +1,14 @@
+//! What no run of the program shows of its commands: the count of a shared desk, clerks side by side, a writer that
+//! can't be flushed, and what a script's faults say of themselves.
+//!
+//! These tests stand apart from those of `pb_tests`, which so need not wait for the proof of `pb_commands`.
+#![tactic(auto)]
+
+#[cfg(test)]
+mod checks;
+#[cfg(test)]
+mod clerks;
+#[cfg(test)]
+mod closing;
+#[cfg(test)]
+mod faults;
