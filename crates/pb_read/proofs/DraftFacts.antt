@@ -9,17 +9,25 @@ use Rattle.pb_core.specs.declared.money_fault.MoneyFault.{MoneyFault}
 use Rattle.pb_rows.specs.Reading.{Fields}
 use Rattle.pb_read.proofs.IdFacts.{is_some-place, place_in-push}
 use Rattle.pb_read.specs.Columns.{has_fields}
-use Rattle.pb_read.specs.Drafts.{HasProject, HasVoter}
-use Rattle.pb_read.specs.Ids.{Finds, found}
+use Rattle.pb_read.specs.Drafts.{HasProject, HasVoter, IsTied}
+use Rattle.pb_read.specs.Ids.{Finds, found, place_in}
 use Rattle.pb_read.specs.MoneyKinds.{kind_of_money}
 use Rattle.pb_read.specs.Machine.{Explains, project_checks, project_row_checks, vote_checks, vote_row_checks}
 use Rattle.pb_read.specs.Rows.{field, is_empty}
 use Rattle.pb_read.specs.Voting.{is_among, names_only}
 use Rattle.pb_read.specs.declared.columns.ProjectColumns.{ProjectColumns}
 use Rattle.pb_read.specs.declared.columns.VoteColumns.{VoteColumns}
+use Rattle.pb_read.specs.declared.draft.Draft.{Draft}
 use Rattle.pb_read.specs.declared.fault.ReadKind.{ReadKind}
 use Rattle.pb_read.specs.declared.ids.Ids.{Ids}
 use Rattle.pb_read.specs.declared.fault.ReadKind.TheVariants as kinds
+
+-- a draft without projects, voters and ids
+pub tied_start : (draft : Draft) → draft.election.projects ≡ [] → draft.election.voters ≡ [] → ((text : List ℕ) → found draft.project_ids text ≡ None) → ((text : List ℕ) → found draft.voter_ids text ≡ None) → IsTied draft
+tied_start draft no_project no_voter projects voters = record {
+  project_ids_are = λ text. projects text ∙ ap (λ ps. place_in (map (λ (p : ProjectView). p.id) ps) text) (sym no_project);
+  voter_ids_are = λ text. voters text ∙ ap (λ vs. place_in (map (λ (v : VoterView). v.id) vs) text) (sym no_voter);
+}
 
 module _ (columns : ProjectColumns) (row : Fields) (e : ElectionView) where
   pub project_lacks : has_fields columns.id columns.cost row ≡ false → project_row_checks columns row e ≡ Some kinds.MissingField

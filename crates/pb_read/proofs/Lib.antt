@@ -5,6 +5,7 @@ pub mod Runs
 pub mod LowestKind
 pub mod GoesOn
 pub mod IdFacts
+pub mod Limits
 pub mod Uniqueness
 pub mod Pieces
 pub mod Ballots

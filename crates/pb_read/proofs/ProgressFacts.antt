@@ -1,5 +1,5 @@
 -- What the reading of one row comes to, from what its parts ensure.
-use Rattle.std.proofs.Common.{◌≡◌, ◌≤◌, Bool, true, false, cond, Some, None, Result, Ok, ap, sym, ◌∙◌, subst}
+use Rattle.std.proofs.Common.{◌≡◌, ◌≤◌, ℕ, Bool, true, false, cond, Option, Some, None, Result, Ok, ap, sym, ◌∙◌, subst}
 use Rattle.std.specs.Prelude.{codes, OnOk, IfErr}
 use Rattle.std.proofs.lemmas.Option.{same_Some}
 use Rattle.std.proofs.lemmas.Result.{on_ok_weaker, IfErr-weaker}
@@ -12,9 +12,10 @@ use Rattle.pb_read.proofs.MachineLaws.{project_fault, vote_fault}
 use Rattle.pb_read.proofs.Runs.{meta_row_passes}
 use Rattle.pb_read.specs.Drafts.{IsTied}
 use Rattle.pb_read.specs.Stages.{Next, next_row, plain}
-use Rattle.pb_read.specs.Machine.{Position, Explains, advance, project_row_checks, vote_row_checks, with_project, with_row, with_voter, row_fault}
+use Rattle.pb_read.specs.Machine.{Position, Explains, advance, budget_of, limit_of, project_row_checks, vote_row_checks, with_project, with_row, with_voter, row_fault}
 use Rattle.pb_read.specs.Progresses.{IsKept, IsRead, IsReady, place_of}
 use Rattle.pb_read.specs.Rows.{field, is_blank, is_word}
+use Rattle.pb_read.specs.StandsFor.{opening}
 use Rattle.pb_read.specs.declared.columns.ProjectColumns.{ProjectColumns}
 use Rattle.pb_read.specs.declared.columns.VoteColumns.{VoteColumns}
 use Rattle.pb_read.specs.declared.draft.Draft.{Draft}
@@ -22,11 +23,20 @@ use Rattle.pb_read.specs.declared.fault.ReadKind.{ReadKind}
 use Rattle.pb_read.specs.declared.meta.Meta.{Meta}
 use Rattle.pb_read.specs.declared.progress.Progress.{Progress}
 use Rattle.pb_read.specs.declared.progress.Stage.{Stage}
-use Rattle.pb_read.specs.declared.progress.Stage.TheVariants.{InMeta, InProjects, InVotes}
+use Rattle.pb_read.specs.declared.progress.Stage.TheVariants.{Header, InMeta, InProjects, InVotes}
+use Rattle.pb_read.specs.declared.section.Section.TheVariants.{Projects}
 
 -- a step without fault, from the stage and the election before it to those after it
 abbrev pub IsStep : Stage → ElectionView → Next → Progress → Type 0
 IsStep stage e n new = (row_fault (stage, e) n ≡ None) × (place_of new ≡ advance (stage, e) n) × IsReady new
+
+-- a new draft at PROJECTS' head has the terms of META
+pub projects_opened : (meta : Meta) (budget : ℕ) (limit : Option ℕ) (draft : Draft) → meta.budget ≡ Some (Ok budget) → meta.max_length ≡ Ok limit → draft.election ≡ opening budget limit → IsTied draft →
+    (place_of (record { stage = Header Projects; draft = draft }) ≡ (Header Projects, opening (budget_of meta.budget) (limit_of meta.max_length))) × IsReady (record { stage = Header Projects; draft = draft })
+projects_opened meta budget limit draft b m is tied = (
+  ap (λ e. (Header Projects, e)) (is ∙ sym (λ i. opening (ap budget_of b i) (ap limit_of m i))),
+  record { tied = tied; kept = ap (λ (e : ElectionView). e.voters) is },
+)
 
 project_row_fault : (columns : ProjectColumns) (row : Fields) (e : ElectionView) → project_row_checks columns row e ≡ row_fault (InProjects columns, e) (plain row)
 unfolding project_row_checks

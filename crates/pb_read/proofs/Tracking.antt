@@ -131,6 +131,13 @@ finished None at p r end said = tt
 finished (Some all) at p (Ok e) end said = tt
 finished (Some all) at p (Err fault) end said = ended_at_fault (Some all) at p fault.kind fault.at end said.0 said.1
 
+-- and the election that it gives
+pub finished_ok : (all : Option (List Fields)) (at : ℕ) (p : Position) (r : Result ElectionView ReadFault) → HasEnded all at p → MatchResult r (λ e. EndsWith p e) (λ fault. (fault.at ≡ at) × Explains fault.kind (row_fault p the_end)) →
+    IfSome all (λ records. IfOk r (λ e. StandsFor records e))
+finished_ok None at p r end said = tt
+finished_ok (Some all) at p (Ok e) end said = ended (Some all) at p e end said
+finished_ok (Some all) at p (Err fault) end said = tt
+
 -- what a reader's records stand for, its bytes' records do
 pub answers : (bytes : Option (List ℕ)) (left : Option (List Fields)) (r : Result ElectionView ReadFault) → left ≡ option_map records_of bytes → IfSome left (λ all. IfErr r (λ fault. IsFaultAt all fault.kind fault.at)) →
     IfSome bytes (λ b. IfErr r (λ fault. IsFaultAt (records_of b) fault.kind fault.at))

@@ -16,6 +16,7 @@ use pb_core::money::Money;
 use pb_core::project::Project;
 use pb_core::voter::Voter;
 use std::alloc::Global;
+use std::mem;
 
 /// An election as far as its rows were read, with its ids.
 #[derive(Drop)]
@@ -44,6 +45,14 @@ impl Draft {
             places: Vec::new(alloc),
             alloc,
         }
+    }
+
+    /// Hands out the election, and keeps an empty one.
+    pub(crate) fn take_election(&mut self) -> Election
+        ensures { result ≡ self.old.election }
+    {
+        let empty = Election::start(self.alloc, Money(0));
+        mem::replace(&mut self.election, empty)
     }
 
     /// Adds the project of a row of PROJECTS, or answers why it gives none.

@@ -17,6 +17,7 @@ use crate::section::Section;
 use pb_core::election::Election;
 use pb_core::money::Money;
 use std::alloc::Global;
+use std::mem;
 
 /// How far a file was read: what the next record may be.
 #[derive(Clone, Copy)]
@@ -99,7 +100,8 @@ impl Progress {
             Ok(terms) => terms,
             Err(kind) => return Err(kind),
         };
-        self.draft = Draft::new(self.draft.alloc, budget, max_length);
+        let draft = Draft::new(self.draft.alloc, budget, max_length);
+        drop(mem::replace(&mut self.draft, draft));
         self.stage = Stage::Header(Section::Projects);
         Ok(())
     }
@@ -132,13 +134,13 @@ impl Progress {
         Ok(())
     }
 
-    /// The election, where the file may end here.
+    /// Hands out the election, where the file may end here.
     #[tactic(auto, unfolding(crate::specs::Machine::row_fault))]
-    pub(crate) fn finish(self) -> Result<Election, ReadKind>
-        ensures { MatchResult result (EndsWith (place_of self)) (Refuses self the_end) }
+    pub(crate) fn finish(&mut self) -> Result<Election, ReadKind>
+        ensures { MatchResult result (EndsWith (place_of self.old)) (Refuses self.old the_end) }
     {
         match self.stage {
-            Stage::InVotes(_) => Ok(self.draft.election),
+            Stage::InVotes(_) => Ok(self.draft.take_election()),
             Stage::Header(_) => Err(ReadKind::NoHeader),
             Stage::Start | Stage::InMeta(_) | Stage::InProjects(_) => Err(ReadKind::NoSection),
         }

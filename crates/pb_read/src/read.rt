@@ -53,7 +53,26 @@ fn read_records<R: Read>(alloc: Global, records: &mut Records<R>) -> Result<Elec
 {
     let mut row = Row::new(alloc);
     let mut progress = Progress::new(alloc);
-    match read_rows(records, &mut row, &mut progress) {
+    let answer = read_election(records, &mut row, &mut progress);
+    // Letting go of both by a call keeps this function's proof short.
+    drop(row);
+    drop(progress);
+    answer
+}
+
+/// The same, where nothing was read yet.
+fn read_election<R: Read>(
+    records: &mut Records<R>,
+    row: &mut Row,
+    progress: &mut Progress,
+) -> Result<Election, ReadFault>
+    requires at_start { place_of progress.old ≡ (Start, opening 0 None) }
+    requires ready { IsReady progress.old }
+    ensures ok { IfSome records.old.left (λ all. IfOk result (λ e. StandsFor all e)) }
+    ensures fault { IfSome records.old.left (λ all.
+        IfErr result (λ fault. IsFaultAt all fault.kind fault.at)) }
+{
+    match read_rows(records, row, progress) {
         Ok(end) => finish(progress, end),
         Err(fault) => Err(fault),
     }
@@ -118,9 +137,9 @@ fn take_row(progress: &mut Progress, row: &Row, at: u32) -> Result<(), ReadFault
 }
 
 /// Ends the reading, where record `at` would stand.
-fn finish(progress: Progress, at: u32) -> Result<Election, ReadFault>
-    ensures { MatchResult result (EndsWith (place_of progress))
-        (λ fault. (fault.at ≡ at) × Refuses progress the_end fault.kind) }
+fn finish(progress: &mut Progress, at: u32) -> Result<Election, ReadFault>
+    ensures { MatchResult result (EndsWith (place_of progress.old))
+        (λ fault. (fault.at ≡ at) × Refuses progress.old the_end fault.kind) }
 {
     match progress.finish() {
         Ok(election) => Ok(election),

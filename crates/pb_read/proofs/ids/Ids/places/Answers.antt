@@ -1,12 +1,13 @@
 use Rattle.std.proofs.Common.{length, ap, sym, ◌∙◌, lit<, subst}
 use Rattle.std.specs.List.{slice_split}
 use Rattle.std.specs.Prelude.{◌==◌, is_some}
+use Rattle.std.proofs.lemmas.Bool.{false≢true}
 use Rattle.std.proofs.lemmas.Iterator.Consumers.{YieldsList-turn, YieldsList-end}
 use Rattle.std.proofs.lemmas.Iterator.Splits.{YieldsList-from_str_split}
 use Rattle.std.proofs.lemmas.List.{map_push}
 use Rattle.pb_read.proofs.IdFacts.{is_some-place}
 use Rattle.pb_read.proofs.ListFacts.{length-is_empty}
-use Rattle.pb_read.proofs.Pieces.{IsWalked, walked_more, unknown_part}
+use Rattle.pb_read.proofs.Pieces.{IsWalked, walked_empty, walked_more, walked_none, unknown_part}
 use Rattle.pb_read.specs.Ids.{place_in}
 use Rattle.pb_read.specs.Rows.{is_empty}
 use Rattle.pb_read.proofs.ids.Ids.places.Goals as goal
@@ -19,6 +20,17 @@ returns-in_default-clause-known c = λ ids finds.
     let place = ap (place_in ids) (sym c.trim-id.ensures.trim) ∙ sym (finds c.trim-id.result.now) ∙ sym c.place_of.ensures ∙ c.in_default.is in
     let none = sym (is_some-place ids _) ∙ ap is_some place in
     sym (unknown_part ids (slice_split (λ b. b == 44) vote) (length c.loop-piece.yielded) c.in-Some.piece.now t.0 t.1 full none)
+
+pub returns-in_default-clause-places : goal.returns-in_default-clause-places
+returns-in_default-clause-places c = λ ids finds is. absurd (false≢true is)
+
+pub loop-piece-init : goal.loop-piece-init
+loop-piece-init c = λ ids finds. rw c.clear.ensures.items (walked_none ids)
+
+pub loop-piece-preserved-then-is_empty : goal.loop-piece-preserved-then-is_empty
+loop-piece-preserved-then-is_empty c = λ ids finds.
+    let none = ap is_empty (sym c.trim-id.ensures.trim) ∙ sym (length-is_empty c.trim-id.result.now) ∙ sym c.is_empty.ensures ∙ c.if-is_empty.true in
+    rw map_push (walked_empty ids _ _ c.in-Some.piece.now (c.loop-piece.invariant ids finds) none)
 
 pub loop-piece-preserved : goal.loop-piece-preserved
 loop-piece-preserved c = λ ids finds.
