@@ -5,6 +5,9 @@ use Rattle.pb_desk.specs.Sources.{ballots_at, BoxView}
 use Rattle.pb_desk.proofs.Closings.{are_voters, own_voters}
 use Rattle.pb_desk.proofs.ballot_box.BallotBox.close.Goals as goal
 
+pub take_voters-requires-clause-sources : goal.take_voters-requires-clause-sources
+take_voters-requires-clause-sources g c = rw c.replace_voters-opening.ensures.handed_out c.self.invariant
+
 pub take_voters-requires-clause-own : goal.take_voters-requires-clause-own
 take_voters-requires-clause-own g c =
     let election = c.self.inside.election in
@@ -27,3 +30,15 @@ replace_voters-none-requires-clause-are_voters g c =
     let projects : c.replace_voters-opening.new.self.projects ≡ c.args.self.election.projects =
     (λ j. (c.replace_voters-opening.ensures.replaced j).projects) ∙ ap (λ (b : BoxView). b.election.projects) c.self.view_is in
     rw (is, projects) (are_voters c.args.self.election c.args.self.standing.ballots c.requires.known (rw is at c.take_voters.ensures.own))
+
+pub replace_voters-none-requires-clause-differ : goal.replace_voters-none-requires-clause-differ
+replace_voters-none-requires-clause-differ g c = c.take_voters.ensures.differ
+
+pub returns-clause-ok : goal.returns-clause-ok
+returns-clause-ok g c =
+    let inside = c.self.inside in
+    let is : c.take_voters.new.voters.items ≡ voters_of c.args.self.standing.ballots =
+    c.take_voters.ensures.voters ∙ ap (λ opening. voters_of (ballots_at opening inside.journal.items inside.ballots)) c.replace_voters-opening.ensures.handed_out
+    ∙ ap (λ (b : BoxView). voters_of b.standing.ballots) c.self.view_is in
+    c.replace_voters-none.ensures.replaced ∙ (λ j. record (c.replace_voters-opening.ensures.replaced j) { voters = is j })
+    ∙ ap (λ (b : BoxView). record b.election { voters = voters_of c.args.self.standing.ballots }) c.self.view_is
