@@ -8,10 +8,17 @@ use Rattle.pb_desk.specs.Desk.{voters_of}
 use Rattle.pb_desk.specs.Slots.{filed, listed, IsListing}
 use Rattle.pb_desk.specs.Sources.{ballots_at, IsOwnVoter}
 use Rattle.pb_desk.specs.declared.source.Source.TheVariants.{Opening, Entry}
-use Rattle.pb_desk.proofs.Closings.{after_entry, after_opening, entry_taken, opening_taken, room_left, taken_all, within_journal, within_opening, within_turned, pair_of, AreDistinct-sources}
+use Rattle.pb_desk.proofs.Closings.{after_entry, after_opening, entry_taken, opening_taken, IsSoFar-start, room_left, taken_all, within_journal, within_opening, within_turned, pair_of, AreDistinct-sources}
 use Rattle.pb_desk.proofs.Listings.{index_within, listed-drop, listed-drop_gap, none_after, NoneTwice-listed}
 use Rattle.pb_desk.proofs.ballot_list.BallotList.take_voters.Goals as goal
 use Rattle.pb_desk.proofs.ballot_list.BallotList.take_voters.Goals.{in-Some, in-Opening, in-Entry, in-None}
+
+pub loop-slot-init : goal.loop-slot-init
+loop-slot-init g c =
+    let all = ap (λ s. listed c.self.inside.ballots.entries (filed s)) c.as_slice-slots.ensures.value ∙ c.self.view_is in (
+      rw all (IsSoFar-start c.args.opening.items _ c.args.journal.items _ c.args.self.now c.requires.sources.found c.requires.sources.in_order c.reverse.ensures.items c.requires.empty),
+      rw all c.requires.room,
+    )
 
 pub unwrap-requires : goal.unwrap-requires
 unwrap-requires g c =
@@ -180,3 +187,6 @@ returns-clause-differ g c =
     let is : IsListing es slots c.self.inside.slot_of.items = rw c.as_slice-slots.ensures.value c.self.invariant in
     let done_is = taken_all all c.loop-slot.voters.items opening c.loop-slot.journal.items _ c.loop-slot.invariant.0.taken none in
     rw done_is (AreDistinct-sources opening journal sources (NoneTwice-listed es slots c.self.inside.slot_of.items is))
+
+pub returns-clause-own : goal.returns-clause-own
+returns-clause-own g c = c.loop-slot.invariant.0.own
