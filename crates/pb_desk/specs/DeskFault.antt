@@ -1,11 +1,9 @@
+-- Why a desk does not serve a request.
 use Rattle.std.specs.Prelude.{ℕ, List, codes}
 use Rattle.pb_desk.specs.declared.desk_fault.DeskFault.{DeskFault}
 use Rattle.pb_desk.specs.declared.desk_fault.DeskFault.TheVariants.{JournalFull, NoMemory}
 
-abbrev pub number_of : DeskFault → ℕ
-number_of JournalFull = 1
-number_of NoMemory = 2
-
-abbrev pub name_of : DeskFault → List ℕ
-name_of JournalFull = codes "JournalFull"
-name_of NoMemory = codes "NoMemory"
+-- the fault's number and name
+abbrev pub numbered_name : DeskFault → ℕ × List ℕ
+numbered_name JournalFull = (1, codes "JournalFull")
+numbered_name NoMemory = (2, codes "NoMemory")

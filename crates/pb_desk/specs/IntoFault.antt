@@ -4,13 +4,10 @@ use Rattle.pb_desk.specs.Desk.{DeskView, standing_of}
 use Rattle.pb_desk.specs.declared.into_fault.IntoFault.{IntoFault}
 use Rattle.pb_desk.specs.declared.into_fault.IntoFault.TheVariants.{NotShut, NoMemory}
 
-abbrev pub number_of : {A : Type 0} → IntoFault A → ℕ
-number_of (NotShut desk) = 1
-number_of (NoMemory desk) = 2
-
-abbrev pub name_of : {A : Type 0} → IntoFault A → List ℕ
-name_of (NotShut desk) = codes "NotShut"
-name_of (NoMemory desk) = codes "NoMemory"
+-- the fault's number and name
+abbrev pub numbered_name : {A : Type 0} → IntoFault A → ℕ × List ℕ
+numbered_name (NotShut desk) = (1, codes "NotShut")
+numbered_name (NoMemory desk) = (2, codes "NoMemory")
 
 -- the fault hands this desk back; it is `NotShut` exactly where the desk is not shut
 abbrev pub HandsBack : {A : Type 0} → DeskView → IntoFault A → Type 0

@@ -3,6 +3,7 @@ pub mod DeskFault
 pub mod Replay
 pub mod Rows
 pub mod Standing
+pub mod StartFault
 pub mod Step
 pub mod WriteFault
 pub mod RowReading

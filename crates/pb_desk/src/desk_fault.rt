@@ -1,5 +1,5 @@
 ghost use Rattle.std.specs.Prelude.{◌≡◌, codes};
-ghost use Rattle.pb_desk.specs.DeskFault.{number_of, name_of};
+ghost use Rattle.pb_desk.specs.DeskFault.{numbered_name};
 ghost use Rattle.pb_desk.specs.declared.desk_fault.DeskFault.TheVariants as fault;
 
 use pb_core::no_memory::NoMemory;
@@ -36,7 +36,7 @@ impl From<AllocError> for DeskFault {
 impl DeskFault {
     /// The fault's number, from 1.
     pub fn number(&self) -> u32
-        ensures { result ≡ number_of self.now }
+        ensures { result ≡ (numbered_name self.now).0 }
     {
         match self {
             DeskFault::JournalFull => 1,
@@ -46,7 +46,7 @@ impl DeskFault {
 
     /// The fault's name.
     pub fn name(&self) -> &'static str
-        ensures { result.now ≡ name_of self.now }
+        ensures { result.now ≡ (numbered_name self.now).1 }
     {
         match self {
             DeskFault::JournalFull => "JournalFull",

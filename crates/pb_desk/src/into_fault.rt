@@ -23,11 +23,11 @@ impl<A: Allocator> fmt::Debug for IntoFault<A> {
 }
 
 impl<A: Allocator> IntoFault<A> {
-    ghost use Rattle.pb_desk.specs.IntoFault.{number_of, name_of};
+    ghost use Rattle.pb_desk.specs.IntoFault.{numbered_name};
 
     /// The fault's number, from 1.
     pub fn number(&self) -> u32
-        ensures { result ≡ number_of self.now }
+        ensures { result ≡ (numbered_name self.now).0 }
     {
         match self {
             IntoFault::NotShut(_) => 1,
@@ -37,7 +37,7 @@ impl<A: Allocator> IntoFault<A> {
 
     /// The fault's name.
     pub fn name(&self) -> &'static str
-        ensures { result.now ≡ name_of self.now }
+        ensures { result.now ≡ (numbered_name self.now).1 }
     {
         match self {
             IntoFault::NotShut(_) => "NotShut",

@@ -14,9 +14,9 @@
 //! such limit, and the ballots that stand at the opening are not checked against it.
 //!
 //! Every answer stands in the journal. Its text has a row for each entry, with six fields and `;` between
-//! two, after the row `journal;2` where the desk has version 2: the number, from 1; the clerk, 0 to 63; `cast`, `replace`, `withdraw` or `shut`; the voter's id;
-//! the places of the ballot, rising, with `,` between two; and the answer, as `done` or
-//! `unknown-place 2`. A field is quoted only where it has to be.
+//! two, after the row `journal;2` where the desk has version 2: the number, from 1; the clerk, 0 to 63;
+//! `cast`, `replace`, `withdraw` or `shut`; the voter's id; the places of the ballot, rising, with `,` between
+//! two; and the answer, as `done` or `unknown-place 2`. A field is quoted only where it has to be.
 //!
 //! Who has the election and the journal replays it, and must come to the same ballots: an audit accepts
 //! exactly the rows of a legal journal that fits the room. It can't tell a journal that was cut at a

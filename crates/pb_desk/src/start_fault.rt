@@ -1,4 +1,4 @@
-ghost use Rattle.std.specs.Prelude.{◌≡◌, codes};
+ghost use Rattle.std.specs.Prelude.{◌≡◌};
 
 use pb_core::election::Election;
 use std::alloc::{Allocator, Global};
@@ -20,9 +20,11 @@ impl<A: Allocator> fmt::Debug for StartFault<A> {
 }
 
 impl<A: Allocator> StartFault<A> {
+    ghost use Rattle.pb_desk.specs.StartFault.{numbered_name};
+
     /// The fault's number, from 1.
     pub fn number(&self) -> u32
-        ensures { result ≡ 1 }
+        ensures { result ≡ (numbered_name self.now).0 }
     {
         match self {
             StartFault::NoMemory(_) => 1,
@@ -31,7 +33,7 @@ impl<A: Allocator> StartFault<A> {
 
     /// The fault's name.
     pub fn name(&self) -> &'static str
-        ensures { result.now ≡ codes "NoMemory" }
+        ensures { result.now ≡ (numbered_name self.now).1 }
     {
         match self {
             StartFault::NoMemory(_) => "NoMemory",

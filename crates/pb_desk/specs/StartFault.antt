@@ -1,0 +1,8 @@
+-- Why a desk is not started.
+use Rattle.std.specs.Prelude.{ℕ, List, codes}
+use Rattle.pb_desk.specs.declared.start_fault.StartFault.{StartFault}
+use Rattle.pb_desk.specs.declared.start_fault.StartFault.TheVariants.{NoMemory}
+
+-- the fault's number and name
+abbrev pub numbered_name : {A : Type 0} → StartFault A → ℕ × List ℕ
+numbered_name (NoMemory election) = (1, codes "NoMemory")
