@@ -8,7 +8,8 @@ use Rattle.std.proofs.lemmas.Option.{get_or_from_slice_get}
 use Rattle.std.proofs.lemmas.List.Elements.{All-append, All-head, All-tail, filter-append}
 use Rattle.pb_core.specs.Request.{EntryView, RequestView}
 use Rattle.pb_core.specs.declared.answer.Answer.{Answer}
-use Rattle.pb_shared.specs.Clerk.{AgreesWith, AreAll, AreNewcomers, ClerkView, IsMergeOf, SharedView, Serves, entries_of, newcomer}
+use Rattle.pb_shared.specs.Clerk.{AreAll, AreNewcomers, Begins, ClerkView, IsMergeOf, SharedView, Serves, entries_of}
+use Rattle.pb_shared.specs.Seats.{newcomer}
 use Rattle.pb_commands.specs.declared.serve_script.Returned.{Returned}
 use Rattle.pb_commands.specs.Serving.{AppendsFor, AreBack, AreCounts, HasServed, ServesUpTo, list_of, requests_of}
 
@@ -25,11 +26,11 @@ rest_through f n items list is =
     ap (map f) (take_all (length items - n) (drop n items) (omega (arith, length-drop n items))) ∙ sym (drop-map f n items) ∙ ap (drop n) is
 
 -- one request more that a clerk served
-pub HasServed-more : (d : SharedView) (number : ℕ) (requests : List RequestView) (c c' : ClerkView) (served : ℕ) (request : RequestView) (answer : Answer) (words : List ℕ) →
-    HasServed d number requests c served → Serves c request answer words c' → (served < length requests) × (request ≡ get_or requests served request) →
+pub HasServed-more : (d : SharedView) (number : ℕ) (requests : List RequestView) (c c' : ClerkView) (served : ℕ) (request : RequestView) (answer : Answer) (tries : ℕ) →
+    HasServed d number requests c served → Serves tries c request answer c' → (served < length requests) × (request ≡ get_or requests served request) →
     HasServed d number requests c' (served + 1)
-HasServed-more d number requests c c' served request answer words so_far serves next =
-    let is = serves.2 in
+HasServed-more d number requests c c' served request answer tries so_far serves next =
+    let is = serves.4 in
     let x : EntryView = record { clerk = c.number; request = request; answer = answer } in
     record {
       own = ap (λ (v : ClerkView). v.desk) is ∙ so_far.own;
@@ -161,7 +162,7 @@ ServesUpTo-merged d lists clerks served journal empty one_each back merge = reco
       let size = back.clerks_count in
       let c = clerk_back d lists clerks served back k (omega arith) in
       let inside : k < length clerks = omega arith in
-      let Q : ClerkView → Type 0 = AgreesWith journal merge.later in
+      let Q : ClerkView → Type 0 = λ v. Begins v.seen journal × (entries_of v.number merge.later ≡ v.mine) in
       let agrees = subst Q (sym c.1) (merge.agrees k c.0 inside) in
       let mine : entries_of k merge.later ≡ c.0.mine = let P : ℕ → Type 0 = λ n. entries_of n merge.later ≡ c.0.mine in subst P c.2.number_is agrees.1 in
       ap (requests_of k) all ∙ ap (map (λ (y : EntryView). y.request)) mine ∙ c.2.mine;

@@ -1,6 +1,7 @@
 -- What the steps of a call come to for its clerk.
-use Rattle.std.proofs.Common.{◌≡◌, ℕ, zero, suc, ◌+◌, ◌<◌, ◌≤◌, List, [], ◌∷◌, ◌++◌, length, drop, Result, Ok, Err, IfOk, IfErr, Option, Some, sym, unwrap_or, slice_get, slice_index_or, refl, ap, ◌∙◌, subst, arith, append_assoc}
+use Rattle.std.proofs.Common.{◌≡◌, ℕ, zero, suc, ◌+◌, ◌<◌, ◌≤◌, List, [], ◌∷◌, ◌++◌, length, drop, All, Result, Ok, Err, IfOk, IfErr, Option, Some, sym, unwrap_or, slice_get, slice_index_or, refl, ap, ◌∙◌, subst, arith, append_assoc, length-append}
 use Rattle.std.proofs.Math.Seq.{drop-append_seam}
+use Rattle.std.specs.Prelude.{IsErrAnd}
 use Rattle.std.proofs.lemmas.Option.{none-some}
 use Rattle.std.proofs.lemmas.List.Elements.{All-append, All-cons, All-nil}
 use Rattle.atomic_table.specs.Seated.{TableId}
@@ -8,74 +9,167 @@ use Rattle.pb_core.specs.Request.{EntryView, RequestView}
 use Rattle.pb_core.specs.declared.answer.Answer.{Answer}
 use Rattle.pb_desk.specs.Desk.{DeskView}
 use Rattle.pb_desk.specs.Replay.{IsLegal}
-use Rattle.pb_shared.specs.Clerk.{ClerkView, IsAnother, Serves, AreLost, desk_with}
+use Rattle.pb_shared.specs.Clerk.{CanHave, ClerkView, GrowsByOthers, IsAnothers, Reads, Sees, Serves, Tries, desk_with}
 use Rattle.pb_shared.specs.Refusal.{Refuses}
 use Rattle.pb_shared.specs.Rule.{Sitter}
-use Rattle.pb_shared.specs.Plays.{CanSee, won, freed, published}
-use Rattle.pb_shared.specs.Seats.{clerk_view}
+use Rattle.pb_shared.specs.Plays.{CanSee, won, freed, published, has_read, reads}
+use Rattle.pb_shared.specs.Seats.{HasLost, HasServed, HasWon, IsDeskOf, clerk_view}
 use Rattle.pb_shared.specs.declared.seat_view.SeatView.{SeatView}
 use Rattle.pb_shared.specs.declared.shared_fault.SharedFault.{SharedFault}
 use Rattle.pb_shared.specs.declared.shared_fault.SharedFault.TheVariants.{Busy, JournalFull, NoMemory}
+
+-- one exchange
+one_try : (c c' : ClerkView) (word : ℕ) → c'.found ≡ c.found ++ word ∷ [] → Tries 1 c word c'
+one_try c c' word is = ([], All-nil (IsAnothers c), omega arith, is)
+
+-- the desk as it was taken out
+pub as_taken : (m m1 : Sitter) (desk : DeskView) (won_lock : HasWon m desk m1) → IsDeskOf m1 desk m1.0.sheet.seen
+as_taken m m1 desk won_lock = won_lock.2 ∙ ap (λ (n : Sitter). desk_with n.0.about.desk.value n.0.sheet.seen) (sym won_lock.3)
+
+-- the desk after one entry more
+pub has_served : (m m1 : Sitter) (desk desk' : DeskView) (seen : List EntryView) (x : EntryView) → m1.0 ≡ won m.0 seen → desk ≡ desk_with m.0.about.desk.value seen
+    → desk'.opening ≡ desk.opening → desk'.room ≡ desk.room → desk'.journal ≡ desk.journal ++ x ∷ [] → x.clerk ≡ m.0.sheet.number → HasServed m1 desk'
+has_served m m1 desk desk' seen x was is_desk opening room journal by =
+    let d : DeskView = m.0.about.desk.value in
+    let fit : desk' ≡ desk_with d (seen ++ x ∷ []) = λ i. record {
+      opening = (opening ∙ ap (λ (e : DeskView). e.opening) is_desk) i;
+      room = (room ∙ ap (λ (e : DeskView). e.room) is_desk) i;
+      journal = (journal ∙ ap (λ (e : DeskView). e.journal ++ x ∷ []) is_desk) i;
+    } in (
+      x,
+      by ∙ ap (λ (v : SeatView). v.sheet.number) (sym was),
+      fit ∙ ap (λ (v : SeatView). desk_with v.about.desk.value (v.sheet.seen ++ x ∷ [])) (sym was),
+    )
 
 -- a call that was answered
 pub serves : (id id' : TableId) (m m1 m2 : Sitter) (c : ClerkView) (desk desk' : DeskView) (seen : List EntryView) (x : EntryView)
     → clerk_view id m ≡ c → id' ≡ id → CanSee m.0 seen → m1.0 ≡ won m.0 seen → desk ≡ desk_with m.0.about.desk.value seen
     → desk'.opening ≡ desk.opening → desk'.room ≡ desk.room → desk'.journal ≡ desk.journal ++ x ∷ [] → IsLegal desk'.opening desk'.journal → length desk'.journal ≤ desk'.room
-    → m2 ≡ (freed (published m1.0 desk'.journal), []) → x.clerk ≡ m.0.sheet.number → Serves c x.request x.answer (0 ∷ []) (clerk_view id' m2)
+    → m2 ≡ (freed (published m1.0 desk'.journal), []) → x.clerk ≡ m.0.sheet.number → Serves 1 c x.request x.answer (clerk_view id' m2)
 serves id id' m m1 m2 c desk desk' seen x view ids can was is_desk opening room journal legal fits after by =
     let v : SeatView = m.0 in
-    let between : List EntryView = can.begins.0 in
     let last : EntryView = record { clerk = v.sheet.number; request = x.request; answer = x.answer } in
     let x_is : x ≡ last = λ i. record { clerk = by i; request = x.request; answer = x.answer } in
-    let grown : desk'.journal ≡ (v.sheet.seen ++ between) ++ last ∷ [] = journal ∙ (λ i. (ap (λ (d : DeskView). d.journal) is_desk ∙ can.begins.1) i ++ x_is i ∷ []) in
-    let mine : v.sheet.mine ++ drop (length seen) desk'.journal ≡ v.sheet.mine ++ last ∷ [] =
-    ap (λ l. v.sheet.mine ++ l) ((λ i. drop (length (can.begins.1 i)) (grown i)) ∙ drop-append_seam (v.sheet.seen ++ between) (last ∷ [])) in
+    let grown : desk'.journal ≡ seen ++ last ∷ [] = journal ∙ (λ i. ap (λ (d : DeskView). d.journal) is_desk i ++ x_is i ∷ []) in
+    let mine : v.sheet.mine ++ drop (length seen) desk'.journal ≡ v.sheet.mine ++ last ∷ [] = ap (λ l. v.sheet.mine ++ l) (ap (drop (length seen)) grown ∙ drop-append_seam seen (last ∷ [])) in
     let after' : m2 ≡ (freed (published (won v seen) desk'.journal), []) = after ∙ (λ i. (freed (published (was i) desk'.journal), [])) in
-    let journal_is : (clerk_view id' m2).seen ≡ desk'.journal = λ i. (clerk_view id' (after' i)).seen in
-    let seen_is : (clerk_view id' m2).seen ≡ (v.sheet.seen ++ between) ++ last ∷ [] = journal_is ∙ grown in
-    subst (λ (d : ClerkView). Serves d x.request x.answer (0 ∷ []) (clerk_view id' m2)) view (
-      between,
-      seen_is,
-      (λ i. clerk_view (ids i) (after' i)) ∙ (λ i. record (clerk_view id m) { seen = sym journal_is i; mine = mine i; found = v.sheet.found ++ 0 ∷ [] }),
+    let view_is : clerk_view id' m2 ≡ clerk_view id (freed (published (won v seen) desk'.journal), []) = λ i. clerk_view (ids i) (after' i) in
+    let journal_is : (clerk_view id' m2).seen ≡ desk'.journal = ap (λ (d : ClerkView). d.seen) view_is in
+    let found_is : (clerk_view id' m2).found ≡ v.sheet.found ++ 0 ∷ [] = ap (λ (d : ClerkView). d.found) view_is in
+    subst (λ (d : ClerkView). Serves 1 d x.request x.answer (clerk_view id' m2)) view (
+      seen,
+      can.begins,
       (
         subst (λ (d : DeskView). IsLegal d.opening (clerk_view id' m2).seen) is_desk (subst (λ j. IsLegal desk.opening j) (sym journal_is) (subst (λ o. IsLegal o desk'.journal) opening legal)),
         subst (λ (d : DeskView). length (clerk_view id' m2).seen ≤ d.room) is_desk (subst (λ j. length j ≤ desk.room) (sym journal_is) (subst (λ n. length desk'.journal ≤ n) room fits)),
-        (between ++ last ∷ [], seen_is ∙ append_assoc v.sheet.seen between (last ∷ [])),
       ),
+      one_try (clerk_view id m) (clerk_view id' m2) 0 found_is,
+      view_is ∙ (λ i. record (clerk_view id m) { seen = grown i; mine = mine i; found = sym found_is i }),
+    )
+
+-- a call that won the lock, and added nothing
+pub sees : (id id' : TableId) (m m1 m2 : Sitter) (c : ClerkView) (desk : DeskView) (won_lock : HasWon m desk m1) → clerk_view id m ≡ c → id' ≡ id → m2 ≡ (freed m1.0, []) → Sees 1 c (clerk_view id' m2)
+sees id id' m m1 m2 c desk won_lock view ids after =
+    let v : SeatView = m.0 in
+    let seen : List EntryView = won_lock.0 in
+    let can = won_lock.1 in
+    let after' : m2 ≡ (freed (won v seen), []) = after ∙ (λ i. (freed (won_lock.3 i).0, [])) in
+    let view_is : clerk_view id' m2 ≡ clerk_view id (freed (won v seen), []) = λ i. clerk_view (ids i) (after' i) in
+    let seen_is : (clerk_view id' m2).seen ≡ seen = ap (λ (d : ClerkView). d.seen) view_is in
+    let found_is : (clerk_view id' m2).found ≡ v.sheet.found ++ 0 ∷ [] = ap (λ (d : ClerkView). d.found) view_is in
+    subst (λ (d : ClerkView). Sees 1 d (clerk_view id' m2)) view (
+      one_try (clerk_view id m) (clerk_view id' m2) 0 found_is,
+      (subst (CanHave v.about.desk.value) (sym seen_is) can.can_be, subst (GrowsByOthers v.sheet.number v.sheet.seen) (sym seen_is) can.begins),
+      view_is ∙ (λ i. record (clerk_view id m) { seen = sym seen_is i; found = sym found_is i }),
+    )
+
+-- the desk that it saw
+pub sees_desk : (id id' : TableId) (m m1 m2 : Sitter) (c : ClerkView) (desk : DeskView) (won_lock : HasWon m desk m1) → clerk_view id m ≡ c → id' ≡ id → m2 ≡ (freed m1.0, [])
+    → desk ≡ desk_with c.desk.start (clerk_view id' m2).seen
+sees_desk id id' m m1 m2 c desk won_lock view ids after =
+    let after' : m2 ≡ (freed (won m.0 won_lock.0), []) = after ∙ (λ i. (freed (won_lock.3 i).0, [])) in
+    let seen_is : (clerk_view id' m2).seen ≡ won_lock.0 = λ i. (clerk_view (ids i) (after' i)).seen in
+    won_lock.2 ∙ (λ i. desk_with (view i).desk.start (sym seen_is i))
+
+-- a call that lost its exchange
+pub turned_away : (id id' : TableId) (m m' : Sitter) (c : ClerkView) (holder : ℕ) (lost_lock : HasLost m holder m') → clerk_view id m ≡ c → id' ≡ id → Refuses 1 c (Busy holder) (clerk_view id' m')
+turned_away id id' m m' c holder lost_lock view ids =
+    let view_is : clerk_view id' m' ≡ record (clerk_view id m) { found = m.0.sheet.found ++ (holder + 1) ∷ [] } = λ i. clerk_view (ids i) (lost_lock.2 i) in
+    let found_is : (clerk_view id' m').found ≡ m.0.sheet.found ++ (holder + 1) ∷ [] = ap (λ (d : ClerkView). d.found) view_is in
+    subst (λ (d : ClerkView). Refuses 1 d (Busy holder) (clerk_view id' m')) view (
+      one_try (clerk_view id m) (clerk_view id' m') (holder + 1) found_is,
+      (omega arith, (let known = lost_lock.0 in omega arith), λ same. lost_lock.1 (omega arith)),
+      ap length found_is ∙ length-append m.0.sheet.found ((holder + 1) ∷ []),
+      view_is ∙ (λ i. record (clerk_view id m) { found = sym found_is i }),
+    )
+
+-- a load of the front word
+pub reads_front : (id id' : TableId) (m m' : Sitter) (c : ClerkView) (word : ℕ) → clerk_view id m ≡ c → id' ≡ id → reads m word m' → Reads c word (clerk_view id' m')
+reads_front id id' m m' c word view ids r =
+    let v : SeatView = m.0 in
+    let view_is : clerk_view id' m' ≡ clerk_view id (has_read v r.0 word, m.1) = λ i. clerk_view (ids i) (r.4 i) in
+    let seen_is : (clerk_view id' m').seen ≡ r.0 = ap (λ (d : ClerkView). d.seen) view_is in
+    subst (λ (d : ClerkView). Reads d word (clerk_view id' m')) view (
+      (subst (CanHave v.about.desk.value) (sym seen_is) r.1.can_be, subst (GrowsByOthers v.sheet.number v.sheet.seen) (sym seen_is) r.1.begins),
+      r.3 ∙ ap length (sym seen_is),
+      view_is ∙ (λ i. record (clerk_view id m) { seen = sym seen_is i; read = v.sheet.read ++ word ∷ [] }),
     )
 
 -- the clerk after exchanges that it lost
 abbrev pub after_losses : ClerkView → List ℕ → ClerkView
 after_losses c words = record c { found = c.found ++ words }
 
--- what is answered after lost exchanges
-pub serves_later : (c c' : ClerkView) (words : List ℕ) (request : RequestView) (answer : Answer) → Serves (after_losses c words) request answer (0 ∷ []) c' → Serves c request answer (words ++ 0 ∷ []) c'
-serves_later c c' words request answer s = (
-  s.0,
-  s.1,
-  s.2 ∙ (λ i. record c {
-    seen = c'.seen;
-    mine = c.mine ++ record { clerk = c.number; request = request; answer = answer } ∷ [];
-    found = append_assoc c.found words (0 ∷ []) i;
-  }),
-  s.3,
-)
+-- one exchange more, after those that were lost
+module _ (c c' : ClerkView) (lost : List ℕ) (tries : ℕ) (others : All (IsAnothers c) lost) where
+  tries_later : (word : ℕ) → length lost < tries → Tries 1 (after_losses c lost) word c' → Tries tries c word c'
+  tries_later word few t = (
+    lost ++ t.0,
+    All-append (IsAnothers c) lost t.0 others (λ k d inside. t.1 k d inside),
+    (let none = t.2 in omega (arith, length-append lost t.0)),
+    t.3 ∙ (append_assoc c.found lost (t.0 ++ word ∷ []) ∙ ap (λ l. c.found ++ l) (sym (append_assoc lost t.0 (word ∷ [])))),
+  )
 
--- how it is refused after lost exchanges
-pub refuses_later : (c c' : ClerkView) (words : List ℕ) (fault : SharedFault) → Refuses (after_losses c words) fault [] c' → Refuses c fault words c'
-refuses_later c c' words (Busy holder) r = (r.0, r.1 ∙ (λ i. record c { found = append_assoc c.found words ((holder + 1) ∷ []) i }))
-refuses_later c c' words JournalFull r = ((r.0.0, r.0.1 ∙ (λ i. record c { seen = c'.seen; found = append_assoc c.found words (0 ∷ []) i })), r.1)
-refuses_later c c' words NoMemory r = (r.0, r.1 ∙ (λ i. record c { seen = c'.seen; found = append_assoc c.found words (0 ∷ []) i }))
+  sees_later : length lost < tries → Sees 1 (after_losses c lost) c' → Sees tries c c'
+  sees_later few s = (tries_later 0 few s.0, s.1, s.2)
+
+  pub serves_later : (request : RequestView) (answer : Answer) → length lost < tries → Serves 1 (after_losses c lost) request answer c' → Serves tries c request answer c'
+  serves_later request answer few s = (s.0, s.1, s.2, tries_later 0 few s.3, s.4)
+
+  -- refused while tries were left, but not because of the lock
+  pub full_later : length lost < tries → Refuses 1 (after_losses c lost) JournalFull c' → Refuses tries c JournalFull c'
+  full_later few r = (sees_later few r.0, r.1)
+
+  pub no_memory_later : length lost < tries → Refuses 1 (after_losses c lost) NoMemory c' → Refuses tries c NoMemory c'
+  no_memory_later few r = sees_later few r
+
+  -- refused at the last of the tries
+  pub refuses_last : (fault : SharedFault) → length lost + 1 ≡ tries → Refuses 1 (after_losses c lost) fault c' → Refuses tries c fault c'
+  refuses_last (Busy holder) last r = (tries_later (holder + 1) (omega arith) r.0, r.1, (let count = r.2 in omega (arith, length-append c.found lost)), r.3)
+  refuses_last JournalFull last r = full_later (omega arith) r
+  refuses_last NoMemory last r = no_memory_later (omega arith) r
+
+none_lost : (words : List ℕ) → length words < 1 → words ≡ []
+none_lost [] few = refl
+none_lost (word ∷ words) few = absurd (omega arith)
 
 -- one more lost exchange
-pub loses_again : (c : ClerkView) (words : List ℕ) (holder : ℕ) → AreLost c words → IsAnother c holder → AreLost c (words ++ (holder + 1) ∷ [])
-loses_again c words holder all other =
-    let P : ℕ → Type 0 = λ word. (k : ℕ) × IsAnother c k × (word ≡ k + 1) in
-    All-append P words ((holder + 1) ∷ []) all (All-cons P (holder + 1) [] (holder, other, refl) (All-nil P))
+pub loses_again : (c c' : ClerkView) (lost : List ℕ) (holder : ℕ) → All (IsAnothers c) lost → Refuses 1 (after_losses c lost) (Busy holder) c'
+    → All (IsAnothers c) (lost ++ (holder + 1) ∷ []) × (c' ≡ after_losses c (lost ++ (holder + 1) ∷ []))
+loses_again c c' lost holder others r = (
+  All-append (IsAnothers c) lost ((holder + 1) ∷ []) others (All-cons (IsAnothers c) (holder + 1) [] r.1 (All-nil (IsAnothers c))),
+  (
+      let found_is : c'.found ≡ c.found ++ (lost ++ (holder + 1) ∷ []) = r.0.3 ∙ (ap (λ l. (c.found ++ lost) ++ (l ++ (holder + 1) ∷ [])) (none_lost r.0.0 r.0.2) ∙ append_assoc c.found lost ((holder + 1) ∷ [])) in
+      r.3 ∙ (λ i. record c { found = found_is i })
+      ),
+)
 
 pub if_ok : {T E : Type 0} (P Q : T → Type 0) → ((x : T) → P x → Q x) → (r : Result T E) → IfOk r P → IfOk r Q
 if_ok P Q h (Ok x) p = h x p
 if_ok P Q h (Err e) p = tt
+
+pub if_err_and : {T E : Type 0} (P Q : E → Type 0) → ((e : E) → P e → Q e) → (r : Result T E) → IsErrAnd r P → IfErr r Q
+if_err_and P Q h (Ok x) p = tt
+if_err_and P Q h (Err e) p = h e p
 
 pub if_err : {T E : Type 0} (P Q : E → Type 0) → ((e : E) → P e → Q e) → (r : Result T E) → IfErr r P → IfErr r Q
 if_err P Q h (Ok x) p = tt

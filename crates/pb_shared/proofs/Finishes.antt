@@ -7,14 +7,14 @@ use Rattle.atomic_table.specs.Seated.{TableId}
 use Rattle.atomic_table.specs.Table.{State, Final, Seen}
 use Rattle.pb_core.specs.Request.{EntryView}
 use Rattle.pb_desk.specs.Desk.{DeskView}
-use Rattle.pb_shared.specs.Clerk.{SharedView, ClerkView, AgreesWith, AreAll, IsMergeOf, IsHeldByAnother, clerk_of, desk_with, newcomer}
+use Rattle.pb_shared.specs.Clerk.{SharedView, ClerkView, AreAll, Begins, IsMergeOf, IsHeldByAnother, desk_with, entries_of}
 use Rattle.pb_shared.specs.Rule.{history, RoleFits, Runs, DeskRule}
-use Rattle.pb_shared.specs.Seats.{shared_view, sheet_of}
+use Rattle.pb_shared.specs.Seats.{newcomer, shared_view, sheet_of}
 use Rattle.pb_shared.specs.declared.seat_view.About.{About}
 use Rattle.pb_shared.specs.declared.seat_view.Role.TheVariants.{Guest}
 use Rattle.pb_shared.specs.declared.seat_view.SeatView.{SeatView}
 use Rattle.pb_shared.specs.declared.seat_view.Sheet.{Sheet}
-use Rattle.pb_shared.proofs.LockSteps.{Slot, S}
+use Rattle.pb_shared.proofs.LockSteps.{Slot, S, lock_known}
 use Rattle.pb_shared.proofs.Moves.{not_its}
 
 pub all_mid : {X : Type 0} (P : X → Type 0) (xs : List X) (x : X) (ys : List X) → All P (xs ++ x ∷ ys) → P x
@@ -80,10 +80,9 @@ merges a tid id v d clerks word slot desk last view same free is =
       record {
         later = last.later;
         journal_is = refl;
-        legal = runs.legal;
-        fits = runs.fits;
-        agrees = of_clerks (λ (x : Sheet). AgreesWith whole last.later (clerk_of (shared_view tid a) x)) clerks v.returned same
-            (λ k e inside. let f = last.guest.2 k e inside in (f.begins, f.mine));
+        can_be = runs.can_be;
+        agrees = of_clerks (λ (x : Sheet). Begins x.seen whole × (entries_of x.number last.later ≡ x.mine)) clerks v.returned same
+            (λ k e inside. let f = last.guest.2 k e inside in ((f.begins.0, f.begins.1), f.mine));
         by_clerks = runs.by_clerks;
       },
     ))
@@ -95,7 +94,7 @@ is_held a tid id v d clerks zero slot last view same held = absurd (held refl)
 is_held a tid id v d clerks (suc holder) slot last view same held =
     subst (λ (e : SharedView). IsHeldByAnother e clerks (suc holder)) view (
       holder,
-      (let known = last.runs.lock_known in omega arith),
+      (let known = lock_known a (suc holder) last.home last.later last.seat_of last.views last.runs in omega arith),
       omega arith,
       of_clerks (λ (x : Sheet). x.number ≢ holder) clerks v.returned same
           (λ k e inside. let f = last.guest.2 k e inside in λ its. not_its (suc holder) _ f.holding (omega arith)),

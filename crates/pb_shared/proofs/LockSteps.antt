@@ -1,5 +1,5 @@
 -- The steps on the words keep the rule: the exchange, the two stores, and the load of the front word.
-use Rattle.std.proofs.Common.{◌≡◌, ◌≢◌, ℕ, ◌+◌, ◌<◌, ◌≤◌, ◌==◌, true, false, List, [], ◌∷◌, ◌++◌, length, All, set, Option, Some, sym, refl, ap, ◌∙◌, subst, arith, eq-eqb, ne_eqb, eqb-true, true≢false, slice_index, length-append, cond}
+use Rattle.std.proofs.Common.{◌≡◌, ◌≢◌, ℕ, ◌+◌, ◌<◌, ◌≤◌, ◌==◌, true, false, List, [], ◌∷◌, ◌++◌, length, All, set, Option, Some, sym, refl, ap, ◌∙◌, subst, arith, add-one, zero, suc, eq-eqb, ne_eqb, eqb-true, true≢false, slice_index, length-append, cond}
 use mathlib.Core.Option.{none, some, some-injective, some-ne-none}
 use mathlib.Core.List.{append-nil}
 use prog.Atomic.{either}
@@ -11,13 +11,13 @@ use Rattle.atomic_table.proofs.Lists.{exchanged, set_here}
 use Rattle.pb_core.specs.Request.{EntryView}
 use Rattle.pb_desk.specs.Desk.{DeskView}
 use Rattle.pb_desk.specs.Replay.{IsLegal}
-use Rattle.pb_shared.specs.Clerk.{Begins, desk_with, entries_of}
+use Rattle.pb_shared.specs.Clerk.{Begins, CanHave, GrowsByOthers, desk_with, entries_of}
 use Rattle.pb_shared.specs.Rule.{history, ClerkFits, RoleFits, Runs, DeskRule, Sitter}
 use Rattle.pb_shared.specs.Plays.{CanSee, won, lost, published, freed, has_read, tries_lock, publishes, frees, reads}
 use Rattle.pb_shared.specs.declared.seat_view.About.{About}
 use Rattle.pb_shared.specs.declared.seat_view.Role.TheVariants.{Clerk}
 use Rattle.pb_shared.specs.declared.seat_view.SeatView.{SeatView}
-use Rattle.pb_shared.proofs.Moves.{Begins-all, Begins-more, history-more, Holds, not_its, seat_moves, each_of, stays_there, there}
+use Rattle.pb_shared.proofs.Moves.{Begins-more, Grows-all, history-more, Holds, not_its, seat_moves, each_of, stays_there, there}
 
 abbrev pub Slot : Type 0
 Slot = mathlib.Core.Option.Option (Option DeskView)
@@ -56,18 +56,15 @@ module _ (a : About) (lock : ℕ) (home : Slot) (later : List EntryView) (seat_o
 
   can_see : CanSee v (history a later)
   can_see = record {
-    legal = subst (λ (z : About). IsLegal z.desk.value.opening (history a later)) (sym fits.about) r.legal;
-    fits = subst (λ (z : About). length (history a later) ≤ z.desk.value.room) (sym fits.about) r.fits;
+    can_be = subst (λ (z : About). CanHave z.desk.value (history a later)) (sym fits.about) r.can_be;
     begins = fits.sheet.begins;
   }
 
   -- a step that changes neither the lock nor the slot nor the history
   quiet : (w : SeatView) → w.role ≡ Clerk → (Holds v → Holds w) → ClerkFits a lock home later seat_of id w → Runs a lock home later seat_of (set views id w)
   quiet w role' keep own = record {
-    legal = r.legal;
-    fits = r.fits;
+    can_be = r.can_be;
     by_clerks = r.by_clerks;
-    lock_known = r.lock_known;
     holder = λ n e. stays_there Holds views id v w at keep (seat_of n) (r.holder n e);
     free = r.free;
     in_slot = r.in_slot;
@@ -77,21 +74,29 @@ module _ (a : About) (lock : ℕ) (home : Slot) (later : List EntryView) (seat_o
   -- a step of the clerk who holds the lock before it or after it
   moves : (lock' : ℕ) (home' : Slot) (later' more : List EntryView) → later' ≡ later ++ more → ((n : ℕ) → n ≢ v.sheet.number → (lock ≢ n + 1) × (lock' ≢ n + 1) × (entries_of n more ≡ []))
       → (w : SeatView) → w.role ≡ Clerk → ClerkFits a lock' home' later' seat_of id w
-      → IsLegal a.desk.value.opening (history a later') → length (history a later') ≤ a.desk.value.room → All (λ x. x.clerk < a.clerks) more → lock' ≤ a.clerks
+      → CanHave a.desk.value (history a later') → All (λ x. x.clerk < a.clerks) more
       → ((n : ℕ) → lock' ≡ n + 1 → (u : SeatView) × (get_elem? (set views id w) (seat_of n) ≡ some u) × Holds u)
       → (lock' ≡ 0 → home' ≡ some (Some (desk_with a.desk.value (history a later')))) → ((x : Option DeskView) → home' ≡ some x → x ≡ Some (desk_with a.desk.value (history a later')))
       → Runs a lock' home' later' seat_of (set views id w)
-  moves lock' home' later' more grows others w role' own legal' fits' by' known' holder' free' in_slot' = record {
-    legal = legal';
-    fits = fits';
+  moves lock' home' later' more grows others w role' own can' by' holder' free' in_slot' = record {
+    can_be = can';
     by_clerks = subst (All (λ (x : EntryView). x.clerk < a.clerks)) (sym grows) (All-append (λ (x : EntryView). x.clerk < a.clerks) later more r.by_clerks by');
-    lock_known = known';
     holder = holder';
     free = free';
     in_slot = in_slot';
     each = each_of (λ j u. RoleFits a lock' home' later' seat_of u.role j u) views id w (subst (λ ρ. RoleFits a lock' home' later' seat_of ρ id w) (sym role') own)
         (λ j u other there. seat_moves a lock lock' home home' later later' more seat_of grows v.sheet.number others u.role j u (λ same. other (sym same ∙ fits.sheet.its_seat)) (r.each j u there));
   }
+
+-- the lock is free, or a clerk's
+pub lock_known : (a : About) (lock : ℕ) (home : Slot) (later : List EntryView) (seat_of : ℕ → ℕ) (views : List SeatView) → Runs a lock home later seat_of views → lock ≤ a.clerks
+lock_known a zero home later seat_of views r = omega arith
+lock_known a (suc n) home later seat_of views r =
+    let h = r.holder n (sym (add-one n)) in
+    let f = (fits a (suc n) home later seat_of views (seat_of n) h.0 h.2.0 r h.1).sheet in
+    let its : suc n ≡ h.0.sheet.number + 1 = eqb-true (suc n) (h.0.sheet.number + 1) (f.holding ∙ h.2.1) in
+    let known = f.known in
+    omega arith
 
 -- numbers up to a list's length are so for a longer one
 pub all_read : (seen journal : List EntryView) (words : List ℕ) → Begins seen journal → All (λ word. word ≤ length seen) words → All (λ word. word ≤ length journal) words
@@ -101,9 +106,9 @@ one : {X : Type 0} (P : X → Type 0) (x : X) → P x → All P (x ∷ [])
 one P x h = All-cons P x [] h (All-nil P)
 
 -- the exchange
-pub locks : (a : About) (slots id : ℕ) (v : SeatView) → v.role ≡ Clerk → v.holds ≡ false → v.home ≡ false
+pub locks : (a : About) (slots id : ℕ) (v : SeatView) → v.role ≡ Clerk → v.holds ≡ false
     → Allows (DeskRule a) slots id (v, []) 0 (λ n. either (n == 0) (v.sheet.number + 1) n) (tries_lock (v, []))
-locks a slots id v role idle away = goes_on a slots id (v, []) 0 (λ n. either (n == 0) (v.sheet.number + 1) n) (tries_lock (v, [])) (λ views lock home later seat_of r at.
+locks a slots id v role idle = goes_on a slots id (v, []) 0 (λ n. either (n == 0) (v.sheet.number + 1) n) (tries_lock (v, [])) (λ views lock home later seat_of r at.
     let k : ℕ = v.sheet.number in
     let seen : List EntryView = history a later in
     let own = fits a lock home later seat_of views id v role r at in
@@ -127,17 +132,17 @@ locks a slots id v role idle away = goes_on a slots id (v, []) 0 (λ n. either (
               sheet = record {
                 known = f.known;
                 its_seat = f.its_seat;
-                begins = Begins-all seen;
+                begins = Grows-all k seen;
                 mine = f.mine;
                 holding = eq-eqb (k + 1) (k + 1) refl;
                 whole = λ _. refl;
                 found = All-append (its_word a.clerks k) v.sheet.found (0 ∷ []) f.found (one (its_word a.clerks k) 0 (omega arith, λ is. omega arith));
-                read = all_read v.sheet.seen seen v.sheet.read f.begins f.read;
+                read = all_read v.sheet.seen seen v.sheet.read (f.begins.0, f.begins.1) f.read;
               };
               told = own.told;
-              brought = λ home_is. absurd (true≢false (sym home_is ∙ away));
+              brought = λ home_is. absurd (true≢false (sym (own.brought home_is).0 ∙ idle));
             }
-            r.legal r.fits (All-nil (λ (x : EntryView). x.clerk < a.clerks)) (let known = f.known in omega arith)
+            r.can_be (All-nil (λ (x : EntryView). x.clerk < a.clerks))
             (λ n is. let same : n ≡ k = omega arith in (
               won v seen,
               ap (get_elem? (set views id (won v seen))) (ap seat_of same ∙ f.its_seat) ∙ set_here views id (won v seen) (there views id v at),
@@ -167,14 +172,14 @@ locks a slots id v role idle away = goes_on a slots id (v, []) 0 (λ n. either (
             mine = f.mine;
             holding = f.holding;
             whole = f.whole;
-            found = All-append (its_word a.clerks k) v.sheet.found (lock ∷ []) f.found (one (its_word a.clerks k) lock (r.lock_known, others));
+            found = All-append (its_word a.clerks k) v.sheet.found (lock ∷ []) f.found (one (its_word a.clerks k) lock (lock_known a lock home later seat_of views r, others));
             read = f.read;
           };
           told = own.told;
           brought = own.brought;
         },
       ),
-      ((λ e. absurd (ne e)), (λ _. (subst (λ (z : About). lock ≤ z.clerks) (sym own.about) r.lock_known, others, refl))),
+      ((λ e. absurd (ne e)), (λ _. (subst (λ (z : About). lock ≤ z.clerks) (sym own.about) (lock_known a lock home later seat_of views r), others, refl))),
     )))
 
 -- the load of the front word
@@ -199,12 +204,12 @@ loads a slots id me role = goes_on a slots id me 1 (λ n. n) (reads me) (λ view
           sheet = record {
             known = f.known;
             its_seat = f.its_seat;
-            begins = Begins-all seen;
+            begins = Grows-all v.sheet.number seen;
             mine = f.mine;
             holding = f.holding;
             whole = λ _. refl;
             found = f.found;
-            read = All-append (λ word. word ≤ length seen) v.sheet.read (length seen ∷ []) (all_read v.sheet.seen seen v.sheet.read f.begins f.read) (one (λ word. word ≤ length seen) (length seen) (omega arith));
+            read = All-append (λ word. word ≤ length seen) v.sheet.read (length seen ∷ []) (all_read v.sheet.seen seen v.sheet.read (f.begins.0, f.begins.1) f.read) (one (λ word. word ≤ length seen) (length seen) (omega arith));
           };
           told = own.told;
           brought = own.brought;
@@ -238,7 +243,7 @@ free_from a lock home home' later seat_of views id v role on r at back =
       told = own.told;
       brought = λ is. absurd (true≢false (sym is));
     }
-    r.legal r.fits (All-nil (λ (x : EntryView). x.clerk < a.clerks)) (omega arith)
+    r.can_be (All-nil (λ (x : EntryView). x.clerk < a.clerks))
     (λ n is. absurd (omega arith))
     (λ _. back) (λ x is. some-injective x (Some (desk_with a.desk.value (history a later))) (sym is ∙ back))
 
@@ -296,7 +301,7 @@ stores a slots id v x entries role on by legal room count =
               sheet = record {
                 known = f.known;
                 its_seat = f.its_seat;
-                begins = subst (λ j. Begins j (history a later')) grown (Begins-all (history a later'));
+                begins = subst (λ j. GrowsByOthers k j (history a later')) grown (Grows-all k (history a later'));
                 mine = filter-append (λ (y : EntryView). y.clerk == k) later (x ∷ []) ∙ (λ i. f.mine i ++ (mine ∙ sym (drop-append_seam v.sheet.seen (x ∷ []))) i);
                 holding = f.holding;
                 whole = λ _. sym grown;
@@ -306,10 +311,8 @@ stores a slots id v x entries role on by legal room count =
               told = more v.told own.told;
               brought = λ _. (on, back);
             }
-            (subst (λ (z : About). IsLegal z.desk.value.opening (history a later')) own.about (subst (IsLegal v.about.desk.value.opening) (sym grown) legal))
-            (subst (λ (z : About). length (history a later') ≤ z.desk.value.room) own.about (subst (λ j. length j ≤ v.about.desk.value.room) (sym grown) room))
+            (subst (λ (z : About). CanHave z.desk.value (history a later')) own.about (subst (CanHave v.about.desk.value) (sym grown) (legal, room)))
             (one (λ (y : EntryView). y.clerk < a.clerks) x (subst (λ n. n < a.clerks) (sym by) f.known))
-            r.lock_known
             (λ n is. stays_there Holds views id v w at (λ h. h) (seat_of n) (r.holder n is))
             (λ is. absurd (omega arith)) (λ x is. some-injective x (Some (desk_with a.desk.value (history a later'))) (sym is ∙ back)),
       ),

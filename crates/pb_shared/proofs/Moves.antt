@@ -9,7 +9,7 @@ use Rattle.std.proofs.lemmas.List.Elements.{filter-append}
 use Rattle.atomic_table.proofs.Lists.{at_set, set_here, set_else}
 use Rattle.pb_core.specs.Request.{EntryView}
 use Rattle.pb_desk.specs.Desk.{DeskView}
-use Rattle.pb_shared.specs.Clerk.{Begins, blank, entries_of}
+use Rattle.pb_shared.specs.Clerk.{Begins, GrowsByOthers, blank, entries_of}
 use Rattle.pb_shared.specs.Rule.{history, SheetFits, RoleFits}
 use Rattle.pb_shared.specs.declared.seat_view.About.{About}
 use Rattle.pb_shared.specs.declared.seat_view.Role.{Role}
@@ -35,6 +35,13 @@ Begins-all journal = ([], sym (append-nil journal))
 
 pub Begins-more : (front journal more : List EntryView) → Begins front journal → Begins front (journal ++ more)
 Begins-more front journal more b = (b.0 ++ more, ap (λ j. j ++ more) b.1 ∙ append_assoc front b.0 more)
+
+pub Grows-all : (number : ℕ) (journal : List EntryView) → GrowsByOthers number journal journal
+Grows-all number journal = ([], sym (append-nil journal), refl)
+
+pub Grows-more : (number : ℕ) (front journal more : List EntryView) → entries_of number more ≡ [] → GrowsByOthers number front journal → GrowsByOthers number front (journal ++ more)
+Grows-more number front journal more none_more b =
+    (b.0 ++ more, ap (λ j. j ++ more) b.1 ∙ append_assoc front b.0 more, filter-append (λ (y : EntryView). y.clerk == number) b.0 more ∙ (λ i. b.2 i ++ none_more i))
 
 pub history-more : (a : About) (later more : List EntryView) → history a (later ++ more) ≡ history a later ++ more
 history-more a later more = sym (append_assoc a.desk.value.journal later more)
@@ -62,7 +69,7 @@ module _ (a : About) (lock lock' : ℕ) (home home' : mathlib.Core.Option.Option
         record {
           known = f.known;
           its_seat = f.its_seat;
-          begins = longer x.seen f.begins;
+          begins = subst (λ l. GrowsByOthers x.number x.seen (history a l)) (sym grows) (subst (GrowsByOthers x.number x.seen) (sym (history-more a later more)) (Grows-more x.number x.seen (history a later) more o.2 f.begins));
           mine = ap (entries_of x.number) grows ∙ (filter-append (λ (y : EntryView). y.clerk == x.number) later more ∙ (ap (λ l. entries_of x.number later ++ l) o.2 ∙ (append-nil (entries_of x.number later) ∙ f.mine)));
           holding = ne_eqb lock' (x.number + 1) o.1 ∙ sym idle;
           whole = λ on. absurd (true≢false (sym on ∙ idle));

@@ -8,10 +8,10 @@ use Rattle.atomic_table.specs.Table.{Allows, Splits, rest, opening}
 use Rattle.pb_core.specs.Request.{EntryView}
 use Rattle.pb_desk.specs.Desk.{DeskView}
 use Rattle.pb_desk.specs.Replay.{IsLegal}
-use Rattle.pb_shared.specs.Clerk.{SharedView, ClerkView, NoteView, blank, desk_with, newcomer}
+use Rattle.pb_shared.specs.Clerk.{SharedView, ClerkView, blank, desk_with}
 use Rattle.pb_shared.specs.Rule.{DeskRule, Sitter, seated, stock}
 use Rattle.pb_shared.specs.Plays.{tries_lock, frees, publishes, dealt_left, dealt_right}
-use Rattle.pb_shared.specs.Seats.{shared_view, clerk_view, note_view, IsIdle}
+use Rattle.pb_shared.specs.Seats.{newcomer, shared_view, clerk_view, IsIdle}
 use Rattle.pb_shared.specs.declared.seat_view.About.{About}
 use Rattle.pb_shared.specs.declared.seat_view.Role.TheVariants.{Clerk, Stock}
 use Rattle.pb_shared.specs.declared.seat_view.SeatView.{SeatView}
@@ -19,18 +19,15 @@ use Rattle.pb_shared.proofs.LockSteps.{S, locks, frees_home, frees_out, stores}
 use Rattle.pb_shared.proofs.SeatSteps.{deals, starts}
 use Rattle.pb_shared.proofs.Calls.{slice_get-is, slice_get-last, slice_get-before}
 
--- a clerk of this desk has a seat at its table
+-- a clerk or a note of this desk has a seat at its table
 pub clerk_sits : (id its : TableId) (a : About) (m : Sitter) (c : ClerkView) (d : SharedView) → clerk_view its m ≡ c → c.desk ≡ d → shared_view id a ≡ d → its ≡ id
 clerk_sits id its a m c d seen own table = ap (λ x. x.desk.id) seen ∙ (ap (λ x. x.id) own ∙ sym (ap (λ x. x.id) table))
-
-pub note_sits : (id its : TableId) (a : About) (m : Sitter) (n : NoteView) (d : SharedView) → note_view its m ≡ n → n.desk ≡ d → shared_view id a ≡ d → its ≡ id
-note_sits id its a m n d seen own table = ap (λ x. x.desk.id) seen ∙ (ap (λ x. x.id) own ∙ sym (ap (λ x. x.id) table))
 
 pub locks_at : (a : About) (slots id number word : ℕ) (m : Sitter) → IsIdle number m → word ≡ number + 1 → Allows (DeskRule a) slots id m 0 (λ n. either (n == 0) word n) (tries_lock m)
 locks_at a slots id number word m idle its =
     let same : (m.0, []) ≡ m = λ i. (m.0, sym idle.empty i) in
     subst (λ (k : ℕ). Allows (DeskRule a) slots id m 0 (λ n. either (n == 0) k n) (tries_lock m)) (ap (λ k. k + 1) idle.number_is ∙ sym its)
-    (subst (λ (z : Sitter). Allows (DeskRule a) slots id z 0 (λ n. either (n == 0) (m.0.sheet.number + 1) n) (tries_lock z)) same (locks a slots id m.0 idle.role idle.free idle.away))
+    (subst (λ (z : Sitter). Allows (DeskRule a) slots id z 0 (λ n. either (n == 0) (m.0.sheet.number + 1) n) (tries_lock z)) same (locks a slots id m.0 idle.role idle.free))
 
 -- the desk is in hand
 pub in_hand : (m m' : Sitter) (desk : DeskView) → m.1 ≡ (0, None) ∷ [] → m' ≡ (m.0, (0, Some desk) ∷ rest m.1) → m' ≡ (m.0, (0, Some desk) ∷ [])
@@ -72,7 +69,7 @@ starts_at a desk entries slots is laid count legal fits =
 pub dealt : (a : About) (k : ℕ) (v : SeatView) (m : Sitter) → v ≡ seated Stock a (blank a.desk.value.journal k) → m ≡ (dealt_right v, []) → k < a.clerks → a.clerks ≤ 64 → IsIdle k m
 dealt a k v m is out known few =
     let same : m ≡ (seated Clerk a (blank a.desk.value.journal k), []) = out ∙ ap (λ (z : SeatView). (dealt_right z, [])) is in
-    subst (IsIdle k) (sym same) record { role = refl; number_is = refl; known = known; few = few; free = refl; away = refl; empty = refl }
+    subst (IsIdle k) (sym same) record { role = refl; number_is = refl; known = known; few = few; free = refl; empty = refl }
 
 -- one newcomer more
 pub comes_next : (d : SharedView) (clerks : List ClerkView) (c : ClerkView) (number : ℕ) → length clerks ≡ number → ((k : ℕ) → k < number → slice_get clerks k ≡ Some (newcomer d k)) → c ≡ newcomer d number

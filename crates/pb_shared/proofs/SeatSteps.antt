@@ -10,7 +10,7 @@ use Rattle.atomic_table.specs.Table.{opening, Enters, Splits, Joins}
 use Rattle.atomic_table.proofs.Lists.{set_again, set_else, at_longer}
 use Rattle.pb_core.specs.Request.{EntryView}
 use Rattle.pb_desk.specs.Replay.{IsLegal}
-use Rattle.pb_shared.specs.Clerk.{blank, desk_with}
+use Rattle.pb_shared.specs.Clerk.{CanHave, blank, desk_with}
 use Rattle.pb_shared.specs.Rule.{history, seated, stock, SheetFits, RoleFits, Runs, DeskRule}
 use Rattle.pb_shared.specs.Plays.{visits, dealt_left, dealt_right, note_of, informed, handed, nobody}
 use Rattle.pb_shared.specs.declared.seat_view.About.{About}
@@ -37,10 +37,8 @@ module _ (a : About) (lock : ℕ) (home : Slot) (later : List EntryView) (seat_o
       → ((n : ℕ) → lock ≡ n + 1 → (v : SeatView) × (get_elem? views' (seat_of' n) ≡ some v) × Holds v)
       → ((j : ℕ) (v : SeatView) → get_elem? views' j ≡ some v → RoleFits a lock home later seat_of' v.role j v) → Runs a lock home later seat_of' views'
   views_change seat_of' views views' r holder each = record {
-    legal = r.legal;
-    fits = r.fits;
+    can_be = r.can_be;
     by_clerks = r.by_clerks;
-    lock_known = r.lock_known;
     holder = holder;
     free = r.free;
     in_slot = r.in_slot;
@@ -67,10 +65,8 @@ starts a legal room =
       (λ i. 0 ∷ length (sym same i) ∷ []),
       refl,
       record {
-        legal = subst (IsLegal a.desk.value.opening) (sym same) legal;
-        fits = subst (λ j. length j ≤ a.desk.value.room) (sym same) room;
+        can_be = subst (CanHave a.desk.value) (sym same) (legal, room);
         by_clerks = All-nil (λ (x : EntryView). x.clerk < a.clerks);
-        lock_known = omega arith;
         holder = λ n is. absurd (omega arith);
         free = λ _. λ i. some (Some (desk_with a.desk.value (sym same i)));
         in_slot = λ x is. some-injective x (Some (desk_with a.desk.value (history a []))) (sym is ∙ (λ i. some (Some (desk_with a.desk.value (sym same i)))));
@@ -79,7 +75,7 @@ starts a legal room =
           λ n from below. record {
             known = below;
             its_seat = refl;
-            begins = ([], refl);
+            begins = ([], refl, refl);
             mine = refl;
             holding = ne_eqb 0 (n + 1) (λ is. omega arith);
             whole = λ is. absurd (true≢false (sym is));
@@ -121,7 +117,7 @@ writes a id v role s r at =
       seat_of,
       r.4,
       r.5,
-      comes a lock home later seat_of s.views w r.6 (own.about, own.sheet.begins, All-nil (SheetFits a lock home later seat_of (length s.views) false)),
+      comes a lock home later seat_of s.views w r.6 (own.about, (own.sheet.begins.0, own.sheet.begins.1), All-nil (SheetFits a lock home later seat_of (length s.views) false)),
     )
 
 -- what the seat knows that is another's no more

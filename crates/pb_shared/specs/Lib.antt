@@ -1,6 +1,7 @@
 pub mod Clerk
-pub mod Faults
 pub mod Plays
 pub mod Refusal
 pub mod Rule
 pub mod Seats
+pub mod ShareFault
+pub mod SharedFault

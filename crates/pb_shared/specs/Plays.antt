@@ -2,9 +2,8 @@
 use Rattle.std.specs.Prelude.{◌≡◌, ◌≢◌, ℕ, suc, ◌+◌, ◌≤◌, true, false, List, [], ◌∷◌, ◌++◌, length, drop, Option, Some, None}
 use Rattle.pb_core.specs.Request.{EntryView}
 use Rattle.pb_desk.specs.Desk.{DeskView}
-use Rattle.pb_desk.specs.Replay.{IsLegal}
 use Rattle.pb_desk.specs.declared.version.Version.TheVariants.{Two}
-use Rattle.pb_shared.specs.Clerk.{Begins, blank, desk_with}
+use Rattle.pb_shared.specs.Clerk.{Begins, CanHave, GrowsByOthers, blank, desk_with}
 use Rattle.pb_shared.specs.Rule.{seated, Sitter}
 use Rattle.pb_shared.specs.declared.seat_view.About.{About}
 use Rattle.pb_shared.specs.declared.seat_view.Role.TheVariants.{Clerk, Guest, Spent}
@@ -12,9 +11,8 @@ use Rattle.pb_shared.specs.declared.seat_view.SeatView.{SeatView}
 
 -- the history can be this, as far as the seat knows
 pub record CanSee (v : SeatView) (seen : List EntryView) : Type 0 where
-  pub legal : IsLegal v.about.desk.value.opening seen
-  pub fits : length seen ≤ v.about.desk.value.room
-  pub begins : Begins v.sheet.seen seen
+  pub can_be : CanHave v.about.desk.value seen
+  pub begins : GrowsByOthers v.sheet.number v.sheet.seen seen
 
 abbrev pub won : SeatView → List EntryView → SeatView
 won v seen =
@@ -41,8 +39,8 @@ journal_out [] = []
 journal_out ((_, None) ∷ _) = []
 journal_out ((_, Some d) ∷ _) = d.journal
 
--- an exchange wins the lock and takes the desk out, with the whole history as its journal, or it finds another
--- clerk's word
+-- an exchange wins the lock and takes the desk out, with the whole history as its journal, or it finds the
+-- word of another clerk
 abbrev pub tries_lock : Sitter → ℕ → Sitter → Type 0
 tries_lock m word m' =
     (word ≡ 0 → (seen : List EntryView) × CanSee m.0 seen
@@ -70,7 +68,7 @@ abbrev pub dealt_right : SeatView → SeatView
 dealt_right v = seated Clerk v.about (blank v.about.desk.value.journal v.sheet.number)
 
 abbrev pub note_of : SeatView → SeatView
-note_of v = seated Guest v.about (record (blank v.about.desk.value.journal 0) { seen = v.sheet.seen })
+note_of v = seated Guest v.about v.sheet
 
 abbrev pub informed : SeatView → SeatView → SeatView
 informed v note = record v { told = note.sheet.seen }

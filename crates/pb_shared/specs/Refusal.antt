@@ -1,7 +1,7 @@
 -- How a shared desk refuses.
-use Rattle.std.specs.Prelude.{◌≡◌, ◌⊎◌, ℕ, ◌+◌, ◌<◌, ◌≤◌, List, [], ◌∷◌, ◌++◌, length}
+use Rattle.std.specs.Prelude.{◌≡◌, ◌⊎◌, ℕ, ◌+◌, ◌<◌, ◌≤◌, length}
 use Rattle.pb_desk.specs.Desk.{DeskView}
-use Rattle.pb_shared.specs.Clerk.{ClerkView, Sees, TurnsAway}
+use Rattle.pb_shared.specs.Clerk.{ClerkView, IsAnothers, Sees, Tries}
 use Rattle.pb_shared.specs.declared.share_fault.ShareFault.{ShareFault}
 use Rattle.pb_shared.specs.declared.share_fault.ShareFault.TheVariants as share
 use Rattle.pb_shared.specs.declared.shared_fault.SharedFault.{SharedFault}
@@ -12,16 +12,10 @@ abbrev pub HandsBack : DeskView → ℕ → ShareFault → Type 0
 HandsBack d clerks (share.ClerkCount desk) = (desk ≡ d) × ((clerks ≡ 0) ⊎ (64 < clerks))
 HandsBack d clerks (share.NoMemory desk) = (desk ≡ d) × (0 < clerks) × (clerks ≤ 64)
 
--- a call was refused, after exchanges that found these words: the last exchange was lost too, or it was won and
--- the clerk has seen the desk's journal, which is full where that is the fault
-abbrev pub Refuses : ClerkView → SharedFault → List ℕ → ClerkView → Type 0
-Refuses c (Busy holder) words c' = TurnsAway c holder words c'
-Refuses c JournalFull words c' = Sees c c'.seen (words ++ 0 ∷ []) c' × (length c'.seen ≡ c.desk.start.room)
-Refuses c NoMemory words c' = Sees c c'.seen (words ++ 0 ∷ []) c'
-
--- how many exchanges were lost before the last, where at most this many were allowed: all that were allowed, if the
--- last was lost too
-abbrev pub IsWithin : ℕ → List ℕ → SharedFault → Type 0
-IsWithin tries words (Busy holder) = length words + 1 ≡ tries
-IsWithin tries words JournalFull = length words < tries
-IsWithin tries words NoMemory = length words < tries
+-- a call was refused: all of the tries were lost, the last to the holder, and nothing else has changed; or
+-- one won the lock, and the clerk has seen the desk's journal, which is full where that is the fault
+abbrev pub Refuses : ℕ → ClerkView → SharedFault → ClerkView → Type 0
+Refuses tries c (Busy holder) c' = Tries tries c (holder + 1) c' × IsAnothers c (holder + 1)
+    × (length c'.found ≡ length c.found + tries) × (c' ≡ record c { found = c'.found })
+Refuses tries c JournalFull c' = Sees tries c c' × (length c'.seen ≡ c.desk.start.room)
+Refuses tries c NoMemory c' = Sees tries c c'

@@ -5,8 +5,7 @@ use lib.ListN.{get_elem?}
 use Rattle.atomic_table.specs.Table.{Me, State}
 use Rattle.pb_core.specs.Request.{EntryView}
 use Rattle.pb_desk.specs.Desk.{DeskView}
-use Rattle.pb_desk.specs.Replay.{IsLegal}
-use Rattle.pb_shared.specs.Clerk.{Begins, blank, desk_with, entries_of}
+use Rattle.pb_shared.specs.Clerk.{Begins, CanHave, GrowsByOthers, blank, desk_with, entries_of}
 use Rattle.pb_shared.specs.declared.seat_view.About.{About}
 use Rattle.pb_shared.specs.declared.seat_view.Role.{Role}
 use Rattle.pb_shared.specs.declared.seat_view.Role.TheVariants.{Stock, Clerk, Guest, Spent}
@@ -36,14 +35,14 @@ stock a = seated Stock a (blank a.desk.value.journal 0)
 
 module _ (a : About) (lock : ℕ) (home : slot.Option (Option DeskView)) (later : List EntryView)
     (seat_of : ℕ → ℕ) where
-  -- a clerk's sheet is true: the seat is its own; what it has seen begins the history, and is all of it
-  -- while the clerk holds the lock; past the start, its own entries are those of its number; each lock word
-  -- that it found is 0, or another clerk's number and 1; no front word that it read is above the length of
-  -- what it has seen
+  -- a clerk's sheet is true: the seat is its own; what it has seen begins the history, what came after is
+  -- other clerks', and nothing did while it holds the lock; past the start, its own entries are those of its
+  -- number; each lock word that it found is 0, or another clerk's number and 1; no front word that it read is
+  -- above the length of what it has seen
   pub record SheetFits (seat : ℕ) (holds : Bool) (x : Sheet) : Type 0 where
     pub known : x.number < a.clerks
     pub its_seat : seat_of x.number ≡ seat
-    pub begins : Begins x.seen (history a later)
+    pub begins : GrowsByOthers x.number x.seen (history a later)
     pub mine : entries_of x.number later ≡ x.mine
     pub holding : (lock == x.number + 1) ≡ holds
     pub whole : holds ≡ true → x.seen ≡ history a later
@@ -71,17 +70,15 @@ module _ (a : About) (lock : ℕ) (home : slot.Option (Option DeskView)) (later 
   -- what is true of the running desk, with this lock word, this in the slot and these views, where this was
   -- served since the start
   pub record Runs (views : List SeatView) : Type 0 where
-    pub legal : IsLegal a.desk.value.opening (history a later)
-    pub fits : length (history a later) ≤ a.desk.value.room
+    pub can_be : CanHave a.desk.value (history a later)
     pub by_clerks : All (λ x. x.clerk < a.clerks) later
-    pub lock_known : lock ≤ a.clerks
     pub holder : (number : ℕ) → lock ≡ number + 1 → (v : SeatView)
         × (get_elem? views (seat_of number) ≡ slot.some v) × ((v.role ≡ Clerk) × (v.holds ≡ true))
     pub free : lock ≡ 0 → home ≡ slot.some (Some (desk_after a later))
     pub in_slot : (x : Option DeskView) → home ≡ slot.some x → x ≡ Some (desk_after a later)
     pub each : (seat : ℕ) (v : SeatView) → get_elem? views seat ≡ slot.some v → RoleFits v.role seat v
 
--- There is one history, from the journal at the start on. The words are the lock and the number of its entries
+-- There is one history, from the journal at the start on. The words are the lock and the history's length
 abbrev pub DeskRule : About → State (Option DeskView) SeatView → Type 0
 DeskRule a s =
     (lock : ℕ) × (home : slot.Option (Option DeskView)) × (later : List EntryView) × (seat_of : ℕ → ℕ)

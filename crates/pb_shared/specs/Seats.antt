@@ -3,12 +3,12 @@ use Rattle.std.specs.Prelude.{◌≡◌, ◌≢◌, ℕ, ◌+◌, ◌<◌, ◌�
 use Rattle.atomic_table.specs.Seated.{TableId}
 use Rattle.pb_core.specs.Request.{EntryView}
 use Rattle.pb_desk.specs.Desk.{DeskView}
-use Rattle.pb_shared.specs.Clerk.{SharedView, ClerkView, NoteView, clerk_of, desk_with}
+use Rattle.pb_shared.specs.Clerk.{SharedView, ClerkView, blank, clerk_of, desk_with}
 use Rattle.pb_shared.specs.Rule.{stock, Sitter}
 use Rattle.pb_shared.specs.Plays.{CanSee, won, lost}
 use Rattle.pb_shared.specs.declared.seat_view.About.{About}
 use Rattle.pb_shared.specs.declared.seat_view.Sheet.{Sheet}
-use Rattle.pb_shared.specs.declared.seat_view.Role.TheVariants.{Clerk, Guest}
+use Rattle.pb_shared.specs.declared.seat_view.Role.TheVariants.{Clerk}
 
 abbrev pub shared_view : TableId → About → SharedView
 shared_view id a = record { id = id; start = a.desk.value; clerks = a.clerks }
@@ -16,18 +16,18 @@ shared_view id a = record { id = id; start = a.desk.value; clerks = a.clerks }
 abbrev pub clerk_view : TableId → Sitter → ClerkView
 clerk_view id m = clerk_of (shared_view id m.0.about) m.0.sheet
 
+-- a clerk who has made no call
+abbrev pub newcomer : SharedView → ℕ → ClerkView
+newcomer d number = clerk_of d (blank d.start.journal number)
+
 -- what a clerk's seat knows of it
 abbrev pub sheet_of : ClerkView → Sheet
 sheet_of c = record { number = c.number; seen = c.seen; mine = c.mine; found = c.found; read = c.read }
-
-abbrev pub note_view : TableId → Sitter → NoteView
-note_view id m = record { desk = shared_view id m.0.about; seen = m.0.sheet.seen }
 
 -- the table of a shared desk has two words and a slot
 pub record IsTable (id : TableId) (a : About) : Type 0 where
   pub words : id.words ≡ 2
   pub slots : id.slots ≡ 1
-  pub few : a.clerks ≤ 64
   pub small : a.desk.value.room < 2 ^ 32
 
 -- the seat of a clerk between two calls: it does not hold the lock, and has taken nothing out
@@ -37,12 +37,6 @@ pub record IsIdle (number : ℕ) (m : Sitter) : Type 0 where
   pub known : number < m.0.about.clerks
   pub few : m.0.about.clerks ≤ 64
   pub free : m.0.holds ≡ false
-  pub away : m.0.home ≡ false
-  pub empty : m.1 ≡ []
-
--- the seat of a note
-pub record IsNote (m : Sitter) : Type 0 where
-  pub role : m.0.role ≡ Guest
   pub empty : m.1 ≡ []
 
 -- an exchange won the lock: the desk was taken out, with the whole history as its journal, which is what the

@@ -21,11 +21,11 @@ impl fmt::Debug for ShareFault {
 
 impl ShareFault {
     ghost use Rattle.std.specs.Prelude.{◌≡◌};
-    ghost use Rattle.pb_shared.specs.Faults.{share_numbered_name};
+    ghost use Rattle.pb_shared.specs.ShareFault.{number_of, name_of};
 
     /// The fault's number, from 1.
     pub fn number(&self) -> u32
-        ensures { result ≡ (share_numbered_name self.now).0 }
+        ensures { result ≡ number_of self.now }
     {
         match self {
             ShareFault::ClerkCount(_) => 1,
@@ -35,7 +35,7 @@ impl ShareFault {
 
     /// The fault's name.
     pub fn name(&self) -> &'static str
-        ensures { result.now ≡ (share_numbered_name self.now).1 }
+        ensures { result.now ≡ name_of self.now }
     {
         match self {
             ShareFault::ClerkCount(_) => "ClerkCount",

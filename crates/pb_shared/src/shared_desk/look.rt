@@ -1,6 +1,8 @@
-ghost use Rattle.std.specs.Prelude.{◌≡◌, [], ◌∷◌, IfOk, IfErr};
+ghost use Rattle.std.specs.Prelude.{◌≡◌, IfOk, IfErr, OnOk};
 ghost use Rattle.std.specs.Fn.{FnOnceReturnsAt};
-ghost use Rattle.pb_shared.specs.Clerk.{desk_with, IsSame, Reads, Sees, TurnsAway};
+ghost use Rattle.pb_shared.specs.Clerk.{desk_with, Reads, Sees};
+ghost use Rattle.pb_shared.specs.Refusal.{Refuses};
+ghost use Rattle.pb_shared.specs.declared.shared_fault.SharedFault.TheVariants as fault;
 
 use super::SharedDesk;
 use crate::busy::Busy;
@@ -14,10 +16,11 @@ impl SharedDesk {
     pub fn look<T, F: FnOnce(&Desk) -> T>(&self, clerk: &mut Clerk, f: F) -> Result<T, Busy>
         requires own { clerk.old.desk ≡ self.now }
         requires f { F.IsAlwaysCallable f }
-        ensures same { IsSame clerk.old clerk.new }
-        ensures ok { IfOk result (λ answer. Sees clerk.old clerk.new.seen (0 ∷ []) clerk.new
-            × FnOnceReturnsAt F.FnOnce f (desk_with self.now.start clerk.new.seen) answer) }
-        ensures err { IfErr result (λ busy. TurnsAway clerk.old busy.0 [] clerk.new) }
+        ensures same { clerk.new.desk ≡ clerk.old.desk }
+        ensures seen { OnOk result (Sees 1 clerk.old clerk.new) }
+        ensures answer { IfOk result (λ answer.
+            FnOnceReturnsAt F.FnOnce f (desk_with self.now.start clerk.new.seen) answer) }
+        ensures err { IfErr result (λ busy. Refuses 1 clerk.old (fault.Busy busy.0) clerk.new) }
     {
         let desk = self.take_desk(&mut clerk.seat, clerk.number)?;
         let answer = f(&desk);
@@ -28,7 +31,7 @@ impl SharedDesk {
     /// The number of entries that stand, by one load without the lock. The clerk has then seen them.
     pub fn front(&self, clerk: &mut Clerk) -> u32
         requires own { clerk.old.desk ≡ self.now }
-        ensures same { IsSame clerk.old clerk.new }
+        ensures same { clerk.new.desk ≡ clerk.old.desk }
         ensures front { Reads clerk.old result clerk.new }
     {
         self.table.shared.load::<Read>(&mut clerk.seat, FRONT) as u32

@@ -1,5 +1,5 @@
 ghost use Rattle.std.specs.Prelude.{◌≡◌, length};
-ghost use Rattle.pb_shared.specs.Clerk.{Begins, IsSame, Reads};
+ghost use Rattle.pb_shared.specs.Clerk.{Begins, Reads};
 
 use super::SharedDesk;
 use crate::clerk::Clerk;
@@ -7,10 +7,10 @@ use crate::desk_rule::{FRONT, Read, Tell, Write};
 use crate::note::Note;
 
 impl SharedDesk {
-    /// A note of what this clerk has seen, for another clerk to meet. It may also be dropped.
+    /// A note of what this clerk knows, for another clerk to meet. It may also be dropped.
     pub fn note(&self, clerk: &mut Clerk) -> Note
         requires own { clerk.old.desk ≡ self.now }
-        ensures note { result ≡ record { desk = clerk.old.desk; seen = clerk.old.seen } }
+        ensures note { result ≡ clerk.old }
         ensures same { clerk.new ≡ clerk.old }
     {
         Note {
@@ -23,7 +23,7 @@ impl SharedDesk {
     pub fn meet(&self, clerk: &mut Clerk, note: Note)
         requires own { clerk.old.desk ≡ self.now }
         requires note { note.desk ≡ self.now }
-        ensures same { IsSame clerk.old clerk.new }
+        ensures same { clerk.new.desk ≡ clerk.old.desk }
         ensures clerk { Reads clerk.old (length clerk.new.seen) clerk.new }
         ensures note { Begins note.seen clerk.new.seen }
     {

@@ -1,6 +1,8 @@
 use Rattle.std.proofs.Common.{◌≡◌, ◌∙◌, ◌++◌, ◌∷◌, [], All, length, map, ap, sym, subst, arith, refl, append_assoc}
+use mathlib.Core.List.{append-nil}
 use Rattle.pb_shared.specs.Clerk.{ClerkView}
 use Rattle.pb_shared.specs.Seats.{sheet_of}
+use Rattle.pb_shared.specs.declared.seat_view.SeatView.{SeatView}
 use Rattle.pb_shared.proofs.Offers.{clerk_sits}
 use Rattle.pb_shared.proofs.SeatSteps.{comes_to_finish, hands_back}
 use Rattle.pb_shared.proofs.Finishes.{all_mid, emptied, ends, is_held, merges, not_held}
@@ -54,3 +56,21 @@ returns-clause-ok c =
     let taken = emptied c.loop-clerk.clerks.items so_far.0 c.args.clerks.items none_left so_far.1 in
     let last = ends c.self.inside.table.shared.key c.loop-clerk.seat.id c.loop-clerk.seat.me.0 _ _ c.word-word.result c.take-slot.result so_far.3 c.close_with-closed.ensures.values.2 c.word-word.ensures c.take-slot.ensures.value in
     merges c.self.inside.table.shared.key c.self.inside.table.shared.table_id _ _ _ _ _ _ _ last c.self.view_is (so_far.2 ∙ ap (map sheet_of) taken) c.if-word-ne0.false c.unwrap.ensures
+
+pub loop-clerk-init : goal.loop-clerk-init
+loop-clerk-init c =
+    let guest = c.load_new_seat-word.ensures.2 in
+    ([], append-nil c.args.clerks.items, ap (λ (v : SeatView). v.returned) guest, ap (λ (v : SeatView). v.role) guest, refl)
+
+pub loop-clerk-preserved : goal.loop-clerk-preserved
+loop-clerk-preserved c =
+    let so_far = c.loop-clerk.invariant in
+    let clerk = c.in-Some.clerk in
+    let left = c.pop.new.self.items in
+    let both = c.join_seat.ensures.2 in (
+      clerk ∷ so_far.0,
+      sym (append_assoc left (clerk ∷ []) so_far.0) ∙ (ap (λ l. l ++ so_far.0) (sym c.in-Some.ensures.items) ∙ so_far.1),
+      ap (λ m. m.0.returned) both ∙ (λ i. sheet_of (c.clerk.view_is i) ∷ so_far.2 i),
+      ap (λ m. m.0.role) both ∙ so_far.3,
+      c.join_seat.ensures.0 ∙ so_far.4,
+    )

@@ -1,6 +1,10 @@
-use Rattle.std.proofs.Common.{ap, sym, refl, ◌∙◌, arith}
-use Rattle.pb_shared.proofs.Offers.{stores_at, frees_again, in_hand}
+use Rattle.std.proofs.Common.{[], ap, sym, refl, ◌∙◌, arith}
+use Rattle.pb_shared.specs.Plays.{freed, journal_out, published}
+use Rattle.pb_shared.proofs.Offers.{carries, frees_again, in_hand, stores_at}
 use Rattle.pb_shared.proofs.shared_desk.SharedDesk.publish.Goals as goal
+
+pub exchange-requires : goal.exchange-requires
+exchange-requires c = (c.requires.own ∙ sym (ap (λ v. v.id) c.self.view_is), (_, carries c.args.seat.now.me.1 _ c.requires.out.taken))
 
 pub store-requires : goal.store-requires
 store-requires c = let words = c.self.invariant.words in let out = c.requires.out in let served = c.requires.desk in (
@@ -16,3 +20,7 @@ store-requires-2 c = let words = c.self.invariant.words in let out = c.requires.
   omega arith,
   frees_again c.self.inside.table.shared.key _ _ _ _ (ap (λ m. m.0.role) c.exchange.ensures.3 ∙ out.role) refl c.store.ensures.2,
 )
+
+pub returns-clause-freed : goal.returns-clause-freed
+returns-clause-freed c =
+    c.store-2.ensures.2 ∙ ((λ i. (freed (c.store.ensures.2 i).0, [])) ∙ (λ i. (freed (published (c.exchange.ensures.3 i).0 (journal_out (c.exchange.ensures.3 i).1)), [])))

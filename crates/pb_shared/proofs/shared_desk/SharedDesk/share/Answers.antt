@@ -1,8 +1,8 @@
-use Rattle.std.proofs.Common.{◌≡◌, ◌+◌, [], length, slice_get, refl, sym, ap, ◌∙◌, arith, add-one, length-append}
-use Rattle.pb_shared.specs.Clerk.{blank, newcomer}
+use Rattle.std.proofs.Common.{◌≡◌, ◌+◌, [], length, slice_get, inl, inr, ⊎_elim, refl, sym, ap, ◌∙◌, arith, add-one, length-append}
+use Rattle.pb_shared.specs.Clerk.{blank}
 use Rattle.pb_shared.specs.Rule.{seated}
 use Rattle.pb_shared.specs.Plays.{dealt_left, dealt_right}
-use Rattle.pb_shared.specs.Seats.{clerk_view, shared_view}
+use Rattle.pb_shared.specs.Seats.{clerk_view, newcomer, shared_view}
 use Rattle.pb_shared.specs.declared.seat_view.Role.TheVariants.{Stock}
 use Rattle.pb_shared.proofs.Offers.{deals_at, comes_next, of_newcomers}
 use Rattle.pb_shared.proofs.shared_desk.SharedDesk.share.Goals as goal
@@ -36,3 +36,20 @@ returns-clause-own c =
     let so_far = c.loop-number.invariant in
     let t = c.in-Ok-lay_table.laid.0.shared in
     of_newcomers (shared_view t.table_id t.key) c.loop-number.seated.items c.loop-number.number so_far.2 so_far.4
+
+pub loop-number-init : goal.loop-number-init
+loop-number-init c =
+    let laid = c.in-Ok-lay_table.ensures.ok in
+    (laid.seat_of, ap (λ m. m.0) laid.first, ap length c.in-Ok.ensures.items, c.in-Ok.ensures.capacity, λ k below. absurd (omega arith))
+
+pub returns-clause-ok : goal.returns-clause-ok
+returns-clause-ok c =
+    let so_far = c.loop-number.invariant in
+    let laid = c.in-Ok-lay_table.ensures.ok in
+    let clerks = laid.clerks_is in
+    let over = c.loop-number-test.false in
+    let most = c.loop-number.auto.number-end in
+    (laid.desk_is, clerks, ((let count = so_far.2 in omega arith), λ i below. so_far.4 i (omega arith)))
+
+pub returns-then-clerks-eq0-clause-err : goal.returns-then-clerks-eq0-clause-err
+returns-then-clerks-eq0-clause-err c = (refl, ⊎_elim (λ none. inl none) (λ many. inr many.1) c.then-clerks-eq0.either)
