@@ -276,15 +276,30 @@ fn numbers_and_names_the_kinds(rt: HostRuntime) {
     }
 }
 
+/// A text in which each `@` is the id, and each `+` many fields more.
+fn written(rt: &impl Abort, alloc: Global, text: &str, id: &str, more: &str) -> String {
+    let mut whole = String::new(alloc);
+    for letter in text.chars() {
+        match letter {
+            '@' => whole.push_str(id).expect(rt, "memory"),
+            '+' => whole.push_str(more).expect(rt, "memory"),
+            _ => whole.push(letter).expect(rt, "memory"),
+        }
+    }
+    whole
+}
+
+const LONG: &str =
+    "META+\nkey;value+\nbudget;1+\nvote_type;approval\nPROJECTS+\nproject_id;cost+\n@;2+\n@x;3\nVOTES+\nvoter_id+;vote\nv@+;@x\n";
+
 /// Ids of 4,890 bytes, and records of a thousand fields and more.
 #[test]
 fn reads_what_is_long(rt: HostRuntime) {
     let alloc = rt.alloc();
     let id = with_lines(&rt, alloc, "", 1_000, ("id", ""));
     let more = with_lines(&rt, alloc, "", 1_000, (";more ", ""));
-    let text = format!(in alloc;
-        "META{more}\nkey;value{more}\nbudget;1{more}\nvote_type;approval\nPROJECTS{more}\nproject_id;cost{more}\n{id};2{more}\n{id}x;3\nVOTES{more}\nvoter_id{more};vote\nv{id}{more};{id}x\n"
-    ).expect(&rt, "memory");
-    let wanted = format!(in alloc; "100;{id},,200;{id}x,,300;|v{id} 1;").expect(&rt, "memory");
-    answers(&rt, alloc, text.as_str(), wanted.as_str());
+    let (id, more) = (id.as_str(), more.as_str());
+    let file = written(&rt, alloc, LONG, id, more);
+    let wanted = written(&rt, alloc, "100;@,,200;@x,,300;|v@ 1;", id, "");
+    answers(&rt, alloc, file.as_str(), wanted.as_str());
 }
