@@ -1,10 +1,10 @@
 -- The lists of supporters while the ballots are put in one after the other.
-use Rattle.std.proofs.Common.{◌≡◌, ℕ, ◌+◌, ◌<◌, Bool, true, false, cond, ◌||◌, List, [], ◌∷◌, ◌++◌, length, get_or, set, take, replicate, refl, sym, ap, ◌∙◌, inl, inr, arith, eqb}
+use Rattle.std.proofs.Common.{◌≡◌, ℕ, ◌+◌, ◌<◌, Bool, true, false, cond, ◌||◌, List, [], ◌∷◌, ◌++◌, length, get_or, map, set, take, replicate, Option, refl, sym, ap, ◌∙◌, inl, inr, arith, eqb}
 use Rattle.std.specs.Prelude.{All}
 use Rattle.std.specs.List.{range_with_len, filter}
 use Rattle.std.specs.List.Sorted.{IsStrictlyIncreasing}
 use Rattle.std.proofs.lemmas.Bool.{eq-eqb, ne_eqb, cases_eq}
-use Rattle.std.proofs.lemmas.List.{length-set, get_or-map, get_or-set_same, get_or-set_other, get_or-take, length-take, append-nil, map-id, length-replicate, get_or-replicate, ext_get_or, get_or_default}
+use Rattle.std.proofs.lemmas.List.{length-set, get_or-map, get_or-set_same, get_or-set_other, get_or-take, length-take, append-nil, map-id, length-replicate, get_or-replicate, ext_get_or, get_or_default, map_more}
 use Rattle.std.proofs.lemmas.List.FromFn.{map-range_with_len_more, length-map-range_with_len, get_or-map-range_with_len}
 use Rattle.std.proofs.lemmas.List.Elements.{filter-append}
 use Rattle.std.proofs.lemmas.List.Folds.{list_any_more, list_any_none}
@@ -110,3 +110,9 @@ ballot_known e i ballot h l b =
     let d : VoterView = record { id = []; ballot = [] } in
     let same : ballot ≡ (get_or e.voters i d).ballot = b ∙ get_or-map (λ w. w.ballot) e.voters i d [] l in
     rw same (h.are_voters i d l).ballot_known
+
+-- one project more is priced
+pub priced_more : (P : ℕ → Option ℕ) (projects : List ℕ) (items new : List (Option ℕ)) (i : ℕ) (price : Option ℕ) → i < length projects
+    → items ≡ map P (take i projects) → new ≡ items ++ price ∷ [] → price ≡ P (get_or projects i 0) → new ≡ map P (take (i + 1) projects)
+priced_more P projects items new i price h before pushed is =
+    pushed ∙ ap (λ xs. xs ++ price ∷ []) before ∙ ap (λ p. map P (take i projects) ++ p ∷ []) is ∙ sym (map_more P projects i 0 h)

@@ -10,9 +10,12 @@ use mathlib.Core.Option.{none, some, some-injective, some-ne-none}
 use lib.ListN.{get_elem?}
 use Rattle.atomic_table.proofs.Lists.{at_set, at_snoc}
 use Rattle.atomic_table.specs.Table.{State, Me, step, keeps, Allows, Final, Joins, Seen, Splits}
-use Rattle.pb_price.specs.Claims.{drawn, draws, joined, one_seat, past_end, rest_of_seats, spent, AreBelowOnce, AreClaims, AreViews, IsView}
+use Rattle.pb_price.specs.Claims.{drawn, draws, joined, one_seat, past_end, rest_of_seats, spent, AreBelowOnce, AreClaims, IsView}
 use Rattle.pb_price.specs.declared.claims.drawn.Drawn.{Drawn}
 use Rattle.pb_price.proofs.BuiltLists.{range_with_len_more}
+
+abbrev AreViews : ℕ → List Drawn → Type 0
+AreViews pieces views = (id : ℕ) (v : Drawn) → get_elem? views id ≡ some v → IsView pieces v
 
 abbrev weigh : (ℕ → ℕ) → Drawn → ℕ
 weigh weight v = sum_by weight v.numbers
@@ -106,6 +109,16 @@ module _ {S : Type 0} (pieces workers : ℕ) where
       let few : sum_by past s.views ≤ sum_by (λ v. v.seats) s.views = sums_le past (λ v. v.seats) s.views (λ i v e. (h.each_view i v e).few_past_end) in
       let once = h.each_once (λ k. cond (nat_le pieces k) 1 0) in
       omega (arith, few, once, h.all_seats, past_range pieces (slice_index s.words 0))
+
+  -- before the first draw
+  pub opens : pieces + workers < 2 ^ 63 → AreClaims {S = S} pieces workers (record { words = 0 ∷ []; homes = []; views = drawn workers [] ∷ [] })
+  opens fits = record {
+    one_word = refl;
+    each_once = λ weight. refl;
+    each_view = views_snoc pieces [] (drawn workers []) (λ id v e. absurd (some-ne-none v (sym e))) (record { few_past_end = omega arith; none_spent = λ empty. refl });
+    all_seats = omega arith;
+    small = fits;
+  }
 
   -- a draw
   pub draws_keep : (slots id : ℕ) (me : Me S Drawn) → past_end pieces me.0.numbers < me.0.seats

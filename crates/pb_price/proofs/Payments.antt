@@ -1,10 +1,9 @@
 -- What supporters pay at a payment, and the price as the least payment that covers the cost.
 use Rattle.std.proofs.Common.{◌≡◌, ℕ, zero, suc, ◌+◌, ◌<◌, ◌≤◌, min, List, [], ◌∷◌, length, Option, Some, None, refl, sym, ap, inl, inr, arith}
-use Rattle.std.specs.Prelude.{All, MatchOption, nat_le, slice_index}
+use Rattle.std.specs.Prelude.{MatchOption, nat_le, slice_index}
 use Rattle.std.proofs.lemmas.Bool.{leb-true, leb-false, cases_lt}
-use Rattle.std.proofs.lemmas.List.Elements.{All-tail}
 use Rattle.std.proofs.lemmas.List.Sums.{sum_by-cons, sum_by-le-sum_by}
-use Rattle.pb_price.specs.Price.{paid_at, total_rest, largest_rest, price_of, IsLeastPayment, IsPrice}
+use Rattle.pb_price.specs.Price.{paid_at, total_rest, price_of, IsLeastPayment, IsPrice}
 use Rattle.pb_price.proofs.FirstInRange.{IsFirstInRange, NoneInRange, find-range_with_len}
 
 -- who pays more each pays more together
@@ -18,17 +17,14 @@ pub paid_at-le-total_rest : (supporters rests : List ℕ) (p : ℕ) → paid_at 
 paid_at-le-total_rest supporters rests p =
     sum_by-le-sum_by (λ v. min (slice_index rests v) p) (λ v. slice_index rests v) supporters (λ v. omega arith)
 
--- at the largest rest, and above, everybody pays all
-pub paid_at_largest : (supporters rests : List ℕ) (p : ℕ) → largest_rest supporters rests ≤ p
-    → paid_at supporters rests p ≡ total_rest supporters rests
-paid_at_largest [] rests p h = refl
-paid_at_largest (v ∷ vs) rests p h =
-    let pay : ℕ → ℕ = λ v. min (slice_index rests v) p in
-    let rest : ℕ → ℕ = λ v. slice_index rests v in
-    let here = sum_by-cons pay v vs in
-    let there = sum_by-cons rest v vs in
-    let others = paid_at_largest vs rests p (omega arith) in
-    omega (arith, here, there, others)
+-- at a payment all pay at least as much as one of them would, or all that they have
+pub pays_all_or_one : (supporters rests : List ℕ) (p : ℕ)
+    → min (total_rest supporters rests) p ≤ paid_at supporters rests p
+pays_all_or_one [] rests p = omega arith
+pays_all_or_one (v ∷ vs) rests p =
+    let here = sum_by-cons (λ v. min (slice_index rests v) p) v vs in
+    let there = sum_by-cons (λ v. slice_index rests v) v vs in
+    omega (arith, here, there, pays_all_or_one vs rests p)
 
 -- nobody pays anything at 0
 pub paid_at-zero : (supporters rests : List ℕ) → paid_at supporters rests 0 ≡ 0
@@ -50,25 +46,6 @@ paid_at-suc (v ∷ vs) rests p =
     let there = sum_by-cons pay v vs in
     let others = paid_at-suc vs rests p in
     omega (arith, here, there, others)
-
--- the least payment is no larger than the largest rest
-pub least-le-largest_rest : (supporters rests : List ℕ) (cost p : ℕ) → IsLeastPayment supporters rests cost p
-    → p ≤ largest_rest supporters rests
-least-le-largest_rest supporters rests cost p h = elim (cases_lt (largest_rest supporters rests) p) [
-  | inl less ↦
-      let all = paid_at_largest supporters rests (largest_rest supporters rests) (omega arith) in
-      let most = paid_at-le-total_rest supporters rests p in
-      let short = h.least (largest_rest supporters rests) less in
-      absurd (omega (arith, all, most, short, h.covers))
-  | inr within ↦ within
-]
-
--- what costs something is paid by something
-pub least_is_positive : (supporters rests : List ℕ) (cost p : ℕ) → IsLeastPayment supporters rests cost p
-    → 0 < cost → 0 < p
-least_is_positive supporters rests cost zero h c =
-    absurd (omega (arith, paid_at-zero supporters rests, h.covers))
-least_is_positive supporters rests cost (suc p) h c = omega arith
 
 -- rounding up collects less than one hundredth a supporter above the cost
 pub collected_below : (supporters rests : List ℕ) (cost p : ℕ) → IsLeastPayment supporters rests cost p
@@ -97,13 +74,12 @@ least_is_unique supporters rests cost p q h g = elim (cases_lt p q) [
 
 price_from_range : (supporters rests : List ℕ) (cost : ℕ) (o : Option ℕ)
     → MatchOption o
-    (NoneInRange (λ p. nat_le cost (paid_at supporters rests p)) 0 (largest_rest supporters rests + 1))
-    (IsFirstInRange (λ p. nat_le cost (paid_at supporters rests p)) 0 (largest_rest supporters rests + 1))
+    (NoneInRange (λ p. nat_le cost (paid_at supporters rests p)) 0 (cost + 1))
+    (IsFirstInRange (λ p. nat_le cost (paid_at supporters rests p)) 0 (cost + 1))
     → IsPrice supporters rests cost o
 price_from_range supporters rests cost None h =
-    let most = largest_rest supporters rests in
-    let short = leb-false cost (paid_at supporters rests most) (h most (omega arith) (omega arith)) in
-    omega (arith, short, paid_at_largest supporters rests most (omega arith))
+    let short = leb-false cost (paid_at supporters rests cost) (h cost (omega arith) (omega arith)) in
+    omega (arith, short, pays_all_or_one supporters rests cost)
 price_from_range supporters rests cost (Some p) h = record {
   covers = leb-true cost (paid_at supporters rests p) h.passes;
   least = λ q less. leb-false cost (paid_at supporters rests q) (h.first q (omega arith) less);
@@ -115,7 +91,7 @@ pub price_of_is_price : (supporters rests : List ℕ) (cost : ℕ)
 unfolding price_of
 price_of_is_price supporters rests cost =
     price_from_range supporters rests cost _
-    (find-range_with_len (λ p. nat_le cost (paid_at supporters rests p)) (largest_rest supporters rests + 1) 0 (largest_rest supporters rests + 1) (omega arith))
+    (find-range_with_len (λ p. nat_le cost (paid_at supporters rests p)) (cost + 1) 0 (cost + 1) (omega arith))
 
 IsPrice-unique : (supporters rests : List ℕ) (cost : ℕ) (a b : Option ℕ)
     → IsPrice supporters rests cost a → IsPrice supporters rests cost b → a ≡ b
@@ -156,12 +132,3 @@ short_from_no_price supporters rests cost e =
 pub no_price_from_short : (supporters rests : List ℕ) (cost : ℕ) → total_rest supporters rests < cost
     → price_of supporters rests cost ≡ None
 no_price_from_short supporters rests cost h = sym (price_from_is_price supporters rests cost None h)
-
--- where no voter has more than a bound, neither has a supporter
-pub largest_rest-le : (supporters rests : List ℕ) (most : ℕ) → All (λ voter. voter < length rests) supporters
-    → All (λ rest. rest ≤ most) rests → largest_rest supporters rests ≤ most
-largest_rest-le [] rests most known bounded = omega arith
-largest_rest-le (v ∷ vs) rests most known bounded =
-    let here = bounded v 0 (known 0 0 (omega arith)) in
-    let others = largest_rest-le vs rests most (All-tail (λ voter. voter < length rests) v vs known) bounded in
-    omega (arith, here, others)

@@ -6,8 +6,8 @@ use Rattle.std.proofs.lemmas.Bool.{cases_lt, lt-ltb, le-ltb}
 use Rattle.std.proofs.lemmas.Grind.{div_ceil_times}
 use Rattle.std.proofs.lemmas.List.Sums.{sum_by-cons, sum_by-le, count_by-le-length}
 use Rattle.pb_price.specs.Payment.{payers_above}
-use Rattle.pb_price.specs.Price.{paid_at, total_rest, largest_rest, price_of}
-use Rattle.pb_price.proofs.Payments.{paid_at_rises, paid_at_largest, price_from_least}
+use Rattle.pb_price.specs.Price.{paid_at, total_rest, price_of}
+use Rattle.pb_price.proofs.Payments.{paid_at_rises, pays_all_or_one, price_from_least}
 
 one_pays : (rest p d : ℕ) → min rest (p + d) ≤ min rest p + cond (nat_lt p rest) 1 0 * d
 one_pays rest p d = elim (cases_lt p rest) [
@@ -50,10 +50,10 @@ above_pays (v ∷ vs) rests p h =
 pub all_paid : (supporters rests : List ℕ) (p : ℕ) → payers_above supporters rests p ≡ 0
     → total_rest supporters rests ≤ paid_at supporters rests p
 all_paid supporters rests p none =
-    let most = largest_rest supporters rests in
+    let most = total_rest supporters rests in
     let bound = step_bound supporters rests p most in
     let nothing : payers_above supporters rests p * most ≡ 0 = ap (λ n. n * most) none ∙ omega arith in
-    omega (arith, bound, nothing, paid_at_largest supporters rests (p + most) (omega arith))
+    omega (arith, bound, nothing, pays_all_or_one supporters rests (p + most))
 
 -- what is below a step, and what is paid at the step, where paying e more brings at most m each
 pub below_step : (missing m e : ℕ) → 0 < m → e < missing / m + min 1 (missing % m) → m * e < missing

@@ -37,22 +37,6 @@ unfolding supporters_of
 supporters_of_known e place =
     All-filter (λ voter. approves (ballot_at e voter) place) (λ voter. voter < length e.voters) _ (range_with_len_below (length e.voters))
 
--- supporters approve the project
-pub supporters_of_approve : (e : ElectionView) (place : ℕ)
-    → All (λ voter. approves (ballot_at e voter) place ≡ true) (supporters_of e place)
-unfolding supporters_of
-supporters_of_approve e place =
-    filter_passes (λ voter. approves (ballot_at e voter) place) (range_with_len 0 (length e.voters))
-
-pub supporters_at-support_of : (e : ElectionView) (place : ℕ) → place < length e.projects
-    → supporters_at (support_of e) place ≡ supporters_of e place
-supporters_at-support_of e place h =
-    get_or-map-range_with_len (supporters_of e) 0 (length e.projects) place place [] h (omega arith)
-
-pub cost_at-support_of : (e : ElectionView) (place : ℕ) (d : ProjectView) → place < length e.projects
-    → cost_at (support_of e) place ≡ (get_or e.projects place d).cost
-cost_at-support_of e place d h = get_or-map (λ p. p.cost) e.projects place d 0 h
-
 -- the supporters of an election are as a count needs them
 pub IsSupport-support_of : (e : ElectionView) → IsElection e → IsSupport (support_of e)
 IsSupport-support_of e h = record {
@@ -64,28 +48,3 @@ IsSupport-support_of e h = record {
   supporters_rise = All-map IsStrictlyIncreasing (supporters_of e) _ (λ k d l. supporters_of_rise e _);
   supporters_known = All-map (All (λ voter. voter < length e.voters)) (supporters_of e) _ (λ k d l. supporters_of_known e _);
 }
-
-place-le-rising : (xs : List ℕ) → IsStrictlyIncreasing xs → (k : ℕ) → k < length xs → k ≤ slice_index xs k
-place-le-rising xs up zero h = omega arith
-place-le-rising xs up (suc k) h =
-    let next : k + 1 < length xs = omega arith in
-    let before = place-le-rising xs up k (omega arith) in
-    let step : slice_index xs k < slice_index xs (suc k) = rw add-one at (up k next) in
-    omega (arith, before, step)
-
--- a rising list of numbers below n has at most n of them
-pub length_of_rising : (xs : List ℕ) (n : ℕ) → IsStrictlyIncreasing xs → All (λ x. x < n) xs → length xs ≤ n
-length_of_rising [] n up below = omega arith
-length_of_rising (x ∷ xs) n up below =
-    let last = length xs in
-    let far = place-le-rising (x ∷ xs) up last (omega arith) in
-    omega (arith, far, below last 0 (omega arith))
-
--- the supporters at a place are voters, and rise
-pub supporters_at_known : (s : SupportView) (place : ℕ) → IsSupport s → place < length s.costs
-    → All (λ voter. voter < s.voters) (supporters_at s place)
-supporters_at_known s place h l = h.supporters_known place [] (omega (arith, h.paired))
-
-pub supporters_at_rise : (s : SupportView) (place : ℕ) → IsSupport s → place < length s.costs
-    → IsStrictlyIncreasing (supporters_at s place)
-supporters_at_rise s place h l = h.supporters_rise place [] (omega (arith, h.paired))

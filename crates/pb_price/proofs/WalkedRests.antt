@@ -66,13 +66,6 @@ pub record HasWalked (rests : List ℕ) (cost missing i : ℕ) : Type 0 where
   pub is_missing : 0 < missing
   pub are_poorer : (m k : ℕ) → i + m ≡ length rests → k < i → get_or rests k 0 * m < missing
 
-pub HasWalked-none : (rests : List ℕ) (cost : ℕ) → 0 < cost → HasWalked rests cost cost 0
-HasWalked-none rests cost h = record {
-  makes_cost = omega arith;
-  is_missing = h;
-  are_poorer = λ m k e l. absurd (omega arith);
-}
-
 le_mul : (a m : ℕ) → 0 < m → a ≤ a * m
 le_mul a zero h = absurd (omega arith)
 le_mul a (suc m) h = omega arith
@@ -120,14 +113,6 @@ least_at_end rests cost missing i payers up e some h reaches =
           let step : suc q * payers ≤ p * payers = mul-le-mul_right payers less in
           omega (arith, walk_bounds rests i payers q e, h.makes_cost, step, bounds.1);
     }
-
--- the walk ends before the rests do, where together they cover the cost
-pub walk_has_ended : (rests : List ℕ) (cost missing i : ℕ) → HasWalked rests cost missing i → cost ≤ sum rests
-    → i < length rests
-walk_has_ended rests cost missing i h covered = elim (cases_lt i (length rests)) [
-  | inl less ↦ less
-  | inr past ↦ absurd (omega (arith, ap (λ xs. sum xs) (take_all i rests past), h.makes_cost, h.is_missing))
-]
 
 sum_by-map : (f g : ℕ → ℕ) (xs : List ℕ) → sum_by f (map g xs) ≡ sum_by (λ x. f (g x)) xs
 sum_by-map f g [] = refl

@@ -10,34 +10,30 @@ use Rattle.pb_price.specs.declared.claims.drawn.Drawn.{Drawn}
 abbrev pub drawn : ℕ → List ℕ → Drawn
 drawn seats numbers = record { seats = seats; numbers = numbers }
 
+-- at most as many of a view's numbers are no piece as worker seats went into it, and one without a seat has no numbers
+pub record IsView (pieces : ℕ) (v : Drawn) : Type 0 where
+  pub few_past_end : count_by (λ number. nat_le pieces number) v.numbers ≤ v.seats
+  pub none_spent : v.seats ≡ 0 → v.numbers ≡ []
+
+-- The state of the claims between any two steps. The numbers in all views together are those below the word, each once:
+-- whatever weight each number has, both weigh the same.
+pub record AreClaims {S : Type 0} (pieces workers : ℕ) (s : State S Drawn) : Type 0 where
+  pub one_word : length s.words ≡ 1
+  pub each_once : (weight : ℕ → ℕ) → sum_by (λ v. sum_by weight v.numbers) s.views
+      ≡ sum_by weight (range_with_len 0 (slice_index s.words 0))
+  pub each_view : (id : ℕ) (v : Drawn) → get_elem? s.views id ≡ some v → IsView pieces v
+  pub all_seats : sum_by (λ v. v.seats) s.views ≡ workers
+  pub small : pieces + workers < 2 ^ 63
+
+-- Only clauses of private functions speak of what follows.
+
 -- how many of the numbers are no piece
 abbrev pub past_end : ℕ → List ℕ → ℕ
 past_end pieces numbers = count_by (λ number. nat_le pieces number) numbers
 
--- at most as many of a view's numbers are no piece as worker seats went into it, and one without a seat has no numbers
-pub record IsView (pieces : ℕ) (v : Drawn) : Type 0 where
-  pub few_past_end : past_end pieces v.numbers ≤ v.seats
-  pub none_spent : v.seats ≡ 0 → v.numbers ≡ []
-
-abbrev pub AreViews : ℕ → List Drawn → Type 0
-AreViews pieces views = (id : ℕ) (v : Drawn) → get_elem? views id ≡ some v → IsView pieces v
-
 -- the numbers are those below next, each once: whatever weight each number has, both weigh the same
 abbrev pub AreBelowOnce : List ℕ → ℕ → Type 0
 AreBelowOnce numbers next = (weight : ℕ → ℕ) → sum_by weight numbers ≡ sum_by weight (range_with_len 0 next)
-
--- the same of the numbers in all views together
-abbrev pub AllBelowOnce : List Drawn → ℕ → Type 0
-AllBelowOnce views next = (weight : ℕ → ℕ) → sum_by (λ v. sum_by weight v.numbers) views
-    ≡ sum_by weight (range_with_len 0 next)
-
--- the state of the claims between any two steps
-pub record AreClaims {S : Type 0} (pieces workers : ℕ) (s : State S Drawn) : Type 0 where
-  pub one_word : length s.words ≡ 1
-  pub each_once : AllBelowOnce s.views (slice_index s.words 0)
-  pub each_view : AreViews pieces s.views
-  pub all_seats : sum_by (λ v. v.seats) s.views ≡ workers
-  pub small : pieces + workers < 2 ^ 63
 
 -- a draw: the number found goes after the others, and the view has no number twice and none above the one found
 abbrev pub draws : {S : Type 0} → Step S → Me S Drawn → ℕ → Me S Drawn → Type 0

@@ -1,4 +1,4 @@
-use Rattle.std.specs.Prelude.{◌≡◌, ℕ, ◌+◌, ◌-◌, ◌*◌, ◌^◌, ◌<◌, ◌≤◌, min, max, List, [], ◌∷◌, length, All, Option, MatchOption, nat_le, find, sum_by, slice_index}
+use Rattle.std.specs.Prelude.{◌≡◌, ℕ, ◌+◌, ◌-◌, ◌*◌, ◌^◌, ◌<◌, ◌≤◌, min, List, length, All, Option, MatchOption, nat_le, find, sum_by, slice_index}
 use Rattle.std.specs.List.{range_with_len}
 use Rattle.pb_core.specs.Money.{largest_money}
 use Rattle.pb_price.specs.Supporters.{SupportView, supporters_at, cost_at}
@@ -11,16 +11,10 @@ paid_at supporters rests p = sum_by (λ voter. min (slice_index rests voter) p) 
 abbrev pub total_rest : List ℕ → List ℕ → ℕ
 total_rest supporters rests = sum_by (λ voter. slice_index rests voter) supporters
 
--- the most that is left to one of the supporters, 0 where there is none
-abbrev pub largest_rest : List ℕ → List ℕ → ℕ
-largest_rest [] rests = 0
-largest_rest (voter ∷ others) rests = max (slice_index rests voter) (largest_rest others rests)
-
--- the price: the first payment, up to the largest rest, at which the supporters cover the cost
+-- the price: the first payment, up to the cost, at which the supporters cover the cost
 unfoldable pub price_of : List ℕ → List ℕ → ℕ → Option ℕ
 price_of supporters rests cost =
-    find (λ p. nat_le cost (paid_at supporters rests p))
-    (range_with_len 0 (largest_rest supporters rests + 1))
+    find (λ p. nat_le cost (paid_at supporters rests p)) (range_with_len 0 (cost + 1))
 
 -- p is the least payment that covers the cost
 pub record IsLeastPayment (supporters rests : List ℕ) (cost p : ℕ) : Type 0 where

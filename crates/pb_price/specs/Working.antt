@@ -2,10 +2,17 @@
 use Rattle.std.specs.Prelude.{◌≡◌, ℕ, ◌<◌, ◌≤◌, ◌*◌, List, [], ◌∷◌, ◌++◌, Option, None, All, length, map, fold, count_by, nat_eq, nat_lt, slice_index, slice_index_or, slice_set}
 use Rattle.pb_core.specs.Election.{most_projects}
 use Rattle.pb_price.specs.Claims.{past_end}
-use Rattle.pb_price.specs.Price.{price_at}
+use Rattle.pb_price.specs.Price.{price_at, AreRests}
 use Rattle.pb_price.specs.Supporters.{SupportView}
 use Rattle.pb_price.specs.declared.answer.Answer.{Answer}
 use Rattle.pb_price.specs.declared.claims.drawn.Drawn.{Drawn}
+
+-- what the workers of a batch price: these projects, each a piece, at these rests
+pub record IsBatch (s : SupportView) (rests projects : List ℕ) (pieces : ℕ) : Type 0 where
+  pub are_rests : AreRests s.voters rests
+  pub known : All (λ place. place < length s.costs) projects
+  pub few : length projects ≤ most_projects
+  pub are_pieces : pieces ≡ length projects
 
 -- the price of the piece's project
 pub record IsAnswer (s : SupportView) (rests projects : List ℕ) (answer : Answer) : Type 0 where

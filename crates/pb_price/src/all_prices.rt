@@ -3,7 +3,7 @@ ghost use Rattle.pb_core.specs.Election.{most_projects};
 ghost use Rattle.pb_price.specs.Claims.{drawn};
 ghost use Rattle.pb_price.specs.Price.{price_at, AreRests, largest_count};
 ghost use Rattle.pb_price.specs.PriceFault.{is_worker_count};
-ghost use Rattle.pb_price.specs.Working.{IsDone};
+ghost use Rattle.pb_price.specs.Working.{IsBatch, IsDone};
 
 use crate::claims::Claims;
 use crate::claims::rule::Batch;
@@ -20,7 +20,7 @@ use std::alloc::Allocator;
 use std::thread::{self, Threads};
 
 /// Whether this many workers may be asked for: 1 to 64.
-fn is_worker_count(workers: u32) -> bool
+pub fn is_worker_count(workers: u32) -> bool
     ensures { result ≡ is_worker_count workers }
 {
     (1..=64).contains(&workers)
@@ -154,27 +154,19 @@ fn work_side_by_side<
 ) -> Result<Vec<Result<Worker<A>, NoMemory>, A>, NoMemory>
     requires same { All (λ w. w.claim.seat.table_id ≡ claims.now.table.shared.table_id) staff.items }
     requires fresh { All (λ w. (w.claim.seat.me.0 ≡ drawn 1 []) × (w.answers.items ≡ [])) staff.items }
-    requires pieces { claims.now.table.shared.key.pieces ≡ length projects.now }
-    requires rests { AreRests supporters.now.voters rests.now }
-    requires known { All (λ place. place < length supporters.now.costs) projects.now }
-    requires few { length projects.now ≤ most_projects }
+    requires batch { IsBatch supporters.now rests.now projects.now claims.now.table.shared.key.pieces }
     ensures all { IfOk result (λ done. length done.items ≡ length staff.items) }
-    ensures same { IfOk result (λ done.
-        All (λ r. IfOk r (λ w. w.claim.seat.table_id ≡ claims.now.table.shared.table_id)) done.items) }
-    ensures done { IfOk result (λ done.
-        All (λ r. IfOk r (λ w.
-        IsDone supporters.now rests.now projects.now w.claim.seat.me.0 w.answers.items)) done.items) }
+    ensures done { IfOk result (λ done. All (λ r. IfOk r (λ w.
+        (w.claim.seat.table_id ≡ claims.now.table.shared.table_id)
+        × IsDone supporters.now rests.now projects.now w.claim.seat.me.0 w.answers.items)) done.items) }
 {
     let work = |worker: Worker<A>| -> Result<Worker<A>, NoMemory>
         requires same { worker.claim.seat.table_id ≡ claims.now.table.shared.table_id }
         requires fresh { (worker.claim.seat.me.0 ≡ drawn 1 []) × (worker.answers.items ≡ []) }
-        requires pieces { claims.now.table.shared.key.pieces ≡ length projects.now }
-        requires rests { AreRests supporters.now.voters rests.now }
-        requires known { All (λ place. place < length supporters.now.costs) projects.now }
-        requires few { length projects.now ≤ most_projects }
-        ensures same { IfOk result (λ w. w.claim.seat.table_id ≡ claims.entry.now.table.shared.table_id) }
-        ensures done { IfOk result (λ w.
-            IsDone supporters.entry.now rests.entry.now projects.entry.now w.claim.seat.me.0 w.answers.items) }
+        requires batch { IsBatch supporters.now rests.now projects.now claims.now.table.shared.key.pieces }
+        ensures { IfOk result (λ w. (w.claim.seat.table_id ≡ claims.entry.now.table.shared.table_id)
+            × IsDone supporters.entry.now rests.entry.now projects.entry.now
+            w.claim.seat.me.0 w.answers.items) }
     { worker.work(claims, gate, projects, supporters, rests) };
     Ok(thread::map_vec(rt, staff, &work)?)
 }

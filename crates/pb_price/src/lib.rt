@@ -17,7 +17,7 @@ pub mod tally;
 mod voter_list;
 mod worker;
 
-pub use all_prices::price_all;
+pub use all_prices::{is_worker_count, price_all};
 pub use gate::{Gate, NoGate};
 pub use price_fault::PriceFault;
 pub use steps::price_in_steps;

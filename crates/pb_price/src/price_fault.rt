@@ -1,5 +1,5 @@
 ghost use Rattle.std.specs.Prelude.{◌≡◌};
-ghost use Rattle.pb_price.specs.PriceFault.{number_of, name_of};
+ghost use Rattle.pb_price.specs.PriceFault.{numbered_name};
 ghost use Rattle.pb_price.specs.declared.price_fault.PriceFault.TheVariants as fault;
 
 use pb_core::no_memory::NoMemory;
@@ -20,7 +20,7 @@ pub enum PriceFault {
 impl PriceFault {
     /// The fault's number, from 1.
     pub fn number(&self) -> u32
-        ensures { result ≡ number_of self.now }
+        ensures { result ≡ (numbered_name self.now).0 }
     {
         match self {
             PriceFault::WorkerCount => 1,
@@ -30,7 +30,7 @@ impl PriceFault {
 
     /// The fault's name.
     pub fn name(&self) -> &'static str
-        ensures { result.now ≡ name_of self.now }
+        ensures { result.now ≡ (numbered_name self.now).1 }
     {
         match self {
             PriceFault::WorkerCount => "WorkerCount",

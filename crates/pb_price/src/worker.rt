@@ -1,8 +1,6 @@
-ghost use Rattle.std.specs.Prelude.{◌≡◌, ◌<◌, ◌≤◌, [], All, length, IfOk, OnOk};
-ghost use Rattle.pb_core.specs.Election.{most_projects};
+ghost use Rattle.std.specs.Prelude.{◌≡◌, [], All, length, IfOk, OnOk};
 ghost use Rattle.pb_price.specs.Claims.{drawn};
-ghost use Rattle.pb_price.specs.Price.{AreRests};
-ghost use Rattle.pb_price.specs.Working.{IsDone};
+ghost use Rattle.pb_price.specs.Working.{IsBatch, IsDone};
 
 use crate::answer::Answer;
 use crate::claims::{Claim, Claims};
@@ -32,14 +30,10 @@ impl<A: Allocator> Worker<A> {
         rests: &[Money],
     ) -> Result<Worker<A>, NoMemory>
         requires same { self.claim.seat.table_id ≡ claims.now.table.shared.table_id }
-        requires pieces { claims.now.table.shared.key.pieces ≡ length projects.now }
         requires fresh { (self.claim.seat.me.0 ≡ drawn 1 []) × (self.answers.items ≡ []) }
-        requires rests { AreRests supporters.now.voters rests.now }
-        requires known { All (λ place. place < length supporters.now.costs) projects.now }
-        requires few { length projects.now ≤ most_projects }
-        ensures same { IfOk result (λ w. w.claim.seat.table_id ≡ claims.now.table.shared.table_id) }
-        ensures done { IfOk result (λ w.
-            IsDone supporters.now rests.now projects.now w.claim.seat.me.0 w.answers.items) }
+        requires batch { IsBatch supporters.now rests.now projects.now claims.now.table.shared.key.pieces }
+        ensures { IfOk result (λ w. (w.claim.seat.table_id ≡ claims.now.table.shared.table_id)
+            × IsDone supporters.now rests.now projects.now w.claim.seat.me.0 w.answers.items) }
     {
         let common = common_rest(supporters, rests, projects.len());
         loop {

@@ -15,7 +15,7 @@ use Rattle.pb_price.specs.Supporters.{SupportView, IsSupport, cost_at, support_o
 use Rattle.pb_rounds.specs.declared.measure.Measure.{Measure}
 use Rattle.pb_rounds.specs.declared.measure.Measure.TheVariants.{Votes, Cost}
 use Rattle.pb_rounds.specs.Bid.{Bid, is_before}
-use Rattle.pb_rounds.specs.Cheapest.{IsCheaper, IsAsCheap, EachWasCheapest, rests_after}
+use Rattle.pb_rounds.specs.Cheapest.{IsCheaper, EachWasCheapest, rests_after}
 use Rattle.pb_rounds.specs.Outcome.{OutcomeView, Settled, settled, settled_by}
 use Rattle.pb_rounds.specs.Run.{ElectedView, RunView, bid, best_of, charged, elected_by, is_listed, run_from, run_of, then_run, without}
 use Rattle.pb_rounds.proofs.BestBid.{best_is_bid}
@@ -33,7 +33,7 @@ not_before x y i j o Greater t ratio place h apart = inl (rw ratio at (ranks x y
 
 compared : (m : Measure) (s : SupportView) (place price other q : ℕ) → 0 < cost_at s place → 0 < cost_at s other → other ≢ place
     → is_before (bid m s other q) (bid m s place price) ≡ false
-    → IsCheaper m s place price other q ⊎ (IsAsCheap m s place price other q × place < other)
+    → IsCheaper m s place price other q
 compared Votes s place price other q some more apart h =
     elim (not_before (q * max 1 1) (price * max 1 1) other place _ _ _ refl refl h apart) [
       | inl less ↦ inl (omega arith)
@@ -54,7 +54,7 @@ record WasFirst (m : Measure) (s : SupportView) (rests left : List ℕ) (before 
   pub priced : price_at s (rests_after s rests before) w.place ≡ Some w.price
   pub cheapest : (other price : ℕ) → is_listed left other ≡ true → other ≢ w.place → All (λ v. v.place ≢ other) before
       → price_at s (rests_after s rests before) other ≡ Some price
-      → IsCheaper m s w.place w.price other price ⊎ (IsAsCheap m s w.place w.price other price × w.place < other)
+      → IsCheaper m s w.place w.price other price
 
 abbrev EachWasFirst : Measure → SupportView → List ℕ → List ℕ → List ElectedView → Type 0
 EachWasFirst m s rests left elected = (before : List ElectedView) (w : ElectedView) (later : List ElectedView)

@@ -1,6 +1,6 @@
 -- How many raises the completion decides on.
 use Rattle.std.proofs.Common.{◌≡◌, ℕ, ◌+◌, ◌-◌, ◌*◌, ◌/◌, ◌<◌, ◌≤◌, length, Option, Some, None, Bool, true, false, refl, sym, subst, ◌∙◌, ap, inl, inr, arith}
-use Rattle.std.specs.Prelude.{IfOk, OnOk, Result, Ok, Err, List, option_map, if◌then◌else◌, MatchOption, nat_lt, ◌==◌}
+use Rattle.std.specs.Prelude.{List, option_map, if◌then◌else◌, MatchOption, nat_lt, ◌==◌}
 use Rattle.std.proofs.lemmas.Option.{none-some, same_Some}
 use Rattle.std.proofs.lemmas.Bool.{cases_Bool, true≢false, or_left, or_right, or_from, or_parts, cond-true, cond-false, cases_eq, eq-eqb, ne_eqb, ltb-false}
 use Rattle.pb_core.specs.Election.{ElectionView}
@@ -13,8 +13,7 @@ use Rattle.pb_rounds.specs.Run.{run_of, ElectedView}
 use Rattle.pb_rounds.specs.PriceSystem.{HasPriceSystem}
 use Rattle.pb_rounds.specs.PricingRecord.{HasPricing}
 use Rattle.pb_rounds.specs.Queue.{AreMarked, IsWholeRun, is_above}
-use Rattle.pb_rounds.specs.Cheapest.{EachWasCheapest}
-use Rattle.pb_rounds.proofs.CheapestRounds.{settled_was_cheapest}
+use Rattle.pb_rounds.specs.RaiseEnds.{IsCompletion, IsOutcomeAt}
 use Rattle.pb_rounds.proofs.Exhausted.{over_from_more, over_from_within}
 use Rattle.pb_rounds.proofs.Explained.{run_within_shares, run_has_price_system}
 
@@ -109,21 +108,30 @@ module _ (m : Measure) (e : ElectionView) (step limit raised : ℕ) (within : ra
       | inr some ↦ omega arith
     ]
 
-    module _ (last : OutcomeView) (last_is : 0 < raised → settled last ≡ settled_after m e step (raised - 1)) where
+    module _ (workers : ℕ) (last : OutcomeView)
+        (last_is : 0 < raised → IsOutcomeAt m (support_of e) workers (share_after e step (raised - 1)) (raised - 1) last) where
       last_raised : last.raised ≡ raised - 1
-      last_raised = ap (λ (x : Settled). x.raised) (last_is raised_once)
+      last_raised = ap (λ (x : Settled). x.raised) (last_is raised_once).settled_is
 
-      pub over_decides : add1_of m e step limit ≡ Some last.raised
-      over_decides = decided_before m e step limit raised within tried found_over ∙ ap (λ n. Some n) (sym last_raised)
-
-      pub over_settled : settled last ≡ settled_after m e step last.raised
-      over_settled = last_is raised_once ∙ ap (settled_after m e step) (sym last_raised)
+      pub over_completes : IsCompletion m e workers step limit last
+      over_completes = record {
+        decided = decided_before m e step limit raised within tried found_over ∙ ap (λ n. Some n) (sym last_raised);
+        ended = subst (λ n. IsOutcomeAt m (support_of e) workers (share_after e step n) n last) (sym last_raised) (last_is raised_once);
+      }
 
   -- a raise that ends within it
   module _ (workers : ℕ) (next : OutcomeView) (marks : List Bool) (spent : ℕ) (whole : IsWholeRun m s workers share raised next marks spent)
       (spent_within : is_above (Some budget) spent ≡ false) where
-    pub next_settled : settled next ≡ settled_after m e step raised
+    next_settled : settled next ≡ settled_after m e step raised
     next_settled = settled_next m e step raised s same opening opening_is share share_is next whole.settled_is
+
+    pub next_at : IsOutcomeAt m (support_of e) workers (share_after e step raised) raised next
+    next_at = record {
+      settled_is = next_settled;
+      priced = subst (λ n. HasPricing m (support_of e) workers n next.priced) share_at
+          (subst (λ (t : SupportView). HasPricing m t workers share next.priced) same whole.priced);
+      is_support = rw same at h;
+    }
 
     next_raised : next.raised ≡ raised
     next_raised = ap (λ (x : Settled). x.raised) next_settled
@@ -135,27 +143,32 @@ module _ (m : Measure) (e : ElectionView) (step limit raised : ℕ) (within : ra
     found_within : is_over_after m e step raised ≡ false
     found_within = sym (over_is m e step raised s same budget budget_is next next_settled) ∙ not_over
 
-    pub next_priced : HasPricing m (support_of e) workers next.share next.priced
-    next_priced = subst (λ n. HasPricing m (support_of e) workers n next.priced) (sym (ap (λ (x : Settled). x.share) whole.settled_is))
-        (subst (λ (t : SupportView). HasPricing m t workers share next.priced) same whole.priced)
-
     -- what the test of the outcome answered
     module _ (exhausted : Bool) (says : (elected : List ElectedView) → AreMarked s elected marks → spent ≡ spent_on s elected → exhausted ≡ is_exhausted s budget elected) where
       found_exhausted : exhausted ≡ is_exhausted_after m e step raised
       found_exhausted = says next.elected whole.marked whole.spent_is ∙ exhausted_is m e step raised s same budget budget_is next next_settled
 
-      pub exhausted_decides : exhausted ≡ true → add1_of m e step limit ≡ Some next.raised
-      exhausted_decides yes_exhausted =
-          decided_here m e step limit raised within tried found_within (sym found_exhausted ∙ yes_exhausted) ∙ ap (λ n. Some n) (sym next_raised)
-
-      pub exhausted_settled : settled next ≡ settled_after m e step next.raised
-      exhausted_settled = next_settled ∙ ap (settled_after m e step) (sym next_raised)
+      pub exhausted_completes : exhausted ≡ true → IsCompletion m e workers step limit next
+      exhausted_completes yes_exhausted = record {
+        decided = decided_here m e step limit raised within tried found_within (sym found_exhausted ∙ yes_exhausted) ∙ ap (λ n. Some n) (sym next_raised);
+        ended = subst (λ n. IsOutcomeAt m (support_of e) workers (share_after e step n) n next) (sym next_raised) next_at;
+      }
 
       pub goes_on : exhausted ≡ false → (j : ℕ) → j < raised + 1 → is_decisive m e step j ≡ false
       goes_on not_exhausted j below = elim (cases_eq j raised) [
         | inl here ↦ ap (is_decisive m e step) here ∙ or_from _ _ found_within (sym found_exhausted ∙ not_exhausted)
         | inr before ↦ tried j (omega arith)
       ]
+
+-- the outcome after as many raises as the completion decides on
+pub completion_at : (m : Measure) (e : ElectionView) (workers step limit raises : ℕ) → add1_of m e step limit ≡ Some raises → (o : OutcomeView)
+    → IsOutcomeAt m (support_of e) workers (share_after e step raises) raises o → IsCompletion m e workers step limit o
+completion_at m e workers step limit raises decided o h =
+    let same : raises ≡ o.raised = sym (ap (λ (x : Settled). x.raised) h.settled_is) in
+    record {
+      decided = decided ∙ ap (λ n. Some n) same;
+      ended = subst (λ n. IsOutcomeAt m (support_of e) workers (share_after e step n) n o) same h;
+    }
 
 -- the outcome that the completion decides on is not over
 decided_not_over : (m : Measure) (e : ElectionView) → IsSupport (support_of e) → (step high : ℕ) → (o : Option ℕ)
@@ -194,38 +207,3 @@ pub settled_priced : (m : Measure) (e : ElectionView) → IsSupport (support_of 
 settled_priced m e h step raises o is =
     rw (ap (λ (x : Settled). x.share) is, ap (λ (x : Settled). x.elected) is, ap (λ (x : Settled). x.rests) is)
     (run_has_price_system m (support_of e) h (share_after e step raises))
-
--- the same of a result
-module _ (m : Measure) (e : ElectionView) (s : SupportView) (same : s ≡ support_of e) (step limit : ℕ) {F : Type 0} where
-  pub all_within : (r : Result OutcomeView F) → OnOk r (IsSupport s) → IfOk r (λ o. add1_of m e step limit ≡ Some o.raised)
-      → IfOk r (λ o. settled o ≡ settled_after m e step o.raised) → IfOk r (λ o. spent_on (support_of e) o.elected ≤ e.budget)
-  all_within (Ok o) h decided is = settled_within m e step o.raised (add1_not_over m e (rw same at h) step limit o.raised decided) o is
-  all_within (Err fault) h decided is = tt
-
-  pub all_priced_well : (r : Result OutcomeView F) → OnOk r (IsSupport s) → IfOk r (λ o. settled o ≡ settled_after m e step o.raised)
-      → IfOk r (λ o. HasPriceSystem (support_of e) o.share o.elected o.rests)
-  all_priced_well (Ok o) h is = settled_priced m e (rw same at h) step o.raised o is
-  all_priced_well (Err fault) h is = tt
-
-  pub all_cheapest : (r : Result OutcomeView F) → OnOk r (IsSupport s) → IfOk r (λ o. settled o ≡ settled_after m e step o.raised)
-      → IfOk r (λ o. EachWasCheapest m (support_of e) o.share o.elected)
-  all_cheapest (Ok o) h is = settled_was_cheapest m e (support_of e) refl (rw same at h) (share_after e step o.raised) o.raised o is
-  all_cheapest (Err fault) h is = tt
-
--- the outcome at the opening share
-module _ (m : Measure) (e : ElectionView) (step : ℕ) (s : SupportView) (same : s ≡ support_of e) (h : IsSupport s)
-    (share : ℕ) (share_is : share ≡ opening_share e) (o : OutcomeView) (o_is : settled o ≡ settled_by share 0 (run_of m s share)) where
-  first_settled : settled o ≡ settled_after m e step 0
-  first_settled = settled_next m e step 0 s same share share_is share (omega arith) o o_is
-
-  support_is : IsSupport (support_of e)
-  support_is = rw same at h
-
-  pub first_within : spent_on (support_of e) o.elected ≤ e.budget
-  first_within = settled_within m e step 0 (opening_not_over m e support_is step) o first_settled
-
-  pub first_cheapest : EachWasCheapest m (support_of e) o.share o.elected
-  first_cheapest = settled_was_cheapest m e s same h share 0 o o_is
-
-  pub first_priced : HasPriceSystem (support_of e) o.share o.elected o.rests
-  first_priced = settled_priced m e support_is step 0 o first_settled

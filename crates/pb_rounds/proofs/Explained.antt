@@ -163,14 +163,13 @@ opening_explained m s h share =
 -- every run has a price system
 pub run_has_price_system : (m : Measure) (s : SupportView) → IsSupport s → (share : ℕ) → HasPriceSystem s share (run_of m s share).elected (run_of m s share).rests
 run_has_price_system m s h share =
-    let found = opening_explained m s h share in (
-      found.0,
-      record {
-        paid = found.1.paid;
-        endowed = λ v below. found.1.endowed v ∙ get_or-replicate s.voters v share 0 below;
-        too_expensive = λ place below others. found.1.too_expensive place (is_listed-range 0 (length s.costs) place (omega arith) (omega arith)) others;
-      },
-    )
+    let found = opening_explained m s h share in
+    record {
+      payments = found.0;
+      paid = found.1.paid;
+      endowed = λ v below. found.1.endowed v ∙ get_or-replicate s.voters v share 0 below;
+      too_expensive = λ place below others. found.1.too_expensive place (is_listed-range 0 (length s.costs) place (omega arith) (omega arith)) others;
+    }
 
 -- no run spends more than everybody's share
 pub run_within_shares : (m : Measure) (s : SupportView) → IsSupport s → (share : ℕ) → spent_on s (run_of m s share).elected ≤ s.voters * share

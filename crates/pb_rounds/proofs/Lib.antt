@@ -13,6 +13,7 @@ pub mod Charged
 pub mod Collected
 pub mod RaisesEnd
 pub mod Completing
+pub mod Counted
 pub mod Explained
 pub mod Listed
 pub mod BestBid

@@ -1,6 +1,6 @@
 -- The completion in the words of its rule.
 use Rattle.std.proofs.Common.{◌≡◌, ◌≢◌, ℕ, ◌+◌, ◌-◌, ◌<◌, List, length, get_or, Option, Some, None, true, false, sym, ◌∙◌, ap, inl, inr, arith}
-use Rattle.std.specs.Prelude.{All, ◌==◌, MatchOption, option_map, IfOk, OnOk, Result, Ok, Err, if◌then◌else◌}
+use Rattle.std.specs.Prelude.{All, ◌==◌, MatchOption, option_map, if◌then◌else◌}
 use Rattle.std.specs.List.{range_with_len}
 use Rattle.std.proofs.lemmas.Bool.{true≢false, not-true, not_from_false, and_parts, and_from, and_cases, or_parts, or_cases, cases_Bool, cases_eq, cond-true, cond-false, false_from_ne_true, lt-ltb, ltb-true, leb-true, leb-false, eq-eqb, ne_eqb}
 use Rattle.std.proofs.lemmas.List.Folds.{list_any_at, list_any_none}
@@ -12,9 +12,6 @@ use Rattle.pb_price.specs.Supporters.{SupportView, IsSupport, support_of, suppor
 use Rattle.pb_rounds.specs.declared.measure.Measure.{Measure}
 use Rattle.pb_rounds.specs.Completed.{IsOver, IsExhausted, IsCompleted}
 use Rattle.pb_rounds.specs.Count.{spent_on, is_over, is_exhausted, could_be_added, is_over_after, is_exhausted_after, is_decisive, first_decisive, add1_of, elected_after}
-use Rattle.pb_rounds.specs.declared.options.Completion.{Completion}
-use Rattle.pb_rounds.specs.declared.options.Completion.TheVariants.{Add1}
-use Rattle.pb_rounds.specs.Outcome.{OutcomeView}
 use Rattle.pb_rounds.specs.Run.{ElectedView, is_elected}
 use Rattle.pb_rounds.proofs.Completing.{opening_not_over, within_from_not_over}
 use Rattle.pb_rounds.proofs.Exhausted.{over_from_more, over_from_within}
@@ -116,9 +113,3 @@ pub add1_completed : (m : Measure) (e : ElectionView) → IsSupport (support_of 
 unfolding first_decisive
 add1_completed m e h step limit raises is =
     decided_completed m e h step (limit + 1) _ (find-range_with_len (is_decisive m e step) (limit + 1) 0 (limit + 1) (omega arith)) raises is
-
-pub all_completed : (m : Measure) (e : ElectionView) (s : SupportView) → s ≡ support_of e → (step limit : ℕ) → (completion : Completion) → {F : Type 0}
-    → (r : Result OutcomeView F) → OnOk r (IsSupport s)
-    → IfOk r (λ o. add1_of m e step limit ≡ Some o.raised) → IfOk r (λ o. completion ≡ Add1 → IsCompleted m e step o.raised)
-all_completed m e s same step limit completion (Ok o) h decided = λ _. add1_completed m e (rw same at h) step limit o.raised decided
-all_completed m e s same step limit completion (Err fault) h decided = tt

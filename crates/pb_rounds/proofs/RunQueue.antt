@@ -14,7 +14,7 @@ use Rattle.pb_price.specs.Supporters.{IsSupport, SupportView, cost_at, supporter
 use Rattle.pb_rounds.specs.declared.measure.Measure.{Measure}
 use Rattle.pb_rounds.specs.Bid.{Bid}
 use Rattle.pb_rounds.specs.Count.{spent_on}
-use Rattle.pb_rounds.specs.CountFault.{is_worker_count}
+use Rattle.pb_price.specs.PriceFault.{is_worker_count}
 use Rattle.pb_rounds.specs.Outcome.{OutcomeView}
 use Rattle.pb_rounds.specs.PricingRecord.{HasPricing, IsPricedEnd, IsPricedRound, PricingRecord, known_after}
 use Rattle.pb_rounds.specs.Queue.{AreMarked, IsDone, IsFull, IsIn, IsRunEnd, IsWholeRun, PricesHeads, PutsBack, Rises, is_above}

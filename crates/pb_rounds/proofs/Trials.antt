@@ -3,12 +3,12 @@ use Rattle.std.proofs.Common.{◌≡◌, ℕ, ◌+◌, ◌-◌, ◌*◌, ◌<◌
 use Rattle.std.specs.Prelude.{IfOk, Ok, Result, max, min, nat_lt}
 use Rattle.std.proofs.lemmas.Bool.{and_parts, cases_eq, leb-true, or_from}
 use Rattle.pb_core.specs.Election.{ElectionView}
+use Rattle.pb_price.specs.PriceFault.{is_worker_count}
 use Rattle.pb_price.specs.Supporters.{SupportView, support_of}
 use Rattle.pb_rounds.specs.declared.measure.Measure.{Measure}
 use Rattle.pb_rounds.specs.declared.raise_end.RaiseEnd.{RaiseEnd}
 use Rattle.pb_rounds.specs.declared.raise_end.RaiseEnd.TheVariants.{GoesOn, Exhausted, Over}
 use Rattle.pb_rounds.specs.Count.{add1_of, is_decisive, is_exhausted, is_over, opening_share, share_after, spent_on}
-use Rattle.pb_rounds.specs.CountFault.{is_worker_count}
 use Rattle.pb_rounds.specs.Outcome.{OutcomeView, Settled}
 use Rattle.pb_rounds.specs.Queue.{AreMarked, IsWholeRun, is_above}
 use Rattle.pb_rounds.specs.RaiseEnds.{IsRaiseEnd}

@@ -1,19 +1,16 @@
 -- That each elected project was the cheapest of its round.
 use Rattle.std.specs.Prelude.{◌≡◌, ◌≢◌, ℕ, ◌*◌, ◌<◌, ◌⊎◌, List, [], ◌∷◌, ◌++◌, All, Some, length, replicate}
-use Rattle.pb_price.specs.Supporters.{SupportView, supporters_at, cost_at}
+use Rattle.pb_price.specs.Supporters.{SupportView, supporters_at}
 use Rattle.pb_price.specs.Price.{price_at}
-use Rattle.pb_rounds.specs.Run.{ElectedView, charged}
+use Rattle.pb_rounds.specs.Run.{ElectedView, charged, weight_of}
 use Rattle.pb_rounds.specs.declared.measure.Measure.{Measure}
-use Rattle.pb_rounds.specs.declared.measure.Measure.TheVariants.{Votes, Cost}
 
--- a project is cheaper than another, each at its price: by price under measure votes, by price over cost under measure cost
+-- A project is cheaper than another, each at its price: by the price over the weight, so by the price under measure votes,
+-- and by the price over the cost under measure cost. Or it is as cheap, and earlier in the file.
 abbrev pub IsCheaper : Measure → SupportView → (place price other other_price : ℕ) → Type 0
-IsCheaper Votes s place price other other_price = price < other_price
-IsCheaper Cost s place price other other_price = price * cost_at s other < other_price * cost_at s place
-
-abbrev pub IsAsCheap : Measure → SupportView → (place price other other_price : ℕ) → Type 0
-IsAsCheap Votes s place price other other_price = price ≡ other_price
-IsAsCheap Cost s place price other other_price = price * cost_at s other ≡ other_price * cost_at s place
+IsCheaper m s place price other other_price =
+    (price * weight_of m s other < other_price * weight_of m s place)
+    ⊎ ((price * weight_of m s other ≡ other_price * weight_of m s place) × place < other)
 
 -- what is left to each voter once these elected are paid for, one after the other
 abbrev pub rests_after : SupportView → List ℕ → List ElectedView → List ℕ
@@ -31,7 +28,6 @@ pub record WasCheapest (m : Measure) (s : SupportView) (rests : List ℕ) (befor
       → All (λ v. v.place ≢ other) before
       → price_at s rests other ≡ Some price
       → IsCheaper m s w.place w.price other price
-      ⊎ (IsAsCheap m s w.place w.price other price × w.place < other)
 
 -- each of the elected, in order of election from this share, was the cheapest of its round
 abbrev pub EachWasCheapest : Measure → SupportView → ℕ → List ElectedView → Type 0

@@ -82,11 +82,9 @@ count_of e options =
 -- When each fault of a count comes. Out of memory aside, a count that is not refused ends in its outcome or, where there
 -- is none, in spent raises.
 abbrev pub IsCountFault : ElectionView → CountOptions → CountFault → Type 0
-IsCountFault e options WorkerCount = refusal_of options ≡ Some WorkerCount
-IsCountFault e options StepRange = refusal_of options ≡ Some StepRange
-IsCountFault e options RaisesRange = refusal_of options ≡ Some RaisesRange
 IsCountFault e options RaisesSpent = (refusal_of options ≡ None) × (count_of e options ≡ None)
 IsCountFault e options NoMemory = refusal_of options ≡ None
+IsCountFault e options fault = refusal_of options ≡ Some fault
 
 -- when each fault of a completion by raises comes
 abbrev pub IsCompletionFault : Measure → ElectionView → ℕ → ℕ → CountFault → Type 0

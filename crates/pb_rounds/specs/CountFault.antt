@@ -1,28 +1,22 @@
 use Rattle.std.specs.Prelude.{ℕ, Bool, List, Option, Some, None, codes, ◌&&◌, not, nat_le, if◌then◌else◌}
+use Rattle.pb_price.specs.PriceFault.{is_worker_count}
 use Rattle.pb_rounds.specs.declared.count_fault.CountFault.{CountFault}
 use Rattle.pb_rounds.specs.declared.count_fault.CountFault.TheVariants.{WorkerCount, StepRange, RaisesRange, RaisesSpent, NoMemory}
 use Rattle.pb_rounds.specs.declared.options.CountOptions.{CountOptions}
 
+-- the fault's number and name
+abbrev pub numbered_name : CountFault → ℕ × List ℕ
+numbered_name WorkerCount = (1, codes "WorkerCount")
+numbered_name StepRange = (2, codes "StepRange")
+numbered_name RaisesRange = (3, codes "RaisesRange")
+numbered_name RaisesSpent = (4, codes "RaisesSpent")
+numbered_name NoMemory = (5, codes "NoMemory")
+
 abbrev pub number_of : CountFault → ℕ
-number_of WorkerCount = 1
-number_of StepRange = 2
-number_of RaisesRange = 3
-number_of RaisesSpent = 4
-number_of NoMemory = 5
+number_of fault = (numbered_name fault).0
 
 abbrev pub name_of : CountFault → List ℕ
-name_of WorkerCount = codes "WorkerCount"
-name_of StepRange = codes "StepRange"
-name_of RaisesRange = codes "RaisesRange"
-name_of RaisesSpent = codes "RaisesSpent"
-name_of NoMemory = codes "NoMemory"
-
-abbrev pub is_within : ℕ → ℕ → ℕ → Bool
-is_within low high n = nat_le low n && nat_le n high
-
--- the most workers
-abbrev pub most_workers : ℕ
-most_workers = 64
+name_of fault = (numbered_name fault).1
 
 -- the most that a raise can lift everyone's share by, in hundredths
 abbrev pub largest_step : ℕ
@@ -32,13 +26,10 @@ largest_step = 1000000000
 abbrev pub most_raises : ℕ
 most_raises = 1000000
 
-abbrev pub is_worker_count : ℕ → Bool
-is_worker_count workers = is_within 1 most_workers workers
-
 -- the first of the options that is out of its range, whatever the completion
 abbrev pub refusal_of : CountOptions → Option CountFault
 refusal_of options =
     if not (is_worker_count options.workers) then Some WorkerCount
-    else (if not (is_within 1 largest_step options.step) then Some StepRange
-    else (if not (is_within 0 most_raises options.max_raises) then Some RaisesRange
-    else None))
+    else if not (nat_le 1 options.step && nat_le options.step largest_step) then Some StepRange
+    else if not (nat_le options.max_raises most_raises) then Some RaisesRange
+    else None

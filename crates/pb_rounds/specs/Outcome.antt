@@ -21,4 +21,5 @@ settled o = record { share = o.share; raised = o.raised; elected = o.elected; re
 
 -- the run at this share, after this many raises, as an outcome
 abbrev pub settled_by : ℕ → ℕ → RunView → Settled
-settled_by share raised run = record { share = share; raised = raised; elected = run.elected; rests = run.rests }
+settled_by share raised run =
+    record { share = share; raised = raised; elected = run.elected; rests = run.rests }

@@ -10,7 +10,8 @@ use Rattle.pb_rounds.specs.declared.measure.Measure.{Measure}
 
 -- the last known price of each project, once these are priced at these rests: none where it is known to have none
 abbrev pub known_after : SupportView → List ℕ → List ℕ → (ℕ → Option ℕ) → ℕ → Option ℕ
-known_after s rests priced known place = if is_listed priced place then price_at s rests place else known place
+known_after s rests priced known place =
+    if is_listed priced place then price_at s rests place else known place
 
 -- the project's known price does not come after the winner's
 abbrev pub is_in_time : Measure → SupportView → Bid → (ℕ → Option ℕ) → ℕ → Bool

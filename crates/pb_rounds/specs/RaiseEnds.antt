@@ -1,20 +1,30 @@
 -- What the outcome of a raise is to its completion. Only clauses of private functions speak of it.
-use Rattle.std.specs.Prelude.{◌≡◌, ℕ, ◌≤◌, true, false}
+use Rattle.std.specs.Prelude.{◌≡◌, ℕ, ◌≤◌, Some, true, false}
 use Rattle.pb_core.specs.Election.{ElectionView}
-use Rattle.pb_price.specs.Supporters.{SupportView, support_of}
-use Rattle.pb_rounds.specs.Count.{is_exhausted, is_over}
-use Rattle.pb_rounds.specs.CountFault.{is_worker_count, largest_step, most_raises}
+use Rattle.pb_price.specs.PriceFault.{is_worker_count}
+use Rattle.pb_price.specs.Supporters.{SupportView, IsSupport, support_of}
+use Rattle.pb_rounds.specs.Cheapest.{EachWasCheapest}
+use Rattle.pb_rounds.specs.Completed.{IsCompleted}
+use Rattle.pb_rounds.specs.Count.{add1_of, count_of, is_exhausted, is_over, share_after, spent_on}
+use Rattle.pb_rounds.specs.CountFault.{largest_step, most_raises}
+use Rattle.pb_rounds.specs.Outcome.{OutcomeView, settled, settled_by}
+use Rattle.pb_rounds.specs.PriceSystem.{HasPriceSystem}
+use Rattle.pb_rounds.specs.PricingRecord.{HasPricing}
 use Rattle.pb_rounds.specs.Run.{run_of}
 use Rattle.pb_rounds.specs.declared.measure.Measure.{Measure}
+use Rattle.pb_rounds.specs.declared.options.Completion.TheVariants.{Add1}
+use Rattle.pb_rounds.specs.declared.options.CountOptions.{CountOptions}
 use Rattle.pb_rounds.specs.declared.raise_end.RaiseEnd.{RaiseEnd}
 use Rattle.pb_rounds.specs.declared.raise_end.RaiseEnd.TheVariants.{GoesOn, Exhausted, Over}
 
 -- how a run at this share ends
 abbrev pub IsRaiseEnd : Measure → SupportView → ℕ → ℕ → RaiseEnd → Type 0
 IsRaiseEnd m s budget share GoesOn =
-    (is_over s budget (run_of m s share).elected ≡ false) × (is_exhausted s budget (run_of m s share).elected ≡ false)
+    (is_over s budget (run_of m s share).elected ≡ false)
+    × (is_exhausted s budget (run_of m s share).elected ≡ false)
 IsRaiseEnd m s budget share Exhausted =
-    (is_over s budget (run_of m s share).elected ≡ false) × (is_exhausted s budget (run_of m s share).elected ≡ true)
+    (is_over s budget (run_of m s share).elected ≡ false)
+    × (is_exhausted s budget (run_of m s share).elected ≡ true)
 IsRaiseEnd m s budget share Over = is_over s budget (run_of m s share).elected ≡ true
 
 -- what an election can be completed with: the numbers are within their ranges, and the supporters are the election's own
@@ -23,3 +33,25 @@ pub record CanComplete (e : ElectionView) (workers : ℕ) (s : SupportView) (ste
   pub small_step : step ≤ largest_step
   pub few_raises : raises ≤ most_raises
   pub own_supporters : s ≡ support_of e
+
+-- the outcome of a whole run at this share, after this many raises
+pub record IsOutcomeAt (m : Measure) (s : SupportView) (workers share raised : ℕ) (o : OutcomeView)
+    : Type 0 where
+  pub settled_is : settled o ≡ settled_by share raised (run_of m s share)
+  pub priced : HasPricing m s workers share o.priced
+  pub is_support : IsSupport s
+
+-- the outcome in which a completion by raises ends
+pub record IsCompletion (m : Measure) (e : ElectionView) (workers step limit : ℕ) (o : OutcomeView)
+    : Type 0 where
+  pub decided : add1_of m e step limit ≡ Some o.raised
+  pub ended : IsOutcomeAt m (support_of e) workers (share_after e step o.raised) o.raised o
+
+-- what a count promises of its outcome
+pub record IsCounted (e : ElectionView) (options : CountOptions) (o : OutcomeView) : Type 0 where
+  pub counted : count_of e options ≡ Some (settled o)
+  pub priced : HasPricing options.measure (support_of e) options.workers o.share o.priced
+  pub within_budget : spent_on (support_of e) o.elected ≤ e.budget
+  pub completed : options.completion ≡ Add1 → IsCompleted options.measure e options.step o.raised
+  pub cheapest : EachWasCheapest options.measure (support_of e) o.share o.elected
+  pub price_system : HasPriceSystem (support_of e) o.share o.elected o.rests

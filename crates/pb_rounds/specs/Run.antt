@@ -48,7 +48,8 @@ is_listed numbers n = list_any (λ m. m == n) numbers
 unfoldable pub charged : List ℕ → ℕ → List ℕ → List ℕ
 charged supporters price rests =
     map
-    (λ v. if is_listed supporters v then slice_index rests v - min (slice_index rests v) price else slice_index rests v)
+    (λ v. if is_listed supporters v then slice_index rests v - min (slice_index rests v) price
+    else slice_index rests v)
     (range_with_len 0 (length rests))
 
 -- the project elected by this bid

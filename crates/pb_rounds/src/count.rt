@@ -1,41 +1,34 @@
-ghost use Rattle.std.specs.Prelude.{◌≡◌, ◌+◌, ◌*◌, ◌<◌, ◌≤◌, length, Some, IfOk, IfErr, OnOk, MatchBool, MatchOption, IsOkUnless, ⊤, true};
+ghost use Rattle.std.specs.Prelude.{◌≡◌, ◌+◌, ◌*◌, ◌<◌, ◌≤◌, length, None, Some, IfOk, IfErr, MatchBool, MatchOption, IsOkUnless, ⊤, true};
 ghost use Rattle.pb_core.specs.Money.{largest_money};
 ghost use Rattle.pb_price.specs.Price.{largest_share};
-ghost use Rattle.pb_price.specs.Supporters.{IsSupport, support_of};
+ghost use Rattle.pb_price.specs.PriceFault.{is_worker_count};
+ghost use Rattle.pb_price.specs.Supporters.{support_of};
 ghost use Rattle.pb_rounds.specs.Cheapest.{EachWasCheapest};
 ghost use Rattle.pb_rounds.specs.Completed.{IsCompleted};
-ghost use Rattle.pb_rounds.specs.Count.{add1_of, count_of, opening_share, settled_after, spent_on, IsCountFault, IsCompletionFault};
-ghost use Rattle.pb_rounds.specs.CountFault.{is_worker_count, most_raises, refusal_of};
+ghost use Rattle.pb_rounds.specs.Count.{count_of, opening_share, share_after, spent_on, IsCountFault, IsCompletionFault};
+ghost use Rattle.pb_rounds.specs.CountFault.{most_raises, refusal_of};
 ghost use Rattle.pb_rounds.specs.Outcome.{settled, settled_by};
 ghost use Rattle.pb_rounds.specs.PriceSystem.{HasPriceSystem};
 ghost use Rattle.pb_rounds.specs.PricingRecord.{HasPricing};
-ghost use Rattle.pb_rounds.specs.RaiseEnds.{CanComplete};
+ghost use Rattle.pb_rounds.specs.RaiseEnds.{CanComplete, IsCompletion, IsCounted, IsOutcomeAt};
 ghost use Rattle.pb_rounds.specs.Run.{outcome_of};
 
 use crate::count_fault::CountFault;
 use crate::measure::Measure;
-use crate::options::{Completion, CountOptions, LARGEST_STEP, MOST_RAISES, MOST_WORKERS};
+use crate::options::{Completion, CountOptions, LARGEST_STEP, MOST_RAISES};
 use crate::outcome::Outcome;
 use crate::pricing::Pricing;
 use crate::reach::{raised_share, raises_with_room};
-use crate::run::Run;
+use crate::run::{Run, whole_run};
 use crate::run_end::RunEnd;
 use crate::side_by_side::complete_side_by_side;
 use pb_core::election::Election;
 use pb_core::money::Money;
 use pb_core::no_memory::NoMemory;
-use pb_price::gate::{Gate, NoGate};
-use pb_price::supporters::Supporters;
+use pb_price::{Gate, NoGate, Supporters, is_worker_count};
 use std::alloc::Allocator;
 use std::mem::swap;
 use std::thread::Threads;
-
-/// Whether this many workers may be asked for.
-fn is_worker_count(workers: u32) -> bool
-    ensures { result ≡ is_worker_count workers }
-{
-    (1..=MOST_WORKERS).contains(&workers)
-}
 
 /// The first of the options that is out of its range.
 fn refusal_of(options: &CountOptions) -> Option<CountFault>
@@ -92,10 +85,12 @@ where
     ensures workers { MatchBool (is_worker_count workers)
         (IsOkUnless result CountFault.NoMemory) (result ≡ Err CountFault.WorkerCount) }
     // what is answered
-    ensures outcome { IfOk result (λ o. settled o ≡ settled_by share 0 (outcome_of measure election.now share)) }
+    ensures outcome { IfOk result (λ o.
+        settled o ≡ settled_by share 0 (outcome_of measure election.now share)) }
     ensures priced { IfOk result (λ o. HasPricing measure (support_of election.now) workers share o.priced) }
     ensures cheapest { IfOk result (λ o. EachWasCheapest measure (support_of election.now) share o.elected) }
-    ensures price_system { IfOk result (λ o. HasPriceSystem (support_of election.now) share o.elected o.rests) }
+    ensures price_system { IfOk result (λ o.
+        HasPriceSystem (support_of election.now) share o.elected o.rests) }
 {
     if !is_worker_count(workers) {
         return Err(CountFault::WorkerCount);
@@ -109,8 +104,7 @@ where
         measure,
         supporters: &supporters,
     };
-    let mut outcome = Outcome::unfilled(alloc);
-    Run::new(alloc).run(&pricing, share, 0, None, &mut outcome)?;
+    let outcome = whole_run(&pricing, share, 0)?;
     Ok(outcome)
 }
 
@@ -133,30 +127,46 @@ where
     ensures counted { IfOk result (λ o. count_of election.now options.now ≡ Some (settled o)) }
     ensures priced { IfOk result (λ o.
         HasPricing options.now.measure (support_of election.now) options.now.workers o.share o.priced) }
-    ensures within_budget { IfOk result (λ o. spent_on (support_of election.now) o.elected ≤ election.now.budget) }
+    ensures within_budget { IfOk result (λ o.
+        spent_on (support_of election.now) o.elected ≤ election.now.budget) }
     ensures completed { IfOk result (λ o. options.now.completion ≡ Completion.Add1
         → IsCompleted options.now.measure election.now options.now.step o.raised) }
     ensures cheapest { IfOk result (λ o.
         EachWasCheapest options.now.measure (support_of election.now) o.share o.elected) }
-    ensures price_system { IfOk result (λ o. HasPriceSystem (support_of election.now) o.share o.elected o.rests) }
+    ensures price_system { IfOk result (λ o.
+        HasPriceSystem (support_of election.now) o.share o.elected o.rests) }
 {
     if let Some(fault) = refusal_of(options) {
         return Err(fault);
     }
     let supporters = Supporters::build(alloc, election)?;
+    count_in_range(rt, alloc, election, options, &supporters)
+}
+
+/// Counts an election, whose supporters these are, with options that are in their ranges.
+fn count_in_range<R: Threads + Sync, A: Allocator + Copy + Send + Sync, B: Allocator>(
+    rt: &R,
+    alloc: A,
+    election: &Election<B>,
+    options: &CountOptions,
+    supporters: &Supporters<A>,
+) -> Result<Outcome<A>, CountFault>
+    requires in_range { refusal_of options.now ≡ None }
+    requires own { supporters.now ≡ support_of election.now }
+    ensures counted { IfOk result (IsCounted election.now options.now) }
+    ensures faults { IfErr result (IsCountFault election.now options.now) }
+{
     let pricing = Pricing {
         rt,
         gate: &NoGate,
         alloc,
         workers: options.workers,
         measure: options.measure,
-        supporters: &supporters,
+        supporters,
     };
     match options.completion {
         Completion::Plain => {
-            let mut outcome = Outcome::unfilled(alloc);
-            let share = opening_share(election);
-            Run::new(alloc).run(&pricing, share, 0, None, &mut outcome)?;
+            let outcome = outcome_after(&pricing, election, options.step, 0)?;
             Ok(outcome)
         }
         Completion::Add1 => complete(&pricing, election, options.step, options.max_raises),
@@ -176,15 +186,11 @@ pub(crate) fn outcome_after<
     raised: u32,
 ) -> Result<Outcome<A>, NoMemory>
     requires given { CanComplete election.now pricing.now.workers pricing.now.supporters.now step raised }
-    ensures settled { IfOk result (λ o. settled o ≡ settled_after pricing.now.measure election.now step raised) }
-    ensures priced { IfOk result (λ o.
-        HasPricing pricing.now.measure (support_of election.now) pricing.now.workers o.share o.priced) }
-    ensures is_support { OnOk result (IsSupport pricing.now.supporters.now) }
+    ensures { IfOk result (IsOutcomeAt pricing.now.measure (support_of election.now) pricing.now.workers
+        (share_after election.now step raised) raised) }
 {
-    let mut outcome = Outcome::unfilled(pricing.alloc);
     let share = raised_share(opening_share(election), raised, step);
-    Run::new(pricing.alloc).run(pricing, share, raised, None, &mut outcome)?;
-    Ok(outcome)
+    whole_run(pricing, share, raised)
 }
 
 /// Where the raises end that are run one after the other, each by all workers: one worker has all of them, several have the
@@ -211,13 +217,9 @@ fn complete<R: Threads + Sync, G: Gate, A: Allocator + Copy + Send + Sync, B: Al
     max_raises: u32,
 ) -> Result<Outcome<A>, CountFault>
     requires given { CanComplete election.now pricing.now.workers pricing.now.supporters.now step max_raises }
-    ensures decided { IfOk result (λ o. add1_of pricing.now.measure election.now step max_raises ≡ Some o.raised) }
-    ensures settled { IfOk result (λ o.
-        settled o ≡ settled_after pricing.now.measure election.now step o.raised) }
-    ensures priced { IfOk result (λ o.
-        HasPricing pricing.now.measure (support_of election.now) pricing.now.workers o.share o.priced) }
+    ensures completed { IfOk result
+        (IsCompletion pricing.now.measure election.now pricing.now.workers step max_raises) }
     ensures faults { IfErr result (IsCompletionFault pricing.now.measure election.now step max_raises) }
-    ensures is_support { OnOk result (IsSupport pricing.now.supporters.now) }
 {
     let budget = election.budget();
     let opening = opening_share(election);

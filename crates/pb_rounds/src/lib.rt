@@ -23,4 +23,4 @@ pub use count_fault::CountFault;
 pub use key::Key;
 pub use measure::Measure;
 pub use options::{Completion, CountOptions};
-pub use outcome::Outcome;
+pub use outcome::{Elected, Outcome};

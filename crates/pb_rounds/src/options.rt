@@ -6,9 +6,6 @@ ghost use Rattle.pb_rounds.specs.declared.options.Completion.TheVariants.{Add1};
 use crate::measure::Measure;
 use pb_core::money::Money;
 
-/// The most workers.
-pub const MOST_WORKERS: u32 = 64;
-
 /// The most that a raise lifts everyone's share by, in hundredths.
 pub const LARGEST_STEP: Money = Money(1_000_000_000);
 
@@ -42,7 +39,8 @@ pub struct CountOptions {
 impl CountOptions {
     /// One worker, steps of 1.00, up to 1,000,000 raises, completion by raises, and measure votes.
     pub fn standard() -> CountOptions
-        ensures { result ≡ record { step = 100; max_raises = most_raises; workers = 1; completion = Add1; measure = Votes } }
+        ensures { result
+            ≡ record { step = 100; max_raises = most_raises; workers = 1; completion = Add1; measure = Votes } }
     {
         CountOptions {
             step: Money(100),

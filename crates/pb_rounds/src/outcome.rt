@@ -43,7 +43,13 @@ impl<A: Allocator> Model for Outcome<A> {
 
     ghost Value = { OutcomeView };
 
-    ghost view = { λ o. record { share = o.share; raised = o.raised; elected = o.elected.items; rests = o.rests.items; priced = o.priced.items } };
+    ghost view = { λ o. record {
+      share = o.share;
+      raised = o.raised;
+      elected = o.elected.items;
+      rests = o.rests.items;
+      priced = o.priced.items;
+    } };
 }
 
 impl<A: Allocator> Outcome<A> {

@@ -1,5 +1,5 @@
 ghost use Rattle.std.specs.Prelude.{◌≡◌, ◌<◌, All, length, true};
-ghost use Rattle.pb_rounds.specs.CountFault.{is_worker_count};
+ghost use Rattle.pb_price.specs.PriceFault.{is_worker_count};
 
 use crate::measure::Measure;
 use pb_price::supporters::Supporters;

@@ -1,5 +1,5 @@
 /// What the outcome of a raise is to its completion.
-#[derive(Clone, Copy, Debug, PartialEq, Eq)]
+#[derive(Clone, Copy)]
 pub(crate) enum RaiseEnd {
     /// Neither over the budget nor exhausted.
     GoesOn,

@@ -2,9 +2,9 @@ ghost use Rattle.std.specs.Prelude.{◌≡◌, ◌+◌, ◌∷◌, ◌++◌, [],
 ghost use Rattle.std.specs.List.Sorted.{IsStrictlyIncreasing};
 ghost use Rattle.pb_core.specs.Election.{most_projects};
 ghost use Rattle.pb_price.specs.Price.{paid_at, price_at, AreRests, largest_count};
+ghost use Rattle.pb_price.specs.PriceFault.{is_worker_count};
 ghost use Rattle.pb_price.specs.Supporters.{supporters_at};
 ghost use Rattle.pb_rounds.specs.Bid.{Bid, better_of, first_least, is_before};
-ghost use Rattle.pb_rounds.specs.CountFault.{is_worker_count};
 ghost use Rattle.pb_rounds.specs.Queue.{IsDone, IsIn, PricesHeads};
 ghost use Rattle.pb_rounds.specs.Run.{bids_at, charged, elected_by};
 

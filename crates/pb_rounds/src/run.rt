@@ -1,9 +1,10 @@
 ghost use Rattle.std.specs.Prelude.{◌≡◌, ◌<◌, ◌≤◌, [], List, false, true, length, replicate, slice_set, IfOk, OnOk};
 ghost use Rattle.pb_price.specs.Price.{largest_share};
+ghost use Rattle.pb_price.specs.PriceFault.{is_worker_count};
 ghost use Rattle.pb_price.specs.Supporters.{IsSupport};
 ghost use Rattle.pb_rounds.specs.Count.{is_exhausted, spent_on};
-ghost use Rattle.pb_rounds.specs.CountFault.{is_worker_count};
 ghost use Rattle.pb_rounds.specs.Queue.{AreMarked, IsRunEnd, is_above};
+ghost use Rattle.pb_rounds.specs.RaiseEnds.{IsOutcomeAt};
 ghost use Rattle.pb_rounds.specs.Run.{ElectedView};
 
 use crate::key::Key;
@@ -64,10 +65,9 @@ impl<A: Allocator> Run<A> {
         A: Copy + Send + Sync,
         requires share { share ≤ largest_share }
         requires workers { is_worker_count pricing.now.workers ≡ true }
-        ensures ended { IfOk result (λ end.
-            IsRunEnd end pricing.now.measure pricing.now.supporters.now pricing.now.workers limit share raised
-            outcome.new self.new.marks.items self.new.spent) }
-        ensures is_support { IsSupport pricing.now.supporters.now }
+        ensures { IfOk result (λ end. IsSupport pricing.now.supporters.now
+            × IsRunEnd end pricing.now.measure pricing.now.supporters.now pricing.now.workers limit
+            share raised outcome.new self.new.marks.items self.new.spent) }
     {
         let supporters = pricing.supporters;
         let projects = supporters.projects();
@@ -101,10 +101,27 @@ impl<A: Allocator> Run<A> {
     pub(crate) fn is_exhausted(&self, supporters: &Supporters<A>, budget: Money) -> bool
         requires { length self.now.marks.items ≡ length supporters.now.costs }
         ensures { (elected : List ElectedView) → AreMarked supporters.now elected self.now.marks.items
-            → self.now.spent ≡ spent_on supporters.now elected → result ≡ is_exhausted supporters.now budget elected }
+            → self.now.spent ≡ spent_on supporters.now elected
+            → result ≡ is_exhausted supporters.now budget elected }
     {
         is_exhausted(supporters, budget, self.spent, self.marks.as_slice())
     }
+}
+
+/// The outcome of a whole run at this share, after this many raises.
+pub(crate) fn whole_run<R: Threads + Sync, G: Gate, A: Allocator + Copy + Send + Sync>(
+    pricing: &Pricing<R, G, A>,
+    share: Money,
+    raised: u32,
+) -> Result<Outcome<A>, NoMemory>
+    requires share { share ≤ largest_share }
+    requires workers { is_worker_count pricing.now.workers ≡ true }
+    ensures { IfOk result
+        (IsOutcomeAt pricing.now.measure pricing.now.supporters.now pricing.now.workers share raised) }
+{
+    let mut outcome = Outcome::unfilled(pricing.alloc);
+    Run::new(pricing.alloc).run(pricing, share, raised, None, &mut outcome)?;
+    Ok(outcome)
 }
 
 /// Whether this is more than the limit, where there is one.
@@ -142,7 +159,13 @@ fn open<A: Allocator>(
     voters: u32,
 ) -> Result<(), NoMemory>
     ensures { OnOk result (outcome.new
-        ≡ record { share = share; raised = raised; elected = []; rests = replicate voters share; priced = [] }) }
+        ≡ record {
+          share = share;
+          raised = raised;
+          elected = [];
+          rests = replicate voters share;
+          priced = [];
+        }) }
 {
     outcome.share = share;
     outcome.raised = raised;

@@ -1,5 +1,5 @@
 /// How a run ended.
-#[derive(Clone, Copy, Debug, PartialEq, Eq)]
+#[derive(Clone, Copy)]
 pub(crate) enum RunEnd {
     /// No project that is left has a price.
     Whole,

@@ -1,14 +1,13 @@
 //! Completion with several workers: raises are tried side by side, each by a run of one worker.
 
-ghost use Rattle.std.specs.Prelude.{◌≡◌, ◌+◌, ◌*◌, ◌<◌, ◌≤◌, ℕ, length, slice_index_or, Some, IfOk, IfErr, OnOk, MatchOption, true, false};
+ghost use Rattle.std.specs.Prelude.{◌≡◌, ◌+◌, ◌*◌, ◌<◌, ◌≤◌, ℕ, length, slice_index_or, Some, IfOk, IfErr, MatchOption, OnOk, true, false};
 ghost use Rattle.pb_core.specs.Money.{largest_money};
 ghost use Rattle.pb_price.specs.Price.{largest_share};
-ghost use Rattle.pb_price.specs.Supporters.{IsSupport, support_of};
-ghost use Rattle.pb_rounds.specs.Count.{add1_of, is_decisive, settled_after, IsCompletionFault};
-ghost use Rattle.pb_rounds.specs.CountFault.{is_worker_count, largest_step, most_raises};
-ghost use Rattle.pb_rounds.specs.Outcome.{settled};
-ghost use Rattle.pb_rounds.specs.PricingRecord.{HasPricing};
-ghost use Rattle.pb_rounds.specs.RaiseEnds.{CanComplete, IsRaiseEnd};
+ghost use Rattle.pb_price.specs.PriceFault.{is_worker_count};
+ghost use Rattle.pb_price.specs.Supporters.{support_of};
+ghost use Rattle.pb_rounds.specs.Count.{add1_of, is_decisive, IsCompletionFault};
+ghost use Rattle.pb_rounds.specs.CountFault.{largest_step, most_raises};
+ghost use Rattle.pb_rounds.specs.RaiseEnds.{CanComplete, IsCompletion, IsRaiseEnd};
 
 use crate::count::{opening_share, outcome_after};
 use crate::count_fault::CountFault;
@@ -117,8 +116,9 @@ fn try_group<R: Threads + Sync, G: Gate, A: Allocator + Copy + Send + Sync>(
     requires some { 0 < length trials.old.items }
     requires few { next + length trials.old.items ≤ most_raises + 1 }
     ensures len { length trials.new.items ≡ length trials.old.items }
-    ensures ends { (i : ℕ) (d : _) → i < length trials.old.items → IfOk (slice_index_or trials.new.items i d).end
-        (IsRaiseEnd pricing.now.measure pricing.now.supporters.now budget (opening + (next + i) * step)) }
+    ensures ends { (i : ℕ) (d : _) → i < length trials.old.items
+        → IfOk (slice_index_or trials.new.items i d).end (IsRaiseEnd pricing.now.measure
+        pricing.now.supporters.now budget (opening + (next + i) * step)) }
 {
     let try_one = |i: usize, trial: &mut Trial<A>|
         requires opening { opening ≤ largest_money }
@@ -219,13 +219,9 @@ pub(crate) fn complete_side_by_side<
     requires from { (0 < from) × (from ≤ max_raises + 1) }
     requires tried { (raises : ℕ) → raises < from
         → is_decisive pricing.now.measure election.now step raises ≡ false }
-    ensures decided { IfOk result (λ o. add1_of pricing.now.measure election.now step max_raises ≡ Some o.raised) }
-    ensures settled { IfOk result (λ o.
-        settled o ≡ settled_after pricing.now.measure election.now step o.raised) }
-    ensures priced { IfOk result (λ o.
-        HasPricing pricing.now.measure (support_of election.now) pricing.now.workers o.share o.priced) }
+    ensures completed { IfOk result
+        (IsCompletion pricing.now.measure election.now pricing.now.workers step max_raises) }
     ensures faults { IfErr result (IsCompletionFault pricing.now.measure election.now step max_raises) }
-    ensures is_support { OnOk result (IsSupport pricing.now.supporters.now) }
 {
     let mut trials = Vec::new(pricing.alloc);
     let side_by_side = most_trials(pricing.rt, pricing.workers);

@@ -6,8 +6,8 @@ use Rattle.pb_price.proofs.all_prices.price_side_by_side.Given as goal
 abbrev pub invariant-loop-worker : goal.invariant-loop-worker
 invariant-loop-worker g l = record {
   same : l.stock.seat.table_id ≡ l.claims.table.shared.table_id;
-  claims : All (λ r. IfOk r (λ w. w.claim.seat.table_id ≡ l.claims.table.shared.table_id)) l.done.items;
-  done : All (λ r. IfOk r (λ w. IsDone l.supporters l.rests l.projects w.claim.seat.me.0 w.answers.items)) l.done.items;
+  done : All (λ r. IfOk r (λ w. (w.claim.seat.table_id ≡ l.claims.table.shared.table_id)
+      × IsDone l.supporters l.rests l.projects w.claim.seat.me.0 w.answers.items)) l.done.items;
   all : l.stock.seat.me.0.seats + length l.done.items ≡ l.workers;
   gathered : AreGathered l.supporters l.rests l.projects l.stock.seat.me.0 l.prices.items l.priced;
 }

@@ -1,6 +1,11 @@
 use Rattle.std.proofs.Common.{◌≡◌, length, ap, ◌∙◌, arith}
-use Rattle.pb_price.proofs.BuiltLists.{ballot_read, ballot_known, ListsSoFar-more, lists_from_all}
+use Rattle.pb_price.proofs.BuiltLists.{ballot_read, ballot_known, ListsSoFar-more, ListsSoFar-none, lists_from_all}
 use Rattle.pb_price.proofs.supporters.lists_of.Goals as goal
+
+pub loop-position-init : goal.loop-position-init
+loop-position-init g c =
+    ListsSoFar-none c.args.election.now c.in_ok-lists.lists.items (length c.as_slice.result.now)
+    (ap length c.as_slice.ensures.value ∙ c.in_ok-counts.ensures) c.in_ok-lists.ensures
 
 pub add_ballot-requires-clause-known : goal.add_ballot-requires-clause-known
 add_ballot-requires-clause-known g c =

@@ -1,45 +1,45 @@
-use Rattle.pb_rounds.proofs.Completing.{first_cheapest, first_within, first_priced, all_cheapest, all_within, all_priced_well}
-use Rattle.pb_rounds.proofs.RaisesEnd.{all_completed}
-use Rattle.pb_rounds.proofs.RunQueue.{whole_without_limit}
+use Rattle.std.proofs.Common.{◌≡◌, ◌≤◌, Some}
+use Rattle.pb_price.specs.Supporters.{support_of}
+use Rattle.pb_rounds.specs.Cheapest.{EachWasCheapest}
+use Rattle.pb_rounds.specs.Completed.{IsCompleted}
+use Rattle.pb_rounds.specs.Count.{count_of, spent_on}
+use Rattle.pb_rounds.specs.Outcome.{settled}
+use Rattle.pb_rounds.specs.PriceSystem.{HasPriceSystem}
+use Rattle.pb_rounds.specs.PricingRecord.{HasPricing}
+use Rattle.pb_rounds.specs.RaiseEnds.{IsCounted}
+use Rattle.pb_rounds.specs.declared.options.Completion.TheVariants.{Add1}
+use Rattle.pb_rounds.proofs.Counted.{each_ok}
 use Rattle.pb_rounds.proofs.count.count.Goals as goal
 
-pub returns-in-Plain-clause-within_budget : goal.returns-in-Plain-clause-within_budget
-returns-in-Plain-clause-within_budget g c =
-    first_within c.args.options.now.measure c.args.election.now c.args.options.now.step c.in_ok-supporters.supporters c.in_ok-supporters.ensures c.in_ok-run-in-Plain.ensures.is_support
-    c.opening_share-share.result c.opening_share-share.ensures.share c.run.new.outcome
-    (whole_without_limit c.args.options.now.measure c.in_ok-supporters.supporters c.args.options.now.workers c.opening_share-share.result 0 c.run.new.outcome c.run.new.self.marks.items c.run.new.self.spent
-    c.in_ok-run-in-Plain.field-0 c.in_ok-run-in-Plain.ensures.ended).settled_is
+pub returns-clause-faults : goal.returns-clause-faults
+returns-clause-faults g c = c.count_in_range.ensures.faults
 
-pub returns-in-Plain-clause-cheapest : goal.returns-in-Plain-clause-cheapest
-returns-in-Plain-clause-cheapest g c =
-    first_cheapest c.args.options.now.measure c.args.election.now c.args.options.now.step c.in_ok-supporters.supporters c.in_ok-supporters.ensures c.in_ok-run-in-Plain.ensures.is_support
-    c.opening_share-share.result c.opening_share-share.ensures.share c.run.new.outcome
-    (whole_without_limit c.args.options.now.measure c.in_ok-supporters.supporters c.args.options.now.workers c.opening_share-share.result 0 c.run.new.outcome c.run.new.self.marks.items c.run.new.self.spent
-    c.in_ok-run-in-Plain.field-0 c.in_ok-run-in-Plain.ensures.ended).settled_is
+pub returns-clause-counted : goal.returns-clause-counted
+returns-clause-counted g c =
+    each_ok (IsCounted c.args.election.now c.args.options.now) (λ o. count_of c.args.election.now c.args.options.now ≡ Some (settled o))
+    (λ o h. h.counted) c.count_in_range.result c.count_in_range.ensures.counted
 
-pub returns-in-Plain-clause-price_system : goal.returns-in-Plain-clause-price_system
-returns-in-Plain-clause-price_system g c =
-    first_priced c.args.options.now.measure c.args.election.now c.args.options.now.step c.in_ok-supporters.supporters c.in_ok-supporters.ensures c.in_ok-run-in-Plain.ensures.is_support
-    c.opening_share-share.result c.opening_share-share.ensures.share c.run.new.outcome
-    (whole_without_limit c.args.options.now.measure c.in_ok-supporters.supporters c.args.options.now.workers c.opening_share-share.result 0 c.run.new.outcome c.run.new.self.marks.items c.run.new.self.spent
-    c.in_ok-run-in-Plain.field-0 c.in_ok-run-in-Plain.ensures.ended).settled_is
+pub returns-clause-priced : goal.returns-clause-priced
+returns-clause-priced g c =
+    each_ok (IsCounted c.args.election.now c.args.options.now) (λ o. HasPricing c.args.options.now.measure (support_of c.args.election.now) c.args.options.now.workers o.share o.priced)
+    (λ o h. h.priced) c.count_in_range.result c.count_in_range.ensures.counted
 
 pub returns-clause-within_budget : goal.returns-clause-within_budget
 returns-clause-within_budget g c =
-    all_within c.args.options.now.measure c.args.election.now c.in_ok-supporters.supporters c.in_ok-supporters.ensures
-    c.args.options.now.step c.args.options.now.max_raises c.complete.result c.complete.ensures.is_support c.complete.ensures.decided c.complete.ensures.settled
-
-pub returns-clause-cheapest : goal.returns-clause-cheapest
-returns-clause-cheapest g c =
-    all_cheapest c.args.options.now.measure c.args.election.now c.in_ok-supporters.supporters c.in_ok-supporters.ensures
-    c.args.options.now.step c.args.options.now.max_raises c.complete.result c.complete.ensures.is_support c.complete.ensures.settled
-
-pub returns-clause-price_system : goal.returns-clause-price_system
-returns-clause-price_system g c =
-    all_priced_well c.args.options.now.measure c.args.election.now c.in_ok-supporters.supporters c.in_ok-supporters.ensures
-    c.args.options.now.step c.args.options.now.max_raises c.complete.result c.complete.ensures.is_support c.complete.ensures.settled
+    each_ok (IsCounted c.args.election.now c.args.options.now) (λ o. spent_on (support_of c.args.election.now) o.elected ≤ c.args.election.now.budget)
+    (λ o h. h.within_budget) c.count_in_range.result c.count_in_range.ensures.counted
 
 pub returns-clause-completed : goal.returns-clause-completed
 returns-clause-completed g c =
-    all_completed c.args.options.now.measure c.args.election.now c.in_ok-supporters.supporters c.in_ok-supporters.ensures
-    c.args.options.now.step c.args.options.now.max_raises c.args.options.now.completion c.complete.result c.complete.ensures.is_support c.complete.ensures.decided
+    each_ok (IsCounted c.args.election.now c.args.options.now) (λ o. c.args.options.now.completion ≡ Add1 → IsCompleted c.args.options.now.measure c.args.election.now c.args.options.now.step o.raised)
+    (λ o h. h.completed) c.count_in_range.result c.count_in_range.ensures.counted
+
+pub returns-clause-cheapest : goal.returns-clause-cheapest
+returns-clause-cheapest g c =
+    each_ok (IsCounted c.args.election.now c.args.options.now) (λ o. EachWasCheapest c.args.options.now.measure (support_of c.args.election.now) o.share o.elected)
+    (λ o h. h.cheapest) c.count_in_range.result c.count_in_range.ensures.counted
+
+pub returns-clause-price_system : goal.returns-clause-price_system
+returns-clause-price_system g c =
+    each_ok (IsCounted c.args.election.now c.args.options.now) (λ o. HasPriceSystem (support_of c.args.election.now) o.share o.elected o.rests)
+    (λ o h. h.price_system) c.count_in_range.result c.count_in_range.ensures.counted

@@ -1,5 +1,5 @@
 use Rattle.std.proofs.Common.{◌+◌, ◌-◌, ◌*◌, length, arith}
-use Rattle.pb_rounds.proofs.Completing.{raises_spent}
+use Rattle.pb_rounds.proofs.Completing.{completion_at, raises_spent}
 use Rattle.pb_rounds.proofs.Trials.{group_size}
 use Rattle.pb_rounds.proofs.side_by_side.complete_side_by_side.Goals as goal
 
@@ -30,3 +30,8 @@ loop-next-preserved g c =
 pub returns-clause-faults : goal.returns-clause-faults
 returns-clause-faults g c =
     raises_spent c.args.pricing.now.measure c.args.election.now c.args.step c.args.max_raises c.loop-next.next (omega (arith, c.loop-next-test.false)) c.loop-next.invariant.tried
+
+pub returns-in-Some-clause-completed : goal.returns-in-Some-clause-completed
+returns-in-Some-clause-completed g c =
+    completion_at c.args.pricing.now.measure c.args.election.now c.args.pricing.now.workers c.args.step c.args.max_raises c.in-Some.raises
+    (rw c.in-Some.is at c.in_ok-found.ensures.decided).1 c.in_ok-outcome.outcome c.in_ok-outcome.ensures

@@ -1,13 +1,12 @@
-use Rattle.std.proofs.Common.{◌≡◌, ◌<◌, length, refl, ap, rules, ◌∙◌, arith}
+use Rattle.std.proofs.Common.{◌≡◌, ◌<◌, length, refl, rules, arith}
 use Rattle.std.specs.Prelude.{slice_index}
-use Rattle.pb_price.specs.Price.{price_at}
 use Rattle.pb_price.proofs.Workers.{may_draw, works_on, works_towards}
 use Rattle.pb_price.proofs.worker.Worker.work.Goals as goal
 
 pub draw-number-requires-clause-may_draw : goal.draw-number-requires-clause-may_draw
 draw-number-requires-clause-may_draw g c =
     may_draw c.args.supporters.now c.args.rests.now c.args.projects.now c.loop-place.self.claim.seat.me.0 c.loop-place.self.answers.items
-    c.args.claims.now.table.shared.key.pieces c.loop-place.invariant.working c.requires.pieces
+    c.args.claims.now.table.shared.key.pieces c.loop-place.invariant.working c.requires.batch.are_pieces
 
 pub loop-place-preserved : goal.loop-place-preserved
 loop-place-preserved g c =
@@ -15,7 +14,7 @@ loop-place-preserved g c =
     let projects = c.args.projects.now in
     let less : number < length projects = search rules in
     let read : c.in-Some.place.now ≡ slice_index projects number = search rules in
-    let price = c.price_by-price.ensures ∙ ap (price_at c.args.supporters.now c.args.rests.now) read in record {
+    let price = rw read at c.price_by-price.ensures in record {
       same = c.draw-number.ensures.same;
       working = works_on c.args.supporters.now c.args.rests.now projects c.loop-place.self.claim.seat.me.0 c.draw-number.new.claim.seat.me.0
           c.loop-place.self.answers.items c.push.new.self.items _ number c.loop-place.invariant.working c.draw-number.ensures.drawn

@@ -48,13 +48,15 @@ overflow_add-self g c =
     c.from-in-Some.ensures ∙ c.from.view_is ∙ c.cost.ensures.cost ∙ ap (cost_at c.args.pricing.now.supporters.now) c.place-place.ensures in
     omega (arith, fits, cost)
 
-pub returns-then-exceeds-clause-ended : goal.returns-then-exceeds-clause-ended
-returns-then-exceeds-clause-ended g c =
+pub returns-then-exceeds : goal.returns-then-exceeds
+returns-then-exceeds g c =
     let cost : c.from-in-Some.result ≡ cost_at c.args.pricing.now.supporters.now c.in-Some.best.place =
-    c.from-in-Some.ensures ∙ c.from.view_is ∙ c.cost.ensures.cost ∙ ap (cost_at c.args.pricing.now.supporters.now) c.place-place.ensures in
-    over_limit _ _ _ _ _ _ _ _ _ _ c.loop-best.invariant.queued c.loop-best.invariant.is_support
-    _ _ _ c.in_ok-best.field-0 c.in_ok-best.ensures.priced c.in_ok-best.ensures.done c.price_round.new.outcome c.in_ok-best.ensures.outcome c.in-Some.best c.in-Some.is c.elect.new.outcome c.in_ok-elect.ensures
-    c.args.limit (c.loop-best.self.spent + c.from-in-Some.result) (ap (λ n. c.loop-best.self.spent + n) cost) (sym c.exceeds.ensures ∙ c.if-exceeds.true)
+    c.from-in-Some.ensures ∙ c.from.view_is ∙ c.cost.ensures.cost ∙ ap (cost_at c.args.pricing.now.supporters.now) c.place-place.ensures in (
+      c.loop-best.invariant.is_support,
+      over_limit _ _ _ _ _ _ _ _ _ _ c.loop-best.invariant.queued c.loop-best.invariant.is_support
+          _ _ _ c.in_ok-best.field-0 c.in_ok-best.ensures.priced c.in_ok-best.ensures.done c.price_round.new.outcome c.in_ok-best.ensures.outcome c.in-Some.best c.in-Some.is c.elect.new.outcome c.in_ok-elect.ensures
+          c.args.limit (c.loop-best.self.spent + c.from-in-Some.result) (ap (λ n. c.loop-best.self.spent + n) cost) (sym c.exceeds.ensures ∙ c.if-exceeds.true),
+    )
 
 pub put_back-requires : goal.put_back-requires
 put_back-requires g c = rest_rises _ _ _ _ _ _ _ _ _ _ c.loop-best.invariant.queued c.loop-best.invariant.is_support
@@ -78,9 +80,12 @@ loop-best-preserved g c =
           (some_worker c.args.pricing.now.workers c.requires.workers);
     }
 
-pub returns-clause-ended : goal.returns-clause-ended
-returns-clause-ended g c = (
-  round_end _ _ _ _ _ _ _ _ _ _ c.loop-best.invariant.queued c.loop-best.invariant.is_support
-      _ _ _ c.in_ok-best.field-0 c.in_ok-best.ensures.priced c.in_ok-best.ensures.done c.price_round.new.outcome c.in_ok-best.ensures.outcome c.in_default.is,
-  c.loop-best.invariant.within,
+pub returns : goal.returns
+returns g c = (
+  c.loop-best.invariant.is_support,
+  (
+    round_end _ _ _ _ _ _ _ _ _ _ c.loop-best.invariant.queued c.loop-best.invariant.is_support
+        _ _ _ c.in_ok-best.field-0 c.in_ok-best.ensures.priced c.in_ok-best.ensures.done c.price_round.new.outcome c.in_ok-best.ensures.outcome c.in_default.is,
+    c.loop-best.invariant.within,
+  ),
 )

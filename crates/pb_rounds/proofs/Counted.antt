@@ -1,0 +1,135 @@
+-- What a count promises of its outcome, from the outcome of a whole run.
+use Rattle.std.proofs.Common.{◌≡◌, ℕ, ◌+◌, ◌*◌, ◌≤◌, Bool, true, false, Some, None, sym, subst, ◌∙◌, ap, refl, arith}
+use Rattle.std.specs.Prelude.{IfOk, IfErr, Result, Ok, Err, option_map, not, nat_le, ◌&&◌, if◌then◌else◌}
+use Rattle.std.proofs.lemmas.Bool.{and_parts, leb-true}
+use Rattle.pb_core.specs.Election.{ElectionView}
+use Rattle.pb_price.specs.PriceFault.{is_worker_count}
+use Rattle.pb_price.specs.Supporters.{SupportView, support_of}
+use Rattle.pb_rounds.specs.Cheapest.{EachWasCheapest}
+use Rattle.pb_rounds.specs.Count.{opening_share, raises_of, settled_after, share_after, IsCompletionFault, IsCountFault}
+use Rattle.pb_rounds.specs.CountFault.{largest_step, most_raises, refusal_of}
+use Rattle.pb_rounds.specs.Outcome.{OutcomeView, Settled, settled, settled_by}
+use Rattle.pb_rounds.specs.PriceSystem.{HasPriceSystem}
+use Rattle.pb_rounds.specs.PricingRecord.{HasPricing}
+use Rattle.pb_rounds.specs.RaiseEnds.{CanComplete, IsCompletion, IsCounted, IsOutcomeAt}
+use Rattle.pb_rounds.specs.Run.{outcome_of, run_of}
+use Rattle.pb_rounds.specs.declared.count_fault.CountFault.{CountFault}
+use Rattle.pb_rounds.specs.declared.count_fault.CountFault.TheVariants.{WorkerCount, StepRange, RaisesRange, RaisesSpent, NoMemory}
+use Rattle.pb_rounds.specs.declared.measure.Measure.{Measure}
+use Rattle.pb_rounds.specs.declared.options.Completion.{Completion}
+use Rattle.pb_rounds.specs.declared.options.Completion.TheVariants.{Plain, Add1}
+use Rattle.pb_rounds.specs.declared.options.CountOptions.{CountOptions}
+use Rattle.pb_rounds.proofs.CheapestRounds.{settled_was_cheapest}
+use Rattle.pb_rounds.proofs.Completing.{add1_not_over, opening_not_over, settled_priced, settled_within}
+use Rattle.pb_rounds.proofs.RaisesEnd.{add1_completed}
+use Rattle.pb_rounds.proofs.Settled.{settled_has_price_system}
+
+-- what follows of an answer follows of a result
+pub each_ok : {X F : Type 0} (P Q : X → Type 0) → ((x : X) → P x → Q x) → (r : Result X F) → IfOk r P → IfOk r Q
+each_ok P Q follows (Ok x) h = follows x h
+each_ok P Q follows (Err fault) h = tt
+
+pub each_err : {X F : Type 0} (P Q : F → Type 0) → ((fault : F) → P fault → Q fault) → (r : Result X F) → IfErr r P → IfErr r Q
+each_err P Q follows (Ok x) h = tt
+each_err P Q follows (Err fault) h = follows fault h
+
+-- the tests of the options, where none fails
+all_in_range : (a b d : Bool)
+    → (if not a then Some WorkerCount else if not b then Some StepRange else if not d then Some RaisesRange else None) ≡ None
+    → (a ≡ true) × ((b ≡ true) × (d ≡ true))
+all_in_range true true true h = (refl, (refl, refl))
+all_in_range true true false h = cc
+all_in_range true false d h = cc
+all_in_range false b d h = cc
+
+-- with options in their ranges an election can be completed
+pub can_complete : (e : ElectionView) (s : SupportView) → s ≡ support_of e → (options : CountOptions) → refusal_of options ≡ None → (raises : ℕ)
+    → raises ≤ options.max_raises → CanComplete e options.workers s options.step raises
+can_complete e s same options in_range raises few =
+    let tests = all_in_range (is_worker_count options.workers) (nat_le 1 options.step && nat_le options.step largest_step) (nat_le options.max_raises most_raises) in_range in
+    record {
+      few_workers = tests.0;
+      small_step = leb-true options.step largest_step (and_parts _ _ tests.1.0).1;
+      few_raises = (let most = leb-true options.max_raises most_raises tests.1.1 in omega (arith, few, most));
+      own_supporters = same;
+    }
+
+-- the outcome at a share, as one after raises of an election
+pub outcome_moves : (m : Measure) (e : ElectionView) (s : SupportView) → s ≡ support_of e → (workers step raised opening share : ℕ)
+    → opening ≡ opening_share e → share ≡ opening + raised * step → (o : OutcomeView) → IsOutcomeAt m s workers share raised o
+    → IsOutcomeAt m (support_of e) workers (share_after e step raised) raised o
+outcome_moves m e s same workers step raised opening share opening_is share_is o h =
+    subst (λ n. IsOutcomeAt m (support_of e) workers n raised o) (share_is ∙ ap (λ n. n + raised * step) opening_is)
+    (subst (λ (t : SupportView). IsOutcomeAt m t workers share raised o) same h)
+
+not_both : {X : Type 0} → (c : Completion) → c ≡ Plain → c ≡ Add1 → X
+not_both Plain first second = cc
+not_both Add1 first second = cc
+
+module _ (e : ElectionView) (options : CountOptions) (o : OutcomeView) where
+  priced_at_share : (raised : ℕ) → IsOutcomeAt options.measure (support_of e) options.workers (share_after e options.step raised) raised o
+      → HasPricing options.measure (support_of e) options.workers o.share o.priced
+  priced_at_share raised h =
+      subst (λ n. HasPricing options.measure (support_of e) options.workers n o.priced) (sym (ap (λ (x : Settled). x.share) h.settled_is)) h.priced
+
+  cheapest_at : (raised : ℕ) → IsOutcomeAt options.measure (support_of e) options.workers (share_after e options.step raised) raised o
+      → EachWasCheapest options.measure (support_of e) o.share o.elected
+  cheapest_at raised h =
+      settled_was_cheapest options.measure e (support_of e) refl h.is_support (share_after e options.step raised) raised o h.settled_is
+
+  -- the count at the opening share
+  pub plain_counted : options.completion ≡ Plain
+      → IsOutcomeAt options.measure (support_of e) options.workers (share_after e options.step 0) 0 o → IsCounted e options o
+  plain_counted plain h = record {
+    counted = ap (λ c. option_map (settled_after options.measure e options.step) (raises_of c options.measure e options.step options.max_raises)) plain
+        ∙ ap (λ x. Some x) (sym h.settled_is);
+    priced = priced_at_share 0 h;
+    within_budget = settled_within options.measure e options.step 0 (opening_not_over options.measure e h.is_support options.step) o h.settled_is;
+    completed = λ completed. not_both options.completion plain completed;
+    cheapest = cheapest_at 0 h;
+    price_system = settled_priced options.measure e h.is_support options.step 0 o h.settled_is;
+  }
+
+  -- the count that is completed by raises
+  pub add1_counted : options.completion ≡ Add1
+      → IsCompletion options.measure e options.workers options.step options.max_raises o → IsCounted e options o
+  add1_counted add1 h = record {
+    counted = ap (λ c. option_map (settled_after options.measure e options.step) (raises_of c options.measure e options.step options.max_raises)) add1
+        ∙ ap (option_map (settled_after options.measure e options.step)) h.decided ∙ ap (λ x. Some x) (sym h.ended.settled_is);
+    priced = priced_at_share o.raised h.ended;
+    within_budget = settled_within options.measure e options.step o.raised
+        (add1_not_over options.measure e h.ended.is_support options.step options.max_raises o.raised h.decided) o h.ended.settled_is;
+    completed = λ _. add1_completed options.measure e h.ended.is_support options.step options.max_raises o.raised h.decided;
+    cheapest = cheapest_at o.raised h.ended;
+    price_system = settled_priced options.measure e h.ended.is_support options.step o.raised o h.ended.settled_is;
+  }
+
+-- why a count that is completed by raises gives no outcome
+pub add1_fault : (e : ElectionView) (options : CountOptions) → refusal_of options ≡ None → options.completion ≡ Add1 → (fault : CountFault)
+    → IsCompletionFault options.measure e options.step options.max_raises fault → IsCountFault e options fault
+add1_fault e options in_range add1 WorkerCount h = absurd h
+add1_fault e options in_range add1 StepRange h = absurd h
+add1_fault e options in_range add1 RaisesRange h = absurd h
+add1_fault e options in_range add1 RaisesSpent h = (
+  in_range,
+  ap (λ c. option_map (settled_after options.measure e options.step) (raises_of c options.measure e options.step options.max_raises)) add1
+      ∙ ap (option_map (settled_after options.measure e options.step)) h,
+)
+add1_fault e options in_range add1 NoMemory h = in_range
+
+-- what a run at a share promises of its outcome
+pub record IsShared (m : Measure) (e : ElectionView) (workers share : ℕ) (o : OutcomeView) : Type 0 where
+  pub outcome : settled o ≡ settled_by share 0 (outcome_of m e share)
+  pub priced : HasPricing m (support_of e) workers share o.priced
+  pub cheapest : EachWasCheapest m (support_of e) share o.elected
+  pub price_system : HasPriceSystem (support_of e) share o.elected o.rests
+
+pub shared_from_run : (m : Measure) (e : ElectionView) (s : SupportView) → s ≡ support_of e → (workers share : ℕ) (o : OutcomeView)
+    → IsOutcomeAt m s workers share 0 o → IsShared m e workers share o
+shared_from_run m e s same workers share o h = record {
+  outcome = h.settled_is ∙ ap (λ (t : SupportView). settled_by share 0 (run_of m t share)) same;
+  priced = subst (λ (t : SupportView). HasPricing m t workers share o.priced) same h.priced;
+  cheapest = subst (λ n. EachWasCheapest m (support_of e) n o.elected) (ap (λ (x : Settled). x.share) h.settled_is)
+      (settled_was_cheapest m e s same h.is_support share 0 o h.settled_is);
+  price_system = settled_has_price_system m e s same h.is_support share 0 o h.settled_is;
+}

@@ -1,0 +1,30 @@
+use Rattle.std.proofs.Common.{arith}
+use Rattle.pb_rounds.specs.Count.{IsCompletionFault, IsCountFault}
+use Rattle.pb_rounds.specs.RaiseEnds.{IsCompletion, IsCounted}
+use Rattle.pb_rounds.proofs.Counted.{add1_counted, add1_fault, can_complete, each_err, each_ok, plain_counted}
+use Rattle.pb_rounds.proofs.count.count_in_range.Goals as goal
+
+pub outcome_after-requires-clause-given : goal.outcome_after-requires-clause-given
+outcome_after-requires-clause-given g c =
+    λ κs _. can_complete c.args.election.now c.args.supporters.now c.requires.own c.args.options.now c.requires.in_range 0 (omega arith)
+
+pub complete-requires-clause-given : goal.complete-requires-clause-given
+complete-requires-clause-given g c =
+    λ κs _. can_complete c.args.election.now c.args.supporters.now c.requires.own c.args.options.now c.requires.in_range c.args.options.now.max_raises (omega arith)
+
+pub returns-in_ok-outcome-in-Plain-clause-counted : goal.returns-in_ok-outcome-in-Plain-clause-counted
+returns-in_ok-outcome-in-Plain-clause-counted g c =
+    plain_counted c.args.election.now c.args.options.now c.in_ok-outcome-in-Plain.outcome c.in-Plain.is c.in_ok-outcome-in-Plain.ensures
+
+pub returns-in-Add1-clause-counted : goal.returns-in-Add1-clause-counted
+returns-in-Add1-clause-counted g c =
+    each_ok
+    (IsCompletion c.args.options.now.measure c.args.election.now c.args.options.now.workers c.args.options.now.step c.args.options.now.max_raises)
+    (IsCounted c.args.election.now c.args.options.now)
+    (λ o h. add1_counted c.args.election.now c.args.options.now o c.in-Add1.is h) c.complete.result c.complete.ensures.completed
+
+pub returns-in-Add1-clause-faults : goal.returns-in-Add1-clause-faults
+returns-in-Add1-clause-faults g c =
+    each_err (IsCompletionFault c.args.options.now.measure c.args.election.now c.args.options.now.step c.args.options.now.max_raises)
+    (IsCountFault c.args.election.now c.args.options.now)
+    (λ fault h. add1_fault c.args.election.now c.args.options.now c.requires.in_range c.in-Add1.is fault h) c.complete.result c.complete.ensures.faults
