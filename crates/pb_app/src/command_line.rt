@@ -13,7 +13,7 @@ const VERSION: &str = "1.0.0";
 const MEASURES: &[&str] = &["votes", "cost"];
 
 /// Where a .pb file is read from.
-#[derive(Clone, Copy, PartialEq, Eq, Debug)]
+#[derive(Clone, Copy)]
 pub(crate) enum Source<'a> {
     /// Standard input, which `-` names.
     Input,
@@ -22,7 +22,7 @@ pub(crate) enum Source<'a> {
 }
 
 /// What the arguments ask for.
-#[derive(Clone, Copy, PartialEq, Eq, Debug)]
+#[derive(Clone, Copy)]
 pub(crate) enum Task<'a> {
     /// A count of a .pb file.
     Count(Source<'a>, CountOptions),
@@ -32,33 +32,47 @@ pub(crate) enum Task<'a> {
     Audit(Source<'a>, &'a str, CountOptions),
 }
 
+/// What FILE is.
+const ELECTION: &str = "The election, a .pb file with approval votes; - is standard input";
+
 /// The commands that the program knows.
 pub(crate) fn commands<'a>(alloc: Global) -> Result<Command<'a>, AllocError> {
-    let election = "The election, a .pb file with approval votes; - is standard input";
-    let count = Command::new(alloc, "count")
-        .about("Counts a .pb file, and prints the report")
-        .arg(path(alloc, "FILE", election))?;
+    let program = program(alloc)?.subcommand(count(alloc)?)?;
+    let program = program.subcommand(desk(alloc)?)?;
+    program.subcommand(audit(alloc)?)
+}
+
+/// The program, without its commands.
+fn program<'a>(alloc: Global) -> Result<Command<'a>, AllocError> {
+    let about = "Counts standard input by the Method of Equal Shares, where no command is given";
+    let program = Command::new(alloc, "pb_app").bin_name("pb_app")?;
+    Ok(program.version(VERSION).about(about))
+}
+
+/// The command `count`.
+fn count<'a>(alloc: Global) -> Result<Command<'a>, AllocError> {
+    let command = Command::new(alloc, "count").about("Counts a .pb file, and prints the report");
+    with_options(alloc, command.arg(path(alloc, "FILE", ELECTION))?)
+}
+
+/// The command `desk`.
+fn desk<'a>(alloc: Global) -> Result<Command<'a>, AllocError> {
     let clerks = "How many clerks serve side by side, 1 to 64 [default: 1]";
-    let desk = Command::new(alloc, "desk")
+    Command::new(alloc, "desk")
         .about("Serves a script's requests on the desk of a .pb file, and prints the journal")
-        .arg(path(alloc, "FILE", election))?
+        .arg(path(alloc, "FILE", ELECTION))?
         .arg(path(alloc, "SCRIPT", "What each clerk asks, a row a request"))?
-        .arg(number(alloc, "clerks", "N", clerks))?;
-    let audit = Command::new(alloc, "audit")
+        .arg(number(alloc, "clerks", "N", clerks))
+}
+
+/// The command `audit`.
+fn audit<'a>(alloc: Global) -> Result<Command<'a>, AllocError> {
+    let journal = "The journal of a desk that opened with it";
+    let command = Command::new(alloc, "audit")
         .about("Audits a journal on a .pb file, and prints the report of a shut desk")
-        .arg(path(alloc, "FILE", election))?
-        .arg(path(
-            alloc,
-            "JOURNAL",
-            "The journal of a desk that opened with it",
-        ))?;
-    Command::new(alloc, "pb_app")
-        .bin_name("pb_app")?
-        .version(VERSION)
-        .about("Counts standard input by the Method of Equal Shares, where no command is given")
-        .subcommand(with_options(alloc, count)?)?
-        .subcommand(desk)?
-        .subcommand(with_options(alloc, audit)?)
+        .arg(path(alloc, "FILE", ELECTION))?
+        .arg(path(alloc, "JOURNAL", journal))?;
+    with_options(alloc, command)
 }
 
 /// A file that has to be named.
@@ -85,27 +99,32 @@ fn with_options<'a>(alloc: Global, command: Command<'a>) -> Result<Command<'a>, 
     let workers = "How many workers compute prices, 1 to 64 [default: 1]";
     let step = "By how many hundredths a raise lifts the share, 1 to 1000000000 [default: 100]";
     let raises = "How many raises there are at most, 0 to 1000000 [default: 1000000]";
-    let plain = "Lets the outcome at the opening share stand, without raises";
-    let measure =
-        "Elects the least price (votes), or the least price over cost (cost) [default: votes]";
     command
         .arg(number(alloc, "workers", "N", workers))?
         .arg(number(alloc, "step", "H", step))?
         .arg(number(alloc, "raises", "L", raises))?
-        .arg(
-            Arg::new(alloc, "plain")
-                .long("plain")
-                .help(plain)
-                .action(ArgAction::SetTrue),
-        )?
-        .arg(
-            Arg::new(alloc, "measure")
-                .long("measure")
-                .value_name("MEASURE")
-                .help(measure)
-                .value_parser(MEASURES)
-                .action(ArgAction::Set),
-        )
+        .arg(plain(alloc))?
+        .arg(measure(alloc))
+}
+
+/// The option that leaves out completion.
+fn plain<'a>(alloc: Global) -> Arg<'a> {
+    Arg::new(alloc, "plain")
+        .long("plain")
+        .help("Lets the outcome at the opening share stand, without raises")
+        .action(ArgAction::SetTrue)
+}
+
+/// The option that names the measure.
+fn measure<'a>(alloc: Global) -> Arg<'a> {
+    let help =
+        "Elects the least price (votes), or the least price over cost (cost) [default: votes]";
+    Arg::new(alloc, "measure")
+        .long("measure")
+        .value_name("MEASURE")
+        .help(help)
+        .value_parser(MEASURES)
+        .action(ArgAction::Set)
 }
 
 /// What parsed arguments ask for; without a command it is a count of standard input.

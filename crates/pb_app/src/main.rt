@@ -23,8 +23,7 @@ fn main(rt: HostRuntime) -> ExitCode {
     }
 }
 
-/// Reads the arguments, and does what they ask for; where they ask for nothing that can be done, clap's own
-/// text is printed.
+/// Reads the arguments, and does what they ask for.
 fn run<R>(rt: &R) -> Result<ExitCode, AppFault>
 where
     R: Env + Files + Input + Print + Eprint + AllocGlobal + Threads + Sync,
@@ -37,8 +36,16 @@ where
             return Ok(ExitCode::from(BAD_ARGUMENTS));
         }
     };
+    obey(rt, arguments.as_slice())
+}
+
+/// Does what these arguments ask for; where it is nothing that can be done, clap's own text is printed.
+fn obey<R>(rt: &R, arguments: &[String]) -> Result<ExitCode, AppFault>
+where
+    R: Files + Input + Print + Eprint + AllocGlobal + Threads + Sync,
+{
     let commands = command_line::commands(rt.alloc())?;
-    match commands.try_get_matches_from(arguments.as_slice()) {
+    match commands.try_get_matches_from(arguments) {
         Ok(matches) => {
             perform::perform(rt, &command_line::task_of(&matches))?;
             Ok(ExitCode::SUCCESS)
