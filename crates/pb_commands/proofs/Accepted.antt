@@ -1,11 +1,14 @@
--- A file that has a report gets it, unless a device fails or memory is refused.
+-- How a run ends on a fault of a library's; and a file that has a report gets it, unless a device fails or memory is
+-- refused.
 use Rattle.std.proofs.Common.{◌≡◌, ℕ, List, Option, Some, None, Ok, Err, refl, sym, ◌∙◌, ap, subst}
 use Rattle.std.specs.Prelude.{IfErr, IfSome, IsErrAnd, Result}
 use Rattle.std.proofs.lemmas.Option.{none-some, same_Some}
 use Rattle.pb_core.specs.Election.{ElectionView}
 use Rattle.pb_read.proofs.Uniqueness.{one_election}
-use Rattle.pb_read.specs.FirstFault.{IsFromOutside as IsReadFromOutside}
+use Rattle.pb_read.specs.FirstFault.{IsFaultAt, IsFromOutside as IsReadFromOutside}
 use Rattle.pb_read.specs.StandsFor.{StandsFor}
+use Rattle.pb_desk.specs.declared.audit_fault.AuditFault.{AuditFault}
+use Rattle.pb_desk.specs.declared.audit_fault.AuditFault.TheVariants as audit
 use Rattle.pb_read.specs.declared.fault.ReadFault.{ReadFault}
 use Rattle.pb_read.specs.declared.fault.ReadKind.{ReadKind}
 use Rattle.pb_read.specs.declared.fault.ReadKind.TheVariants.{ReadFailed, NoMemory}
@@ -14,12 +17,14 @@ use Rattle.pb_rounds.specs.declared.count_fault.CountFault.{CountFault}
 use Rattle.pb_rounds.specs.declared.count_fault.CountFault.TheVariants as count
 use Rattle.pb_rounds.specs.declared.options.CountOptions.{CountOptions}
 use Rattle.pb_rows.specs.Reading.{records_of}
-use Rattle.pb_commands.specs.Counted.{CountFails, CountWrites, IsReportOf}
-use Rattle.pb_commands.specs.Ends.{Accepts, IsFileOf, IsFromOutside}
+use Rattle.pb_commands.specs.Counted.{CountRefuses, CountWrites, IsReportOf}
+use Rattle.pb_commands.specs.Ends.{Accepts, FailsBy, IfBothKnown, IsFromOutside}
 use Rattle.pb_commands.specs.Fault.{merged}
 use Rattle.pb_commands.specs.Report.{report_of}
+use Rattle.pb_commands.specs.declared.script_fault.ScriptFault.{ScriptFault}
+use Rattle.pb_commands.specs.declared.script_fault.ScriptFault.TheVariants as script
 use Rattle.pb_commands.specs.declared.fault.AppFault.{AppFault}
-use Rattle.pb_commands.specs.declared.fault.AppFault.TheVariants.{Read, Count}
+use Rattle.pb_commands.specs.declared.fault.AppFault.TheVariants.{Read, Script, ClerkCount, Audit, Count, Open, Write, Memory}
 
 pub read_from_outside : (kind : ReadKind) (at : ℕ) → IsReadFromOutside kind → IsFromOutside (merged (Read (record { kind = kind; at = at })))
 read_from_outside ReadFailed at outside = refl
@@ -30,6 +35,57 @@ read_from_outside kind at outside = absurd outside
 pub given_fault : (P : AppFault → Type 0) (r : Result (Unit {0}) AppFault) (fault : AppFault) → IsErrAnd r (λ app. app ≡ fault) → P fault → IfErr r P
 given_fault P (Ok done) fault is holds = tt
 given_fault P (Err app) fault is holds = subst P (sym is) holds
+
+-- a merged fault is merged
+read_again : (kind : ReadKind) (at : ℕ) → merged (merged (Read (record { kind = kind; at = at }))) ≡ merged (Read (record { kind = kind; at = at }))
+read_again NoMemory at = refl
+read_again kind at = refl
+
+script_again : (fault : ScriptFault) → merged (merged (Script fault)) ≡ merged (Script fault)
+script_again script.NoMemory = refl
+script_again fault = refl
+
+audit_again : (fault : AuditFault) → merged (merged (Audit fault)) ≡ merged (Audit fault)
+audit_again audit.NoMemory = refl
+audit_again fault = refl
+
+count_again : (fault : CountFault) → merged (merged (Count fault)) ≡ merged (Count fault)
+count_again count.NoMemory = refl
+count_again fault = refl
+
+merged_again : (fault : AppFault) → merged (merged fault) ≡ merged fault
+merged_again (Read fault) = read_again fault.kind fault.at
+merged_again (Script fault) = script_again fault
+merged_again (Audit fault) = audit_again fault
+merged_again (Count fault) = count_again fault
+merged_again ClerkCount = refl
+merged_again (Open number) = refl
+merged_again Write = refl
+merged_again Memory = refl
+
+pub stays_merged : (fault : AppFault) (r : Result (Unit {0}) AppFault) → IsErrAnd r (λ app. app ≡ merged fault) → IfErr r (λ app. merged app ≡ app)
+stays_merged fault r is = given_fault (λ app. merged app ≡ app) r (merged fault) is (merged_again fault)
+
+-- the file's fault
+reader_fails : (Refuses : ElectionView → AppFault → Type 0) (IsText : List ℕ → Type 0) (bytes : List ℕ) (kind : ReadKind) (at : ℕ) → IsFaultAt (records_of bytes) kind at
+    → FailsBy Refuses IsText bytes (merged (Read (record { kind = kind; at = at })))
+reader_fails Refuses IsText bytes NoMemory at fails = tt
+reader_fails Refuses IsText bytes kind at fails = fails
+
+pub refused_by_reader : (Refuses : List ℕ → ElectionView → AppFault → Type 0) (IsText : List ℕ → List ℕ → Type 0) (files : Option (List ℕ)) (fault : ReadFault)
+    (r : Result (Unit {0}) AppFault) → IsErrAnd r (λ app. app ≡ merged (Read fault)) → IfSome files (λ bytes. IsFaultAt (records_of bytes) fault.kind fault.at)
+    → IfErr r (λ app. IfSome files (λ bytes. FailsBy (Refuses bytes) (IsText bytes) bytes app))
+refused_by_reader Refuses IsText None fault r is fails = given_fault (λ app. Unit {0}) r (merged (Read fault)) is tt
+refused_by_reader Refuses IsText (Some bytes) fault r is fails =
+    given_fault (FailsBy (Refuses bytes) (IsText bytes) bytes) r (merged (Read fault)) is (reader_fails (Refuses bytes) (IsText bytes) bytes fault.kind fault.at fails)
+
+pub refused_of_both : (Refuses : List ℕ → List ℕ → ElectionView → AppFault → Type 0) (IsText : List ℕ → List ℕ → List ℕ → Type 0) (files others : Option (List ℕ)) (fault : ReadFault)
+    (r : Result (Unit {0}) AppFault) → IsErrAnd r (λ app. app ≡ merged (Read fault)) → IfSome files (λ bytes. IsFaultAt (records_of bytes) fault.kind fault.at)
+    → IfErr r (λ app. IfBothKnown files others (λ bytes other. FailsBy (Refuses bytes other) (IsText bytes other) bytes app))
+refused_of_both Refuses IsText None others fault r is fails = given_fault (λ app. Unit {0}) r (merged (Read fault)) is tt
+refused_of_both Refuses IsText (Some bytes) None fault r is fails = given_fault (λ app. Unit {0}) r (merged (Read fault)) is tt
+refused_of_both Refuses IsText (Some bytes) (Some other) fault r is fails =
+    refused_by_reader (λ b. Refuses b other) (λ b. IsText b other) (Some bytes) fault r is fails
 
 pub accepted_by_reader : (files : Option (List ℕ)) (options : CountOptions) (fault : ReadFault) (r : Result (Unit {0}) AppFault)
     → IsErrAnd r (λ app. app ≡ merged (Read fault))
@@ -56,16 +112,17 @@ accepted_by_count (Some bytes) options e fault r is stands refused = λ text wri
     let report = rw (one_election (records_of bytes) writes.0 e writes.1 stands) at writes.2 in
     given_fault IsFromOutside r (merged (Count fault)) is (count_from_outside e options text report fault refused)
 
-refused_count : (bytes : List ℕ) (options : CountOptions) (fault : CountFault) → IsFileOf bytes (λ e. IsCountFault e options fault) → CountFails bytes options (merged (Count fault))
-refused_count bytes options count.NoMemory refused = tt
-refused_count bytes options fault refused = refused
+refused_count : (bytes : List ℕ) (options : CountOptions) (e : ElectionView) (fault : CountFault) → StandsFor (records_of bytes) e → IsCountFault e options fault
+    → FailsBy (CountRefuses options) (CountWrites bytes options) bytes (merged (Count fault))
+refused_count bytes options e count.NoMemory stands refused = tt
+refused_count bytes options e fault stands refused = (e, stands, refused)
 
 pub refused_by_count : (files : Option (List ℕ)) (options : CountOptions) (e : ElectionView) (fault : CountFault) (r : Result (Unit {0}) AppFault)
     → IsErrAnd r (λ app. app ≡ merged (Count fault)) → IfSome files (λ bytes. StandsFor (records_of bytes) e) → IsCountFault e options fault
-    → IfErr r (λ app. IfSome files (λ bytes. CountFails bytes options app))
+    → IfErr r (λ app. IfSome files (λ bytes. FailsBy (CountRefuses options) (CountWrites bytes options) bytes app))
 refused_by_count None options e fault r is stands refused = given_fault (λ app. Unit {0}) r (merged (Count fault)) is tt
 refused_by_count (Some bytes) options e fault r is stands refused =
-    given_fault (CountFails bytes options) r (merged (Count fault)) is (refused_count bytes options fault (e, stands, refused))
+    given_fault (FailsBy (CountRefuses options) (CountWrites bytes options) bytes) r (merged (Count fault)) is (refused_count bytes options e fault stands refused)
 
 -- an election and options have one report
 pub one_report : (e : ElectionView) (options : CountOptions) (a b : List ℕ) → IsReportOf e options a → IsReportOf e options b → a ≡ b

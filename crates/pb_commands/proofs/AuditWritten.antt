@@ -15,13 +15,19 @@ use Rattle.pb_rounds.specs.declared.count_fault.CountFault.{CountFault}
 use Rattle.pb_rounds.specs.declared.count_fault.CountFault.TheVariants as count
 use Rattle.pb_rounds.specs.declared.options.CountOptions.{CountOptions}
 use Rattle.pb_rows.specs.Reading.{records_of}
-use Rattle.pb_commands.specs.Audited.{AuditFails, AuditWrites, IsDeskOf, IsRefusedDesk, IsTextOf, program_room}
-use Rattle.pb_commands.specs.Ends.{IfBothKnown, IsElectionFile, IsFileOf, JudgesFile}
+use Rattle.pb_commands.specs.Audited.{AuditRefuses, AuditWrites, IsDeskOf, IsRefusedDesk, IsTextOf, program_room}
+use Rattle.pb_commands.specs.Ends.{FailsBy, IfBothKnown, JudgesFile}
 use Rattle.pb_commands.specs.Fault.{merged}
 use Rattle.pb_commands.specs.declared.fault.AppFault.{AppFault}
 use Rattle.pb_commands.specs.declared.fault.AppFault.TheVariants.{Read, Audit, Count, Write}
 use Rattle.pb_commands.proofs.Accepted.{given_fault}
 use Rattle.pb_commands.proofs.AuditAccepted.{IsAudited, desk_of}
+
+abbrev AuditFails : List ℕ → List ℕ → CountOptions → AppFault → Type 0
+AuditFails bytes journal options fault = FailsBy (AuditRefuses bytes journal options) (AuditWrites bytes journal options) bytes fault
+
+abbrev IsElectionFile : List ℕ → Type 0
+IsElectionFile bytes = (e : ElectionView) × StandsFor (records_of bytes) e
 
 -- what is to be written is known where the bytes are, and then a writer that fails is the fault
 pub write_fails : (files journals : Option (List ℕ)) (options : CountOptions) (e : ElectionView) (d : DeskView) (text : List ℕ) (r : Result (Unit {0}) AppFault)
@@ -34,7 +40,7 @@ write_fails (Some bytes) (Some journal) options e d text (Err fault) is_write au
     let writes : AuditWrites bytes journal options text = (d, desk_of bytes journal e d audited, written) in
     subst (AuditFails bytes journal options) (sym is_write) (text, writes)
 
-journal_fails : (bytes journal : List ℕ) (options : CountOptions) (fault : AuditFault) → IsFileOf bytes (λ e. IsFaultOfJournal e program_room (records_of journal) fault)
+journal_fails : (bytes journal : List ℕ) (options : CountOptions) (fault : AuditFault) → (e : ElectionView) × StandsFor (records_of bytes) e × IsFaultOfJournal e program_room (records_of journal) fault
     → AuditFails bytes journal options (merged (Audit fault))
 journal_fails bytes journal options audit.NoMemory fails = tt
 journal_fails bytes journal options fault fails = fails
@@ -51,10 +57,10 @@ refused_by_journal (Some bytes) (Some journal) options e fault r is stands fails
 
 desk_fails : (bytes journal : List ℕ) (options : CountOptions) (d : DeskView) (fault : CountFault) → IsDeskOf bytes journal d → IsRefusedDesk d options fault
     → AuditFails bytes journal options (merged (Count fault))
-desk_fails bytes journal options d count.WorkerCount is refused = (d, is, refused.0, refused.1)
-desk_fails bytes journal options d count.StepRange is refused = (d, is, refused.0, refused.1)
-desk_fails bytes journal options d count.RaisesRange is refused = (d, is, refused.0, refused.1)
-desk_fails bytes journal options d count.RaisesSpent is refused = (d, is, refused.0, refused.1)
+desk_fails bytes journal options d count.WorkerCount is refused = (d.opening.election, is.stands, (d, is, refused.0, refused.1))
+desk_fails bytes journal options d count.StepRange is refused = (d.opening.election, is.stands, (d, is, refused.0, refused.1))
+desk_fails bytes journal options d count.RaisesRange is refused = (d.opening.election, is.stands, (d, is, refused.0, refused.1))
+desk_fails bytes journal options d count.RaisesSpent is refused = (d.opening.election, is.stands, (d, is, refused.0, refused.1))
 desk_fails bytes journal options d count.NoMemory is refused = tt
 
 pub refused_by_desk : (files journals : Option (List ℕ)) (options : CountOptions) (e : ElectionView) (d : DeskView) (fault : CountFault) (r : Result (Unit {0}) AppFault)

@@ -1,17 +1,22 @@
 -- How the clerks' requests come into one journal.
 use Rattle.std.proofs.Common.{◌≡◌, ◌≢◌, ◌∙◌, ℕ, ◌+◌, ◌<◌, ◌≤◌, ◌⊎◌, inl, inr, List, [], ◌∷◌, ◌++◌, length, get_or, take, drop, map, true, false, Bool, cond, refl, sym, ap, subst, arith, ◌-◌, length-drop}
 use Rattle.std.specs.List.{filter}
-use Rattle.std.specs.Prelude.{All, ◌==◌, IfOk, Result, Ok, Err}
+use Rattle.std.specs.Prelude.{All, ◌==◌, IfErr, IfOk, IsErrAnd, Result, Ok, Err}
 use Rattle.std.proofs.lemmas.Bool.{cases_eq, eq-eqb, ne_eqb}
 use Rattle.std.proofs.lemmas.List.{append-nil, append_assoc, get_or-map, get_or_default, length-map, map-append, drop-map, take_all, take_more, take-append-drop}
 use Rattle.std.proofs.lemmas.Option.{get_or_from_slice_get}
 use Rattle.std.proofs.lemmas.List.Elements.{All-append, All-head, All-tail, filter-append}
 use Rattle.pb_core.specs.Request.{EntryView, RequestView}
 use Rattle.pb_core.specs.declared.answer.Answer.{Answer}
+use Rattle.pb_desk.specs.Desk.{DeskView}
 use Rattle.pb_shared.specs.Clerk.{AreAll, AreNewcomers, Begins, ClerkView, IsMergeOf, SharedView, Serves, entries_of}
+use Rattle.pb_shared.specs.Refusal.{HandsBack}
 use Rattle.pb_shared.specs.Seats.{newcomer}
+use Rattle.pb_shared.specs.declared.share_fault.ShareFault.{ShareFault}
+use Rattle.pb_shared.specs.declared.share_fault.ShareFault.TheVariants as share
+use Rattle.pb_commands.specs.declared.fault.AppFault.{AppFault}
 use Rattle.pb_commands.specs.declared.serve_script.Returned.{Returned}
-use Rattle.pb_commands.specs.Serving.{AppendsFor, AreBack, AreCounts, HasServed, ServesUpTo, list_of, requests_of}
+use Rattle.pb_commands.specs.Serving.{AppendsFor, AreBack, AreClerks, AreCounts, HasServed, IsServingFault, ServesUpTo, list_of, requests_of, unshared}
 
 -- an element of a list, read through a function
 pub read_through : {X Y : Type 0} (f : X → Y) (items : List X) (list : List Y) (i : ℕ) (x : X) → map f items ≡ list → i < length items → x ≡ get_or items i x →
@@ -178,3 +183,14 @@ pub AreBack-same : (d : SharedView) (lists : List (List RequestView)) (clerks cl
 AreBack-same d lists clerks clerks' served served' back is are =
     let P : List ClerkView → List ℕ → Type 0 = AreBack d lists in
     subst (λ c. P c served') (sym is) (subst (P clerks) (sym are) back)
+
+-- a desk that is not shared
+pub unserved : {X : Type 0} (clerks : ℕ) (d : DeskView) (fault : ShareFault) (r : Result X AppFault) → HandsBack d clerks fault → IsErrAnd r (λ app. app ≡ unshared fault)
+    → IfErr r (IsServingFault clerks)
+unserved clerks d fault (Ok done) back is = tt
+unserved clerks d (share.ClerkCount desk) (Err app) back is =
+    subst (IsServingFault clerks) (sym is) (λ are.
+    let some = are.0 in
+    let few = are.1 in
+    elim back.1 [ inl none ↦ absurd (omega arith) | inr many ↦ absurd (omega arith) ])
+unserved clerks d (share.NoMemory desk) (Err app) back is = subst (IsServingFault clerks) (sym is) tt

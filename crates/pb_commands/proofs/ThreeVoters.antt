@@ -7,7 +7,7 @@ use Rattle.pb_price.specs.Supporters.{supporters_of}
 use Rattle.pb_read.specs.declared.fault.ReadKind.TheVariants.{MoneyTooFine}
 use Rattle.pb_rounds.specs.Outcome.{Settled}
 use Rattle.pb_rows.specs.Writing.{text_of_row, text_of_rows}
-use Rattle.pb_commands.specs.Fault.{line_of}
+use Rattle.pb_commands.specs.Fault.{fields_of, line, merged}
 use Rattle.pb_commands.specs.Report.{report_of}
 use Rattle.pb_commands.specs.declared.fault.AppFault.TheVariants.{Read}
 
@@ -33,6 +33,6 @@ report : report_of e o ≡ codes "budget;100.00\nvoters;3\nshare;38.33\nraises;5
 unfolding report_of text_of_rows text_of_row fields_text is_blank escaped digits supporters_of
 report = refl
 
-too_fine : line_of (Read (record { kind = MoneyTooFine; at = 7 })) ≡ codes "fault;read;12;MoneyTooFine;7\n"
+too_fine : line (fields_of (merged (Read (record { kind = MoneyTooFine; at = 7 })))) ≡ codes "fault;read;12;MoneyTooFine;7\n"
 unfolding digits
 too_fine = refl

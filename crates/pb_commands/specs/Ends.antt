@@ -4,11 +4,10 @@ use Rattle.std.specs.Io.KnownBytes.{Appends}
 use Rattle.pb_core.specs.Election.{ElectionView}
 use Rattle.pb_read.specs.FirstFault.{IsFaultAt}
 use Rattle.pb_read.specs.StandsFor.{StandsFor}
-use Rattle.pb_read.specs.declared.fault.ReadFault.{ReadFault}
 use Rattle.pb_rows.specs.Reading.{records_of}
 use Rattle.pb_commands.specs.Fault.{status_of}
 use Rattle.pb_commands.specs.declared.fault.AppFault.{AppFault}
-use Rattle.pb_commands.specs.declared.fault.AppFault.TheVariants.{Read, Open, Memory}
+use Rattle.pb_commands.specs.declared.fault.AppFault.TheVariants.{Read, Open, Write, Memory}
 
 -- where the bytes of both readers are known, they are so
 abbrev pub IfBothKnown : Option (List ℕ) → Option (List ℕ) → (List ℕ → List ℕ → Type 0) → Type 0
@@ -26,22 +25,18 @@ IsFromOutside fault = status_of fault ≡ 3
 abbrev pub Accepts : (List ℕ → Type 0) → Result (Unit {0}) AppFault → Type 0
 Accepts IsText result = (text : List ℕ) → IsText text → IfErr result IsFromOutside
 
--- the bytes stand for an election of which this is true
-abbrev pub IsFileOf : List ℕ → (ElectionView → Type 0) → Type 0
-IsFileOf bytes P = (e : ElectionView) × StandsFor (records_of bytes) e × P e
-
--- the bytes stand for an election
-abbrev pub IsElectionFile : List ℕ → Type 0
-IsElectionFile bytes = (e : ElectionView) × StandsFor (records_of bytes) e
-
--- this is the first fault of the bytes as a file
-abbrev pub IsFileFault : List ℕ → ReadFault → Type 0
-IsFileFault bytes fault = IsFaultAt (records_of bytes) fault.kind fault.at
+-- why a run on this file ends: the file's first fault; or, of the election that it stands for, such a refusal;
+-- or the writer failed, which is tried last, once there is a text of this kind; or memory was refused
+abbrev pub FailsBy : (ElectionView → AppFault → Type 0) → (List ℕ → Type 0) → List ℕ → AppFault → Type 0
+FailsBy Refuses IsText bytes (Read fault) = IsFaultAt (records_of bytes) fault.kind fault.at
+FailsBy Refuses IsText bytes Write = (text : List ℕ) × IsText text
+FailsBy Refuses IsText bytes Memory = ⊤
+FailsBy Refuses IsText bytes fault = (e : ElectionView) × StandsFor (records_of bytes) e × Refuses e fault
 
 -- the file is judged first: its first fault is the answer, and any other end, out of memory aside, says that
--- it has none
+-- it stands for an election
 abbrev pub JudgesFile : List ℕ → Result (Unit {0}) AppFault → Type 0
-JudgesFile bytes (Err (Read fault)) = IsFileFault bytes fault
+JudgesFile bytes (Err (Read fault)) = IsFaultAt (records_of bytes) fault.kind fault.at
 JudgesFile bytes (Err (Open number)) = ⊥
 JudgesFile bytes (Err Memory) = ⊤
-JudgesFile bytes result = IsElectionFile bytes
+JudgesFile bytes result = (e : ElectionView) × StandsFor (records_of bytes) e

@@ -5,6 +5,7 @@ pub mod Ends
 pub mod Counted
 pub mod Audited
 pub mod Script
+pub mod Asking
 pub mod ScriptFault
 pub mod ScriptReading
 pub mod Serving

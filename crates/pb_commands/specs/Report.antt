@@ -34,10 +34,6 @@ closing_rows e elected =
     (codes "spent" ∷ money_text (spent_on (support_of e) elected) ∷ [])
     ∷ (codes "surplus" ∷ money_text (collected_for elected - spent_on (support_of e) elected) ∷ []) ∷ []
 
--- the rows of the report: the elected stand in order of election
-abbrev pub report_rows : ElectionView → Settled → List Fields
-report_rows e o = opening_rows e o ++ (map (elected_row e) o.elected ++ closing_rows e o.elected)
-
--- the report of a count
+-- the report of a count, as text: the elected stand in order of election
 unfoldable pub report_of : ElectionView → Settled → List ℕ
-report_of e o = text_of_rows (report_rows e o)
+report_of e o = text_of_rows (opening_rows e o ++ (map (elected_row e) o.elected ++ closing_rows e o.elected))

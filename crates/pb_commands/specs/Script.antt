@@ -15,35 +15,21 @@ pub record ScriptRowView : Type 0 where
   pub clerk : ℕ
   pub request : RequestView
 
--- the field lists the places of this ballot, in any order and with repeats
-pub record ListsPlaces (field ballot : List ℕ) : Type 0 where
-  pub listed : List ℕ
-  pub are_numbers : AreNumbers listed
-  pub field_is : field ≡ places_text listed
-  pub members : HasSameMembers listed ballot
-
--- the fields for what is asked, voter and places are those of this request; white space round the voter does
--- not count
-pub record AsksFor (word voter places : List ℕ) (request : RequestView) : Type 0 where
-  pub can_be : IsRequest request
-  pub word_is : word ≡ word_of request
-  pub voter_is : trim voter ≡ voter_of request
-  pub places_are : ListsPlaces places (places_of request)
-
 -- a run has this many clerks at most; they are numbered from 0
 abbrev pub clerks_within : ℕ → ℕ
 clerks_within clerks = min clerks most_clerks
 
--- the row of a script for this many clerks that says this: four fields of text, for clerk, request, voter and
--- places
+-- The row of a script for this many clerks that says this, four fields of text: the clerk; the request; the
+-- voter, round whom white space does not count; and the places of the ballot, in any order and with repeats.
 pub record IsScriptRow (clerks : ℕ) (row : Fields) (x : ScriptRowView) : Type 0 where
   pub is_text : AllText row
   pub by_clerk : x.clerk < clerks_within clerks
-  pub word : List ℕ
+  pub can_be : IsRequest x.request
   pub voter : List ℕ
   pub places : List ℕ
-  pub row_is : row ≡ decimal x.clerk ∷ word ∷ voter ∷ places ∷ []
-  pub asks : AsksFor word voter places x.request
+  pub row_is : row ≡ decimal x.clerk ∷ word_of x.request ∷ voter ∷ places_text places ∷ []
+  pub voter_is : trim voter ≡ voter_of x.request
+  pub places_are : AreNumbers places × HasSameMembers places (places_of x.request)
 
 -- a row has the form of a script's row: it says something
 abbrev pub HasScriptForm : ℕ → Fields → Type 0

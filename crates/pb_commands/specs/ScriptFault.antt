@@ -10,12 +10,3 @@ numbered_name (ReadFailed row) = (1, codes "ReadFailed", row)
 numbered_name (BadRow row) = (2, codes "BadRow", row)
 numbered_name TooManyRows = (3, codes "TooManyRows", most_rows + 1)
 numbered_name NoMemory = (4, codes "NoMemory", 0)
-
-abbrev pub number_of : ScriptFault → ℕ
-number_of fault = (numbered_name fault).0
-
-abbrev pub name_of : ScriptFault → List ℕ
-name_of fault = (numbered_name fault).1
-
-abbrev pub at_of : ScriptFault → ℕ
-at_of fault = (numbered_name fault).2

@@ -1,10 +1,17 @@
 -- How the requests of a run's clerks come into one journal.
 use Rattle.std.specs.Prelude.{◌≡◌, ℕ, ◌<◌, ◌≤◌, ◌++◌, ⊤, List, [], All, length, map, slice_index, slice_index_or, take}
+use Rattle.pb_core.specs.Election.{ElectionView}
 use Rattle.pb_core.specs.Request.{EntryView, RequestView}
-use Rattle.pb_desk.specs.Replay.{most_clerks}
+use Rattle.pb_desk.specs.Opening.{OpeningView}
+use Rattle.pb_desk.specs.Replay.{IsLegal, most_clerks}
+use Rattle.pb_desk.specs.Rows.{journal_text}
+use Rattle.pb_desk.specs.declared.version.Version.TheVariants.{Two}
+use Rattle.pb_commands.specs.Audited.{program_room}
 use Rattle.pb_commands.specs.declared.fault.AppFault.{AppFault}
 use Rattle.pb_commands.specs.declared.fault.AppFault.TheVariants.{ClerkCount, Memory}
 use Rattle.pb_shared.specs.Clerk.{ClerkView, SharedView, entries_of}
+use Rattle.pb_shared.specs.declared.share_fault.ShareFault.{ShareFault}
+use Rattle.pb_shared.specs.declared.share_fault.ShareFault.TheVariants as share
 use Rattle.pb_commands.specs.Script.{ScriptRowView, asked_by}
 
 -- what a clerk asked in a journal, in order
@@ -68,8 +75,27 @@ pub record AreBack (d : SharedView) (lists : List (List RequestView)) (clerks : 
 abbrev pub AreClerks : ℕ → Type 0
 AreClerks clerks = (0 < clerks) × (clerks ≤ most_clerks)
 
+-- a desk that was not shared, as a run answers it
+abbrev pub unshared : ShareFault → AppFault
+unshared (share.ClerkCount desk) = ClerkCount
+unshared (share.NoMemory desk) = Memory
+
 -- why requests were not served: the number of clerks, or memory was refused
 abbrev pub IsServingFault : ℕ → AppFault → Type 0
 IsServingFault clerks ClerkCount = ¬ AreClerks clerks
 IsServingFault clerks Memory = ⊤
 IsServingFault clerks fault = ⊥
+
+-- what a desk of the program opens with
+abbrev pub opening_of : ElectionView → OpeningView
+opening_of e = record { election = e; version = Two }
+
+-- the text is that of a journal that is legal for the election, and has what each of the clerks asked
+pub record IsServedText (e : ElectionView) (clerks : ℕ) (lists : List (List RequestView)) (text : List ℕ)
+    : Type 0 where
+  pub in_range : AreClerks clerks
+  pub journal : List EntryView
+  pub legal : IsLegal (opening_of e) journal
+  pub fits : length journal ≤ program_room
+  pub serves : ServesAll lists journal
+  pub text_is : text ≡ journal_text Two journal

@@ -1,8 +1,8 @@
 //! From a shared desk to its winners: its clerks come back, and where it is shut its ballots are counted.
 
-ghost use Rattle.std.specs.Prelude.{◌≡◌, ◌≢◌, ℕ, All, IfErr, IfOk};
+ghost use Rattle.std.specs.Prelude.{◌≡◌, ◌≢◌, ℕ, All, IfErr};
 ghost use Rattle.pb_shared.specs.Clerk.{AreAll};
-ghost use Rattle.pb_commands.specs.Closed.{IsClosedAs, IsCloseFault, IsClosing, IsDeskFault};
+ghost use Rattle.pb_commands.specs.Closed.{ComesTo, IsClosedAs};
 
 use crate::close_fault::CloseFault;
 use crate::closing::{Closing, DeskCount};
@@ -29,11 +29,8 @@ pub fn close_and_count<T: Threads + Sync>(
     options: &CountOptions,
 ) -> Result<Closing, CloseFault>
     requires own { All (λ clerk. clerk.desk ≡ shared) clerks.items }
-    // The headline: there is one journal, and the answer is what it comes to.
-    ensures ok { IfOk result (IsClosedAs shared clerks.items options.now) }
-
-    // When each refusal comes.
-    ensures fault { IfErr result (IsCloseFault shared clerks.items options.now) }
+    // The headline: there is one journal, and the answer is what it comes to; and when each refusal comes.
+    ensures closed { IsClosedAs shared clerks.items options.now result }
 
     // With all clerks handed back the lock is never the reason.
     ensures all { AreAll shared clerks.items
@@ -52,8 +49,7 @@ pub fn count_desk<T: Threads + Sync>(
     desk: Desk,
     options: &CountOptions,
 ) -> Result<Closing, CloseFault>
-    ensures ok { IfOk result (IsClosing desk options.now) }
-    ensures fault { IfErr result (IsDeskFault desk options.now) }
+    ensures { ComesTo desk options.now result }
 {
     let entries = desk.entries();
     let election = match desk.into_election() {

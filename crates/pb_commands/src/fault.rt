@@ -3,8 +3,10 @@
 use crate::script_fault::ScriptFault;
 use pb_core::no_memory::NoMemory;
 use pb_desk::AuditFault;
+use pb_desk::start_fault::StartFault;
 use pb_read::{ReadFault, ReadKind};
 use pb_rounds::count_fault::CountFault;
+use pb_shared::share_fault::ShareFault;
 use std::alloc::AllocError;
 use thiserror::Error;
 
@@ -46,11 +48,16 @@ impl AppFault {
         ensures { result ≡ merged self.now }
     {
         match *self {
-            AppFault::Read(fault) => AppFault::from(fault),
-            AppFault::Script(fault) => AppFault::from(fault),
-            AppFault::Audit(fault) => AppFault::from(fault),
-            AppFault::Count(fault) => AppFault::from(fault),
-            AppFault::ClerkCount | AppFault::Open(_) | AppFault::Write | AppFault::Memory => *self,
+            AppFault::Read(
+                ReadFault {
+                    kind: ReadKind::NoMemory,
+                    ..
+                },
+            )
+            | AppFault::Script(ScriptFault::NoMemory)
+            | AppFault::Audit(AuditFault::NoMemory)
+            | AppFault::Count(CountFault::NoMemory) => AppFault::Memory,
+            fault => fault,
         }
     }
 }
@@ -63,10 +70,7 @@ impl From<ReadFault> for AppFault {
     ghost from_gives = { λ fault app. app ≡ merged (Read fault) };
 
     fn from(fault: ReadFault) -> AppFault {
-        match fault.kind {
-            ReadKind::NoMemory => AppFault::Memory,
-            _ => AppFault::Read(fault),
-        }
+        AppFault::Read(fault).merged()
     }
 }
 
@@ -78,10 +82,7 @@ impl From<ScriptFault> for AppFault {
     ghost from_gives = { λ fault app. app ≡ merged (Script fault) };
 
     fn from(fault: ScriptFault) -> AppFault {
-        match fault {
-            ScriptFault::NoMemory => AppFault::Memory,
-            _ => AppFault::Script(fault),
-        }
+        AppFault::Script(fault).merged()
     }
 }
 
@@ -93,10 +94,7 @@ impl From<AuditFault> for AppFault {
     ghost from_gives = { λ fault app. app ≡ merged (Audit fault) };
 
     fn from(fault: AuditFault) -> AppFault {
-        match fault {
-            AuditFault::NoMemory => AppFault::Memory,
-            _ => AppFault::Audit(fault),
-        }
+        AppFault::Audit(fault).merged()
     }
 }
 
@@ -108,10 +106,7 @@ impl From<CountFault> for AppFault {
     ghost from_gives = { λ fault app. app ≡ merged (Count fault) };
 
     fn from(fault: CountFault) -> AppFault {
-        match fault {
-            CountFault::NoMemory => AppFault::Memory,
-            _ => AppFault::Count(fault),
-        }
+        AppFault::Count(fault).merged()
     }
 }
 
@@ -134,5 +129,32 @@ impl From<AllocError> for AppFault {
 
     fn from(_refused: AllocError) -> AppFault {
         AppFault::Memory
+    }
+}
+
+impl From<StartFault> for AppFault {
+    ghost use Rattle.std.specs.Prelude.{◌≡◌};
+    ghost use Rattle.pb_commands.specs.declared.fault.AppFault.TheVariants.{Memory};
+
+    ghost from_gives = { λ _ app. app ≡ Memory };
+
+    fn from(_refused: StartFault) -> AppFault {
+        AppFault::Memory
+    }
+}
+
+impl From<ShareFault> for AppFault {
+    ghost use Rattle.std.specs.Prelude.{◌≡◌};
+    ghost use Rattle.pb_commands.specs.Serving.{unshared};
+
+    ghost from_gives = { λ fault app. app ≡ unshared fault };
+
+    fn from(fault: ShareFault) -> AppFault {
+        let answer = match &fault {
+            ShareFault::ClerkCount(_) => AppFault::ClerkCount,
+            ShareFault::NoMemory(_) => AppFault::Memory,
+        };
+        drop(fault);
+        answer
     }
 }

@@ -2,16 +2,12 @@
 
 ghost use Rattle.std.specs.Prelude.{◌≡◌, ◌≢◌, ◌++◌, ℕ, List, IfErr, IfSome, OnOk, codes, if◌then◌else◌};
 ghost use Rattle.pb_rows.specs.Writing.{text_of_row};
-ghost use Rattle.pb_commands.specs.Audited.{AuditFails, AuditWrites, IsRefusedDesk, IsTextOf, entries_row};
-ghost use Rattle.pb_commands.specs.Ends.{Accepts, HasWritten, IfBothKnown, JudgesFile};
+ghost use Rattle.pb_commands.specs.Audited.{AuditRefuses, AuditWrites, IsRefusedDesk, IsTextOf, entries_row};
+ghost use Rattle.pb_commands.specs.Ends.{Accepts, FailsBy, HasWritten, IfBothKnown, JudgesFile};
 ghost use Rattle.pb_commands.specs.Fault.{merged};
 
-use crate::close_and_count::count_desk;
-use crate::close_fault::CloseFault;
-use crate::closing::Closing;
 use crate::fault::AppFault;
-use crate::report::put_report;
-use crate::run_count::write_out;
+use crate::run_count::{put_count, write_out};
 use itoa::Buffer;
 use pb_core::no_memory::NoMemory;
 use pb_desk::{Desk, audit};
@@ -47,7 +43,7 @@ pub fn run_audit<T: Threads + Sync, P: Read + Drop, J: Read + Drop, W: Write>(
 
     // and which fault comes.
     ensures fault { IfErr result (λ fault. IfBothKnown (P.remaining file) (J.remaining journal) (λ bytes rows.
-        AuditFails bytes rows options.now fault)) }
+        FailsBy (AuditRefuses bytes rows options.now) (AuditWrites bytes rows options.now) bytes fault)) }
 
     // A file and a journal that have a text get it, unless a device fails or memory is refused.
     ensures accepts { IfBothKnown (P.remaining file) (J.remaining journal) (λ bytes rows.
@@ -83,17 +79,13 @@ fn put_desk<T: Threads + Sync>(
     ensures fault { IfErr result (IsRefusedDesk desk options.now) }
 {
     put_entries(rows, &desk)?;
-    match count_desk(rt, alloc, desk, options) {
-        Ok(Closing::Open(_)) => Ok(()),
-        Ok(Closing::Counted(counted)) => {
-            // What is true of every election bounds the sums of its report.
-            let _budget = counted.election.budget();
-            put_report(rows, alloc, &counted.election, &counted.outcome)?;
-            Ok(())
-        }
-        Err(CloseFault::NotCounted(fault, _)) => Err(fault),
-        Err(CloseFault::NoMemory(_) | CloseFault::Unfinished(_)) => Err(CountFault::NoMemory),
+    if !desk.is_shut() {
+        return Ok(());
     }
+    let Ok(election) = desk.into_election() else {
+        return Err(CountFault::NoMemory);
+    };
+    put_count(rt, alloc, rows, &election, options)
 }
 
 /// Writes the row of a desk.

@@ -3,8 +3,8 @@
 ghost use Rattle.std.specs.Prelude.{◌≡◌, ◌≢◌, ◌++◌, ℕ, List, IfErr, IfSome, OnOk};
 ghost use Rattle.std.specs.Io.KnownBytes.{Appends};
 ghost use Rattle.pb_rounds.specs.Count.{IsCountFault};
-ghost use Rattle.pb_commands.specs.Counted.{CountFails, CountWrites, IsReportOf};
-ghost use Rattle.pb_commands.specs.Ends.{Accepts, HasWritten};
+ghost use Rattle.pb_commands.specs.Counted.{CountRefuses, CountWrites, IsReportOf};
+ghost use Rattle.pb_commands.specs.Ends.{Accepts, FailsBy, HasWritten};
 ghost use Rattle.pb_commands.specs.Fault.{merged};
 
 use crate::fault::AppFault;
@@ -37,7 +37,7 @@ pub fn run_count<T: Threads + Sync, R: Read + Drop, W: Write>(
 
     // and which fault comes.
     ensures fault { IfErr result (λ fault. IfSome (R.remaining reader) (λ bytes.
-        CountFails bytes options.now fault)) }
+        FailsBy (CountRefuses options.now) (CountWrites bytes options.now) bytes fault)) }
 
     // A file that has a report gets it, unless a device fails or memory is refused.
     ensures accepts { IfSome (R.remaining reader) (λ bytes. Accepts (CountWrites bytes options.now) result) }

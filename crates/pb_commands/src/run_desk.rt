@@ -1,16 +1,14 @@
 //! The command `desk`: a script's requests, served by the clerks of one desk.
 
 ghost use Rattle.std.specs.Prelude.{◌≡◌, ◌≢◌, IfErr, IfSome, OnOk};
-ghost use Rattle.pb_commands.specs.Desked.{DeskFails, DeskWrites};
-ghost use Rattle.pb_commands.specs.Ends.{Accepts, HasWritten, IfBothKnown, JudgesFile};
+ghost use Rattle.pb_commands.specs.Desked.{DeskRefuses, DeskWrites};
+ghost use Rattle.pb_commands.specs.Ends.{Accepts, FailsBy, HasWritten, IfBothKnown, JudgesFile};
 ghost use Rattle.pb_commands.specs.Fault.{merged};
 
 use crate::fault::AppFault;
-use crate::run_audit::ROOM;
 use crate::run_count::write_out;
 use crate::script::read_script;
 use crate::serve_script::serve_script;
-use pb_desk::desk::Desk;
 use pb_price::gate::Gate;
 use pb_read::read_pb;
 use std::alloc::Global;
@@ -20,7 +18,7 @@ use std::thread::Threads;
 /// Reads a .pb file and a script, lets this many clerks serve the script's requests on one desk, side by
 /// side, and writes the desk's journal.
 ///
-/// Each clerk serves its own rows in their order, by at most 1,000 tries of the lock for each. One who finds
+/// Each clerk serves its own rows in their order, by at most 100,000 tries of the lock for each. One who finds
 /// the desk busy all that time stops; what the clerks leave over is served after all of them have stopped,
 /// clerks in rising number. Before the first try of a row the gate is called with the clerk's number and the
 /// row's place among the clerk's own rows, from 0.
@@ -45,7 +43,7 @@ pub fn run_desk<T: Threads + Sync, P: Read + Drop, S: Read + Drop, G: Gate, W: W
 
     // and they decide which fault comes.
     ensures fault { IfErr result (λ fault. IfBothKnown (P.remaining file) (S.remaining script)
-        (λ bytes rows. DeskFails bytes rows clerks fault)) }
+        (λ bytes rows. FailsBy (DeskRefuses rows clerks) (DeskWrites bytes rows clerks) bytes fault)) }
 
     // A file and a script that have a journal get one, unless a device fails or memory is refused.
     ensures accepts { IfBothKnown (P.remaining file) (S.remaining script)
@@ -62,20 +60,9 @@ pub fn run_desk<T: Threads + Sync, P: Read + Drop, S: Read + Drop, G: Gate, W: W
 {
     let election = read_pb(alloc, file)?;
     let lists = read_script(alloc, script, clerks)?;
-    let Ok(desk) = Desk::start(alloc, election, ROOM) else {
-        return Err(AppFault::Memory);
-    };
-    let desk = match serve_script(rt, alloc, desk, &lists, clerks, gate) {
-        Ok(desk) => desk,
+    let text = match serve_script(rt, alloc, election, &lists, clerks, gate) {
+        Ok(text) => text,
         Err(fault) => return Err(fault),
     };
-    // Its journal is legal, and fits the room.
-    let _entries = desk.entries();
-    let Ok(text) = desk.journal_text(alloc) else {
-        return Err(AppFault::Memory);
-    };
-    match write_out(writer, text.as_slice()) {
-        Ok(()) => Ok(()),
-        Err(_) => Err(AppFault::Write),
-    }
+    write_out(writer, text.as_slice())
 }

@@ -1,7 +1,7 @@
 //! Why a script is refused.
 
 ghost use Rattle.std.specs.Prelude.{◌≡◌, codes};
-ghost use Rattle.pb_commands.specs.ScriptFault.{at_of, name_of, number_of};
+ghost use Rattle.pb_commands.specs.ScriptFault.{numbered_name};
 
 use crate::script::MOST_ROWS;
 use pb_core::no_memory::NoMemory;
@@ -50,7 +50,7 @@ impl From<AllocError> for ScriptFault {
 impl ScriptFault {
     /// The fault's number, from 1.
     pub fn number(&self) -> u32
-        ensures { result ≡ number_of self.now }
+        ensures { result ≡ (numbered_name self.now).0 }
     {
         match self {
             ScriptFault::ReadFailed(_) => 1,
@@ -62,7 +62,7 @@ impl ScriptFault {
 
     /// The fault's name.
     pub fn name(&self) -> &'static str
-        ensures { result.now ≡ name_of self.now }
+        ensures { result.now ≡ (numbered_name self.now).1 }
     {
         match self {
             ScriptFault::ReadFailed(_) => "ReadFailed",
@@ -74,7 +74,7 @@ impl ScriptFault {
 
     /// The number of the row, from 1; 0 where memory was refused, which is the fault of no row.
     pub fn at(&self) -> u32
-        ensures { result ≡ at_of self.now }
+        ensures { result ≡ (numbered_name self.now).2 }
     {
         match self {
             ScriptFault::ReadFailed(row) => *row,

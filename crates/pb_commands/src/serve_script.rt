@@ -3,20 +3,21 @@
 ghost use Rattle.std.specs.Prelude.{◌≡◌, ◌+◌, ◌<◌, ◌≤◌, ℕ, List, [], All, length, map, IfErr, IfOk, OnOk};
 ghost use Rattle.pb_core.specs.Request.{asked};
 ghost use Rattle.pb_desk.specs.Replay.{most_clerks};
-ghost use Rattle.pb_shared.specs.Clerk.{AreNewcomers};
+ghost use Rattle.pb_shared.specs.Clerk.{AreNewcomers, desk_with};
 ghost use Rattle.pb_commands.specs.Audited.{program_room};
 ghost use Rattle.pb_commands.specs.Script.{clerks_within, most_rows};
-ghost use Rattle.pb_commands.specs.Serving.{AppendsFor, AreCounts, HasServed, ServesAll, ServesUpTo, AreBack, AreClerks, IsServingFault, list_of};
+ghost use Rattle.pb_commands.specs.Serving.{AppendsFor, AreCounts, HasServed, IsServedText, ServesAll, ServesUpTo, AreBack, AreClerks, IsServingFault, list_of, opening_of};
 
 use crate::fault::AppFault;
 use crate::requests::Requests;
+use crate::run_audit::ROOM;
+use pb_core::election::Election;
 use pb_core::no_memory::NoMemory;
 use pb_core::request::Request;
 use pb_desk::desk::Desk;
 use pb_desk::desk_fault::DeskFault;
 use pb_price::gate::Gate;
 use pb_shared::clerk::Clerk;
-use pb_shared::share_fault::ShareFault;
 use pb_shared::shared_desk::SharedDesk;
 use pb_shared::shared_fault::SharedFault;
 use std::alloc::{AllocError, Global};
@@ -150,35 +151,78 @@ fn taken_back(alloc: Global, back: Vec<Returned>) -> Result<(Vec<Clerk>, Vec<u32
     Ok((clerks, served))
 }
 
-/// Serves the requests of a script by this many clerks on a shared desk, and gives the desk back. What the
-/// clerks leave over is served after them, clerks in rising number.
-pub(crate) fn serve_script<T: Threads + Sync, G: Gate>(
+/// These clerks of a shared desk serve the requests of a script, and it is closed. What they leave over is served
+/// after them, clerks in rising number.
+fn serve_shared<T: Threads + Sync, G: Gate>(
     rt: &T,
     alloc: Global,
-    desk: Desk,
+    shared: SharedDesk,
+    clerks: Vec<Clerk>,
+    lists: &[Requests],
+    gate: &G,
+) -> Result<Desk, NoMemory>
+    requires empty { shared.start.journal ≡ [] }
+    requires room { shared.start.room ≡ program_room }
+    requires fresh { AreNewcomers shared clerks.items }
+    requires range { shared.clerks ≤ most_clerks }
+    requires one_each { length lists.now ≡ shared.clerks }
+    requires few { All (λ list. length list ≤ most_rows) lists.now }
+    ensures start { IfOk result (λ desk. desk ≡ desk_with shared.start desk.journal) }
+    ensures serves { IfOk result (λ desk. ServesAll lists.now desk.journal) }
+{
+    let back = serve_side_by_side(rt, &shared, gate, clerks, lists)?;
+    let (clerks, served) = taken_back(alloc, back)?;
+    let mut desk = shared.finish(clerks).unwrap();
+    serve_rest(&mut desk, lists, &served)?;
+    Ok(desk)
+}
+
+/// This many clerks serve the requests of a script on a shared desk of this election.
+fn serve_all<T: Threads + Sync, G: Gate>(
+    rt: &T,
+    alloc: Global,
+    election: Election,
     lists: &[Requests],
     clerks: u32,
     gate: &G,
 ) -> Result<Desk, AppFault>
-    requires empty { desk.journal ≡ [] }
-    requires room { desk.room ≡ program_room }
     requires one_each { length lists.now ≡ clerks_within clerks }
     requires few { All (λ list. length list ≤ most_rows) lists.now }
-    ensures ok { IfOk result (λ served. (served ≡ record desk { journal = served.journal })
-        × ServesAll lists.now served.journal) }
+    ensures opening { IfOk result (λ desk. desk.opening ≡ opening_of election) }
+    ensures room { IfOk result (λ desk. desk.room ≡ program_room) }
+    ensures serves { IfOk result (λ desk. ServesAll lists.now desk.journal) }
     ensures clerks { OnOk result (AreClerks clerks) }
     ensures err { IfErr result (IsServingFault clerks) }
 {
-    let (shared, fresh) = match SharedDesk::share(alloc, desk, clerks) {
-        Ok(shared) => shared,
-        Err(ShareFault::ClerkCount(_)) => return Err(AppFault::ClerkCount),
-        Err(ShareFault::NoMemory(_)) => return Err(AppFault::Memory),
+    let desk = Desk::start(alloc, election, ROOM)?;
+    let (shared, fresh) = SharedDesk::share(alloc, desk, clerks)?;
+    let desk = serve_shared(rt, alloc, shared, fresh, lists, gate)?;
+    Ok(desk)
+}
+
+/// Serves the requests of a script by this many clerks on a shared desk of this election, and makes the text of
+/// its journal.
+pub(crate) fn serve_script<T: Threads + Sync, G: Gate>(
+    rt: &T,
+    alloc: Global,
+    election: Election,
+    lists: &[Requests],
+    clerks: u32,
+    gate: &G,
+) -> Result<Vec<u8>, AppFault>
+    requires one_each { length lists.now ≡ clerks_within clerks }
+    requires few { All (λ list. length list ≤ most_rows) lists.now }
+    ensures ok { IfOk result (λ text. IsServedText election clerks lists.now text.items) }
+    ensures err { IfErr result (IsServingFault clerks) }
+{
+    let desk = match serve_all(rt, alloc, election, lists, clerks, gate) {
+        Ok(desk) => desk,
+        Err(fault) => return Err(fault),
     };
-    let back = serve_side_by_side(rt, &shared, gate, fresh, lists)?;
-    let (clerks, served) = taken_back(alloc, back)?;
-    let mut desk = shared.finish(clerks).unwrap();
-    match serve_rest(&mut desk, lists, &served) {
-        Ok(()) => Ok(desk),
+    // Its journal is legal, and fits the room.
+    let _entries = desk.entries();
+    match desk.journal_text(alloc) {
+        Ok(text) => Ok(text),
         Err(NoMemory) => Err(AppFault::Memory),
     }
 }

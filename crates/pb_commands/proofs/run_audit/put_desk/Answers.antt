@@ -1,12 +1,11 @@
-use Rattle.pb_commands.proofs.Closings.{is_printable, report_follows}
+use Rattle.pb_commands.proofs.Closings.{refused_desk, report_follows}
 use Rattle.pb_commands.proofs.run_audit.put_desk.Goals as goal
 
-pub put_report-requires : goal.put_report-requires
-put_report-requires g c =
-    is_printable c.args.desk c.args.options.now c.in-Ok-Counted.counted c.budget-budget.ensures.is_election
-    (rw c.in-Ok-Counted.field-0-is at c.in-Ok-Counted.ensures.ok)
+pub returns-clause-ok : goal.returns-clause-ok
+returns-clause-ok g c =
+    report_follows c.args.desk c.args.options.now c.in-Ok.election c.args.rows.now.text c.put_entries.new.rows.text c.put_count.new.rows.text c.put_count.result
+    c.in-Ok.ensures.shut c.in-Ok.ensures.ok c.in_ok-put_entries.ensures c.put_count.ensures.ok
 
-pub returns-in-Ok-Counted-clause-ok : goal.returns-in-Ok-Counted-clause-ok
-returns-in-Ok-Counted-clause-ok g c =
-    report_follows c.args.desk c.args.options.now c.in-Ok-Counted.counted c.args.rows.now.text c.put_entries.new.rows.text _
-    (rw c.in-Ok-Counted.field-0-is at c.in-Ok-Counted.ensures.ok) c.in_ok-put_entries.ensures c.in_ok-put_report-in-Ok-Counted.ensures
+pub returns-clause-fault : goal.returns-clause-fault
+returns-clause-fault g c =
+    refused_desk c.args.desk c.args.options.now c.in-Ok.election c.put_count.result c.in-Ok.ensures.shut c.in-Ok.ensures.ok c.put_count.ensures.fault

@@ -1,6 +1,23 @@
+use Rattle.pb_commands.proofs.Accepted.{refused_of_both, stays_merged}
 use Rattle.pb_commands.proofs.AuditAccepted.{audited_by_desk, audited_by_journal, audited_by_reader}
 use Rattle.pb_commands.proofs.AuditWritten.{judged_by_audit, judged_by_count, judged_by_reader, judged_by_writer, refused_by_desk, refused_by_journal, write_fails}
+use Rattle.pb_commands.specs.Audited.{AuditRefuses, AuditWrites}
+use Rattle.pb_commands.specs.declared.fault.AppFault.TheVariants.{Read, Audit, Count}
 use Rattle.pb_commands.proofs.run_audit.run_audit.Goals as goal
+
+pub returns-in_err-election-clause-fault : goal.returns-in_err-election-clause-fault
+returns-in_err-election-clause-fault g c =
+    refused_of_both (λ bytes rows. AuditRefuses bytes rows c.args.options.now) (λ bytes rows. AuditWrites bytes rows c.args.options.now) _ _
+    c.in_err-election.field-0.0 _ c.from_residual.ensures.1 c.in_err-election.ensures.fault
+
+pub returns-in_err-election-clause-merged : goal.returns-in_err-election-clause-merged
+returns-in_err-election-clause-merged g c = stays_merged (Read c.in_err-election.field-0.0) _ c.from_residual.ensures.1
+
+pub returns-in_err-desk-clause-merged : goal.returns-in_err-desk-clause-merged
+returns-in_err-desk-clause-merged g c = stays_merged (Audit c.in_err-desk.field-0.0) _ c.from_residual-in_err-desk.ensures.1
+
+pub returns-in_err-put_desk-clause-merged : goal.returns-in_err-put_desk-clause-merged
+returns-in_err-put_desk-clause-merged g c = stays_merged (Count c.in_err-put_desk.field-0.0) _ c.from_residual-in_err-put_desk.ensures.1
 
 pub returns-clause-fault : goal.returns-clause-fault
 returns-clause-fault g c =

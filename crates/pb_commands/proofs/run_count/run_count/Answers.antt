@@ -1,5 +1,18 @@
-use Rattle.pb_commands.proofs.Accepted.{accepted_by_count, accepted_by_reader, refused_by_count}
+use Rattle.pb_commands.proofs.Accepted.{accepted_by_count, accepted_by_reader, refused_by_count, refused_by_reader, stays_merged}
+use Rattle.pb_commands.specs.Counted.{CountRefuses, CountWrites}
+use Rattle.pb_commands.specs.declared.fault.AppFault.TheVariants.{Read, Count}
 use Rattle.pb_commands.proofs.run_count.run_count.Goals as goal
+
+pub returns-in_err-election-clause-fault : goal.returns-in_err-election-clause-fault
+returns-in_err-election-clause-fault g c =
+    refused_by_reader (λ bytes. CountRefuses c.args.options.now) (λ bytes. CountWrites bytes c.args.options.now) _ c.in_err-election.field-0.0 _
+    c.from_residual.ensures.1 c.in_err-election.ensures.fault
+
+pub returns-in_err-election-clause-merged : goal.returns-in_err-election-clause-merged
+returns-in_err-election-clause-merged g c = stays_merged (Read c.in_err-election.field-0.0) _ c.from_residual.ensures.1
+
+pub returns-in_err-put_count-clause-merged : goal.returns-in_err-put_count-clause-merged
+returns-in_err-put_count-clause-merged g c = stays_merged (Count c.in_err-put_count.field-0.0) _ c.from_residual-in_err-put_count.ensures.1
 
 pub returns-in_err-election-clause-accepts : goal.returns-in_err-election-clause-accepts
 returns-in_err-election-clause-accepts g c =
