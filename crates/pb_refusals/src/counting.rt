@@ -16,6 +16,7 @@ use pb_rounds::count::{count, equal_shares};
 use pb_rounds::count_fault::CountFault;
 use pb_rounds::measure::Measure;
 use pb_rounds::options::CountOptions;
+use pb_rounds::outcome::Outcome;
 use std::alloc::Global;
 use std::process::Abort;
 use std::thread::Threads;
@@ -37,7 +38,7 @@ enum Call {
 impl Call {
     /// Makes ready, lets the nth allocation from then on be refused, calls, and answers whether all is as it
     /// should be.
-    fn run<R: Threads + Sync>(
+    fn run<R: Threads + Sync + Abort>(
         self,
         rt: &R,
         heap: Heap<'_>,
@@ -46,7 +47,7 @@ impl Call {
     ) -> Result<bool, NoMemory> {
         match self {
             Call::Supporters => supported(heap, election, nth),
-            Call::Price => priced(heap, election, nth),
+            Call::Price => priced(rt, heap, election, nth),
             Call::Prices(workers) => all_priced(rt, heap, election, workers, nth),
             Call::Shares => shared_equally(rt, heap, election, nth),
             Call::Count => counted(rt, heap, election, nth),
@@ -92,55 +93,87 @@ fn can_price(supporters: &Supporters<Heap<'_>>, rests: &[Money], projects: &[u32
 /// What is left to the voters once p1 is elected.
 const RESTS: [Money; 4] = [Money(600), Money(600), Money(600), Money(1_000)];
 
-fn priced(heap: Heap<'_>, election: &Election, nth: u64) -> Result<bool, NoMemory> {
-    let supporters = Supporters::build(heap, election)?;
-    if !can_price(&supporters, &RESTS, &[1]) {
-        return Ok(false);
-    }
+/// The supporters of the election's projects.
+fn supporters<'a>(rt: &impl Abort, heap: Heap<'a>, election: &Election) -> Supporters<Heap<'a>> {
+    Supporters::build(heap, election).expect(rt, "memory")
+}
+
+/// The price of p2.
+fn price_of(
+    rt: &impl Abort,
+    heap: Heap<'_>,
+    supporters: &Supporters<Heap<'_>>,
+    tally: &mut Tally,
+) -> Result<Option<Money>, NoMemory> {
+    assert!(rt; can_price(supporters, &RESTS, &[1]));
+    price(heap, supporters, &RESTS, 1, tally)
+}
+
+fn priced(
+    rt: &impl Abort,
+    heap: Heap<'_>,
+    election: &Election,
+    nth: u64,
+) -> Result<bool, NoMemory> {
+    let supporters = supporters(rt, heap, election);
     let mut tally = Tally::new();
     heap.refuse(nth);
-    match price(heap, &supporters, &RESTS, 1, &mut tally) {
-        Ok(answer) => Ok(answer == Some(Money(700)) && tally.count() == 1),
-        Err(NoMemory) => refused(
-            tally.count() == 0
-                && price(heap, &supporters, &RESTS, 1, &mut tally) == Ok(Some(Money(700))),
-        ),
-    }
+    let answer = match price_of(rt, heap, &supporters, &mut tally) {
+        Ok(price) => Ok(price == Some(Money(700)) && tally.count() == 1),
+        Err(NoMemory) => {
+            let is_as_before = tally.count() == 0;
+            let again = price_of(rt, heap, &supporters, &mut tally);
+            refused(is_as_before && again == Ok(Some(Money(700))))
+        }
+    };
+    drop(supporters);
+    answer
+}
+
+/// The prices of p2 and p4 by this many workers.
+fn prices_of<'a, R: Threads + Sync + Abort>(
+    rt: &R,
+    heap: Heap<'a>,
+    supporters: &Supporters<Heap<'a>>,
+    workers: u32,
+    tally: &mut Tally,
+) -> Result<Vec<Option<Money>, Heap<'a>>, PriceFault> {
+    let projects = [1, 3];
+    assert!(rt; can_price(supporters, &RESTS, &projects));
+    price_all(
+        rt, heap, workers, &NoGate, &projects, supporters, &RESTS, tally,
+    )
 }
 
 /// p2 takes 6.00 of two and 7.00 of the third; p4 takes 9.90 of v4 alone.
-fn all_priced<R: Threads + Sync>(
+fn all_priced<R: Threads + Sync + Abort>(
     rt: &R,
     heap: Heap<'_>,
     election: &Election,
     workers: u32,
     nth: u64,
 ) -> Result<bool, NoMemory> {
-    let supporters = Supporters::build(heap, election)?;
-    let projects = [1, 3];
-    if !can_price(&supporters, &RESTS, &projects) {
-        return Ok(false);
-    }
+    let supporters = supporters(rt, heap, election);
     let mut tally = Tally::new();
     heap.refuse(nth);
-    let answer = price_all(
-        rt,
-        heap,
-        workers,
-        &NoGate,
-        &projects,
-        &supporters,
-        &RESTS,
-        &mut tally,
-    );
-    match answer {
-        Ok(prices) => Ok(
-            prices.as_slice() == [Some(Money(700)), Some(Money(990))].as_slice()
-                && tally.count() == 2,
-        ),
-        Err(PriceFault::NoMemory) => refused(tally.count() == 0),
-        Err(PriceFault::WorkerCount) => Ok(false),
-    }
+    let wanted = [Some(Money(700)), Some(Money(990))];
+    let prices = prices_of(rt, heap, &supporters, workers, &mut tally);
+    let answer = match &prices {
+        Ok(prices) => Ok(prices.as_slice() == wanted.as_slice() && tally.count() == 2),
+        Err(fault) => refused(*fault == PriceFault::NoMemory && tally.count() == 0),
+    };
+    drop(prices);
+    drop(supporters);
+    answer
+}
+
+/// A run at a share of 10.00.
+fn run_of<'a, R: Threads + Sync>(
+    rt: &R,
+    heap: Heap<'a>,
+    election: &Election,
+) -> Result<Outcome<Heap<'a>>, CountFault> {
+    equal_shares(rt, heap, election, Money(1_000), 1, Measure::Votes, &NoGate)
 }
 
 fn shared_equally<R: Threads + Sync>(
@@ -150,16 +183,30 @@ fn shared_equally<R: Threads + Sync>(
     nth: u64,
 ) -> Result<bool, NoMemory> {
     heap.refuse(nth);
-    match equal_shares(rt, heap, election, Money(1_000), 1, Measure::Votes, &NoGate) {
-        Ok(outcome) => Ok(
-            outcome.elected.len() == 2
-                && outcome.priced.as_slice() == [4, 2, 2].as_slice()
-                && outcome.rests.as_slice()
-                    == [Money(600), Money(600), Money(600), Money(350)].as_slice(),
-        ),
-        Err(CountFault::NoMemory) => Err(NoMemory),
-        Err(_) => Ok(false),
-    }
+    let outcome = run_of(rt, heap, election);
+    let answer = match &outcome {
+        Ok(outcome) => Ok(is_run(outcome)),
+        Err(fault) => refused(*fault == CountFault::NoMemory),
+    };
+    drop(outcome);
+    answer
+}
+
+/// Whether p1 and p3 were elected.
+fn is_run(outcome: &Outcome<Heap<'_>>) -> bool {
+    let rests = [Money(600), Money(600), Money(600), Money(350)];
+    outcome.elected.len() == 2
+        && outcome.priced.as_slice() == [4, 2, 2].as_slice()
+        && outcome.rests.as_slice() == rests.as_slice()
+}
+
+/// A count with Add1.
+fn count_of<'a, R: Threads + Sync>(
+    rt: &R,
+    heap: Heap<'a>,
+    election: &Election,
+) -> Result<Outcome<Heap<'a>>, CountFault> {
+    count(rt, heap, election, &CountOptions::standard())
 }
 
 /// At 10.00, 11.00 and 12.00 two projects are elected, and what is left of the budget would pay for another.
@@ -172,41 +219,29 @@ fn counted<R: Threads + Sync>(
     nth: u64,
 ) -> Result<bool, NoMemory> {
     heap.refuse(nth);
-    match count(rt, heap, election, &CountOptions::standard()) {
+    let outcome = count_of(rt, heap, election);
+    let answer = match &outcome {
         Ok(outcome) => Ok(
             outcome.raised == 3 && outcome.share == Money(1_300) && outcome.elected.len() == 3,
         ),
-        Err(CountFault::NoMemory) => Err(NoMemory),
-        Err(_) => Ok(false),
+        Err(fault) => refused(*fault == CountFault::NoMemory),
+    };
+    drop(outcome);
+    answer
+}
+
+const CALLS: &[Call] = &[
+    Call::Supporters,
+    Call::Price,
+    Call::Prices(1),
+    Call::Prices(2),
+    Call::Shares,
+    Call::Count,
+];
+
+#[test]
+fn calls_of_a_count_end_or_memory_is_refused(rt: HostRuntime) {
+    for call in CALLS {
+        walk(&rt, rt.alloc(), *call);
     }
-}
-
-#[test]
-fn supporters_are_found_or_memory_is_refused(rt: HostRuntime) {
-    walk(&rt, rt.alloc(), Call::Supporters);
-}
-
-#[test]
-fn a_price_is_found_or_memory_is_refused(rt: HostRuntime) {
-    walk(&rt, rt.alloc(), Call::Price);
-}
-
-#[test]
-fn prices_are_found_or_memory_is_refused(rt: HostRuntime) {
-    walk(&rt, rt.alloc(), Call::Prices(1));
-}
-
-#[test]
-fn workers_find_prices_or_memory_is_refused(rt: HostRuntime) {
-    walk(&rt, rt.alloc(), Call::Prices(2));
-}
-
-#[test]
-fn a_run_ends_or_memory_is_refused(rt: HostRuntime) {
-    walk(&rt, rt.alloc(), Call::Shares);
-}
-
-#[test]
-fn a_count_ends_or_memory_is_refused(rt: HostRuntime) {
-    walk(&rt, rt.alloc(), Call::Count);
 }

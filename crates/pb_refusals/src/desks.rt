@@ -69,7 +69,15 @@ fn withdraw<'a>(rt: &impl Abort, heap: Heap<'a>) -> Request<Heap<'a>> {
 
 /// A desk opened on one voter, with room for two entries.
 fn desk<'a>(rt: &impl Abort, heap: Heap<'a>) -> Desk<Heap<'a>> {
-    Desk::start(heap, one_voter(rt, heap), 2).expect(rt, "a desk")
+    starts(heap, one_voter(rt, heap)).ok().expect(rt, "a desk")
+}
+
+/// Opens a desk on this election.
+fn starts<'a>(
+    heap: Heap<'a>,
+    election: Election<Heap<'a>>,
+) -> Result<Desk<Heap<'a>>, StartFault<Heap<'a>>> {
+    Desk::start(heap, election, 2)
 }
 
 /// Whether the desk is as it was opened: no entry, and one ballot, v1's for project 0.
@@ -81,11 +89,18 @@ fn is_as_opened(desk: &Desk<Heap<'_>>) -> bool {
     has_its_ballot && desk.ballots() == 1 && desk.entries() == 0 && !desk.is_shut()
 }
 
+/// Whether a desk is as it was opened.
+fn opens(desk: Desk<Heap<'_>>) -> bool {
+    let is_as_opened = is_as_opened(&desk);
+    drop(desk);
+    is_as_opened
+}
+
 fn started(rt: &impl Abort, heap: Heap<'_>, nth: u64) -> Result<bool, NoMemory> {
     let election = one_voter(rt, heap);
     heap.refuse(nth);
-    match Desk::start(heap, election, 2) {
-        Ok(desk) => Ok(is_as_opened(&desk)),
+    match starts(heap, election) {
+        Ok(desk) => Ok(opens(desk)),
         Err(StartFault::NoMemory(election)) => started_again(rt, heap, election),
     }
 }
@@ -96,8 +111,7 @@ fn started_again<'a>(
     heap: Heap<'a>,
     election: Election<Heap<'a>>,
 ) -> Result<bool, NoMemory> {
-    let desk = Desk::start(heap, election, 2).expect(rt, "a desk");
-    refused(is_as_opened(&desk))
+    refused(opens(starts(heap, election).ok().expect(rt, "a desk")))
 }
 
 /// The request is answered so, and this many ballots are left; or memory is refused, and it is so when it is
@@ -111,11 +125,19 @@ fn served<'a>(
 ) -> Result<bool, NoMemory> {
     let mut desk = desk(rt, heap);
     heap.refuse(nth);
-    match desk.serve(0, &request) {
+    let answer = match serves(&mut desk, &request) {
         Ok(answer) => Ok((answer, desk.ballots()) == wanted && desk.entries() == 1),
         Err(DeskFault::JournalFull) => Ok(false),
         Err(DeskFault::NoMemory) => refused(serves_again(rt, &mut desk, &request, wanted)),
-    }
+    };
+    drop(desk);
+    drop(request);
+    answer
+}
+
+/// What clerk 0 is answered.
+fn serves<'a>(desk: &mut Desk<Heap<'a>>, request: &Request<Heap<'a>>) -> Result<Answer, DeskFault> {
+    desk.serve(0, request)
 }
 
 /// Whether the desk is as it was opened, and then answers so.
@@ -126,46 +148,58 @@ fn serves_again<'a>(
     wanted: (Answer, u32),
 ) -> bool {
     let was_as_opened = is_as_opened(desk);
-    let answer = desk.serve(0, request).expect(rt, "an answer");
+    let answer = serves(desk, request).expect(rt, "an answer");
     was_as_opened && (answer, desk.ballots()) == wanted
+}
+
+/// The election of a desk that is shut.
+fn leaves<'a>(desk: Desk<Heap<'a>>) -> Result<Election<Heap<'a>>, IntoFault<Heap<'a>>> {
+    desk.into_election()
 }
 
 fn left(rt: &impl Abort, heap: Heap<'_>, nth: u64) -> Result<bool, NoMemory> {
     let mut desk = desk(rt, heap);
-    same(rt, desk.serve(0, &Request::Shut), Ok(Answer::Done), 1);
+    same(rt, serves(&mut desk, &Request::Shut), Ok(Answer::Done), 1);
     heap.refuse(nth);
-    match desk.into_election() {
-        Ok(election) => Ok(election.voters().len() == 1),
-        Err(IntoFault::NotShut(_)) => Ok(false),
-        Err(IntoFault::NoMemory(desk)) => left_again(rt, desk),
+    match leaves(desk) {
+        Ok(election) => Ok(has_one_voter(election)),
+        Err(fault) => left_again(rt, fault),
     }
 }
 
-/// A desk that was handed back still has its ballot and its entry, and then leaves its election.
-fn left_again(rt: &impl Abort, desk: Desk<Heap<'_>>) -> Result<bool, NoMemory> {
-    let is_whole = desk.ballots() == 1 && desk.entries() == 1;
-    let election = desk.into_election().expect(rt, "an election");
-    refused(is_whole && election.voters().len() == 1)
+/// Whether the election has one voter.
+fn has_one_voter(election: Election<Heap<'_>>) -> bool {
+    let has_one = election.voters().len() == 1;
+    drop(election);
+    has_one
 }
 
-#[test]
-fn desks_start_or_hand_the_election_back(rt: HostRuntime) {
-    walk(&rt, rt.alloc(), Call::Start);
+/// A desk that was handed back, since memory was refused, still has its ballot and its entry, and then leaves its
+/// election.
+fn left_again(rt: &impl Abort, fault: IntoFault<Heap<'_>>) -> Result<bool, NoMemory> {
+    let is_memory = fault.number() == 2;
+    let desk = match fault {
+        IntoFault::NotShut(desk) => desk,
+        IntoFault::NoMemory(desk) => desk,
+    };
+    let is_whole = is_memory && desk.ballots() == 1 && desk.entries() == 1;
+    let election = leaves(desk).ok().expect(rt, "an election");
+    let has_one = has_one_voter(election);
+    refused(is_whole && has_one)
 }
 
-#[test]
-fn ballots_come_or_the_desk_stays_as_it_was(rt: HostRuntime) {
-    walk(&rt, rt.alloc(), Call::Cast);
-    walk(&rt, rt.alloc(), Call::Replace);
-}
+const CALLS: &[Call] = &[
+    Call::Start,
+    Call::Cast,
+    Call::Replace,
+    Call::Withdraw,
+    Call::Unknown,
+    Call::Leave,
+];
 
 #[test]
-fn other_requests_are_served_or_the_desk_stays_as_it_was(rt: HostRuntime) {
-    walk(&rt, rt.alloc(), Call::Withdraw);
-    walk(&rt, rt.alloc(), Call::Unknown);
-}
-
-#[test]
-fn desks_leave_their_election_or_come_back(rt: HostRuntime) {
-    walk(&rt, rt.alloc(), Call::Leave);
+fn calls_of_a_desk_end_or_it_stays_as_it_was(rt: HostRuntime) {
+    for call in CALLS {
+        walk(&rt, rt.alloc(), *call);
+    }
 }

@@ -14,9 +14,10 @@ pub fn id<'a>(rt: &impl Abort, heap: Heap<'a>, text: &str) -> VoterId<Heap<'a>> 
 
 /// A project of this id that costs 30.00.
 fn project<'a>(rt: &impl Abort, heap: Heap<'a>, name: &str) -> Project<Heap<'a>> {
-    let text = String::from_str(heap, name).expect(rt, "memory");
-    assert!(rt; !text.is_empty());
-    Project::new(text, String::new(heap), Money(3_000))
+    let id = String::from_str(heap, name).expect(rt, "memory");
+    let name = String::new(heap);
+    assert!(rt; !id.is_empty());
+    Project::new(id, name, Money(3_000))
 }
 
 /// A voter of this id who approves project 0.
@@ -74,10 +75,12 @@ fn project_added(rt: &impl Abort, heap: Heap<'_>, nth: u64) -> Result<bool, NoMe
     let mut election = Election::start(heap, Money(10_000));
     let project = project(rt, heap, "a");
     heap.refuse(nth);
-    match add_project(rt, &mut election, project) {
+    let answer = match add_project(rt, &mut election, project) {
         Ok(()) => Ok(election.projects().len() == 1),
         Err(NoMemory) => refused(takes_project(rt, heap, &mut election)),
-    }
+    };
+    drop(election);
+    answer
 }
 
 /// Whether the election has no voter still, and takes the one whom it had no room for.
@@ -92,10 +95,12 @@ fn voter_added(rt: &impl Abort, heap: Heap<'_>, nth: u64) -> Result<bool, NoMemo
     let mut election = one_project(rt, heap);
     let (voter, name) = (voter(rt, heap, "v1"), id(rt, heap, "v1"));
     heap.refuse(nth);
-    match add_voter(rt, &mut election, voter) {
+    let answer = match add_voter(rt, &mut election, voter) {
         Ok(()) => Ok(election.has_voter(&name)),
         Err(NoMemory) => refused(takes_voter(rt, heap, &mut election)),
-    }
+    };
+    drop(election);
+    answer
 }
 
 #[test]

@@ -37,10 +37,13 @@ const EXCHANGED: [&str; 4] = [
 
 /// How many entries the journal has that a reader gives, or its fault.
 fn audited<R: Read + Drop>(rt: &impl Abort, alloc: Global, reader: R) -> Result<u32, AuditFault> {
-    match audit(alloc, three_voters(rt, alloc), 10, reader) {
+    let audited = audit(alloc, three_voters(rt, alloc), 10, reader);
+    let answer = match &audited {
         Ok(desk) => Ok(desk.entries()),
-        Err(fault) => Err(fault),
-    }
+        Err(fault) => Err(*fault),
+    };
+    drop(audited);
+    answer
 }
 
 /// What an audit answers to the first bytes of the five rows, this many: the rows so far, or the row that is cut.
@@ -93,7 +96,8 @@ const SHUT: &[u8] = b"journal;2\n1;7;shut;;;done\n";
 
 /// A desk with that journal.
 fn shut_desk(rt: &impl Abort, alloc: Global) -> Desk {
-    let mut desk = Desk::start(alloc, three_voters(rt, alloc), 10).expect(rt, "a desk");
+    let started = Desk::start(alloc, three_voters(rt, alloc), 10);
+    let mut desk = started.ok().expect(rt, "a desk");
     same(rt, desk.serve(7, &Request::Shut), Ok(Answer::Done), 1);
     desk
 }

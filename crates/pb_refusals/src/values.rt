@@ -125,25 +125,20 @@ fn places_written(heap: Heap<'_>, nth: u64) -> Result<bool, NoMemory> {
     Ok(text.as_str() == "0,2,9")
 }
 
+const CALLS: &[Call] = &[
+    Call::Text,
+    Call::Id,
+    Call::Places,
+    Call::CopiedId,
+    Call::CopiedPlaces,
+    Call::CopiedRequest,
+    Call::PlacesRead,
+    Call::PlacesWritten,
+];
+
 #[test]
 fn values_are_made_or_memory_is_refused(rt: HostRuntime) {
-    let alloc = rt.alloc();
-    walk(&rt, alloc, Call::Text);
-    walk(&rt, alloc, Call::Id);
-    walk(&rt, alloc, Call::Places);
-}
-
-#[test]
-fn copies_are_made_or_memory_is_refused(rt: HostRuntime) {
-    let alloc = rt.alloc();
-    walk(&rt, alloc, Call::CopiedId);
-    walk(&rt, alloc, Call::CopiedPlaces);
-    walk(&rt, alloc, Call::CopiedRequest);
-}
-
-#[test]
-fn places_are_read_and_written_or_memory_is_refused(rt: HostRuntime) {
-    let alloc = rt.alloc();
-    walk(&rt, alloc, Call::PlacesRead);
-    walk(&rt, alloc, Call::PlacesWritten);
+    for call in CALLS {
+        walk(&rt, rt.alloc(), *call);
+    }
 }

@@ -1,6 +1,8 @@
+//! Counts worked by hand, with what is left to each voter and how many prices each round computed. What a count's
+//! report shows as well stands in the cases of the program.
+
 use crate::checks::{holds, same};
-use crate::elections::{add_next_voter, numbered, three_voters};
-use pb_core::election::Election;
+use crate::elections::{THREE_VOTERS, read};
 use pb_core::money::Money;
 use pb_price::gate::{Gate, NoGate};
 use pb_rounds::count::{count, equal_shares};
@@ -8,176 +10,168 @@ use pb_rounds::count_fault::CountFault;
 use pb_rounds::key::Key;
 use pb_rounds::measure::Measure;
 use pb_rounds::options::{Completion, CountOptions};
-use pb_rounds::outcome::{Elected, Outcome};
+use pb_rounds::outcome::Outcome;
 use std::alloc::Global;
 use std::process::Abort;
 use std::sync::atomic::{AtomicU32, Ordering};
 use std::thread::Threads;
 
-/// A winner: its place, its price and what it collected, in hundredths.
-type Winner = (u32, u64, u64);
-
-fn plain() -> CountOptions {
-    CountOptions {
-        completion: Completion::Plain,
-        ..CountOptions::standard()
+/// An outcome as text: the share, each elected project's place, price and what it collected, what is left to each
+/// voter, and how many prices each round computed; amounts in hundredths.
+fn shown(rt: &impl Abort, alloc: Global, outcome: &Outcome) -> String {
+    let mut text = format!(in alloc; "{} elected", outcome.share.0).expect(rt, "memory");
+    for winner in &outcome.elected {
+        let (price, collected) = (winner.price.0, winner.collected.0);
+        write!(text, " {},{price},{collected}", winner.place).expect(rt, "memory");
     }
-}
-
-/// The outcome has elected these, in this order.
-fn elects(rt: &impl Abort, outcome: &Outcome, winners: &[Winner]) {
-    same(rt, outcome.elected.len(), winners.len(), "the winners");
-    for (elected, winner) in outcome.elected.iter().zip(winners) {
-        let (place, price, collected) = *winner;
-        let wanted = Elected {
-            place,
-            price: Money(price),
-            collected: Money(collected),
-        };
-        same(rt, *elected, wanted, "a winner");
+    text.push_str(" rests").expect(rt, "memory");
+    for rest in &outcome.rests {
+        write!(text, " {}", rest.0).expect(rt, "memory");
     }
-}
-
-/// Counts the election, and compares the outcome.
-fn counts_as(
-    rt: &(impl Abort + Threads + Sync),
-    alloc: Global,
-    election: &Election,
-    options: &CountOptions,
-    share: (u64, u32),
-    winners: &[Winner],
-) {
-    let outcome = count(rt, alloc, election, options).expect(rt, "an outcome");
-    same(rt, (outcome.share.0, outcome.raised), share, "the share");
-    elects(rt, &outcome, winners);
-}
-
-/// The fault that a count gives, if it gives one.
-fn fault_of(
-    rt: &(impl Threads + Sync),
-    alloc: Global,
-    election: &Election,
-    options: &CountOptions,
-) -> Option<CountFault> {
-    match count(rt, alloc, election, options) {
-        Ok(_) => None,
-        Err(fault) => Some(fault),
+    text.push_str(" priced").expect(rt, "memory");
+    for prices in &outcome.priced {
+        write!(text, " {prices}").expect(rt, "memory");
     }
+    text
 }
 
-/// Options with this step, this many raises and these workers.
-fn options(step: u64, max_raises: u32, workers: u32) -> CountOptions {
-    CountOptions {
-        step: Money(step),
-        max_raises,
-        workers,
-        ..CountOptions::standard()
-    }
-}
+/// p1 costs 12.00 (v1, v2, v3), p2 19.00 (v1, v2, v4), p3 6.50 and p4 9.90 (v4).
+const FOUR_VOTERS: &str =
+    "META\nkey;value\nbudget;40\nvote_type;approval\nPROJECTS\nproject_id;cost\np1;12\np2;19\np3;6.50\np4;9.90\nVOTES\nvoter_id;vote\nv1;p1,p2\nv2;p1,p2\nv3;p1\nv4;p2,p3,p4\n";
 
-/// The winners of the three voters: at share 38.33 both projects.
-const BOTH: &[Winner] = &[(0, 1500, 3000), (1, 3667, 6000)];
+/// x costs 10.00 (v1, v2), y 30.00 (all four).
+const DEARER: &str =
+    "META\nkey;value\nbudget;40\nvote_type;approval\nPROJECTS\nproject_id;cost\nx;10\ny;30\nVOTES\nvoter_id;vote\nv1;x,y\nv2;x,y\nv3;y\nv4;y\n";
 
-#[test]
-fn counts_three_voters(rt: HostRuntime) {
-    let alloc = rt.alloc();
-    let three = three_voters(&rt, alloc);
-    let standard = CountOptions::standard();
-    counts_as(&rt, alloc, &three, &standard, (3833, 5), BOTH);
-    counts_as(&rt, alloc, &three, &options(100, 5, 1), (3833, 5), BOTH);
-    counts_as(
-        &rt,
-        alloc,
-        &three,
-        &options(250, 1_000_000, 1),
-        (3833, 2),
-        BOTH,
-    );
-    counts_as(&rt, alloc, &three, &plain(), (3333, 0), &BOTH[..1]);
-}
+/// x costs 1.00 and y 3.00; all three approve both.
+const ROUNDED: &str =
+    "META\nkey;value\nbudget;6\nvote_type;approval\nPROJECTS\nproject_id;cost\nx;1\ny;3\nVOTES\nvoter_id;vote\nv1;x,y\nv2;x,y\nv3;x,y\n";
 
-#[test]
-fn counts_by_any_number_of_workers(rt: HostRuntime) {
-    let three = three_voters(&rt, rt.alloc());
-    for workers in [1, 2, 3, 64] {
-        let options = options(100, 1_000_000, workers);
-        counts_as(&rt, rt.alloc(), &three, &options, (3833, 5), BOTH);
-    }
-}
+/// Two projects of 10.00 and 20.00; both voters approve both.
+const RISING: &str =
+    "META\nkey;value\nbudget;60\nvote_type;approval\nPROJECTS\nproject_id;cost\nx;10\ny;20\nVOTES\nvoter_id;vote\nv1;x,y\nv2;x,y\n";
 
-/// An election by budget, costs and ballots, the most raises, and the share, the raises and the winners of its count.
-type Counted = (
-    u64,
-    &'static [u64],
-    &'static [&'static [u32]],
-    u32,
-    (u64, u32),
-    &'static [Winner],
-);
+/// The same in the other order.
+const FALLING: &str =
+    "META\nkey;value\nbudget;60\nvote_type;approval\nPROJECTS\nproject_id;cost\ny;20\nx;10\nVOTES\nvoter_id;vote\nv1;x,y\nv2;x,y\n";
 
-const COUNTED: &[Counted] = &[
-    // Nobody votes.
-    (10_000, &[3000, 6000], &[], 1_000_000, (0, 0), &[]),
-    // A tie is decided by file order.
+/// A file, a measure, workers, and the outcome of a plain count.
+const COUNTED: &[(&str, Measure, u32, &str)] = &[
     (
-        2000,
-        &[1000, 1000],
-        &[&[0, 1], &[0, 1]],
-        0,
-        (1000, 0),
-        &[(0, 500, 1000), (1, 500, 1000)],
+        THREE_VOTERS,
+        Measure::Votes,
+        1,
+        "3333 elected 0,1500,3000 rests 1833 1833 3333 priced 2 1",
     ),
-    // Rounding up collects more than the cost.
     (
-        100,
-        &[100],
-        &[&[0], &[0], &[0]],
-        1_000_000,
-        (133, 1),
-        &[(0, 34, 102)],
+        FOUR_VOTERS,
+        Measure::Votes,
+        1,
+        "1000 elected 0,400,1200 2,650,650 rests 600 600 600 350 priced 4 2 2",
     ),
-    // The outcome before the one that is over.
-    (1000, &[1000, 1000], &[&[0], &[1]], 1_000_000, (900, 4), &[]),
-    // Nobody supports the first project, and it does not keep the raises going.
     (
-        1000,
-        &[500, 400],
-        &[&[1]],
-        1_000_000,
-        (1000, 0),
-        &[(1, 400, 400)],
+        FOUR_VOTERS,
+        Measure::Votes,
+        2,
+        "1000 elected 0,400,1200 2,650,650 rests 600 600 600 350 priced 4 2 2",
+    ),
+    (
+        FOUR_VOTERS,
+        Measure::Votes,
+        3,
+        "1000 elected 0,400,1200 2,650,650 rests 600 600 600 350 priced 4 3 2",
+    ),
+    (
+        FOUR_VOTERS,
+        Measure::Votes,
+        64,
+        "1000 elected 0,400,1200 2,650,650 rests 600 600 600 350 priced 4 3 2",
+    ),
+    (
+        DEARER,
+        Measure::Votes,
+        1,
+        "1000 elected 0,500,1000 1,1000,3000 rests 0 0 0 0 priced 2 1 0",
+    ),
+    (
+        DEARER,
+        Measure::Cost,
+        1,
+        "1000 elected 1,750,3000 rests 250 250 250 250 priced 2 1",
+    ),
+    (
+        ROUNDED,
+        Measure::Votes,
+        1,
+        "200 elected 0,34,102 1,100,300 rests 66 66 66 priced 2 1 0",
+    ),
+    (
+        ROUNDED,
+        Measure::Cost,
+        1,
+        "200 elected 1,100,300 0,34,102 rests 66 66 66 priced 2 1 0",
+    ),
+    (
+        RISING,
+        Measure::Votes,
+        1,
+        "3000 elected 0,500,1000 1,1000,2000 rests 1500 1500 priced 2 1 0",
+    ),
+    (
+        RISING,
+        Measure::Cost,
+        1,
+        "3000 elected 0,500,1000 1,1000,2000 rests 1500 1500 priced 2 1 0",
+    ),
+    (
+        FALLING,
+        Measure::Votes,
+        1,
+        "3000 elected 1,500,1000 0,1000,2000 rests 1500 1500 priced 2 1 0",
+    ),
+    (
+        FALLING,
+        Measure::Cost,
+        1,
+        "3000 elected 0,1000,2000 1,500,1000 rests 1500 1500 priced 2 1 0",
     ),
 ];
 
+/// The outcome is shown so, and no share was raised.
+fn is_shown(rt: &impl Abort, alloc: Global, outcome: &Outcome, wanted: &str) {
+    let text = shown(rt, alloc, outcome);
+    same(rt, text.as_str(), wanted, "an outcome");
+    same(rt, outcome.raised, 0, "the raises");
+}
+
+/// A plain count by this measure and these workers tells this.
+fn counts_as(
+    rt: &(impl Abort + Threads + Sync),
+    alloc: Global,
+    file: &str,
+    ways: (Measure, u32),
+    wanted: &str,
+) {
+    let (measure, workers) = ways;
+    let options = CountOptions {
+        step: Money(100),
+        max_raises: 0,
+        workers,
+        completion: Completion::Plain,
+        measure,
+    };
+    let election = read(rt, alloc, file);
+    let outcome = count(rt, alloc, &election, &options).expect(rt, "an outcome");
+    is_shown(rt, alloc, &outcome, wanted);
+    drop(outcome);
+    drop(election);
+}
+
 #[test]
 fn counts(rt: HostRuntime) {
-    for (budget, costs, ballots, max_raises, share, winners) in COUNTED {
-        let election = numbered(&rt, rt.alloc(), *budget, costs, ballots);
-        let options = options(100, *max_raises, 1);
-        counts_as(&rt, rt.alloc(), &election, &options, *share, winners);
+    for (file, measure, workers, wanted) in COUNTED {
+        counts_as(&rt, rt.alloc(), file, (*measure, *workers), wanted);
     }
-}
-
-#[test]
-fn spends_the_raises(rt: HostRuntime) {
-    let three = three_voters(&rt, rt.alloc());
-    for max_raises in [0, 4] {
-        let fault = fault_of(&rt, rt.alloc(), &three, &options(100, max_raises, 1));
-        same(&rt, fault, Some(CountFault::RaisesSpent), "too few raises");
-    }
-}
-
-/// One project of the largest cost, and a thousand voters of whom the first alone approves it; the budget would pay
-/// for it.
-#[test]
-fn spends_the_raises_of_a_thousand(rt: HostRuntime) {
-    let large = 1_000_000_000_000_000;
-    let mut election = numbered(&rt, rt.alloc(), large, &[large], &[&[0]]);
-    for _ in 1..1000 {
-        add_next_voter(&rt, rt.alloc(), &mut election, &[]);
-    }
-    let fault = fault_of(&rt, rt.alloc(), &election, &options(100, 10, 1));
-    same(&rt, fault, Some(CountFault::RaisesSpent), "ten raises");
 }
 
 /// Counts how often it is met.
@@ -192,229 +186,65 @@ impl Gate for CountingGate {
     }
 }
 
-/// Workers, the prices computed in each round, and how often the gate is met.
-const QUEUES: &[(u32, &[u64], u32)] = &[
-    (1, &[4, 2, 2], 8),
-    (2, &[4, 2, 2], 8),
-    (3, &[4, 3, 2], 9),
-    (64, &[4, 3, 2], 9),
+/// Workers, how often the gate is met in a run of the four voters at their share, and its outcome.
+const RUNS: &[(u32, u32, &str)] = &[
+    (
+        1,
+        8,
+        "1000 elected 0,400,1200 2,650,650 rests 600 600 600 350 priced 4 2 2",
+    ),
+    (
+        2,
+        8,
+        "1000 elected 0,400,1200 2,650,650 rests 600 600 600 350 priced 4 2 2",
+    ),
+    (
+        3,
+        9,
+        "1000 elected 0,400,1200 2,650,650 rests 600 600 600 350 priced 4 3 2",
+    ),
+    (
+        64,
+        9,
+        "1000 elected 0,400,1200 2,650,650 rests 600 600 600 350 priced 4 3 2",
+    ),
 ];
 
-/// The winners of the four voters.
-const FOUR: &[Winner] = &[(0, 400, 1200), (2, 650, 650)];
-
-/// Four voters and four projects: p1 costs 12.00 (v1, v2, v3), p2 19.00 (v1, v2, v4), p3 6.50 and p4 9.90 (v4).
-fn four_voters(rt: &impl Abort, alloc: Global) -> Election {
-    let ballots: &[&[u32]] = &[&[0, 1], &[0, 1], &[0], &[1, 2, 3]];
-    numbered(rt, alloc, 4000, &[1200, 1900, 650, 990], ballots)
-}
-
-/// A run of the four voters at their share, which meets the gate so often.
-fn runs_as<R: Abort + Threads + Sync>(
+/// A run at a share of 10.00, by measure votes.
+fn run<R: Abort + Threads + Sync, G: Gate>(
     rt: &R,
     alloc: Global,
-    four: &Election,
+    file: &str,
     workers: u32,
-    met: u32,
-) -> Outcome {
-    let gate = CountingGate {
-        met: AtomicU32::new(0),
-    };
-    let run = equal_shares(rt, alloc, four, Money(1000), workers, Measure::Votes, &gate);
-    same(rt, gate.met.load(Ordering::SeqCst), met, "the gate");
-    run.expect(rt, "an outcome")
+    gate: &G,
+) -> Result<Outcome, CountFault> {
+    let election = read(rt, alloc, file);
+    let outcome = equal_shares(
+        rt,
+        alloc,
+        &election,
+        Money(1000),
+        workers,
+        Measure::Votes,
+        gate,
+    );
+    drop(election);
+    outcome
 }
 
 #[test]
 fn prices_the_heads_of_the_queue(rt: HostRuntime) {
-    let four = four_voters(&rt, rt.alloc());
-    for (workers, priced, met) in QUEUES {
-        let outcome = runs_as(&rt, rt.alloc(), &four, *workers, *met);
-        same(
-            &rt,
-            (outcome.share.0, outcome.raised),
-            (1000, 0),
-            "the share",
-        );
-        elects(&rt, &outcome, FOUR);
-        same(&rt, outcome.priced.as_slice(), *priced, "the prices");
-    }
-}
-
-/// A plain count has the outcome of the run.
-#[test]
-fn counts_by_the_queue(rt: HostRuntime) {
-    let four = four_voters(&rt, rt.alloc());
-    for (workers, priced, met) in QUEUES {
-        let outcome = runs_as(&rt, rt.alloc(), &four, *workers, *met);
-        let options = CountOptions {
-            workers: *workers,
-            ..plain()
+    for (workers, met, wanted) in RUNS {
+        let gate = CountingGate {
+            met: AtomicU32::new(0),
         };
-        let same_run = count(&rt, rt.alloc(), &four, &options).expect(&rt, "an outcome");
-        elects(&rt, &same_run, FOUR);
-        let (rests, wanted) = (same_run.rests.as_slice(), outcome.rests.as_slice());
-        same(&rt, rests, wanted, "the rests");
-        same(&rt, same_run.priced.as_slice(), *priced, "the prices");
+        let outcome = run(&rt, rt.alloc(), FOUR_VOTERS, *workers, &gate).expect(&rt, "an outcome");
+        same(&rt, gate.met.load(Ordering::SeqCst), *met, "the gate");
+        is_shown(&rt, rt.alloc(), &outcome, wanted);
+        drop(outcome);
     }
-}
-
-/// An election by budget, costs and ballots, a measure, whom a plain count elects by it, and how many prices each
-/// round takes with one worker.
-type Measured = (
-    u64,
-    &'static [u64],
-    &'static [&'static [u32]],
-    Measure,
-    &'static [Winner],
-    &'static [u64],
-);
-
-const MEASURED: &[Measured] = &[
-    (
-        4000,
-        &[1000, 3000],
-        &[&[0, 1], &[0, 1], &[1], &[1]],
-        Measure::Votes,
-        &[(0, 500, 1000), (1, 1000, 3000)],
-        &[2, 1, 0],
-    ),
-    (
-        4000,
-        &[1000, 3000],
-        &[&[0, 1], &[0, 1], &[1], &[1]],
-        Measure::Cost,
-        &[(1, 750, 3000)],
-        &[2, 1],
-    ),
-    (
-        600,
-        &[100, 300],
-        &[&[0, 1], &[0, 1], &[0, 1]],
-        Measure::Votes,
-        &[(0, 34, 102), (1, 100, 300)],
-        &[2, 1, 0],
-    ),
-    (
-        600,
-        &[100, 300],
-        &[&[0, 1], &[0, 1], &[0, 1]],
-        Measure::Cost,
-        &[(1, 100, 300), (0, 34, 102)],
-        &[2, 1, 0],
-    ),
-    (
-        6000,
-        &[1000, 2000],
-        &[&[0, 1], &[0, 1]],
-        Measure::Votes,
-        &[(0, 500, 1000), (1, 1000, 2000)],
-        &[2, 1, 0],
-    ),
-    (
-        6000,
-        &[1000, 2000],
-        &[&[0, 1], &[0, 1]],
-        Measure::Cost,
-        &[(0, 500, 1000), (1, 1000, 2000)],
-        &[2, 1, 0],
-    ),
-    (
-        6000,
-        &[2000, 1000],
-        &[&[0, 1], &[0, 1]],
-        Measure::Votes,
-        &[(1, 500, 1000), (0, 1000, 2000)],
-        &[2, 1, 0],
-    ),
-    (
-        6000,
-        &[2000, 1000],
-        &[&[0, 1], &[0, 1]],
-        Measure::Cost,
-        &[(0, 1000, 2000), (1, 500, 1000)],
-        &[2, 1, 0],
-    ),
-];
-
-#[test]
-fn counts_by_both_measures(rt: HostRuntime) {
-    for (budget, costs, ballots, measure, winners, priced) in MEASURED {
-        let election = numbered(&rt, rt.alloc(), *budget, costs, ballots);
-        let options = CountOptions {
-            measure: *measure,
-            ..plain()
-        };
-        let outcome = count(&rt, rt.alloc(), &election, &options).expect(&rt, "an outcome");
-        elects(&rt, &outcome, winners);
-        same(&rt, outcome.priced.as_slice(), *priced, "the prices");
-    }
-}
-
-#[test]
-fn leaves_rests(rt: HostRuntime) {
-    let three = three_voters(&rt, rt.alloc());
-    let outcome = count(&rt, rt.alloc(), &three, &plain()).expect(&rt, "an outcome");
-    let wanted = [Money(1833), Money(1833), Money(3333)];
-    same(
-        &rt,
-        outcome.rests.as_slice(),
-        wanted.as_slice(),
-        "the rests",
-    );
-    same(
-        &rt,
-        outcome.priced.as_slice(),
-        [2, 1].as_slice(),
-        "the prices",
-    );
-}
-
-/// Workers, the step, the most raises, and the fault of a plain count, if it has one.
-const OPTIONS: &[(u32, u64, u32, Option<CountFault>)] = &[
-    (0, 100, 0, Some(CountFault::WorkerCount)),
-    (65, 100, 0, Some(CountFault::WorkerCount)),
-    (0, 0, 0, Some(CountFault::WorkerCount)),
-    (1, 0, 0, Some(CountFault::StepRange)),
-    (1, 1_000_000_001, 0, Some(CountFault::StepRange)),
-    (1, 100, 1_000_001, Some(CountFault::RaisesRange)),
-    (1, 1, 0, None),
-    (64, 1_000_000_000, 1_000_000, None),
-];
-
-#[test]
-fn refuses_options(rt: HostRuntime) {
-    let three = three_voters(&rt, rt.alloc());
-    for (workers, step, max_raises, wanted) in OPTIONS {
-        let options = CountOptions {
-            completion: Completion::Plain,
-            ..options(*step, *max_raises, *workers)
-        };
-        let fault = fault_of(&rt, rt.alloc(), &three, &options);
-        same(&rt, fault, *wanted, "options");
-    }
-}
-
-#[test]
-fn refuses_65_workers(rt: HostRuntime) {
-    let three = three_voters(&rt, rt.alloc());
-    let run = equal_shares(
-        &rt,
-        rt.alloc(),
-        &three,
-        Money(100),
-        65,
-        Measure::Votes,
-        &NoGate,
-    );
-    same(&rt, run.err(), Some(CountFault::WorkerCount), "a run");
-}
-
-#[test]
-fn keys_have_their_parts(rt: HostRuntime) {
-    let key = Key::new(Money(400), 3, 2);
-    let parts = (key.price().0, key.weight(), key.place());
-    same(&rt, parts, (400, 3, 2), "a key");
+    let refused = run(&rt, rt.alloc(), THREE_VOTERS, 65, &NoGate).err();
+    same(&rt, refused, Some(CountFault::WorkerCount), "65 workers");
 }
 
 /// Price, weight and place of two keys, of which the first comes before the second.
@@ -429,10 +259,18 @@ const KEYS: &[((u64, u64, u32), (u64, u64, u32))] = &[
     ((u64::MAX - 1, u64::MAX, 9), (u64::MAX, u64::MAX, 0)),
 ];
 
+/// The key with these parts.
 fn key(rt: &impl Abort, parts: (u64, u64, u32)) -> Key {
     let (price, weight, place) = parts;
     assert!(rt; 1 <= weight);
-    Key::new(Money(price), weight, place)
+    let key = Key::new(Money(price), weight, place);
+    same(
+        rt,
+        (key.price().0, key.weight(), key.place()),
+        parts,
+        "a key",
+    );
+    key
 }
 
 #[test]

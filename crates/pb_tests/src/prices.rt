@@ -1,11 +1,12 @@
+//! Supporters, prices, and workers who price side by side.
+
 ghost use Rattle.std.specs.Prelude.{◌<◌, ◌≤◌, All, length};
 ghost use Rattle.std.specs.Bool.{OnTrue};
 ghost use Rattle.pb_core.specs.Election.{most_projects};
 ghost use Rattle.pb_price.specs.Price.{AreRests};
 
 use crate::checks::{holds, same, tells};
-use crate::elections;
-use crate::elections::{add_next_voter, numbered};
+use crate::elections::{THREE_VOTERS, read};
 use pb_core::money::Money;
 use pb_price::gate::{Gate, NoGate};
 use pb_price::price::price;
@@ -19,13 +20,12 @@ use std::thread::{Threads, yield_now};
 /// The largest share of a voter.
 const LARGEST_SHARE: Money = Money(2_000_000_000_000_000);
 
-/// The supporters of one project of this cost, whom this many voters all support.
-fn all_support(rt: &impl Abort, alloc: Global, cost: u64, voters: usize) -> Supporters {
-    let mut election = numbered(rt, alloc, 0, &[cost], &[]);
-    for _ in 0..voters {
-        add_next_voter(rt, alloc, &mut election, &[0]);
-    }
-    Supporters::build(alloc, &election).expect(rt, "memory")
+/// The supporters of the projects of this file.
+fn supporters(rt: &impl Abort, alloc: Global, file: &str) -> Supporters {
+    let election = read(rt, alloc, file);
+    let supporters = Supporters::build(alloc, &election).expect(rt, "memory");
+    drop(election);
+    supporters
 }
 
 /// Whether there is a rest for each voter, none above the largest share, and a project at each of these places.
@@ -38,15 +38,6 @@ fn can_price(supporters: &Supporters, rests: &[Money], projects: &[u32]) -> bool
         && projects.len() <= 10_000
         && projects.iter().all(|place| *place < supporters.projects())
         && rests.iter().all(|rest| *rest <= LARGEST_SHARE)
-}
-
-/// These amounts, in hundredths.
-fn amounts(rt: &impl Abort, alloc: Global, hundredths: &[u64]) -> Vec<Money> {
-    let mut amounts = Vec::new(alloc);
-    for amount in hundredths {
-        amounts.push(Money(*amount)).expect(rt, "memory");
-    }
-    amounts
 }
 
 /// The price of the project at this place by `price` and by `price_in_steps`, which have to agree.
@@ -66,30 +57,6 @@ fn priced(
     sorted
 }
 
-/// The prices of all these projects by this many workers, and how far the tally grew.
-fn all_priced<R: Threads + Abort + Sync, G: Gate>(
-    rt: &R,
-    alloc: Global,
-    workers: u32,
-    gate: &G,
-    projects: &[u32],
-    supporters: &Supporters,
-    rests: &[Money],
-) -> (Result<Vec<Option<Money>>, PriceFault>, u64) {
-    assert!(rt; can_price(supporters, rests, projects));
-    let mut tally = Tally::new();
-    let answer = price_all(
-        rt, alloc, workers, gate, projects, supporters, rests, &mut tally,
-    );
-    (answer, tally.count())
-}
-
-/// The election of the three voters: a costs 30.00, b costs 60.00; the voters approve a; a and b; b.
-fn three_voters(rt: &impl Abort, alloc: Global) -> Supporters {
-    let election = elections::three_voters(rt, alloc);
-    Supporters::build(alloc, &election).expect(rt, "memory")
-}
-
 /// The project at this place has these supporters and this cost.
 fn is_supported(rt: &impl Abort, supporters: &Supporters, place: u32, by: &[u32], cost: u64) {
     assert!(rt; place < supporters.projects());
@@ -99,24 +66,41 @@ fn is_supported(rt: &impl Abort, supporters: &Supporters, place: u32, by: &[u32]
 
 #[test]
 fn lists_supporters(rt: HostRuntime) {
-    let supporters = three_voters(&rt, rt.alloc());
+    let supporters = supporters(&rt, rt.alloc(), THREE_VOTERS);
     same(&rt, supporters.projects(), 2, "projects");
     same(&rt, supporters.voters(), 3, "voters");
     is_supported(&rt, &supporters, 0, &[0, 1], 3000);
     is_supported(&rt, &supporters, 1, &[1, 2], 6000);
 }
 
-/// A cost, what is left to each supporter, and the price.
-const PRICES: &[(u64, &[u64], Option<u64>)] = &[
-    (1, &[5], Some(1)),
-    (7, &[3, 3, 3], Some(3)),
-    (6, &[4, 1, 4], Some(3)),
-    (1000, &[0, 1000, 0], Some(1000)),
-    (1001, &[0, 1000, 0], None),
-    (1900, &[600, 600, 1000], Some(700)),
-    (5, &[], None),
+/// The supporters of one project of this cost: of as many voters as there are numbers, those whose number is not 0.
+fn some_support(rt: &impl Abort, alloc: Global, cost: u64, numbers: &[u32]) -> Supporters {
+    let mut file = String::new(alloc);
+    let cost = Money(cost).text(alloc).expect(rt, "memory");
+    write!(
+        file,
+        "META\nkey;value\nbudget;0\nvote_type;approval\nPROJECTS\nproject_id;cost\np;{cost}\nVOTES\nvoter_id;vote\n"
+    )
+    .expect(rt, "memory");
+    for (i, number) in numbers.iter().enumerate() {
+        let vote = if *number > 0 { "p" } else { "" };
+        write!(file, "{i};{vote}\n").expect(rt, "memory");
+    }
+    supporters(rt, alloc, file.as_str())
+}
+
+/// A cost, a number for each voter (all of these support it), what is left to each of them, and the price.
+const PRICES: &[(u64, &[u32], &[u64], Option<u64>)] = &[
+    (1, &[1], &[5], Some(1)),
+    (7, &[1, 1, 1], &[3, 3, 3], Some(3)),
+    (6, &[1, 1, 1], &[4, 1, 4], Some(3)),
+    (1000, &[1, 1, 1], &[0, 1000, 0], Some(1000)),
+    (1001, &[1, 1, 1], &[0, 1000, 0], None),
+    (1900, &[1, 1, 1], &[600, 600, 1000], Some(700)),
+    (5, &[], &[], None),
     (
         1_000_000_000_000_000,
+        &[1, 1, 1],
         &[
             2_000_000_000_000_000,
             2_000_000_000_000_000,
@@ -126,6 +110,7 @@ const PRICES: &[(u64, &[u64], Option<u64>)] = &[
     ),
     (
         1_000_000_000_000_000,
+        &[1, 1, 1],
         &[
             2_000_000_000_000_000,
             100_000_000_000_000,
@@ -135,13 +120,25 @@ const PRICES: &[(u64, &[u64], Option<u64>)] = &[
     ),
 ];
 
+/// These amounts, in hundredths.
+fn amounts(rt: &impl Abort, alloc: Global, hundredths: &[u64]) -> Vec<Money> {
+    let mut amounts = Vec::new(alloc);
+    for amount in hundredths {
+        amounts.push(Money(*amount)).expect(rt, "memory");
+    }
+    amounts
+}
+
 #[test]
 fn prices_by_what_is_left(rt: HostRuntime) {
-    for (cost, rests, wanted) in PRICES {
-        let supporters = all_support(&rt, rt.alloc(), *cost, rests.len());
+    for (cost, voters, rests, wanted) in PRICES {
+        let supporters = some_support(&rt, rt.alloc(), *cost, voters);
         let rests = amounts(&rt, rt.alloc(), rests);
-        let found = priced(&rt, rt.alloc(), &supporters, &rests, 0);
-        same(&rt, found.map(|price| price.0), *wanted, "a price");
+        let found = match priced(&rt, rt.alloc(), &supporters, rests.as_slice(), 0) {
+            Some(price) => Some(price.0),
+            None => None,
+        };
+        same(&rt, found, *wanted, "a price");
     }
 }
 
@@ -164,16 +161,6 @@ fn by_trial(cost: u64, supporters: &[u32], rests: &[Money]) -> Option<Money> {
         }
     }
     None
-}
-
-/// The supporters of one project of this cost: of as many voters as there are numbers, those whose number is not 0.
-fn some_support(rt: &impl Abort, alloc: Global, cost: u64, numbers: &[u32]) -> Supporters {
-    let mut election = numbered(rt, alloc, 0, &[cost], &[]);
-    for number in numbers {
-        let places: &[u32] = if *number > 0 { &[0] } else { &[] };
-        add_next_voter(rt, alloc, &mut election, places);
-    }
-    Supporters::build(alloc, &election).expect(rt, "memory")
 }
 
 /// This many of the next numbers, each below the limit.
@@ -203,12 +190,12 @@ fn rests_of(rt: &impl Abort, alloc: Global, parts: &[u32], part: u64) -> Vec<Mon
 fn agrees_with_a_trial(rt: &impl Abort, alloc: Global, cost: u64, support: &[u32], parts: &[u32]) {
     let supporters = some_support(rt, alloc, cost, support);
     let small = rests_of(rt, alloc, parts, 1);
-    let found = priced(rt, alloc, &supporters, &small, 0);
+    let found = priced(rt, alloc, &supporters, small.as_slice(), 0);
     assert!(rt; 0 < supporters.projects());
-    let wanted = by_trial(cost, supporters.of(0), &small);
+    let wanted = by_trial(cost, supporters.of(0), small.as_slice());
     same(rt, found, wanted, "a price by trial");
     let large = rests_of(rt, alloc, parts, 100_000_000_000_000);
-    priced(rt, alloc, &supporters, &large, 0);
+    priced(rt, alloc, &supporters, large.as_slice(), 0);
 }
 
 /// Elections with one project and a few voters, most of whom support it, and less than 20 left to each.
@@ -221,8 +208,60 @@ fn agrees_with_the_trials(rt: HostRuntime) {
         let voters = next(&mut state) % 9;
         let support = draws(&rt, alloc, &mut state, voters, 4);
         let parts = draws(&rt, alloc, &mut state, voters, 20);
-        agrees_with_a_trial(&rt, alloc, cost, &support, &parts);
+        agrees_with_a_trial(&rt, alloc, cost, support.as_slice(), parts.as_slice());
     }
+}
+
+/// What is left to each of the three voters.
+const SHARE: [Money; 3] = [Money(3333), Money(3333), Money(3333)];
+
+/// These prices, in hundredths.
+fn found(rt: &impl Abort, alloc: Global, hundredths: &[u64]) -> Vec<Option<Money>> {
+    let mut prices = Vec::new(alloc);
+    for price in hundredths {
+        prices.push(Some(Money(*price))).expect(rt, "memory");
+    }
+    prices
+}
+
+/// The prices of these projects of the three voters by this many workers, where this share is left to each, or the
+/// fault; and how far the tally grew.
+fn priced_by<R: Threads + Abort + Sync, G: Gate>(
+    rt: &R,
+    alloc: Global,
+    workers: u32,
+    gate: &G,
+    projects: &[u32],
+) -> (Result<Vec<Option<Money>>, PriceFault>, u64) {
+    let supporters = supporters(rt, alloc, THREE_VOTERS);
+    assert!(rt; can_price(&supporters, &SHARE, projects));
+    let mut tally = Tally::new();
+    let prices = price_all(
+        rt,
+        alloc,
+        workers,
+        gate,
+        projects,
+        &supporters,
+        &SHARE,
+        &mut tally,
+    );
+    (prices, tally.count())
+}
+
+/// The workers give these prices, and the tally grows by as many.
+fn prices_as<R: Threads + Abort + Sync, G: Gate>(
+    rt: &R,
+    alloc: Global,
+    workers: u32,
+    gate: &G,
+    projects: &[u32],
+    wanted: &[u64],
+) {
+    let (prices, tally) = priced_by(rt, alloc, workers, gate, projects);
+    let (prices, wanted) = (prices.expect(rt, "prices"), found(rt, alloc, wanted));
+    same(rt, prices.as_slice(), wanted.as_slice(), "prices");
+    same(rt, tally, projects.len() as u64, "the tally");
 }
 
 /// Counts how often each piece came to the gate.
@@ -239,81 +278,55 @@ impl Gate for Visits {
     }
 }
 
-/// Projects to be priced where 33.33 is left to each of the three voters, and their prices.
-const BATCHES: &[(&[u32], &[u64])] = &[
-    (&[], &[]),
-    (&[1], &[3000]),
-    (&[0, 1], &[1500, 3000]),
-    (&[1, 0, 1, 1], &[3000, 1500, 3000, 3000]),
+impl Visits {
+    /// A gate that has seen nothing.
+    fn none() -> Visits {
+        let pieces = [
+            AtomicU32::new(0),
+            AtomicU32::new(0),
+            AtomicU32::new(0),
+            AtomicU32::new(0),
+        ];
+        Visits { pieces }
+    }
+
+    /// How often it has seen each piece.
+    fn seen(&self) -> [u32; 4] {
+        [
+            self.pieces[0].load(SeqCst),
+            self.pieces[1].load(SeqCst),
+            self.pieces[2].load(SeqCst),
+            self.pieces[3].load(SeqCst),
+        ]
+    }
+}
+
+/// Projects to be priced, their prices, and how often each piece comes to the gate.
+const BATCHES: &[(&[u32], &[u64], &[u32])] = &[
+    (&[], &[], &[0, 0, 0, 0]),
+    (&[1], &[3000], &[1, 0, 0, 0]),
+    (&[0, 1], &[1500, 3000], &[1, 1, 0, 0]),
+    (&[1, 0, 1, 1], &[3000, 1500, 3000, 3000], &[1, 1, 1, 1]),
 ];
-
-/// What is left to each of the three voters.
-const SHARE: [Money; 3] = [Money(3333), Money(3333), Money(3333)];
-
-/// Each project has this price.
-fn are_prices(rt: &impl Abort, prices: &[Option<Money>], wanted: &[u64]) {
-    same(rt, prices.len(), wanted.len(), "the number of prices");
-    for (price, hundredths) in prices.iter().zip(wanted) {
-        same(rt, *price, Some(Money(*hundredths)), "a price");
-    }
-}
-
-/// A gate that has seen nothing.
-fn no_visits() -> Visits {
-    let pieces = [
-        AtomicU32::new(0),
-        AtomicU32::new(0),
-        AtomicU32::new(0),
-        AtomicU32::new(0),
-    ];
-    Visits { pieces }
-}
-
-/// These workers give these prices. Each piece comes to the gate once, and the tally grows by the pieces.
-fn prices_as<R: Threads + Abort + Sync>(
-    rt: &R,
-    alloc: Global,
-    workers: u32,
-    projects: &[u32],
-    wanted: &[u64],
-) {
-    let supporters = three_voters(rt, alloc);
-    let gate = no_visits();
-    let (answer, count) = all_priced(rt, alloc, workers, &gate, projects, &supporters, &SHARE);
-    let prices = answer.expect(rt, "prices");
-    are_prices(rt, prices.as_slice(), wanted);
-    same(rt, count, (projects.len() as u64), "the tally");
-    for (piece, visits) in gate.pieces.iter().enumerate() {
-        let once = if piece < projects.len() { 1 } else { 0 };
-        same(rt, visits.load(SeqCst), once, "visits");
-    }
-}
 
 /// The answers are those of one worker, for every number of workers.
 #[test]
 fn prices_all_by_any_number_of_workers(rt: HostRuntime) {
     for workers in [1, 2, 3, 64] {
-        for (projects, wanted) in BATCHES {
-            prices_as(&rt, rt.alloc(), workers, projects, wanted);
+        for (projects, prices, visits) in BATCHES {
+            let gate = Visits::none();
+            prices_as(&rt, rt.alloc(), workers, &gate, projects, prices);
+            same(&rt, gate.seen().as_slice(), *visits, "visits");
         }
     }
 }
 
 #[test]
 fn refuses_a_number_of_workers(rt: HostRuntime) {
-    let supporters = three_voters(&rt, rt.alloc());
     for workers in [0, 65, u32::MAX] {
-        let (answer, count) = all_priced(
-            &rt,
-            rt.alloc(),
-            workers,
-            &NoGate,
-            &[0, 1],
-            &supporters,
-            &SHARE,
-        );
-        same(&rt, answer.err(), Some(PriceFault::WorkerCount), "workers");
-        same(&rt, count, 0, "the tally");
+        let (prices, tally) = priced_by(&rt, rt.alloc(), workers, &NoGate, &[0, 1]);
+        same(&rt, prices.err(), Some(PriceFault::WorkerCount), "workers");
+        same(&rt, tally, 0, "the tally");
     }
 }
 
@@ -341,15 +354,11 @@ impl Gate for Meeting {
 /// The workers run side by side: of two pieces neither could be priced before the other was drawn.
 #[test]
 fn prices_side_by_side(rt: HostRuntime) {
-    let supporters = three_voters(&rt, rt.alloc());
     let gate = Meeting {
         came: [AtomicBool::new(false), AtomicBool::new(false)],
         met: [AtomicBool::new(false), AtomicBool::new(false)],
     };
-    let (answer, count) = all_priced(&rt, rt.alloc(), 2, &gate, &[0, 1], &supporters, &SHARE);
-    let prices = answer.expect(&rt, "prices");
-    are_prices(&rt, prices.as_slice(), &[1500, 3000]);
-    same(&rt, count, 2, "the tally");
+    prices_as(&rt, rt.alloc(), 2, &gate, &[0, 1], &[1500, 3000]);
     holds(
         &rt,
         gate.met[0].load(SeqCst),

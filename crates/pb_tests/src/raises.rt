@@ -1,8 +1,8 @@
-//! Counts of made elections, by groups of raises and with raises left out, beside the rule alone: one raise after the other.
+//! Counts of made elections, by groups of raises and with raises left out, beside the rule alone: one raise after the
+//! other.
 
-ghost use Rattle.std.specs.Prelude.{◌<◌};
-
-use crate::elections::{add_next_voter, numbered};
+use crate::checks::same;
+use crate::elections::read;
 use pb_core::election::Election;
 use pb_core::money::Money;
 use pb_price::gate::NoGate;
@@ -13,46 +13,60 @@ use pb_rounds::options::{Completion, CountOptions};
 use pb_rounds::outcome::Outcome;
 use std::alloc::Global;
 use std::process::Abort;
-use std::test::Fail;
 use std::thread::Threads;
 
-/// The next number of a simple recurrence, below this one.
-fn draw(seed: &mut u64, below: u64) -> u64
-    requires { 0 < below }
-    ensures { result < below }
-{
+/// The next number of a simple recurrence, below this one, which is not 0.
+fn draw(seed: &mut u64, below: u64) -> u64 {
     *seed = seed
         .wrapping_mul(6_364_136_223_846_793_005)
         .wrapping_add(1_442_695_040_888_963_407);
-    (*seed >> 33) % below
+    (*seed / 8_589_934_592).checked_rem(below).unwrap_or(0)
 }
 
-/// Some of these projects.
-fn draw_places(alloc: Global, seed: &mut u64, projects: u32) -> Result<Vec<u32>, Fail> {
-    let mut places = Vec::new(alloc);
-    let among = 2 + draw(seed, 4);
+/// The next number from 1 up to this one.
+fn draw_from_one(seed: &mut u64, last: u64) -> u64 {
+    draw(seed, last).saturating_add(1)
+}
+
+/// The row of a project that costs less than 1.51.
+fn add_project(rt: &impl Abort, alloc: Global, file: &mut String, seed: &mut u64, place: u64) {
+    let cost = Money(draw_from_one(seed, 150));
+    let cost = cost.text(alloc).expect(rt, "memory");
+    write!(file, "{place};{cost}\n").expect(rt, "memory");
+}
+
+/// The row of a voter who approves some of these projects.
+fn add_voter(rt: &impl Abort, file: &mut String, seed: &mut u64, voter: u64, projects: u64) {
+    write!(file, "{voter};").expect(rt, "memory");
+    let among = draw(seed, 4).saturating_add(2);
+    let mut comma = "";
     for place in 0..projects {
         if draw(seed, among) == 0 {
-            places.push(place)?;
+            write!(file, "{comma}{place}").expect(rt, "memory");
+            comma = ",";
         }
     }
-    Ok(places)
+    file.push('\n').expect(rt, "memory");
 }
 
-/// An election of 1 to 5 projects and up to 6 voters, with a budget below 4.00.
-fn made_election(rt: &impl Abort, alloc: Global, seed: &mut u64) -> Result<Election, Fail> {
-    let budget = draw(seed, 400);
-    let projects = 1 + draw(seed, 5) as u32;
-    let mut costs = Vec::new(alloc);
-    for _ in 0..projects {
-        costs.push(1 + draw(seed, 150))?;
+/// A file of 1 to 5 projects and up to 6 voters, with a budget below 4.00.
+fn made_file(rt: &impl Abort, alloc: Global, seed: &mut u64) -> String {
+    let mut file = String::new(alloc);
+    let budget = Money(draw(seed, 400)).text(alloc).expect(rt, "memory");
+    write!(
+        file,
+        "META\nkey;value\nbudget;{budget}\nvote_type;approval\nPROJECTS\nproject_id;cost\n"
+    )
+    .expect(rt, "memory");
+    let projects = draw_from_one(seed, 5);
+    for place in 0..projects {
+        add_project(rt, alloc, &mut file, seed, place);
     }
-    let mut election = numbered(rt, alloc, budget, costs.as_slice(), &[]);
-    for _ in 0..draw(seed, 7) {
-        let places = draw_places(alloc, seed, projects)?;
-        add_next_voter(rt, alloc, &mut election, places.as_slice());
+    file.push_str("VOTES\nvoter_id;vote\n").expect(rt, "memory");
+    for voter in 0..draw(seed, 7) {
+        add_voter(rt, &mut file, seed, voter, projects);
     }
-    Ok(election)
+    file
 }
 
 /// What the elected cost together.
@@ -91,57 +105,105 @@ fn run_at(
     election: &Election,
     share: u64,
     measure: Measure,
-) -> Result<Outcome, Fail> {
+) -> Outcome {
     assert!(rt; share <= 2_000_000_000_000_000);
-    let outcome = equal_shares(rt, alloc, election, Money(share), 1, measure, &NoGate)?;
-    Ok(outcome)
+    let run = equal_shares(rt, alloc, election, Money(share), 1, measure, &NoGate);
+    run.expect(rt, "an outcome")
 }
 
-/// The rule alone: the first outcome that is exhausted, or the last one before the first that is over.
-fn plain_count(
+/// How a run at a share ends.
+#[derive(Clone, Copy)]
+enum End {
+    /// The elected cost more than the budget.
+    Over,
+    /// Nothing more could be bought.
+    Exhausted,
+    /// Something could be bought.
+    Open,
+}
+
+/// How the run at this share ends.
+fn end_at(
+    rt: &(impl Abort + Threads + Sync),
+    alloc: Global,
+    election: &Election,
+    share: u64,
+    measure: Measure,
+) -> End {
+    let outcome = run_at(rt, alloc, election, share, measure);
+    let (budget, spent) = (election.budget().0, spent(rt, election, &outcome));
+    let end = if spent > budget {
+        End::Over
+    } else if has_room(election, &outcome, budget - spent) {
+        End::Open
+    } else {
+        End::Exhausted
+    };
+    drop(outcome);
+    end
+}
+
+/// The rule alone: the share of the first outcome that is exhausted, or of the last one before the first that is over.
+fn share_by_rule(
     rt: &(impl Abort + Threads + Sync),
     alloc: Global,
     election: &Election,
     options: &CountOptions,
-) -> Result<Option<Outcome>, Fail> {
-    let budget = election.budget().0;
+) -> Option<u64> {
     let voters = election.voters().len() as u64;
-    let opening = if voters == 0 { 0 } else { budget / voters };
+    let opening = election.budget().0.checked_div(voters).unwrap_or(0);
     let mut last = None;
     for raised in 0..options.max_raises.saturating_add(1) {
         let raise = u64::from(raised).saturating_mul(options.step.0);
         let share = opening.saturating_add(raise);
-        let outcome = run_at(rt, alloc, election, share, options.measure)?;
-        let spent = spent(rt, election, &outcome);
-        if spent > budget {
-            return Ok(last);
+        match end_at(rt, alloc, election, share, options.measure) {
+            End::Over => return last,
+            End::Exhausted => return Some(share),
+            End::Open => last = Some(share),
         }
-        if !has_room(election, &outcome, budget - spent) {
-            return Ok(Some(outcome));
-        }
-        last = Some(outcome);
     }
-    Ok(None)
+    None
 }
 
-/// Counts with this many workers, and compares with what the rule gives.
+/// The two have the same share, the same elected, and the same left to each voter.
+fn are_same(rt: &impl Abort, counted: &Outcome, plain: &Outcome) {
+    same(rt, counted.share, plain.share, "the share");
+    let (found, wanted) = (counted.elected.as_slice(), plain.elected.as_slice());
+    same(rt, found, wanted, "the elected");
+    let (found, wanted) = (counted.rests.as_slice(), plain.rests.as_slice());
+    same(rt, found, wanted, "the rests");
+}
+
+/// A count has the outcome of the run at this share.
 fn counts_as(
     rt: &(impl Abort + Threads + Sync),
     alloc: Global,
     election: &Election,
     options: &CountOptions,
-    plain: &Option<Outcome>,
-) -> Result<(), Fail> {
-    match (count(rt, alloc, election, options), plain) {
-        (Ok(outcome), Some(plain)) => {
-            assert_eq!(rt; outcome.share, plain.share);
-            assert_eq!(rt; outcome.elected.as_slice(), plain.elected.as_slice());
-            assert_eq!(rt; outcome.rests.as_slice(), plain.rests.as_slice());
+    share: u64,
+) {
+    let plain = run_at(rt, alloc, election, share, options.measure);
+    let counted = count(rt, alloc, election, options).expect(rt, "an outcome");
+    are_same(rt, &counted, &plain);
+    drop(counted);
+    drop(plain);
+}
+
+/// Counts with this many workers, and compares with what the rule gives.
+fn counts_by_rule(
+    rt: &(impl Abort + Threads + Sync),
+    alloc: Global,
+    election: &Election,
+    options: &CountOptions,
+    share: Option<u64>,
+) {
+    match share {
+        Some(share) => counts_as(rt, alloc, election, options, share),
+        None => {
+            let fault = count(rt, alloc, election, options).err();
+            same(rt, fault, Some(CountFault::RaisesSpent), "a count");
         }
-        (Err(fault), None) => assert_eq!(rt; fault, CountFault::RaisesSpent),
-        _ => assert!(rt; false),
     }
-    Ok(())
 }
 
 /// Counts the election with several numbers of workers.
@@ -150,25 +212,21 @@ fn counts_alike(
     alloc: Global,
     election: &Election,
     one: &CountOptions,
-) -> Result<(), Fail> {
-    let plain = plain_count(rt, alloc, election, one)?;
+) {
+    let share = share_by_rule(rt, alloc, election, one);
     for workers in [1, 2, 3, 64] {
         let options = CountOptions { workers, ..*one };
-        counts_as(rt, alloc, election, &options, &plain)?;
+        counts_by_rule(rt, alloc, election, &options, share);
     }
-    Ok(())
 }
 
 /// Counts one made election by both measures.
-fn counts_one(
-    rt: &(impl Abort + Threads + Sync),
-    alloc: Global,
-    seed: &mut u64,
-) -> Result<(), Fail> {
-    let election = made_election(rt, alloc, seed)?;
+fn counts_one(rt: &(impl Abort + Threads + Sync), alloc: Global, seed: &mut u64) {
+    let file = made_file(rt, alloc, seed);
+    let election = read(rt, alloc, file.as_str());
     let votes = CountOptions {
-        step: Money(1 + draw(seed, 20)),
-        max_raises: draw(seed, 30) as u32,
+        step: Money(draw_from_one(seed, 20)),
+        max_raises: u32::try_from(draw(seed, 30)).unwrap_or(30),
         workers: 1,
         completion: Completion::Add1,
         measure: Measure::Votes,
@@ -177,15 +235,15 @@ fn counts_one(
         measure: Measure::Cost,
         ..votes
     };
-    counts_alike(rt, alloc, &election, &votes)?;
-    counts_alike(rt, alloc, &election, &cost)
+    counts_alike(rt, alloc, &election, &votes);
+    counts_alike(rt, alloc, &election, &cost);
+    drop(election);
 }
 
 #[test]
-fn counts_as_the_rule_alone(rt: HostRuntime) -> Result<(), Fail> {
+fn counts_as_the_rule_alone(rt: HostRuntime) {
     let mut seed = 1;
     for _ in 0..300 {
-        counts_one(&rt, rt.alloc(), &mut seed)?;
+        counts_one(&rt, rt.alloc(), &mut seed);
     }
-    Ok(())
 }

@@ -1,3 +1,5 @@
+//! Records and rows, numbers and lists of places.
+
 use crate::checks::{holds, same, shows};
 use csv::StringRecord;
 use pb_rows::{
@@ -17,39 +19,45 @@ fn show_row(rt: &impl Abort, shown: &mut String, row: &StringRecord) {
     shown.push('|').expect(rt, "memory");
 }
 
-/// The records of a text: each field in brackets, and a bar after each record.
-fn shown(rt: &impl Abort, alloc: Global, text: &[u8]) -> String {
-    let mut records = Records::new(alloc, text);
+/// What so many reads give, one after the other: each record's fields in brackets, and a bar; a point at the end, where
+/// the record is empty; and the fault of a read that fails.
+fn shown<R: Read + Drop>(rt: &impl Abort, alloc: Global, reader: R, reads: u32) -> String {
+    let mut records = Records::new(alloc, reader);
     let mut row = StringRecord::new(alloc);
     let mut shown = String::new(alloc);
-    for _ in 0..100 {
-        if !records.read(&mut row).expect(rt, "a record") {
-            break;
+    for _ in 0..reads {
+        match records.read(&mut row) {
+            Ok(true) => show_row(rt, &mut shown, &row),
+            Ok(false) if row.is_empty() => shown.push('.').expect(rt, "memory"),
+            Ok(false) => show_row(rt, &mut shown, &row),
+            Err(fault) => write!(shown, "({fault})").expect(rt, "memory"),
         }
-        show_row(rt, &mut shown, &row);
     }
     shown
 }
 
-/// Texts, and their records as `shown` gives them.
-const RECORDS: &[(&str, &str)] = &[
-    ("", ""),
-    ("a;b\nc;d;e\nf", "[a][b]|[c][d][e]|[f]|"),
-    ("\"x;y\";\"say \"\"hi\"\"\"\r\nz", "[x;y][say \"hi\"]|[z]|"),
-    ("\"two\nlines\"; b \n", "[two\nlines][ b ]|"),
-    ("a,b\n\n\r\nc\n", "[a,b]|[c]|"),
-    (";\n\"\"\n", "[][]|[]|"),
-    ("\u{feff}a\n\u{feff}b\n", "[a]|[\u{feff}b]|"),
-    ("\u{feff}\u{feff}a", "[\u{feff}a]|"),
+/// Texts, how many reads, and what they give.
+const RECORDS: &[(&[u8], u32, &str)] = &[
+    (b"", 1, "."),
+    (b"a;b\nc;d;e\nf", 4, "[a][b]|[c][d][e]|[f]|."),
+    (
+        b"\"x;y\";\"say \"\"hi\"\"\"\r\nz",
+        3,
+        "[x;y][say \"hi\"]|[z]|.",
+    ),
+    (b"\"two\nlines\"; b \n", 2, "[two\nlines][ b ]|."),
+    (b"a,b\n\n\r\nc\n", 3, "[a,b]|[c]|."),
+    (b";\n\"\"\n", 3, "[][]|[]|."),
+    (b"\xef\xbb\xbfa\n\xef\xbb\xbfb\n", 3, "[a]|[\u{feff}b]|."),
+    (b"\xef\xbb\xbf\xef\xbb\xbfa", 2, "[\u{feff}a]|."),
+    // The end stays the end, and so does a field that is no text.
+    (b"a\n", 3, "[a]|.."),
+    (
+        b"a\nb;\xff\nc\n",
+        3,
+        "[a]|(a field is not UTF-8)(a field is not UTF-8)",
+    ),
 ];
-
-#[test]
-fn records(rt: HostRuntime) {
-    for (text, wanted) in RECORDS {
-        let found = shown(&rt, rt.alloc(), text.as_bytes());
-        same(&rt, found.as_str(), *wanted, text);
-    }
-}
 
 /// Gives its text byte by byte, and then an error, and then an end.
 #[derive(Drop)]
@@ -75,54 +83,25 @@ impl<'a> Read for Broken<'a> {
     }
 }
 
-/// Reads go on like this, one after the other.
-fn reads<R: Read>(
-    rt: &impl Abort,
-    alloc: Global,
-    records: &mut Records<R>,
-    answers: &[Result<bool, RecordsFault>],
-) {
-    let mut row = StringRecord::new(alloc);
-    for answer in answers {
-        same(rt, records.read(&mut row), *answer, "a read");
+#[test]
+fn records(rt: HostRuntime) {
+    for (text, reads, wanted) in RECORDS {
+        let found = shown(&rt, rt.alloc(), *text, *reads);
+        same(&rt, found.as_str(), *wanted, wanted);
     }
-}
-
-#[test]
-fn stops_at_the_end(rt: HostRuntime) {
-    let mut row = StringRecord::new(rt.alloc());
-    let mut records = Records::new(rt.alloc(), b"a\n".as_slice());
-    for found in [true, false, false] {
-        same(&rt, records.read(&mut row), Ok(found), "a read");
-        holds(&rt, row.is_empty() != found, "its record");
-    }
-}
-
-#[test]
-fn stops_at_what_is_no_text(rt: HostRuntime) {
-    let mut records = Records::new(rt.alloc(), b"a\nb;\xff\nc\n".as_slice());
-    let no_text = Err(RecordsFault::NotText);
-    reads(&rt, rt.alloc(), &mut records, &[Ok(true), no_text, no_text]);
-}
-
-#[test]
-fn stops_at_a_failed_reader(rt: HostRuntime) {
     let broken = Broken {
         text: b"a;b\nc",
         has_failed: false,
     };
-    let mut records = Records::new(rt.alloc(), broken);
-    let failed = Err(RecordsFault::ReadFailed);
-    reads(&rt, rt.alloc(), &mut records, &[Ok(true), failed, failed]);
+    let found = shown(&rt, rt.alloc(), broken, 3);
+    let wanted = "[a][b]|(the reader failed)(the reader failed)";
+    same(&rt, found.as_str(), wanted, "a failed reader");
 }
 
 #[test]
-fn tells_faults(rt: HostRuntime) {
-    let (alloc, no_memory) = (rt.alloc(), csv::Error::out_of_memory());
-    shows(&rt, alloc, &RecordsFault::ReadFailed, "the reader failed");
-    shows(&rt, alloc, &RecordsFault::NotText, "a field is not UTF-8");
-    let fault = RecordsFault::from(no_memory);
-    shows(&rt, alloc, &fault, "out of memory");
+fn tells_that_memory_is_out(rt: HostRuntime) {
+    let fault = RecordsFault::from(csv::Error::out_of_memory());
+    shows(&rt, rt.alloc(), &fault, "out of memory");
 }
 
 /// The text of these rows.
@@ -165,27 +144,26 @@ const FIELDS: &[&str] = &[
     "\u{feff}",
 ];
 
-/// The next record has these fields, and no others.
-fn reads_row<R: Read>(rt: &impl Abort, alloc: Global, records: &mut Records<R>, wanted: &[&str]) {
-    let mut row = StringRecord::new(alloc);
-    same(rt, records.read(&mut row), Ok(true), "a row");
-    same(rt, row.len(), wanted.len(), "the number of fields");
-    for (i, field) in wanted.iter().enumerate() {
-        same(rt, row.get(i), Some(*field), "a field");
+/// Each of these fields in brackets, and a bar.
+fn show_fields(rt: &impl Abort, shown: &mut String, fields: &[&str]) {
+    for field in fields {
+        write!(shown, "[{field}]").expect(rt, "memory");
     }
+    shown.push('|').expect(rt, "memory");
 }
 
 /// These two rows are read back from their text, and no others.
 fn come_back(rt: &impl Abort, alloc: Global, first: &[&str], second: &[&str]) {
+    let mut wanted = String::new(alloc);
+    show_fields(rt, &mut wanted, first);
+    show_fields(rt, &mut wanted, second);
+    wanted.push('.').expect(rt, "memory");
     let mut rows = RowsWriter::start(alloc);
     rows.put_row(first).expect(rt, "memory");
     rows.put_row(second).expect(rt, "memory");
     let text = rows.finish().expect(rt, "memory");
-    let mut records = Records::new(alloc, text.as_slice());
-    reads_row(rt, alloc, &mut records, first);
-    reads_row(rt, alloc, &mut records, second);
-    let mut row = StringRecord::new(alloc);
-    same(rt, records.read(&mut row), Ok(false), "the end");
+    let found = shown(rt, alloc, text.as_slice(), 3);
+    same(rt, found.as_str(), wanted.as_str(), "rows");
 }
 
 #[test]
@@ -240,6 +218,7 @@ const PLACES: &[(&str, bool, bool)] = &[
     ("0,2,9", true, true),
     ("4294967295", true, true),
     ("2,1", true, false),
+    ("7,0,7", true, false),
     ("1,1", true, false),
     ("1,", false, false),
     (",", false, false),
@@ -249,36 +228,29 @@ const PLACES: &[(&str, bool, bool)] = &[
     ("1;2", false, false),
 ];
 
-fn shown_places(rt: &impl Abort, alloc: Global, places: &[u32]) -> String {
-    let mut text = String::new(alloc);
+/// The list is written after this text, which it leaves as it is.
+fn written_after(rt: &impl Abort, alloc: Global, before: &str, places: &[u32]) -> String {
+    let mut text = String::from_str(alloc, before).expect(rt, "memory");
     write_places(places, &mut text).expect(rt, "memory");
     text
 }
 
+/// Whether the text is a list of places, and whether that list rises. A list is written again as it stood.
+fn is_read(rt: &impl Abort, alloc: Global, text: &str, is_list: bool, is_rising: bool) {
+    let mut list = Vec::new(alloc);
+    same(rt, read_place_list(text, &mut list), Ok(is_list), text);
+    if is_list {
+        let back = written_after(rt, alloc, "", list.as_slice());
+        same(rt, back.as_str(), text, "a list written");
+    }
+    same(rt, read_places(text, &mut list), Ok(is_rising), text);
+}
+
 #[test]
 fn places(rt: HostRuntime) {
-    let mut list = Vec::new(rt.alloc());
     for (text, is_list, is_rising) in PLACES {
-        same(&rt, read_place_list(text, &mut list), Ok(*is_list), text);
-        if *is_list {
-            let back = shown_places(&rt, rt.alloc(), list.as_slice());
-            same(&rt, back.as_str(), *text, "a list written");
-        }
-        same(&rt, read_places(text, &mut list), Ok(*is_rising), text);
+        is_read(&rt, rt.alloc(), text, *is_list, *is_rising);
     }
-}
-
-#[test]
-fn places_in_any_order(rt: HostRuntime) {
-    let mut list = Vec::new(rt.alloc());
-    same(&rt, read_place_list("7,0,7", &mut list), Ok(true), "7,0,7");
-    same(&rt, list.as_slice(), [7, 0, 7].as_slice(), "7,0,7");
-}
-
-#[test]
-fn places_go_after_a_text(rt: HostRuntime) {
-    let mut after = String::new(rt.alloc());
-    after.push_str("places ").expect(&rt, "memory");
-    write_places(&[0, 2, 10], &mut after).expect(&rt, "memory");
-    same(&rt, after.as_str(), "places 0,2,10", "after a text");
+    let text = written_after(&rt, rt.alloc(), "places ", &[0, 2, 10]);
+    same(&rt, text.as_str(), "places 0,2,10", "after a text");
 }

@@ -3,12 +3,10 @@
 use crate::checks::same;
 use crate::elections::{add_limit, ballot, shown, three_voters, voter_id};
 use pb_core::answer::Answer;
-use pb_core::devices::FailsAt;
 use pb_core::election::Election;
 use pb_core::request::Request;
-use pb_desk::{Desk, DeskFault, IntoFault, WriteFault};
+use pb_desk::{Desk, DeskFault, IntoFault};
 use std::alloc::Global;
-use std::io;
 use std::process::Abort;
 
 pub(crate) fn desk_with_room(rt: &impl Abort, alloc: Global, room: u32) -> Desk {
@@ -34,11 +32,23 @@ pub(crate) fn request(
 /// A word, a voter and places, and what is answered.
 pub(crate) type Row = (&'static str, &'static str, &'static [u32], Answer);
 
+/// The clerk asks this, and is answered so.
+pub(crate) fn is_served(
+    rt: &impl Abort,
+    desk: &mut Desk,
+    clerk: u32,
+    request: &Request,
+    said: Result<Answer, DeskFault>,
+) {
+    assert!(rt; clerk < 64);
+    same(rt, desk.serve(clerk, request), said, "a request");
+}
+
 /// Clerk 0 asks each of these in turn, and gets these answers.
 pub(crate) fn asks(rt: &impl Abort, alloc: Global, desk: &mut Desk, rows: &[Row]) {
     for (word, id, places, answer) in rows {
         let request = request(rt, alloc, word, id, places);
-        same(rt, desk.serve(0, &request), Ok(*answer), id);
+        is_served(rt, desk, 0, &request, Ok(*answer));
     }
 }
 
@@ -111,57 +121,107 @@ const WITHDRAWN: &[Row] = &[
     ("shut", "", &[], Answer::Done),
 ];
 
-/// What is asked of a new desk, whether it is shut then, its ballots, and its journal.
-const SERVED: &[(&[Row], bool, &str, &str)] = &[
-    (
-        THREE,
-        false,
-        "v1 0;v2 0 1;v3 1;ann 0 1;",
-        "journal;2\n1;0;cast;ann;0;done\n2;0;cast;ann;1;already-cast\n3;0;replace;ann;0,1;done\n",
-    ),
-    (
-        FIVE,
-        false,
-        "v1 0;v2 0 1;v3 1;",
-        "journal;2\n1;0;cast;ann;0;done\n2;0;cast;ann;1;already-cast\n3;0;replace;ann;0,1;done\n4;0;withdraw;ann;;done\n5;0;replace;ann;0;no-ballot\n",
-    ),
-    (
-        AFTER_SHUT,
-        true,
-        "v1 0;v2 0 1;v3 1;",
-        "journal;2\n1;0;shut;;;done\n2;0;cast;ann;0;desk-shut\n3;0;shut;;;desk-shut\n",
-    ),
-    (
-        UNKNOWN,
-        false,
-        "v1 0;v2 0 1;v3 1;",
-        "journal;2\n1;0;cast;ann;0,2,9;unknown-place 2\n",
-    ),
-    (
-        CLOSING_UP,
-        false,
-        "v2 0;v3 1;v1 1;",
-        "journal;2\n1;0;withdraw;v1;;done\n2;0;cast;v1;1;done\n3;0;replace;v2;0;done\n",
-    ),
-    (
-        WITHDRAWN,
-        true,
-        "v1 0;v2 0 1;",
-        "journal;2\n1;0;withdraw;v3;;done\n2;0;shut;;;done\n",
-    ),
+const SHUT_TWICE: &[Row] = &[
+    ("shut", "", &[], Answer::Done),
+    ("shut", "", &[], Answer::DeskShut),
 ];
 
-#[test]
-fn serves_requests(rt: HostRuntime) {
-    for (rows, is_shut, ballots, text) in SERVED {
-        let mut desk = desk_with_room(&rt, rt.alloc(), 10);
-        same(&rt, desk.is_shut(), false, "a new desk");
-        asks(&rt, rt.alloc(), &mut desk, rows);
-        same(&rt, desk.is_shut(), *is_shut, text);
-        has_ballots(&rt, rt.alloc(), &desk, ballots);
-        has_text(&rt, rt.alloc(), &desk, text);
-    }
-}
+const MOVED: &[Row] = &[
+    ("withdraw", "v1", &[], Answer::Done),
+    ("cast", "v1", &[1], Answer::Done),
+];
+
+const MOVED_AND_SHUT: &[Row] = &[
+    ("withdraw", "v1", &[], Answer::Done),
+    ("cast", "v1", &[1], Answer::Done),
+    ("shut", "", &[], Answer::Done),
+];
+
+/// The limit on a ballot's length, the room, what is asked of a new desk of the three voters, the ballots and the
+/// journal then, and the election that a shut desk leaves.
+type Served = (
+    Option<u32>,
+    u32,
+    &'static [Row],
+    &'static str,
+    &'static str,
+    Option<&'static str>,
+);
+
+const SERVED: &[Served] = &[
+    (
+        None,
+        10,
+        THREE,
+        "v1 0;v2 0 1;v3 1;ann 0 1;",
+        "journal;2\n1;0;cast;ann;0;done\n2;0;cast;ann;1;already-cast\n3;0;replace;ann;0,1;done\n",
+        None,
+    ),
+    (
+        None,
+        10,
+        FIVE,
+        "v1 0;v2 0 1;v3 1;",
+        "journal;2\n1;0;cast;ann;0;done\n2;0;cast;ann;1;already-cast\n3;0;replace;ann;0,1;done\n4;0;withdraw;ann;;done\n5;0;replace;ann;0;no-ballot\n",
+        None,
+    ),
+    (
+        None,
+        10,
+        AFTER_SHUT,
+        "v1 0;v2 0 1;v3 1;",
+        "journal;2\n1;0;shut;;;done\n2;0;cast;ann;0;desk-shut\n3;0;shut;;;desk-shut\n",
+        Some("10000;a,,3000;b,,6000;|v1 0;v2 0 1;v3 1;"),
+    ),
+    (
+        None,
+        10,
+        UNKNOWN,
+        "v1 0;v2 0 1;v3 1;",
+        "journal;2\n1;0;cast;ann;0,2,9;unknown-place 2\n",
+        None,
+    ),
+    (
+        None,
+        10,
+        CLOSING_UP,
+        "v2 0;v3 1;v1 1;",
+        "journal;2\n1;0;withdraw;v1;;done\n2;0;cast;v1;1;done\n3;0;replace;v2;0;done\n",
+        None,
+    ),
+    (
+        None,
+        10,
+        WITHDRAWN,
+        "v1 0;v2 0 1;",
+        "journal;2\n1;0;withdraw;v3;;done\n2;0;shut;;;done\n",
+        Some("10000;a,,3000;b,,6000;|v1 0;v2 0 1;"),
+    ),
+    (
+        None,
+        2,
+        SHUT_TWICE,
+        "v1 0;v2 0 1;v3 1;",
+        "journal;2\n1;0;shut;;;done\n2;0;shut;;;desk-shut\n",
+        Some("10000;a,,3000;b,,6000;|v1 0;v2 0 1;v3 1;"),
+    ),
+    (
+        None,
+        10,
+        MOVED,
+        "v2 0 1;v3 1;v1 1;",
+        "journal;2\n1;0;withdraw;v1;;done\n2;0;cast;v1;1;done\n",
+        None,
+    ),
+    (
+        Some(1),
+        10,
+        MOVED_AND_SHUT,
+        "v2 0 1;v3 1;v1 1;",
+        "journal;2\n1;0;withdraw;v1;;done\n2;0;cast;v1;1;done\n3;0;shut;;;done\n",
+        Some("10000;a,,3000;b,,6000;|v2 0 1;v3 1;v1 1;"),
+    ),
+];
 
 /// The answer of the entry with this number, if there is one.
 fn answer_of(desk: &Desk, number: u32) -> Option<Answer> {
@@ -171,28 +231,76 @@ fn answer_of(desk: &Desk, number: u32) -> Option<Answer> {
     }
 }
 
-#[test]
-fn entries_have_numbers_from_one(rt: HostRuntime) {
-    let mut desk = desk_with_room(&rt, rt.alloc(), 10);
-    asks(&rt, rt.alloc(), &mut desk, UNKNOWN);
-    same(&rt, answer_of(&desk, 0), None, "before the first entry");
-    let first = Some(Answer::UnknownPlace(2));
-    same(&rt, answer_of(&desk, 1), first, "the first entry");
-    same(&rt, answer_of(&desk, 2), None, "after the last entry");
+/// The desk has an entry for each row and this room, its entries have the numbers from one, and where it is full it
+/// serves nothing more.
+fn has_entries(rt: &impl Abort, desk: &mut Desk, rows: &[Row], room: u32) {
+    let entries = desk.entries();
+    same(
+        rt,
+        (entries as usize, desk.room()),
+        (rows.len(), room),
+        "entries, room",
+    );
+    let last = rows.last().expect(rt, "a row").3;
+    same(rt, answer_of(desk, 0), None, "before the first entry");
+    same(rt, answer_of(desk, entries), Some(last), "the last entry");
+    same(
+        rt,
+        answer_of(desk, entries.wrapping_add(1)),
+        None,
+        "after the last entry",
+    );
+    if entries == room {
+        is_served(rt, desk, 0, &Request::Shut, Err(DeskFault::JournalFull));
+    }
 }
 
-const SHUT_TWICE: &[Row] = &[
-    ("shut", "", &[], Answer::Done),
-    ("shut", "", &[], Answer::DeskShut),
-];
+/// The election that a desk leaves is this one, with this limit.
+fn is_left(rt: &impl Abort, alloc: Global, election: Election, limit: Option<u32>, wanted: &str) {
+    same(rt, election.max_length(), limit, "the limit");
+    let text = shown(rt, alloc, &election);
+    same(rt, text.as_str(), wanted, "the election");
+    drop(election);
+}
+
+/// A desk that is not shut comes back with this journal.
+fn comes_back(rt: &impl Abort, alloc: Global, fault: IntoFault, text: &str) {
+    same(rt, fault.number(), 1, "not shut");
+    let desk = match fault {
+        IntoFault::NotShut(desk) => desk,
+        IntoFault::NoMemory(desk) => desk,
+    };
+    has_text(rt, alloc, &desk, text);
+    drop(desk);
+}
+
+/// A desk that is shut leaves its election, and one that is not comes back as it was.
+fn leaves(rt: &impl Abort, alloc: Global, desk: Desk, served: &Served) {
+    let (limit, _, _, _, text, left) = *served;
+    same(rt, desk.is_shut(), left.is_some(), text);
+    match desk.into_election() {
+        Ok(election) => is_left(rt, alloc, election, limit, left.expect(rt, "shut")),
+        Err(fault) => comes_back(rt, alloc, fault, text),
+    }
+}
+
+fn serves(rt: &impl Abort, alloc: Global, served: &Served) {
+    let (limit, room, rows, ballots, text, _) = *served;
+    let election = add_limit(three_voters(rt, alloc), limit);
+    let mut desk = Desk::start(alloc, election, room).expect(rt, "a desk");
+    same(rt, desk.is_shut(), false, "a new desk");
+    asks(rt, alloc, &mut desk, rows);
+    has_entries(rt, &mut desk, rows, room);
+    has_ballots(rt, alloc, &desk, ballots);
+    has_text(rt, alloc, &desk, text);
+    leaves(rt, alloc, desk, served);
+}
 
 #[test]
-fn a_full_journal_serves_nothing(rt: HostRuntime) {
-    let mut desk = desk_with_room(&rt, rt.alloc(), 2);
-    asks(&rt, rt.alloc(), &mut desk, SHUT_TWICE);
-    let third = desk.serve(0, &Request::Shut);
-    same(&rt, third, Err(DeskFault::JournalFull), "the third");
-    same(&rt, (desk.entries(), desk.room()), (2, 2), "entries, room");
+fn serves_requests(rt: HostRuntime) {
+    for served in SERVED {
+        serves(&rt, rt.alloc(), served);
+    }
 }
 
 const AT_THE_LIMIT: &[Row] = &[
@@ -202,80 +310,20 @@ const AT_THE_LIMIT: &[Row] = &[
     ("cast", "ann", &[0], Answer::Done),
 ];
 
+/// The voter with this number casts a ballot.
+fn casts(rt: &impl Abort, alloc: Global, desk: &mut Desk, number: u32) {
+    let id = format!(in alloc; "w{number}").expect(rt, "memory");
+    let cast = request(rt, alloc, "cast", id.as_str(), &[1]);
+    is_served(rt, desk, 0, &cast, Ok(Answer::Done));
+}
+
 #[test]
 fn a_million_ballots_are_the_most(rt: HostRuntime) {
-    let alloc = rt.alloc();
-    let mut desk = desk_with_room(&rt, alloc, u32::MAX);
-    for i in 3..1_000_000u32 {
-        let id = format!(in alloc; "w{i}").expect(&rt, "memory");
-        let cast = request(&rt, alloc, "cast", id.as_str(), &[1]);
-        same(&rt, desk.serve(0, &cast), Ok(Answer::Done), "one more");
+    let mut desk = desk_with_room(&rt, rt.alloc(), u32::MAX);
+    for number in 3..1_000_000u32 {
+        casts(&rt, rt.alloc(), &mut desk, number);
     }
-    asks(&rt, alloc, &mut desk, AT_THE_LIMIT);
+    asks(&rt, rt.alloc(), &mut desk, AT_THE_LIMIT);
     same(&rt, desk.ballots(), 1_000_000, "ballots");
-}
-
-const MOVED: &[Row] = &[
-    ("withdraw", "v1", &[], Answer::Done),
-    ("cast", "v1", &[1], Answer::Done),
-];
-
-/// The desk that came back, since it is not shut.
-fn not_shut(left: Result<Election, IntoFault>) -> Option<Desk> {
-    match left {
-        Err(IntoFault::NotShut(desk)) => Some(desk),
-        _ => None,
-    }
-}
-
-#[test]
-fn a_desk_that_is_not_shut_comes_back(rt: HostRuntime) {
-    let mut desk = desk_with_room(&rt, rt.alloc(), 10);
-    asks(&rt, rt.alloc(), &mut desk, MOVED);
-    let desk = not_shut(desk.into_election()).expect(&rt, "the desk is not shut");
-    same(&rt, desk.entries(), 2, "entries");
-    let wanted = "journal;2\n1;0;withdraw;v1;;done\n2;0;cast;v1;1;done\n";
-    has_text(&rt, rt.alloc(), &desk, wanted);
-}
-
-const SHUT: &[Row] = &[("shut", "", &[], Answer::Done)];
-
-#[test]
-fn a_shut_desk_leaves_its_election(rt: HostRuntime) {
-    let election = add_limit(three_voters(&rt, rt.alloc()), Some(1));
-    let mut desk = Desk::start(rt.alloc(), election, 10).expect(&rt, "a desk");
-    asks(&rt, rt.alloc(), &mut desk, MOVED);
-    asks(&rt, rt.alloc(), &mut desk, SHUT);
-    let election = desk.into_election().expect(&rt, "an election");
-    same(&rt, election.max_length(), Some(1), "the limit");
-    let text = shown(&rt, rt.alloc(), &election);
-    let wanted = "10000;a,,3000;b,,6000;|v2 0 1;v3 1;v1 1;";
-    same(&rt, text.as_str(), wanted, "the election");
-}
-
-/// A writer in memory without room.
-#[derive(Drop)]
-struct NoRoom;
-
-impl io::Write for NoRoom {
-    fn write(&mut self, _buf: &[u8]) -> io::Result<usize> {
-        Err(io::Error::from(io::ErrorKind::OutOfMemory))
-    }
-
-    fn flush(&mut self) -> io::Result<()> {
-        Ok(())
-    }
-}
-
-#[test]
-fn a_failed_writer_is_named(rt: HostRuntime) {
-    let mut desk = desk_with_room(&rt, rt.alloc(), 10);
-    asks(&rt, rt.alloc(), &mut desk, SHUT);
-    for writes in 0..2 {
-        let mut writer = FailsAt::new(Vec::new(rt.alloc()), writes);
-        let written = desk.write_journal(rt.alloc(), &mut writer);
-        same(&rt, written, Err(WriteFault::WriteFailed), "a write");
-    }
-    let written = desk.write_journal(rt.alloc(), &mut NoRoom);
-    same(&rt, written, Err(WriteFault::NoMemory), "no room");
+    drop(desk);
 }

@@ -1,13 +1,13 @@
 //! The shared desk, on one thread. What the answers have to be is the one-clerk desk's table, worked by hand.
 
-ghost use Rattle.std.specs.Prelude.{◌≡◌, All};
+ghost use Rattle.std.specs.Prelude.{◌≡◌, ◌<◌, All};
 
-use crate::checks::{holds, same, shows, tells};
-use crate::serving::{desk_with_room, has_text, request};
+use crate::checks::{same, shows, tells};
+use crate::elections::voter_id;
+use crate::serving::{desk_with_room, has_text, is_served, request};
 use pb_core::answer::Answer;
 use pb_core::request::Request;
 use pb_desk::desk::Desk;
-use pb_desk::into_fault::IntoFault;
 use pb_shared::busy::Busy;
 use pb_shared::clerk::Clerk;
 use pb_shared::share_fault::ShareFault;
@@ -17,12 +17,31 @@ use pb_shared::unfinished::Unfinished;
 use std::alloc::Global;
 use std::process::Abort;
 
-/// A desk of the three voters, shared among these clerks.
-fn shared_by(rt: &impl Abort, alloc: Global, room: u32, clerks: u32) -> (SharedDesk, Vec<Clerk>)
+/// What a clerk is answered.
+type Said = Result<Answer, SharedFault>;
+
+/// The desk, shared among these clerks.
+fn share(rt: &impl Abort, alloc: Global, desk: Desk, clerks: u32) -> (SharedDesk, Vec<Clerk>)
     ensures { All (λ clerk. clerk.desk ≡ result.0) result.1.items }
 {
-    let desk = desk_with_room(rt, alloc, room);
     SharedDesk::share(alloc, desk, clerks).expect(rt, "shared")
+}
+
+/// The clerk asks this, by one try.
+fn serve(shared: &SharedDesk, clerk: &mut Clerk, request: &Request) -> Said
+    requires { clerk.old.desk ≡ shared.now }
+    ensures { clerk.new.desk ≡ shared.now }
+{
+    shared.serve(clerk, request)
+}
+
+/// The clerk asks this, by this many tries.
+fn serve_within(shared: &SharedDesk, clerk: &mut Clerk, request: &Request, tries: u32) -> Said
+    requires own { clerk.old.desk ≡ shared.now }
+    requires some { 0 < tries }
+    ensures { clerk.new.desk ≡ shared.now }
+{
+    shared.serve_within(clerk, request, tries)
 }
 
 /// The last clerk of the list.
@@ -60,114 +79,161 @@ fn finishes(
     desk
 }
 
-/// A word, a voter and places, and what is answered.
-type Row = (
-    &'static str,
-    &'static str,
-    &'static [u32],
-    Result<Answer, SharedFault>,
-);
+/// A word, a voter and places, by how many tries, and what is answered.
+type Row = (&'static str, &'static str, &'static [u32], u32, Said);
 
 /// The clerk asks this, and is answered so.
-fn asks_one(rt: &impl Abort, alloc: Global, shared: &SharedDesk, clerk: &mut Clerk, row: &Row)
+fn asks(rt: &impl Abort, alloc: Global, shared: &SharedDesk, clerk: &mut Clerk, row: &Row)
     requires { clerk.old.desk ≡ shared.now }
     ensures { clerk.new.desk ≡ shared.now }
 {
-    let (word, id, places, said) = row;
+    let (word, id, places, tries, said) = row;
+    assert!(rt; 0 < *tries);
     let request = request(rt, alloc, word, id, places);
-    let served = shared.serve(clerk, &request);
+    let served = match *tries {
+        1 => serve(shared, clerk, &request),
+        _ => serve_within(shared, clerk, &request, *tries),
+    };
     same(rt, served, *said, word);
 }
 
-/// The clerk asks each of these in turn, and is answered so.
-fn asks(rt: &impl Abort, alloc: Global, shared: &SharedDesk, clerk: &mut Clerk, rows: &[Row])
-    requires { clerk.old.desk ≡ shared.now }
-    ensures { clerk.new.desk ≡ shared.now }
+/// One of two clerks, 0 or 1, and what that clerk asks.
+type Step = (u32, Row);
+
+/// Each of the two clerks asks in turn.
+fn ask_in_turn(
+    rt: &impl Abort,
+    alloc: Global,
+    shared: &SharedDesk,
+    first: &mut Clerk,
+    second: &mut Clerk,
+    steps: &[Step],
+)
+    requires first { first.old.desk ≡ shared.now }
+    requires second { second.old.desk ≡ shared.now }
+    ensures first { first.new.desk ≡ shared.now }
+    ensures second { second.new.desk ≡ shared.now }
 {
-    for row in rows {
-        asks_one(rt, alloc, shared, clerk, row);
+    for step in steps {
+        match step.0 {
+            0 => asks(rt, alloc, shared, first, &step.1),
+            _ => asks(rt, alloc, shared, second, &step.1),
+        }
     }
 }
 
-const FIVE: &[Row] = &[
-    ("cast", "ann", &[0], Ok(Answer::Done)),
-    ("cast", "ann", &[1], Ok(Answer::AlreadyCast)),
-    ("replace", "ann", &[0, 1], Ok(Answer::Done)),
-    ("withdraw", "ann", &[], Ok(Answer::Done)),
-    ("replace", "ann", &[0], Ok(Answer::NoBallot)),
+const FIVE: &[Step] = &[
+    (0, ("cast", "ann", &[0], 1, Ok(Answer::Done))),
+    (0, ("cast", "ann", &[1], 1, Ok(Answer::AlreadyCast))),
+    (0, ("replace", "ann", &[0, 1], 1, Ok(Answer::Done))),
+    (0, ("withdraw", "ann", &[], 1, Ok(Answer::Done))),
+    (0, ("replace", "ann", &[0], 1, Ok(Answer::NoBallot))),
 ];
 
-const AFTER_SHUT: &[Row] = &[
-    ("shut", "", &[], Ok(Answer::Done)),
-    ("cast", "ann", &[0], Ok(Answer::DeskShut)),
-    ("shut", "", &[], Ok(Answer::DeskShut)),
+const AFTER_SHUT: &[Step] = &[
+    (0, ("shut", "", &[], 1, Ok(Answer::Done))),
+    (0, ("cast", "ann", &[0], 1, Ok(Answer::DeskShut))),
+    (0, ("shut", "", &[], 1, Ok(Answer::DeskShut))),
 ];
 
-const FULL: &[Row] = &[
-    ("shut", "", &[], Ok(Answer::Done)),
-    ("shut", "", &[], Ok(Answer::DeskShut)),
-    ("shut", "", &[], Err(SharedFault::JournalFull)),
+const FULL: &[Step] = &[
+    (0, ("shut", "", &[], 1, Ok(Answer::Done))),
+    (0, ("shut", "", &[], 1, Ok(Answer::DeskShut))),
+    (0, ("shut", "", &[], 1, Err(SharedFault::JournalFull))),
 ];
 
-const UNKNOWN: &[Row] = &[("cast", "ann", &[0, 2, 9], Ok(Answer::UnknownPlace(2)))];
+const UNKNOWN: &[Step] = &[(
+    0,
+    ("cast", "ann", &[0, 2, 9], 1, Ok(Answer::UnknownPlace(2))),
+)];
 
-/// The room, what one clerk asks, and the journal.
-const SERVED: &[(u32, &[Row], &str)] = &[
+/// Two clerks fill a journal of two entries. Neither is then served, by one try or by more.
+const FILLED: &[Step] = &[
+    (0, ("shut", "", &[], 1, Ok(Answer::Done))),
+    (1, ("shut", "", &[], 1, Ok(Answer::DeskShut))),
+    (1, ("shut", "", &[], 1, Err(SharedFault::JournalFull))),
+    (0, ("shut", "", &[], 3, Err(SharedFault::JournalFull))),
+];
+
+/// A full journal is told to whoever asks, and the lock is free after it.
+const NO_ROOM: &[Step] = &[
+    (0, ("cast", "ann", &[0], 1, Ok(Answer::Done))),
+    (1, ("cast", "bob", &[0], 1, Err(SharedFault::JournalFull))),
+    (
+        1,
+        ("withdraw", "ann", &[], 1, Err(SharedFault::JournalFull)),
+    ),
+    (0, ("cast", "bob", &[0], 1, Err(SharedFault::JournalFull))),
+    (
+        0,
+        ("withdraw", "ann", &[], 1, Err(SharedFault::JournalFull)),
+    ),
+];
+
+/// The room, what two clerks ask, the number of entries that each then reads from the front word, and the journal.
+const SERVED: &[(u32, &[Step], u32, &str)] = &[
     (
         10,
         FIVE,
+        5,
         "journal;2\n1;0;cast;ann;0;done\n2;0;cast;ann;1;already-cast\n3;0;replace;ann;0,1;done\n4;0;withdraw;ann;;done\n5;0;replace;ann;0;no-ballot\n",
     ),
     (
         10,
         AFTER_SHUT,
+        3,
         "journal;2\n1;0;shut;;;done\n2;0;cast;ann;0;desk-shut\n3;0;shut;;;desk-shut\n",
     ),
     (
         2,
         FULL,
+        2,
         "journal;2\n1;0;shut;;;done\n2;0;shut;;;desk-shut\n",
     ),
     (
         10,
         UNKNOWN,
+        1,
         "journal;2\n1;0;cast;ann;0,2,9;unknown-place 2\n",
     ),
+    (
+        2,
+        FILLED,
+        2,
+        "journal;2\n1;0;shut;;;done\n2;1;shut;;;desk-shut\n",
+    ),
+    (1, NO_ROOM, 1, "journal;2\n1;0;cast;ann;0;done\n"),
 ];
 
-/// One clerk, who is then handed back.
-fn serves(rt: &impl Abort, alloc: Global, room: u32, rows: &[Row], text: &str) {
-    let (shared, mut clerks) = shared_by(rt, alloc, room, 1);
-    let mut clerk = last_of(rt, &shared, &mut clerks);
-    asks(rt, alloc, &shared, &mut clerk, rows);
-    joins(rt, &shared, &mut clerks, clerk);
-    finishes(rt, alloc, shared, clerks, text);
+/// Two clerks of a new desk ask in turn, and are then handed back.
+fn serves(rt: &impl Abort, alloc: Global, room: u32, steps: &[Step], entries: u32, text: &str) {
+    let (shared, mut clerks) = share(rt, alloc, desk_with_room(rt, alloc, room), 2);
+    let mut second = last_of(rt, &shared, &mut clerks);
+    let mut first = last_of(rt, &shared, &mut clerks);
+    ask_in_turn(rt, alloc, &shared, &mut first, &mut second, steps);
+    let fronts = (shared.front(&mut first), shared.front(&mut second));
+    same(rt, fronts, (entries, entries), "the front word");
+    joins(rt, &shared, &mut clerks, first);
+    joins(rt, &shared, &mut clerks, second);
+    drop(finishes(rt, alloc, shared, clerks, text));
 }
 
 #[test]
-fn one_clerk_is_served_as_by_the_desk(rt: HostRuntime) {
-    for (room, rows, text) in SERVED {
-        serves(&rt, rt.alloc(), *room, rows, text);
+fn clerks_are_served_as_by_the_desk(rt: HostRuntime) {
+    for (room, steps, entries, text) in SERVED {
+        serves(&rt, rt.alloc(), *room, steps, *entries, text);
     }
 }
 
 /// The clerk tries once, and then five times for another voter, and these are the answers.
-fn tries(
-    rt: &impl Abort,
-    alloc: Global,
-    shared: &SharedDesk,
-    clerk: &mut Clerk,
-    said: Result<Answer, SharedFault>,
-)
+fn tries(rt: &impl Abort, alloc: Global, shared: &SharedDesk, clerk: &mut Clerk, said: Said)
     requires { clerk.old.desk ≡ shared.now }
     ensures { clerk.new.desk ≡ shared.now }
 {
-    let ann = request(rt, alloc, "cast", "ann", &[0]);
-    let bob = request(rt, alloc, "cast", "bob", &[1]);
-    let once = shared.serve(clerk, &ann);
-    same(rt, once, said, "one try");
-    let within = shared.serve_within(clerk, &bob, 5);
-    same(rt, within, said, "five tries");
+    let ann: Row = ("cast", "ann", &[0], 1, said);
+    let bob: Row = ("cast", "bob", &[1], 5, said);
+    asks(rt, alloc, shared, clerk, &ann);
+    asks(rt, alloc, shared, clerk, &bob);
 }
 
 /// While clerk 0 has the desk, this clerk is turned away, and nothing is appended.
@@ -208,7 +274,7 @@ fn looks(
 #[test]
 fn a_clerk_who_looks_turns_others_away(rt: HostRuntime) {
     let alloc = rt.alloc();
-    let (shared, mut clerks) = shared_by(&rt, alloc, 10, 2);
+    let (shared, mut clerks) = share(&rt, alloc, desk_with_room(&rt, alloc, 10), 2);
     let other = last_of(&rt, &shared, &mut clerks);
     let mut clerk = last_of(&rt, &shared, &mut clerks);
     let mut other = looks(&rt, alloc, &shared, &mut clerk, other);
@@ -216,7 +282,7 @@ fn a_clerk_who_looks_turns_others_away(rt: HostRuntime) {
     joins(&rt, &shared, &mut clerks, clerk);
     joins(&rt, &shared, &mut clerks, other);
     let text = "journal;2\n1;1;cast;ann;0;done\n2;1;cast;bob;1;done\n";
-    finishes(&rt, alloc, shared, clerks, text);
+    drop(finishes(&rt, alloc, shared, clerks, text));
 }
 
 /// A look that answers the desk's room as an error.
@@ -228,26 +294,36 @@ fn looks_at_the_room(rt: &impl Abort, shared: &SharedDesk, clerk: &mut Clerk, ro
     same(rt, looked, Ok(Err(room)), "a look");
 }
 
-const CAST_ANN: &[Row] = &[("cast", "ann", &[0], Ok(Answer::Done))];
+const CAST_ANN: Row = ("cast", "ann", &[0], 1, Ok(Answer::Done));
 
-const CAST_BOB: &[Row] = &[("cast", "bob", &[0], Ok(Answer::Done))];
+const CAST_BOB: Row = ("cast", "bob", &[0], 1, Ok(Answer::Done));
 
+const REPLACE_ANN: Row = ("replace", "ann", &[1], 1, Ok(Answer::Done));
+
+const SHUT: Row = ("shut", "", &[], 1, Ok(Answer::Done));
+
+/// A note that another clerk meets takes nothing away, and one that nobody met may be dropped. A look that answers an
+/// error leaves the lock free.
 #[test]
-fn a_look_that_answers_an_error_leaves_the_lock_free(rt: HostRuntime) {
+fn a_note_may_be_met_or_dropped(rt: HostRuntime) {
     let alloc = rt.alloc();
-    let (shared, mut clerks) = shared_by(&rt, alloc, 10, 2);
-    let mut other = last_of(&rt, &shared, &mut clerks);
+    let (shared, mut clerks) = share(&rt, alloc, desk_with_room(&rt, alloc, 10), 2);
+    let mut one = last_of(&rt, &shared, &mut clerks);
     let mut clerk = last_of(&rt, &shared, &mut clerks);
     looks_at_the_room(&rt, &shared, &mut clerk, 10);
-    asks(&rt, alloc, &shared, &mut other, CAST_ANN);
-    asks(&rt, alloc, &shared, &mut clerk, CAST_BOB);
+    asks(&rt, alloc, &shared, &mut one, &CAST_ANN);
+    let note = shared.note(&mut one);
+    shared.meet(&mut clerk, note);
+    same(&rt, shared.front(&mut clerk), 1, "the front word");
+    drop(shared.note(&mut one));
+    asks(&rt, alloc, &shared, &mut clerk, &CAST_BOB);
+    let text = "journal;2\n1;1;cast;ann;0;done\n2;0;cast;bob;0;done\n";
+    drop(finishes(&rt, alloc, shared, clerks, text));
 }
-
-const REPLACE_ANN: &[Row] = &[("replace", "ann", &[1], Ok(Answer::Done))];
 
 /// The number of entries, and whether ann's ballot has place 1 alone.
 fn seen_of(rt: &impl Abort, alloc: Global, desk: &Desk) -> (u32, bool) {
-    let ann = crate::elections::voter_id(rt, alloc, "ann");
+    let ann = voter_id(rt, alloc, "ann");
     let ballot = desk.ballot_of(&ann).expect(rt, "a ballot");
     (desk.entries(), ballot.places() == [1].as_slice())
 }
@@ -265,137 +341,75 @@ fn looks_at_ann(rt: &impl Abort, alloc: Global, shared: &SharedDesk, clerk: &mut
 #[test]
 fn clerks_read_what_others_wrote(rt: HostRuntime) {
     let alloc = rt.alloc();
-    let (shared, mut clerks) = shared_by(&rt, alloc, 10, 3);
+    let (shared, mut clerks) = share(&rt, alloc, desk_with_room(&rt, alloc, 10), 3);
     let mut two = last_of(&rt, &shared, &mut clerks);
     let mut one = last_of(&rt, &shared, &mut clerks);
     let mut clerk = last_of(&rt, &shared, &mut clerks);
     let numbers = (clerk.number(), one.number(), two.number());
     same(&rt, numbers, (0, 1, 2), "numbers");
-    asks(&rt, alloc, &shared, &mut clerk, CAST_ANN);
-    asks(&rt, alloc, &shared, &mut one, REPLACE_ANN);
+    asks(&rt, alloc, &shared, &mut clerk, &CAST_ANN);
+    asks(&rt, alloc, &shared, &mut one, &REPLACE_ANN);
     looks_at_ann(&rt, alloc, &shared, &mut clerk);
     let fronts = (shared.front(&mut clerk), shared.front(&mut two));
     same(&rt, fronts, (2, 2), "the front word");
-}
-
-/// A note that another clerk meets takes nothing away, and one that nobody met may be dropped.
-#[test]
-fn a_note_may_be_met_or_dropped(rt: HostRuntime) {
-    let alloc = rt.alloc();
-    let (shared, mut clerks) = shared_by(&rt, alloc, 10, 2);
-    let mut one = last_of(&rt, &shared, &mut clerks);
-    let mut clerk = last_of(&rt, &shared, &mut clerks);
-    asks(&rt, alloc, &shared, &mut one, CAST_ANN);
-    let note = shared.note(&mut one);
-    shared.meet(&mut clerk, note);
-    same(&rt, shared.front(&mut clerk), 1, "the front word");
-    drop(shared.note(&mut one));
-    joins(&rt, &shared, &mut clerks, clerk);
-    joins(&rt, &shared, &mut clerks, one);
-    let text = "journal;2\n1;1;cast;ann;0;done\n";
-    finishes(&rt, alloc, shared, clerks, text);
-}
-
-const SHUT: &[Row] = &[("shut", "", &[], Ok(Answer::Done))];
-
-const SHUT_AGAIN: &[Row] = &[
-    ("shut", "", &[], Ok(Answer::DeskShut)),
-    ("shut", "", &[], Err(SharedFault::JournalFull)),
-];
-
-/// Two clerks fill a journal of two entries. Neither is then served, by one try or by more.
-#[test]
-fn two_clerks_fill_a_journal(rt: HostRuntime) {
-    let alloc = rt.alloc();
-    let (shared, mut clerks) = shared_by(&rt, alloc, 2, 2);
-    let mut one = last_of(&rt, &shared, &mut clerks);
-    let mut clerk = last_of(&rt, &shared, &mut clerks);
-    asks(&rt, alloc, &shared, &mut clerk, SHUT);
-    asks(&rt, alloc, &shared, &mut one, SHUT_AGAIN);
-    let within = shared.serve_within(&mut clerk, &Request::Shut, 3);
-    same(&rt, within, Err(SharedFault::JournalFull), "three tries");
-    joins(&rt, &shared, &mut clerks, clerk);
-    joins(&rt, &shared, &mut clerks, one);
-    let text = "journal;2\n1;0;shut;;;done\n2;1;shut;;;desk-shut\n";
-    finishes(&rt, alloc, shared, clerks, text);
-}
-
-/// Two requests for which a full journal has no room.
-const NO_ROOM: &[Row] = &[
-    ("cast", "bob", &[0], Err(SharedFault::JournalFull)),
-    ("withdraw", "ann", &[], Err(SharedFault::JournalFull)),
-];
-
-/// A full journal is told to whoever asks, and the lock is free after it.
-#[test]
-fn a_full_journal_frees_the_lock(rt: HostRuntime) {
-    let alloc = rt.alloc();
-    let (shared, mut clerks) = shared_by(&rt, alloc, 1, 2);
-    let mut one = last_of(&rt, &shared, &mut clerks);
-    let mut clerk = last_of(&rt, &shared, &mut clerks);
-    asks(&rt, alloc, &shared, &mut clerk, CAST_ANN);
-    asks(&rt, alloc, &shared, &mut one, NO_ROOM);
-    asks(&rt, alloc, &shared, &mut clerk, NO_ROOM);
-    same(&rt, shared.front(&mut one), 1, "the front word");
-    joins(&rt, &shared, &mut clerks, clerk);
-    joins(&rt, &shared, &mut clerks, one);
-    let text = "journal;2\n1;0;cast;ann;0;done\n";
-    finishes(&rt, alloc, shared, clerks, text);
-}
-
-/// The desk that a call to share it with a wrong number of clerks hands back.
-fn handed_back(shared: Result<(SharedDesk, Vec<Clerk>), ShareFault>) -> Option<Desk> {
-    match shared {
-        Err(ShareFault::ClerkCount(desk)) => Some(desk),
-        _ => None,
-    }
+    drop(shared);
+    drop(clerks);
 }
 
 /// A desk on which clerk 5 has served one request.
 fn desk_in_use(rt: &impl Abort, alloc: Global) -> Desk {
     let mut desk = desk_with_room(rt, alloc, 10);
     let ann = request(rt, alloc, "cast", "ann", &[0]);
-    same(rt, desk.serve(5, &ann), Ok(Answer::Done), "before sharing");
+    is_served(rt, &mut desk, 5, &ann, Ok(Answer::Done));
     desk
 }
 
-#[test]
-fn a_desk_is_shared_among_1_to_64(rt: HostRuntime) {
-    let mut desk = desk_in_use(&rt, rt.alloc());
-    for clerks in [0, 65] {
-        let shared = SharedDesk::share(rt.alloc(), desk, clerks);
-        desk = handed_back(shared).expect(&rt, "a desk");
-        same(&rt, desk.entries(), 1, "a desk handed back");
+/// The desk that a call to share it with a wrong number of clerks hands back.
+fn handed_back(rt: &impl Abort, fault: ShareFault) -> Desk {
+    same(rt, fault.number(), 1, "a fault");
+    match fault {
+        ShareFault::ClerkCount(desk) => desk,
+        ShareFault::NoMemory(desk) => desk,
     }
-    let shared = SharedDesk::share(rt.alloc(), desk, 64);
-    holds(&rt, shared.is_ok(), "64 clerks");
 }
 
-/// Clerks need not be handed back: where none holds the lock, `finish` gives the desk. It isn't shut.
+/// The desk can't be shared among this many clerks, and comes back with its entry.
+fn is_not_shared(rt: &impl Abort, alloc: Global, desk: Desk, clerks: u32) -> Desk {
+    let shared = SharedDesk::share(alloc, desk, clerks);
+    let desk = handed_back(rt, shared.err().expect(rt, "a fault"));
+    same(rt, desk.entries(), 1, "a desk handed back");
+    desk
+}
+
+/// A desk is shared among 1 to 64. Clerks need not be handed back: where none holds the lock, `finish` gives the
+/// desk. It isn't shut.
 #[test]
 fn a_desk_comes_back_without_its_clerks(rt: HostRuntime) {
     let alloc = rt.alloc();
-    let desk = desk_in_use(&rt, alloc);
-    let (shared, _clerks) = SharedDesk::share(alloc, desk, 64).expect(&rt, "shared");
+    let desk = is_not_shared(&rt, alloc, desk_in_use(&rt, alloc), 0);
+    let desk = is_not_shared(&rt, alloc, desk, 65);
+    let (shared, clerks) = share(&rt, alloc, desk, 64);
+    drop(clerks);
     let text = "journal;2\n1;5;cast;ann;0;done\n";
     let desk = finishes(&rt, alloc, shared, Vec::new(alloc), text);
-    let is_not_shut = matches!(desk.into_election(), Err(IntoFault::NotShut(_)));
-    holds(&rt, is_not_shut, "not shut");
+    let fault = desk.into_election().err().expect(&rt, "a fault");
+    same(&rt, fault.number(), 1, "not shut");
+    drop(fault);
 }
 
 /// A desk that clerks have shut gives its election.
 #[test]
 fn a_shut_desk_comes_back(rt: HostRuntime) {
     let alloc = rt.alloc();
-    let desk = desk_in_use(&rt, alloc);
-    let (shared, mut clerks) = SharedDesk::share(alloc, desk, 1).expect(&rt, "shared");
+    let (shared, mut clerks) = share(&rt, alloc, desk_in_use(&rt, alloc), 1);
     let mut clerk = last_of(&rt, &shared, &mut clerks);
-    asks(&rt, alloc, &shared, &mut clerk, SHUT);
+    asks(&rt, alloc, &shared, &mut clerk, &SHUT);
     joins(&rt, &shared, &mut clerks, clerk);
     let text = "journal;2\n1;5;cast;ann;0;done\n2;0;shut;;;done\n";
     let desk = finishes(&rt, alloc, shared, clerks, text);
     let election = desk.into_election().expect(&rt, "an election");
     same(&rt, election.voters().len(), 4, "voters");
+    drop(election);
 }
 
 /// Why a request is not served, and what is said of it.

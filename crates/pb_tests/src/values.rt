@@ -1,8 +1,11 @@
+//! Amounts, ids, ballots, elections, requests and devices that fail.
+
 use crate::checks::{holds, same, shows, tells};
-use crate::elections::{add_voter, ballot, election, shown, voter, voter_id};
+use crate::elections::{ballot, shown, voter_id};
+use crate::serving::request;
 use pb_core::devices::{FailsAfter, FailsAt, TakesNone, TakesOne};
 use pb_core::laws::{money_is_what_its_text_names, money_reads_back};
-use pb_core::{Ballot, Money, MoneyFault, NoMemory, Request, VoterId};
+use pb_core::{Ballot, Election, Money, MoneyFault, NoMemory, Project, Request, Voter, VoterId};
 use std::alloc::Global;
 use std::io::{Read, Write};
 use std::process::Abort;
@@ -22,6 +25,7 @@ const AMOUNTS: &[(&str, u64)] = &[
     ("00.50", 50),
     ("0.05", 5),
     ("1,200", 120),
+    ("1200.50", 120_050),
     ("5000,00", 500_000),
     ("10000000000000", 1_000_000_000_000_000),
     ("10000000000000.00", 1_000_000_000_000_000),
@@ -66,6 +70,7 @@ const NO_AMOUNTS: &[(&str, MoneyFault)] = &[
 #[test]
 fn reads_money(rt: HostRuntime) {
     money_is_what_its_text_names();
+    money_reads_back(Money(120_050));
     for (text, hundredths) in AMOUNTS {
         same(&rt, Money::read(text), Ok(Money(*hundredths)), text);
     }
@@ -79,6 +84,7 @@ const TEXTS: &[(u64, &str)] = &[
     (0, "0.00"),
     (1, "0.01"),
     (1234, "12.34"),
+    (120_050, "1200.50"),
     (u64::MAX, "184467440737095516.15"),
 ];
 
@@ -88,14 +94,6 @@ fn writes_money(rt: HostRuntime) {
         let text = Money(*hundredths).text(rt.alloc()).expect(&rt, "memory");
         same(&rt, text.as_str(), *wanted, "a text of money");
     }
-}
-
-#[test]
-fn reads_its_own_money(rt: HostRuntime) {
-    let amount = Money(120_050);
-    money_reads_back(amount);
-    let text = amount.text(rt.alloc()).expect(&rt, "memory");
-    same(&rt, Money::read(text.as_str()), Ok(amount), "1200.50");
 }
 
 /// Faults, and what is said of them.
@@ -166,14 +164,6 @@ fn has_places(rt: &impl Abort, alloc: Global, ballot: &Ballot, wanted: &[u32]) {
     same(rt, copy.places(), wanted, "its copy");
 }
 
-#[test]
-fn orders_ballots(rt: HostRuntime) {
-    let ballot = ballot(&rt, rt.alloc(), &[9, 0, 2, 9]);
-    has_places(&rt, rt.alloc(), &ballot, &[0, 2, 9]);
-    holds(&rt, ballot.has(2), "2 of 0, 2, 9");
-    holds(&rt, !ballot.has(3), "3 of 0, 2, 9");
-}
-
 /// The places below 10,000, rising.
 fn ten_thousand(rt: &impl Abort, alloc: Global) -> Vec<u32> {
     let mut places = Vec::new(alloc);
@@ -184,7 +174,11 @@ fn ten_thousand(rt: &impl Abort, alloc: Global) -> Vec<u32> {
 }
 
 #[test]
-fn orders_ten_thousand_places(rt: HostRuntime) {
+fn orders_ballots(rt: HostRuntime) {
+    let few = ballot(&rt, rt.alloc(), &[9, 0, 2, 9]);
+    has_places(&rt, rt.alloc(), &few, &[0, 2, 9]);
+    holds(&rt, few.has(2), "2 of 0, 2, 9");
+    holds(&rt, !few.has(3), "3 of 0, 2, 9");
     let mut places = Vec::new(rt.alloc());
     for place in 0..10_000u32 {
         places.push(9_999 - place).expect(&rt, "memory");
@@ -197,10 +191,10 @@ fn orders_ten_thousand_places(rt: HostRuntime) {
 
 /// Whether a ballot is made of these places as they stand. It then has them.
 fn is_rising(rt: &impl Abort, alloc: Global, places: &[u32]) -> bool {
-    match Ballot::rising(alloc, places).expect(rt, "memory") {
+    match &Ballot::rising(alloc, places).expect(rt, "memory") {
         None => false,
         Some(ballot) => {
-            has_places(rt, alloc, &ballot, places);
+            has_places(rt, alloc, ballot, places);
             true
         }
     }
@@ -217,41 +211,60 @@ fn takes_rising_places(rt: HostRuntime) {
     holds(&rt, is_rising(&rt, alloc, all.as_slice()), "ten thousand");
 }
 
+fn voter(rt: &impl Abort, alloc: Global, id: &str, places: &[u32]) -> Voter {
+    Voter {
+        id: voter_id(rt, alloc, id),
+        ballot: ballot(rt, alloc, places),
+    }
+}
+
+/// A project of this id and name that costs 30.00.
+fn project(rt: &impl Abort, alloc: Global, id: &str, name: &str) -> Project {
+    let id = String::from_str(alloc, id).expect(rt, "memory");
+    let name = String::from_str(alloc, name).expect(rt, "memory");
+    assert!(rt; !id.is_empty());
+    Project::new(id, name, Money(3_000))
+}
+
+fn add_project(rt: &impl Abort, election: &mut Election, project: Project) {
+    assert!(rt; election.voters().is_empty() && election.projects().len() < 10_000);
+    assert!(rt; !election.has_project(project.id()));
+    election.add_project(project).expect(rt, "memory");
+}
+
+fn add_voter(rt: &impl Abort, election: &mut Election, voter: Voter) {
+    assert!(rt; election.voters().len() < 1_000_000 && !election.has_voter(&voter.id));
+    assert!(rt; election.knows(&voter.ballot));
+    election.add_voter(voter).expect(rt, "memory");
+}
+
+/// The election holds this, and has this limit on a ballot's length.
+fn is_shown(rt: &impl Abort, alloc: Global, election: &Election, limit: Option<u32>, wanted: &str) {
+    let text = shown(rt, alloc, election);
+    same(rt, text.as_str(), wanted, "an election");
+    same(rt, election.max_length(), limit, "the limit");
+}
+
 #[test]
-fn holds_projects(rt: HostRuntime) {
-    let election = election(&rt, rt.alloc(), 10_000, &[("a", "Park", 3000)], &[]);
-    let text = shown(&rt, rt.alloc(), &election);
-    same(&rt, text.as_str(), "10000;a,Park,3000;|", "a project");
+fn holds_projects_and_voters(rt: HostRuntime) {
+    let alloc = rt.alloc();
+    let mut election = Election::start(alloc, Money(10_000));
+    add_project(&rt, &mut election, project(&rt, alloc, "a", "Park"));
     holds(&rt, election.has_project("a"), "a");
     holds(&rt, !election.has_project("Park"), "no id");
-    let (known, unknown) = (
-        ballot(&rt, rt.alloc(), &[0]),
-        ballot(&rt, rt.alloc(), &[0, 1]),
-    );
-    holds(&rt, election.knows(&known), "a known place");
-    holds(&rt, !election.knows(&unknown), "an unknown place");
-}
-
-#[test]
-fn holds_voters(rt: HostRuntime) {
-    let mut election = election(&rt, rt.alloc(), 10_000, &[("a", "Park", 3000)], &[]);
-    let v1 = voter_id(&rt, rt.alloc(), "v1");
-    holds(&rt, !election.has_voter(&v1), "before v1");
-    add_voter(&rt, &mut election, voter(&rt, rt.alloc(), "v1", &[0]));
-    holds(&rt, election.has_voter(&v1), "after v1");
-    let text = shown(&rt, rt.alloc(), &election);
-    same(&rt, text.as_str(), "10000;a,Park,3000;|v1 0;", "a voter");
-}
-
-#[test]
-fn holds_the_limit_on_a_ballot(rt: HostRuntime) {
-    let mut election = election(&rt, rt.alloc(), 10_000, &[("a", "Park", 3000)], &[]);
-    same(&rt, election.max_length(), None, "at first");
+    let both = ballot(&rt, alloc, &[0, 1]);
+    holds(&rt, !election.knows(&both), "an unknown place");
+    is_shown(&rt, alloc, &election, None, "10000;a,Park,3000;|");
+    let v1 = voter(&rt, alloc, "v1", &[0]);
+    let name = voter_id(&rt, alloc, "v1");
+    holds(&rt, election.knows(&v1.ballot), "a known place");
+    holds(&rt, !election.has_voter(&name), "before v1");
     election.set_max_length(Some(0));
-    add_voter(&rt, &mut election, voter(&rt, rt.alloc(), "v1", &[0]));
-    same(&rt, election.max_length(), Some(0), "set");
+    add_voter(&rt, &mut election, v1);
+    holds(&rt, election.has_voter(&name), "after v1");
+    is_shown(&rt, alloc, &election, Some(0), "10000;a,Park,3000;|v1 0;");
     election.set_max_length(None);
-    same(&rt, election.max_length(), None, "taken back");
+    is_shown(&rt, alloc, &election, None, "10000;a,Park,3000;|v1 0;");
 }
 
 /// A request's word, voter and places.
@@ -266,27 +279,21 @@ fn parts(request: &Request) -> Parts<'_> {
     }
 }
 
-/// The request has these parts, and so has its copy.
-fn copies(rt: &impl Abort, alloc: Global, request: Request, wanted: Parts<'_>) {
+/// The request of these parts has them, with the places in order, and so has its copy.
+fn copies(rt: &impl Abort, alloc: Global, asked: Parts<'static>, ordered: &[u32]) {
+    let (word, id, places) = asked;
+    let request = request(rt, alloc, word, id, places);
     let copy = request.copy(alloc).expect(rt, "memory");
-    same(rt, parts(&request), wanted, "a request");
-    same(rt, parts(&copy), wanted, "its copy");
+    same(rt, parts(&request), (word, id, ordered), "a request");
+    same(rt, parts(&copy), (word, id, ordered), "its copy");
 }
 
 #[test]
 fn copies_requests(rt: HostRuntime) {
-    let alloc = rt.alloc();
-    let (ann, bob, c) = (
-        voter(&rt, alloc, "ann", &[1, 0]),
-        voter(&rt, alloc, "bob", &[]),
-        voter_id(&rt, alloc, "c;d"),
-    );
-    let cast = Request::Cast(ann.id, ann.ballot);
-    copies(&rt, alloc, cast, ("cast", "ann", &[0, 1]));
-    let replace = Request::Replace(bob.id, bob.ballot);
-    copies(&rt, alloc, replace, ("replace", "bob", &[]));
-    copies(&rt, alloc, Request::Withdraw(c), ("withdraw", "c;d", &[]));
-    copies(&rt, alloc, Request::Shut, ("shut", "", &[]));
+    copies(&rt, rt.alloc(), ("cast", "ann", &[1, 0]), &[0, 1]);
+    copies(&rt, rt.alloc(), ("replace", "bob", &[]), &[]);
+    copies(&rt, rt.alloc(), ("withdraw", "c;d", &[]), &[]);
+    copies(&rt, rt.alloc(), ("shut", "", &[]), &[]);
 }
 
 #[test]

@@ -9,19 +9,14 @@
 
 ghost use Rattle.std.specs.Prelude.{◌≡◌, All, IfSome};
 
-use pb_core::{Answer, Ballot, NoMemory, Request, VoterId};
+use pb_core::{Answer, Ballot, Election, Money, NoMemory, Project, Request, Voter, VoterId};
 use pb_desk::Desk;
-use pb_read::read_pb;
 use pb_shared::clerk::Clerk;
 use pb_shared::share_fault::ShareFault;
 use pb_shared::shared_desk::SharedDesk;
 use pb_shared::shared_fault::SharedFault;
 use std::alloc::Global;
 use std::io;
-
-/// An election of two projects and three voters.
-const THREE_VOTERS: &str =
-    "META\nkey;value\nbudget;100\nvote_type;approval\nPROJECTS\nproject_id;cost\na;30\nb;60\nVOTES\nvoter_id;vote\nv1;a\nv2;a,b\nv3;b\n";
 
 fn main(rt: HostRuntime) -> io::Result<()> {
     let said = match run(rt.alloc()) {
@@ -31,26 +26,46 @@ fn main(rt: HostRuntime) -> io::Result<()> {
     println!(rt; "{said}")
 }
 
-/// A new ballot of this voter, for project 0.
-fn cast(alloc: Global, name: &str) -> Result<Request, NoMemory> {
-    let voter = VoterId::new(alloc, name)?.ok_or(NoMemory)?;
-    Ok(Request::Cast(voter, Ballot::of(alloc, &[0])?))
+/// The voter of this id.
+fn id(alloc: Global, name: &str) -> Result<VoterId, NoMemory> {
+    VoterId::new(alloc, name)?.ok_or(NoMemory)
 }
 
-/// A desk on the three voters.
-fn desk(alloc: Global) -> Result<Desk, NoMemory> {
-    let Ok(election) = read_pb(alloc, THREE_VOTERS.as_bytes()) else {
+/// A new ballot of this voter, for project 0.
+fn cast(alloc: Global, name: &str) -> Result<Request, NoMemory> {
+    Ok(Request::Cast(id(alloc, name)?, Ballot::of(alloc, &[0])?))
+}
+
+/// An election of one project, and of one voter, who approves it.
+fn election(alloc: Global) -> Result<Election, NoMemory> {
+    let mut election = Election::start(alloc, Money(10_000));
+    let name = String::from_str(alloc, "a")?;
+    if name.is_empty() {
         return Err(NoMemory);
+    }
+    election.add_project(Project::new(name, String::new(alloc), Money(3_000)))?;
+    let voter = Voter {
+        id: id(alloc, "v1")?,
+        ballot: Ballot::of(alloc, &[0])?,
     };
-    match Desk::start(alloc, election, 10) {
+    if !election.knows(&voter.ballot) {
+        return Err(NoMemory);
+    }
+    election.add_voter(voter)?;
+    Ok(election)
+}
+
+/// A desk on that election.
+fn desk(alloc: Global) -> Result<Desk, NoMemory> {
+    match Desk::start(alloc, election(alloc)?, 10) {
         Ok(desk) => Ok(desk),
         Err(_) => Err(NoMemory),
     }
 }
 
-/// Whether nothing was served on the desk: no entry, and the three ballots.
+/// Whether nothing was served on the desk: no entry, and the one ballot.
 fn is_as_opened(desk: &Desk) -> bool {
-    desk.entries() == 0 && desk.ballots() == 3 && !desk.is_shut()
+    desk.entries() == 0 && desk.ballots() == 1 && !desk.is_shut()
 }
 
 /// Shares a desk among two clerks, and says what became of it.
@@ -114,7 +129,7 @@ fn after_refusal(
     requires other { other.old.desk ≡ shared.now }
 {
     let seen = shared.look(clerk, |desk| {
-        desk.entries() == entries && desk.ballots().checked_sub(3) == Some(entries)
+        desk.entries() == entries && desk.ballots().checked_sub(1) == Some(entries)
     });
     if seen == Ok(true)
         && shared.serve(other, &Request::Shut) == Ok(Answer::Done)
