@@ -3,8 +3,8 @@
 ghost use Rattle.std.specs.Prelude.{◌≡◌, All};
 
 use crate::checks::{THREE_VOTERS, same};
-use pb_commands::close_and_count::close_and_count;
-use pb_commands::{CloseFault, Closing, DeskCount};
+use pb_closing::close_and_count::close_and_count;
+use pb_closing::{CloseFault, Closing, DeskCount};
 use pb_core::{Request, VoterId};
 use pb_desk::Desk;
 use pb_read::read_pb;

@@ -4,28 +4,23 @@ use Rattle.std.specs.Prelude.{IfErr, MatchBool, OnOk, Result, Ok, Err}
 use Rattle.pb_core.specs.Election.{ElectionView}
 use Rattle.pb_desk.specs.Desk.{DeskView, closed_election, standing_of}
 use Rattle.pb_rounds.specs.Count.{IsCountFault}
-use Rattle.pb_rounds.specs.Outcome.{settled}
+use Rattle.pb_rounds.specs.Counted.{IsCountOf}
+use Rattle.pb_rounds.specs.Outcome.{OutcomeView, settled}
 use Rattle.pb_rounds.specs.declared.count_fault.CountFault.{CountFault}
 use Rattle.pb_rounds.specs.declared.count_fault.CountFault.TheVariants.{NoMemory}
 use Rattle.pb_rounds.specs.declared.options.CountOptions.{CountOptions}
 use Rattle.pb_rows.specs.Writing.{text_of_row}
 use Rattle.pb_commands.specs.Audited.{IsRefusedDesk, IsTextOf, entries_row}
-use Rattle.pb_commands.specs.Closed.{IsCountOfDesk}
 use Rattle.pb_commands.specs.Counted.{IsReportOf}
 use Rattle.pb_commands.specs.Report.{report_of}
-use Rattle.pb_commands.specs.declared.closing.DeskCount.{DeskCount}
 
 when_true : (b : Bool) (A B : Type 0) → b ≡ true → A → MatchBool b A B
 when_true b A B is a = subst (λ (t : Bool). MatchBool t A B) (sym is) a
 
--- the desk's row and the report of its count are what is to be written of the desk
-pub report_of_count : (d : DeskView) (options : CountOptions) (count : DeskCount) → IsCountOfDesk d options count
-    → IsTextOf d options (text_of_row (entries_row d) ++ report_of count.election (settled count.outcome))
-report_of_count d options count counted =
-    let report = report_of count.election (settled count.outcome) in
-    let is_report : IsReportOf count.election options report = (count.outcome, counted.outcome, refl) in
-    let of_closed = subst (λ (e : ElectionView). IsReportOf e options report) counted.election is_report in
-    when_true (standing_of d).is_shut _ _ counted.shut (report, of_closed, refl)
+-- the desk's row and the report of a count of its ballots are what is to be written of the desk
+pub report_of_count : (d : DeskView) (options : CountOptions) (o : OutcomeView) → (standing_of d).is_shut ≡ true → IsCountOf (closed_election d) options o
+    → IsTextOf d options (text_of_row (entries_row d) ++ report_of (closed_election d) (settled o))
+report_of_count d options o shut counted = when_true (standing_of d).is_shut _ _ shut (report_of (closed_election d) (settled o), (o, counted, refl), refl)
 
 -- the report of a shut desk's ballots goes after the desk's row
 pub report_follows : (d : DeskView) (options : CountOptions) (e : ElectionView) (before middle after : List ℕ) (r : Result (Unit {0}) CountFault) → (standing_of d).is_shut ≡ true

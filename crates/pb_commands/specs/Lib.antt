@@ -10,4 +10,3 @@ pub mod ScriptFault
 pub mod ScriptReading
 pub mod Serving
 pub mod Desked
-pub mod Closed

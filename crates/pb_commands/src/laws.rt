@@ -1,20 +1,19 @@
 // Laws of the definitions.
 
-ghost use Rattle.std.specs.Prelude.{◌≡◌, ◌↔◌, ◌++◌, ℕ, List};
+ghost use Rattle.std.specs.Prelude.{◌≡◌, ◌↔◌, ◌++◌, ℕ, List, true};
 ghost use Rattle.pb_desk.specs.Audit.{IsSound};
-ghost use Rattle.pb_desk.specs.Desk.{DeskView};
+ghost use Rattle.pb_desk.specs.Desk.{DeskView, closed_election, standing_of};
 ghost use Rattle.pb_desk.specs.Rows.{journal_text};
 ghost use Rattle.pb_read.specs.StandsFor.{StandsFor};
 ghost use Rattle.pb_rows.specs.Reading.{records_of};
 ghost use Rattle.pb_rows.specs.Writing.{text_of_row};
-ghost use Rattle.pb_rounds.specs.Outcome.{settled};
+ghost use Rattle.pb_rounds.specs.Counted.{IsCountOf};
+ghost use Rattle.pb_rounds.specs.Outcome.{OutcomeView, settled};
 ghost use Rattle.pb_rounds.specs.declared.options.CountOptions.{CountOptions};
 ghost use Rattle.pb_commands.specs.Audited.{AuditWrites, IsDeskOf, IsTextOf, entries_row, program_room};
-ghost use Rattle.pb_commands.specs.Closed.{IsCountOfDesk};
 ghost use Rattle.pb_commands.specs.Counted.{CountWrites};
 ghost use Rattle.pb_commands.specs.Desked.{DeskWrites};
 ghost use Rattle.pb_commands.specs.Report.{report_of};
-ghost use Rattle.pb_commands.specs.declared.closing.DeskCount.{DeskCount};
 
 /// What is written is a function of the bytes that are read and of the options: a file has one report at
 /// most, and a file and a journal have one text at most.
@@ -30,7 +29,7 @@ pub fn one_report()
 /// room: an audit of the journal's text on the file accepts it as this desk's, and writes just what is to be
 /// written of this desk, its row and where it is shut the report of the ballots that its journal leaves. What
 /// `desk` writes is the text of such a journal. So who recounts what `desk` wrote gets the desk's winners: where
-/// such a desk is closed and counted, the audit's report is that of this very count.
+/// such a desk is closed and counted, as `pb_closing` does it, the audit's report is that of this very count.
 pub fn journals_recount()
     ensures accepted { (bytes : List ℕ) (d : DeskView) → StandsFor (records_of bytes) d.opening.election
         → d.room ≡ program_room → IsSound d.opening d.room d.journal
@@ -39,8 +38,7 @@ pub fn journals_recount()
         → IsDeskOf bytes journal d → AuditWrites bytes journal options text ↔ IsTextOf d options text }
     ensures written { (bytes rows : List ℕ) (clerks : ℕ) (journal : List ℕ)
         → DeskWrites bytes rows clerks journal → (d : DeskView) × IsDeskOf bytes journal d }
-    ensures winners { (d : DeskView) (options : CountOptions) (count : DeskCount)
-        → IsCountOfDesk d options count
-        → IsTextOf d options
-        (text_of_row (entries_row d) ++ report_of count.election (settled count.outcome)) }
+    ensures winners { (d : DeskView) (options : CountOptions) (o : OutcomeView)
+        → (standing_of d).is_shut ≡ true → IsCountOf (closed_election d) options o
+        → IsTextOf d options (text_of_row (entries_row d) ++ report_of (closed_election d) (settled o)) }
 {}

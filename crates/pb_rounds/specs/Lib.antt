@@ -4,6 +4,7 @@ pub mod Cheapest
 pub mod Completed
 pub mod Count
 pub mod CountFault
+pub mod Counted
 pub mod Outcome
 pub mod PriceSystem
 pub mod PricingRecord

@@ -3,14 +3,14 @@ use Rattle.std.specs.Prelude.{◌≡◌, true, false, List, length, Result, Ok, 
 use Rattle.pb_core.specs.Request.{EntryView}
 use Rattle.pb_desk.specs.Desk.{DeskView, closed_election, standing_of}
 use Rattle.pb_rounds.specs.Count.{IsCountFault}
+use Rattle.pb_rounds.specs.Counted.{IsCountOf}
 use Rattle.pb_rounds.specs.declared.options.CountOptions.{CountOptions}
 use Rattle.pb_shared.specs.Clerk.{ClerkView, IsHeldByAnother, IsMergeOf, SharedView, desk_with}
-use Rattle.pb_commands.specs.Counted.{IsCountOf}
-use Rattle.pb_commands.specs.declared.close_fault.CloseFault.{CloseFault}
-use Rattle.pb_commands.specs.declared.close_fault.CloseFault.TheVariants.{Unfinished, NoMemory, NotCounted}
-use Rattle.pb_commands.specs.declared.closing.Closing.{Closing}
-use Rattle.pb_commands.specs.declared.closing.Closing.TheVariants.{Open, Counted}
-use Rattle.pb_commands.specs.declared.closing.DeskCount.{DeskCount}
+use Rattle.pb_closing.specs.declared.close_fault.CloseFault.{CloseFault}
+use Rattle.pb_closing.specs.declared.close_fault.CloseFault.TheVariants.{Unfinished, NoMemory, NotCounted}
+use Rattle.pb_closing.specs.declared.closing.Closing.{Closing}
+use Rattle.pb_closing.specs.declared.closing.Closing.TheVariants.{Open, Counted}
+use Rattle.pb_closing.specs.declared.closing.DeskCount.{DeskCount}
 
 -- the desk is shut, and this is the count of the ballots that its journal leaves
 pub record IsCountOfDesk (d : DeskView) (options : CountOptions) (count : DeskCount) : Type 0 where

@@ -2,7 +2,7 @@
 
 ghost use Rattle.std.specs.Prelude.{◌≡◌, ◌≢◌, ℕ, All, IfErr};
 ghost use Rattle.pb_shared.specs.Clerk.{AreAll};
-ghost use Rattle.pb_commands.specs.Closed.{ComesTo, IsClosedAs};
+ghost use Rattle.pb_closing.specs.Closed.{ComesTo, IsClosedAs};
 
 use crate::close_fault::CloseFault;
 use crate::closing::{Closing, DeskCount};
