@@ -1,6 +1,7 @@
 -- What the checks of a row find, from the tests of its parts.
 use Rattle.std.proofs.Common.{◌≡◌, ◌≢◌, ◌==◌, ℕ, Bool, true, false, cond, not, List, [], ◌∷◌, ◌++◌, length, map, Option, Some, None, Result, Ok, Err, refl, ap, sym, ◌∙◌}
-use Rattle.std.specs.Prelude.{is_none, is_some, nat_le, IsErrAnd}
+use Rattle.std.specs.FinMap as places
+use Rattle.std.specs.Prelude.{is_some, nat_le, IsErrAnd}
 use Rattle.std.specs.Str.{bytes_eq, trim}
 use Rattle.std.proofs.lemmas.List.{map_push}
 use Rattle.pb_core.specs.Election.{ElectionView, ProjectView, VoterView, most_projects, most_voters, project_ids, voter_ids}
@@ -10,7 +11,8 @@ use Rattle.pb_rows.specs.Reading.{Fields}
 use Rattle.pb_read.proofs.IdFacts.{is_some-place, place_in-push}
 use Rattle.pb_read.specs.Columns.{has_fields}
 use Rattle.pb_read.specs.Drafts.{HasProject, HasVoter, IsTied}
-use Rattle.pb_read.specs.Ids.{Finds, found, place_in}
+use Rattle.pb_ids.specs.Places.{Places, get_inserted, get_none}
+use Rattle.pb_read.specs.Ids.{Finds, place_in}
 use Rattle.pb_read.specs.MoneyKinds.{kind_of_money}
 use Rattle.pb_read.specs.Machine.{Explains, project_checks, project_row_checks, vote_checks, vote_row_checks}
 use Rattle.pb_read.specs.Rows.{field, is_empty}
@@ -19,14 +21,13 @@ use Rattle.pb_read.specs.declared.columns.ProjectColumns.{ProjectColumns}
 use Rattle.pb_read.specs.declared.columns.VoteColumns.{VoteColumns}
 use Rattle.pb_read.specs.declared.draft.Draft.{Draft}
 use Rattle.pb_read.specs.declared.fault.ReadKind.{ReadKind}
-use Rattle.pb_read.specs.declared.ids.Ids.{Ids}
 use Rattle.pb_read.specs.declared.fault.ReadKind.TheVariants as kinds
 
 -- a draft without projects, voters and ids
-pub tied_start : (draft : Draft) → draft.election.projects ≡ [] → draft.election.voters ≡ [] → ((text : List ℕ) → found draft.project_ids text ≡ None) → ((text : List ℕ) → found draft.voter_ids text ≡ None) → IsTied draft
+pub tied_start : (draft : Draft) → draft.election.projects ≡ [] → draft.election.voters ≡ [] → draft.project_ids ≡ places.empty → draft.voter_ids ≡ places.empty → IsTied draft
 tied_start draft no_project no_voter projects voters = record {
-  project_ids_are = λ text. projects text ∙ ap (λ ps. place_in (map (λ (p : ProjectView). p.id) ps) text) (sym no_project);
-  voter_ids_are = λ text. voters text ∙ ap (λ vs. place_in (map (λ (v : VoterView). v.id) vs) text) (sym no_voter);
+  project_ids_are = λ text. ap (λ ids. places.get ids text) projects ∙ get_none text ∙ ap (λ ps. place_in (map (λ (p : ProjectView). p.id) ps) text) (sym no_project);
+  voter_ids_are = λ text. ap (λ ids. places.get ids text) voters ∙ get_none text ∙ ap (λ vs. place_in (map (λ (v : VoterView). v.id) vs) text) (sym no_voter);
 }
 
 module _ (columns : ProjectColumns) (row : Fields) (e : ElectionView) where
@@ -59,27 +60,19 @@ module _ (columns : VoteColumns) (row : Fields) (e : ElectionView) where
   unfolding vote_row_checks
   vote_found whole n r k f = λ i. vote_checks (whole i) (n i) (r i) (k i) (f i)
 
--- an id is among the known ones just where adding it says that it is not new
-module _ (ids : Ids) (known : List (List ℕ)) (text id : List ℕ) (new : Bool) (finds : Finds ids known) (same : text ≡ id) (added : new ≡ is_none (found ids text)) where
-  among : is_among known id ≡ not new
-  among =
-      ap (is_among known) (sym same) ∙ sym (is_some-place known text) ∙ ap is_some (sym (finds text)) ∙ turned (found ids text) ∙ ap not (sym added)
-    where
-      turned : (o : Option ℕ) → is_some o ≡ not (is_none o)
-      turned (Some place) = refl
-      turned None = refl
+-- an id is among the known ones just where it had a place
+module _ (ids : Places) (known : List (List ℕ)) (text id : List ℕ) (finds : Finds ids known) (same : text ≡ id) where
+  pub was_among : {before : Option ℕ} {had : Bool} → before ≡ places.get ids text → had ≡ is_some before → {said : Bool} → had ≡ said → is_among known id ≡ said
+  was_among before had said =
+      ap (is_among known) (sym same) ∙ sym (is_some-place known text) ∙ ap is_some (sym (finds text) ∙ sym before) ∙ sym had ∙ said
 
-  pub was_there : new ≡ false → is_among known id ≡ true
-  was_there e = among ∙ ap not e
-
-  pub was_new : new ≡ true → is_among known id ≡ false
-  was_new e = among ∙ ap not e
-
-  -- and is found after it was added
-  pub finds_after : (after : Ids) → new ≡ true → ((t : List ℕ) → found after t ≡ cond (bytes_eq text t) (Some (length known)) (found ids t)) → Finds after (known ++ id ∷ [])
-  finds_after after e put t =
-      put t ∙ ap (λ x. cond (bytes_eq x t) (Some (length known)) (found ids t)) same ∙ ap (cond (bytes_eq id t) (Some (length known))) (finds t)
-      ∙ sym (place_in-push known id t (was_new e))
+  -- and is found after it was given the next place
+  pub finds_after : {after : Places} {place : ℕ} → is_among known id ≡ false → place ≡ length known → after ≡ places.insert ids text place → Finds after (known ++ id ∷ [])
+  finds_after {place = place} new next put t =
+      ap (λ m. places.get m t) put ∙ get_inserted ids text place t
+      ∙ ap (λ n. cond (bytes_eq text t) (Some n) (places.get ids t)) next
+      ∙ ap (λ x. cond (bytes_eq x t) (Some (length known)) (places.get ids t)) same ∙ ap (cond (bytes_eq id t) (Some (length known))) (finds t)
+      ∙ sym (place_in-push known id t new)
 
 -- what the checks of a row find, once its id was added to those before it
 pub project_checked : (columns : ProjectColumns) (row : Fields) (e : ElectionView) (id : List ℕ) (cost : ℕ) {repeated full : Bool} → HasProject columns row id cost → is_among (project_ids e) (field row columns.id) ≡ repeated →

@@ -8,13 +8,14 @@ ghost use Rattle.pb_read.specs.StandsFor.{opening};
 
 use crate::columns::{ProjectColumns, VoteColumns};
 use crate::fault::ReadKind;
-use crate::ids::Ids;
 use crate::row::Row;
+use crate::vote::find_places;
 use pb_core::ballot::Ballot;
 use pb_core::election::{Election, MOST_PROJECTS, MOST_VOTERS};
 use pb_core::money::Money;
 use pb_core::project::Project;
 use pb_core::voter::Voter;
+use pb_ids::IdTable;
 use std::alloc::Global;
 use std::mem;
 
@@ -22,8 +23,8 @@ use std::mem;
 #[derive(Drop)]
 pub(crate) struct Draft {
     pub(crate) election: Election,
-    pub(crate) project_ids: Ids,
-    pub(crate) voter_ids: Ids,
+    pub(crate) project_ids: IdTable,
+    pub(crate) voter_ids: IdTable,
     /// The places that the vote in work names; used again for each row.
     pub(crate) places: Vec<u32>,
     pub(crate) alloc: Global,
@@ -40,8 +41,8 @@ impl Draft {
         election.set_max_length(max_length);
         Draft {
             election,
-            project_ids: Ids::new(alloc),
-            voter_ids: Ids::new(alloc),
+            project_ids: IdTable::new(alloc),
+            voter_ids: IdTable::new(alloc),
             places: Vec::new(alloc),
             alloc,
         }
@@ -69,7 +70,11 @@ impl Draft {
             Err(kind) => return Err(kind),
         };
         let place = self.election.projects().len();
-        if !self.project_ids.add(self.alloc, id, place as u32)? {
+        if self
+            .project_ids
+            .insert(self.alloc, id, place as u32)?
+            .is_some()
+        {
             return Err(ReadKind::RepeatedProject);
         }
         if place >= MOST_PROJECTS {
@@ -94,11 +99,15 @@ impl Draft {
             Err(kind) => return Err(kind),
         };
         let place = self.election.voters().len();
-        if !self.voter_ids.add(self.alloc, id.text(), place as u32)? {
+        if self
+            .voter_ids
+            .insert(self.alloc, id.text(), place as u32)?
+            .is_some()
+        {
             return Err(ReadKind::RepeatedVoter);
         }
         let vote = row.field(columns.vote);
-        if !self.project_ids.places(vote, &mut self.places)? {
+        if !find_places(&self.project_ids, vote, &mut self.places)? {
             return Err(ReadKind::UnknownProject);
         }
         if place >= MOST_VOTERS {

@@ -2,10 +2,8 @@
 #![tactic(auto)]
 
 mod columns;
-mod crowd;
 mod draft;
 mod fault;
-mod ids;
 mod laws;
 mod length;
 mod meta;
@@ -13,6 +11,7 @@ mod progress;
 mod read;
 mod row;
 mod section;
+mod vote;
 
 pub use fault::{ReadFault, ReadKind};
 pub use laws::one_answer;

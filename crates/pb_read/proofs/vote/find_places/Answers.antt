@@ -10,14 +10,14 @@ use Rattle.pb_read.proofs.ListFacts.{length-is_empty}
 use Rattle.pb_read.proofs.Pieces.{IsWalked, walked_empty, walked_more, walked_none, unknown_part}
 use Rattle.pb_read.specs.Ids.{place_in}
 use Rattle.pb_read.specs.Rows.{is_empty}
-use Rattle.pb_read.proofs.ids.Ids.places.Goals as goal
+use Rattle.pb_read.proofs.vote.find_places.Goals as goal
 
 pub returns-in_default-clause-known : goal.returns-in_default-clause-known
 returns-in_default-clause-known c = λ ids finds.
     let vote = c.args.vote.now in
     let t = YieldsList-turn (YieldsList-from_str_split 44 vote (lit< tt) (cc) (cc) (cc)) c.loop-piece.yielded _ c.loop-piece.yielded_by _ _ c.in-Some.piece c.in-Some.is c.next.ensures.steps in
     let full = ap is_empty (sym c.trim-id.ensures.trim) ∙ sym (length-is_empty c.trim-id.result.now) ∙ sym c.is_empty.ensures ∙ c.if-is_empty.false in
-    let place = ap (place_in ids) (sym c.trim-id.ensures.trim) ∙ sym (finds c.trim-id.result.now) ∙ sym c.place_of.ensures ∙ c.in_default.is in
+    let place = ap (place_in ids) (sym c.trim-id.ensures.trim) ∙ sym (finds c.trim-id.result.now) ∙ sym c.get.ensures ∙ c.in_default.is in
     let none = sym (is_some-place ids _) ∙ ap is_some place in
     sym (unknown_part ids (slice_split (λ b. b == 44) vote) (length c.loop-piece.yielded) c.in-Some.piece.now t.0 t.1 full none)
 
@@ -35,9 +35,9 @@ loop-piece-preserved-then-is_empty c = λ ids finds.
 pub loop-piece-preserved : goal.loop-piece-preserved
 loop-piece-preserved c = λ ids finds.
     let full = ap is_empty (sym c.trim-id.ensures.trim) ∙ sym (length-is_empty c.trim-id.result.now) ∙ sym c.is_empty.ensures ∙ c.if-is_empty.false in
-    let found = ap (place_in ids) (sym c.trim-id.ensures.trim) ∙ sym (finds c.trim-id.result.now) ∙ sym c.place_of.ensures ∙ c.in-Some-place_of.is in
+    let found = ap (place_in ids) (sym c.trim-id.ensures.trim) ∙ sym (finds c.trim-id.result.now) ∙ sym c.get.ensures ∙ c.in-Some-get.is in
     let among = sym (is_some-place ids _) ∙ ap is_some found in
-    rw (map_push, c.in_ok-push.ensures.items) (walked_more ids _ _ c.in-Some.piece.now c.in-Some-place_of.place (c.loop-piece.invariant ids finds) full found among)
+    rw (map_push, c.in_ok-push.ensures.items) (walked_more ids _ _ c.in-Some.piece.now c.in-Some-get.place (c.loop-piece.invariant ids finds) full found among)
 
 pub returns-clause-known : goal.returns-clause-known
 returns-clause-known c = λ ids finds.
