@@ -62,40 +62,78 @@ fn a_failed_reader_is_named(rt: HostRuntime) {
 }
 
 /// A cast of two places.
-const LONG: &[Row] = &[("cast", "eve", &[0, 1], Answer::Done)];
+const LONG: &[Row] = &[Row("cast", "eve", &[0, 1], Answer::Done)];
 
 /// The same, where one place is the limit.
-const TOO_LONG: &[Row] = &[("cast", "eve", &[0, 1], Answer::TooLong)];
+const TOO_LONG: &[Row] = &[Row("cast", "eve", &[0, 1], Answer::TooLong)];
 
 /// The answers of a desk whose limit is one place.
 const AT_MOST_ONE: &str =
     "journal;2\n1;0;cast;ann;0,1;too-long\n2;0;cast;ann;0,5;unknown-place 5\n3;0;cast;v1;0,1;too-long\n4;0;cast;v1;0;already-cast\n";
 
-/// Texts that an audit accepts, each with the version, the number of entries and the text of its desk, and what this
-/// then answers. The limit is one place, which version 1 does not know.
-const ACCEPTED: &[(&str, Version, u32, &str, &[Row])] = &[
-    ("", Version::One, 0, "", LONG),
-    (FIVE_ROWS, Version::One, 5, FIVE_ROWS, LONG),
-    ("journal;2", Version::Two, 0, "journal;2\n", TOO_LONG),
-    (
-        "\"journal\";2\n1;0;withdraw;v1;;done\n",
-        Version::Two,
-        1,
-        "journal;2\n1;0;withdraw;v1;;done\n",
-        TOO_LONG,
-    ),
-    (AT_MOST_ONE, Version::Two, 4, AT_MOST_ONE, TOO_LONG),
+/// A text that an audit accepts where the limit is one place, which version 1 does not know; what its desk then has, and
+/// what it answers.
+struct Accepted {
+    text: &'static str,
+    version: Version,
+    entries: u32,
+    written: &'static str,
+    rows: &'static [Row],
+}
+
+const ACCEPTED: &[Accepted] = &[
+    Accepted {
+        text: "",
+        version: Version::One,
+        entries: 0,
+        written: "",
+        rows: LONG,
+    },
+    Accepted {
+        text: FIVE_ROWS,
+        version: Version::One,
+        entries: 5,
+        written: FIVE_ROWS,
+        rows: LONG,
+    },
+    Accepted {
+        text: "journal;2",
+        version: Version::Two,
+        entries: 0,
+        written: "journal;2\n",
+        rows: TOO_LONG,
+    },
+    Accepted {
+        text: "\"journal\";2\n1;0;withdraw;v1;;done\n",
+        version: Version::Two,
+        entries: 1,
+        written: "journal;2\n1;0;withdraw;v1;;done\n",
+        rows: TOO_LONG,
+    },
+    Accepted {
+        text: AT_MOST_ONE,
+        version: Version::Two,
+        entries: 4,
+        written: AT_MOST_ONE,
+        rows: TOO_LONG,
+    },
 ];
+
+/// The audited desk has what it should, and goes on to serve.
+fn goes_on(rt: &impl Abort, alloc: Global, accepted: &Accepted) {
+    let election = add_limit(three_voters(rt, alloc), Some(1));
+    let audited = audit(alloc, election, 10, accepted.text.as_bytes());
+    let mut desk = audited.expect(rt, "accepted");
+    same(rt, desk.version(), accepted.version, "the version");
+    same(rt, desk.entries(), accepted.entries, "the entries");
+    has_text(rt, alloc, &desk, accepted.written);
+    asks(rt, alloc, &mut desk, accepted.rows);
+    drop(desk);
+}
 
 #[test]
 fn an_audited_desk_goes_on(rt: HostRuntime) {
-    for (text, version, entries, written, rows) in ACCEPTED {
-        let election = add_limit(three_voters(&rt, rt.alloc()), Some(1));
-        let audited = audit(rt.alloc(), election, 10, text.as_bytes());
-        let mut desk = audited.expect(&rt, "accepted");
-        let found = (desk.version(), desk.entries());
-        same(&rt, found, (*version, *entries), text);
-        has_text(&rt, rt.alloc(), &desk, written);
-        asks(&rt, rt.alloc(), &mut desk, rows);
+    for accepted in ACCEPTED {
+        goes_on(&rt, rt.alloc(), accepted);
     }
 }

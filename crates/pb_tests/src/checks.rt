@@ -9,11 +9,6 @@ pub(crate) fn same<T: PartialEq + Debug + Copy>(rt: &impl Abort, found: T, wante
     assert_eq!(rt; found, wanted, "at {case}");
 }
 
-/// It is so, in this case.
-pub(crate) fn holds(rt: &impl Abort, is_so: bool, case: &str) {
-    assert!(rt; is_so, "at {case}");
-}
-
 /// It is shown as this text.
 pub(crate) fn shows<D: Display>(rt: &impl Abort, alloc: Global, found: &D, wanted: &str) {
     let shown = format!(in alloc; "{found}").expect(rt, "memory");

@@ -1,6 +1,6 @@
 //! Elections read from texts, values made by calls, and elections as text.
 
-use pb_core::{Ballot, Election, Voter, VoterId};
+use pb_core::{Ballot, Election, Project, Voter, VoterId};
 use pb_read::read_pb;
 use std::alloc::Global;
 use std::process::Abort;
@@ -35,6 +35,14 @@ pub(crate) fn add_limit(election: Election, limit: Option<u32>) -> Election {
     election
 }
 
+/// A project's id, name and cost.
+fn show_project(rt: &impl Abort, text: &mut String, project: &Project) {
+    text.push_str(project.id()).expect(rt, "memory");
+    text.push(',').expect(rt, "memory");
+    text.push_str(project.name()).expect(rt, "memory");
+    write!(text, ",{};", project.cost().0).expect(rt, "memory");
+}
+
 /// A voter's id, and the places of the ballot.
 fn show_voter(rt: &impl Abort, text: &mut String, voter: &Voter) {
     text.push_str(voter.id.text()).expect(rt, "memory");
@@ -49,8 +57,7 @@ pub(crate) fn shown(rt: &impl Abort, alloc: Global, election: &Election) -> Stri
     let mut text = String::new(alloc);
     write!(text, "{};", election.budget().0).expect(rt, "memory");
     for project in election.projects() {
-        let (id, name, cost) = (project.id(), project.name(), project.cost().0);
-        write!(text, "{id},{name},{cost};").expect(rt, "memory");
+        show_project(rt, &mut text, project);
     }
     text.push('|').expect(rt, "memory");
     for voter in election.voters() {

@@ -1,7 +1,8 @@
-//! Tests of the library crates: what no contract says, and each public call once with ample memory.
+//! Tests of the desk, of its journal and of the shared desk: what no contract says, and each public call once with
+//! ample memory.
 //!
-//! They stand apart, since a crate that has tests is proved a second time with them. A test is a table and a short
-//! body, which compares by `checks`: an assertion in a body takes the prover seconds, a call next to nothing.
+//! A test is a table and a short body, which compares by `checks`: an assertion in a body takes the prover seconds, a
+//! call next to nothing.
 #![tactic(auto)]
 
 #[cfg(test)]
@@ -9,24 +10,12 @@ mod auditing;
 #[cfg(test)]
 mod checks;
 #[cfg(test)]
-mod counting;
-#[cfg(test)]
 mod elections;
 #[cfg(test)]
 mod faults;
 #[cfg(test)]
-mod prices;
-#[cfg(test)]
-mod raises;
-#[cfg(test)]
-mod reading;
-#[cfg(test)]
-mod rows;
-#[cfg(test)]
 mod serving;
 #[cfg(test)]
 mod sharing;
-#[cfg(test)]
-mod values;
 #[cfg(test)]
 mod withdrawals;

@@ -30,7 +30,12 @@ pub(crate) fn request(
 }
 
 /// A word, a voter and places, and what is answered.
-pub(crate) type Row = (&'static str, &'static str, &'static [u32], Answer);
+pub(crate) struct Row(
+    pub(crate) &'static str,
+    pub(crate) &'static str,
+    pub(crate) &'static [u32],
+    pub(crate) Answer,
+);
 
 /// The clerk asks this, and is answered so.
 pub(crate) fn is_served(
@@ -46,10 +51,25 @@ pub(crate) fn is_served(
 
 /// Clerk 0 asks each of these in turn, and gets these answers.
 pub(crate) fn asks(rt: &impl Abort, alloc: Global, desk: &mut Desk, rows: &[Row]) {
-    for (word, id, places, answer) in rows {
+    for Row(word, id, places, answer) in rows {
         let request = request(rt, alloc, word, id, places);
         is_served(rt, desk, 0, &request, Ok(*answer));
+        drop(request);
     }
+}
+
+/// Clerk 0 asks this, and it is done.
+pub(crate) fn is_done(
+    rt: &impl Abort,
+    alloc: Global,
+    desk: &mut Desk,
+    word: &str,
+    id: &str,
+    place: u32,
+) {
+    let request = request(rt, alloc, word, id, &[place]);
+    is_served(rt, desk, 0, &request, Ok(Answer::Done));
+    drop(request);
 }
 
 pub(crate) fn text_of(rt: &impl Abort, alloc: Global, desk: &Desk) -> Vec<u8> {
@@ -86,141 +106,142 @@ pub(crate) fn has_ballots(rt: &impl Abort, alloc: Global, desk: &Desk, wanted: &
 
 /// Cast, cast again, replace.
 const THREE: &[Row] = &[
-    ("cast", "ann", &[0], Answer::Done),
-    ("cast", "ann", &[1], Answer::AlreadyCast),
-    ("replace", "ann", &[0, 1], Answer::Done),
+    Row("cast", "ann", &[0], Answer::Done),
+    Row("cast", "ann", &[1], Answer::AlreadyCast),
+    Row("replace", "ann", &[0, 1], Answer::Done),
 ];
 
 /// The same, then withdraw, and replace what is gone.
 const FIVE: &[Row] = &[
-    ("cast", "ann", &[0], Answer::Done),
-    ("cast", "ann", &[1], Answer::AlreadyCast),
-    ("replace", "ann", &[0, 1], Answer::Done),
-    ("withdraw", "ann", &[], Answer::Done),
-    ("replace", "ann", &[0], Answer::NoBallot),
+    Row("cast", "ann", &[0], Answer::Done),
+    Row("cast", "ann", &[1], Answer::AlreadyCast),
+    Row("replace", "ann", &[0, 1], Answer::Done),
+    Row("withdraw", "ann", &[], Answer::Done),
+    Row("replace", "ann", &[0], Answer::NoBallot),
 ];
 
 const AFTER_SHUT: &[Row] = &[
-    ("shut", "", &[], Answer::Done),
-    ("cast", "ann", &[0], Answer::DeskShut),
-    ("shut", "", &[], Answer::DeskShut),
+    Row("shut", "", &[], Answer::Done),
+    Row("cast", "ann", &[0], Answer::DeskShut),
+    Row("shut", "", &[], Answer::DeskShut),
 ];
 
 /// The first unknown place is named.
-const UNKNOWN: &[Row] = &[("cast", "ann", &[0, 2, 9], Answer::UnknownPlace(2))];
+const UNKNOWN: &[Row] = &[Row("cast", "ann", &[0, 2, 9], Answer::UnknownPlace(2))];
 
 /// A withdrawal closes up.
 const CLOSING_UP: &[Row] = &[
-    ("withdraw", "v1", &[], Answer::Done),
-    ("cast", "v1", &[1], Answer::Done),
-    ("replace", "v2", &[0], Answer::Done),
+    Row("withdraw", "v1", &[], Answer::Done),
+    Row("cast", "v1", &[1], Answer::Done),
+    Row("replace", "v2", &[0], Answer::Done),
 ];
 
 const WITHDRAWN: &[Row] = &[
-    ("withdraw", "v3", &[], Answer::Done),
-    ("shut", "", &[], Answer::Done),
+    Row("withdraw", "v3", &[], Answer::Done),
+    Row("shut", "", &[], Answer::Done),
 ];
 
 const SHUT_TWICE: &[Row] = &[
-    ("shut", "", &[], Answer::Done),
-    ("shut", "", &[], Answer::DeskShut),
+    Row("shut", "", &[], Answer::Done),
+    Row("shut", "", &[], Answer::DeskShut),
 ];
 
 const MOVED: &[Row] = &[
-    ("withdraw", "v1", &[], Answer::Done),
-    ("cast", "v1", &[1], Answer::Done),
+    Row("withdraw", "v1", &[], Answer::Done),
+    Row("cast", "v1", &[1], Answer::Done),
 ];
 
 const MOVED_AND_SHUT: &[Row] = &[
-    ("withdraw", "v1", &[], Answer::Done),
-    ("cast", "v1", &[1], Answer::Done),
-    ("shut", "", &[], Answer::Done),
+    Row("withdraw", "v1", &[], Answer::Done),
+    Row("cast", "v1", &[1], Answer::Done),
+    Row("shut", "", &[], Answer::Done),
 ];
 
-/// The limit on a ballot's length, the room, what is asked of a new desk of the three voters, the ballots and the
-/// journal then, and the election that a shut desk leaves.
-type Served = (
-    Option<u32>,
-    u32,
-    &'static [Row],
-    &'static str,
-    &'static str,
-    Option<&'static str>,
-);
+/// What is asked of a new desk of the three voters, and what it then has.
+struct Served {
+    /// The limit on a ballot's length.
+    limit: Option<u32>,
+    room: u32,
+    rows: &'static [Row],
+    ballots: &'static str,
+    journal: &'static str,
+    /// The election that a shut desk leaves.
+    left: Option<&'static str>,
+}
 
 const SERVED: &[Served] = &[
-    (
-        None,
-        10,
-        THREE,
-        "v1 0;v2 0 1;v3 1;ann 0 1;",
-        "journal;2\n1;0;cast;ann;0;done\n2;0;cast;ann;1;already-cast\n3;0;replace;ann;0,1;done\n",
-        None,
-    ),
-    (
-        None,
-        10,
-        FIVE,
-        "v1 0;v2 0 1;v3 1;",
-        "journal;2\n1;0;cast;ann;0;done\n2;0;cast;ann;1;already-cast\n3;0;replace;ann;0,1;done\n4;0;withdraw;ann;;done\n5;0;replace;ann;0;no-ballot\n",
-        None,
-    ),
-    (
-        None,
-        10,
-        AFTER_SHUT,
-        "v1 0;v2 0 1;v3 1;",
-        "journal;2\n1;0;shut;;;done\n2;0;cast;ann;0;desk-shut\n3;0;shut;;;desk-shut\n",
-        Some("10000;a,,3000;b,,6000;|v1 0;v2 0 1;v3 1;"),
-    ),
-    (
-        None,
-        10,
-        UNKNOWN,
-        "v1 0;v2 0 1;v3 1;",
-        "journal;2\n1;0;cast;ann;0,2,9;unknown-place 2\n",
-        None,
-    ),
-    (
-        None,
-        10,
-        CLOSING_UP,
-        "v2 0;v3 1;v1 1;",
-        "journal;2\n1;0;withdraw;v1;;done\n2;0;cast;v1;1;done\n3;0;replace;v2;0;done\n",
-        None,
-    ),
-    (
-        None,
-        10,
-        WITHDRAWN,
-        "v1 0;v2 0 1;",
-        "journal;2\n1;0;withdraw;v3;;done\n2;0;shut;;;done\n",
-        Some("10000;a,,3000;b,,6000;|v1 0;v2 0 1;"),
-    ),
-    (
-        None,
-        2,
-        SHUT_TWICE,
-        "v1 0;v2 0 1;v3 1;",
-        "journal;2\n1;0;shut;;;done\n2;0;shut;;;desk-shut\n",
-        Some("10000;a,,3000;b,,6000;|v1 0;v2 0 1;v3 1;"),
-    ),
-    (
-        None,
-        10,
-        MOVED,
-        "v2 0 1;v3 1;v1 1;",
-        "journal;2\n1;0;withdraw;v1;;done\n2;0;cast;v1;1;done\n",
-        None,
-    ),
-    (
-        Some(1),
-        10,
-        MOVED_AND_SHUT,
-        "v2 0 1;v3 1;v1 1;",
-        "journal;2\n1;0;withdraw;v1;;done\n2;0;cast;v1;1;done\n3;0;shut;;;done\n",
-        Some("10000;a,,3000;b,,6000;|v2 0 1;v3 1;v1 1;"),
-    ),
+    Served {
+        limit: None,
+        room: 10,
+        rows: THREE,
+        ballots: "v1 0;v2 0 1;v3 1;ann 0 1;",
+        journal: "journal;2\n1;0;cast;ann;0;done\n2;0;cast;ann;1;already-cast\n3;0;replace;ann;0,1;done\n",
+        left: None,
+    },
+    Served {
+        limit: None,
+        room: 10,
+        rows: FIVE,
+        ballots: "v1 0;v2 0 1;v3 1;",
+        journal: "journal;2\n1;0;cast;ann;0;done\n2;0;cast;ann;1;already-cast\n3;0;replace;ann;0,1;done\n4;0;withdraw;ann;;done\n5;0;replace;ann;0;no-ballot\n",
+        left: None,
+    },
+    Served {
+        limit: None,
+        room: 10,
+        rows: AFTER_SHUT,
+        ballots: "v1 0;v2 0 1;v3 1;",
+        journal: "journal;2\n1;0;shut;;;done\n2;0;cast;ann;0;desk-shut\n3;0;shut;;;desk-shut\n",
+        left: Some("10000;a,,3000;b,,6000;|v1 0;v2 0 1;v3 1;"),
+    },
+    Served {
+        limit: None,
+        room: 10,
+        rows: UNKNOWN,
+        ballots: "v1 0;v2 0 1;v3 1;",
+        journal: "journal;2\n1;0;cast;ann;0,2,9;unknown-place 2\n",
+        left: None,
+    },
+    Served {
+        limit: None,
+        room: 10,
+        rows: CLOSING_UP,
+        ballots: "v2 0;v3 1;v1 1;",
+        journal: "journal;2\n1;0;withdraw;v1;;done\n2;0;cast;v1;1;done\n3;0;replace;v2;0;done\n",
+        left: None,
+    },
+    Served {
+        limit: None,
+        room: 10,
+        rows: WITHDRAWN,
+        ballots: "v1 0;v2 0 1;",
+        journal: "journal;2\n1;0;withdraw;v3;;done\n2;0;shut;;;done\n",
+        left: Some("10000;a,,3000;b,,6000;|v1 0;v2 0 1;"),
+    },
+    Served {
+        limit: None,
+        room: 2,
+        rows: SHUT_TWICE,
+        ballots: "v1 0;v2 0 1;v3 1;",
+        journal: "journal;2\n1;0;shut;;;done\n2;0;shut;;;desk-shut\n",
+        left: Some("10000;a,,3000;b,,6000;|v1 0;v2 0 1;v3 1;"),
+    },
+    Served {
+        limit: None,
+        room: 10,
+        rows: MOVED,
+        ballots: "v2 0 1;v3 1;v1 1;",
+        journal: "journal;2\n1;0;withdraw;v1;;done\n2;0;cast;v1;1;done\n",
+        left: None,
+    },
+    Served {
+        limit: Some(1),
+        room: 10,
+        rows: MOVED_AND_SHUT,
+        ballots: "v2 0 1;v3 1;v1 1;",
+        journal: "journal;2\n1;0;withdraw;v1;;done\n2;0;cast;v1;1;done\n3;0;shut;;;done\n",
+        left: Some("10000;a,,3000;b,,6000;|v2 0 1;v3 1;v1 1;"),
+    },
 ];
 
 /// The answer of the entry with this number, if there is one.
@@ -276,23 +297,24 @@ fn comes_back(rt: &impl Abort, alloc: Global, fault: IntoFault, text: &str) {
 
 /// A desk that is shut leaves its election, and one that is not comes back as it was.
 fn leaves(rt: &impl Abort, alloc: Global, desk: Desk, served: &Served) {
-    let (limit, _, _, _, text, left) = *served;
-    same(rt, desk.is_shut(), left.is_some(), text);
+    same(rt, desk.is_shut(), served.left.is_some(), served.journal);
     match desk.into_election() {
-        Ok(election) => is_left(rt, alloc, election, limit, left.expect(rt, "shut")),
-        Err(fault) => comes_back(rt, alloc, fault, text),
+        Ok(election) => {
+            let left = served.left.expect(rt, "shut");
+            is_left(rt, alloc, election, served.limit, left);
+        }
+        Err(fault) => comes_back(rt, alloc, fault, served.journal),
     }
 }
 
 fn serves(rt: &impl Abort, alloc: Global, served: &Served) {
-    let (limit, room, rows, ballots, text, _) = *served;
-    let election = add_limit(three_voters(rt, alloc), limit);
-    let mut desk = Desk::start(alloc, election, room).expect(rt, "a desk");
+    let election = add_limit(three_voters(rt, alloc), served.limit);
+    let mut desk = Desk::start(alloc, election, served.room).expect(rt, "a desk");
     same(rt, desk.is_shut(), false, "a new desk");
-    asks(rt, alloc, &mut desk, rows);
-    has_entries(rt, &mut desk, rows, room);
-    has_ballots(rt, alloc, &desk, ballots);
-    has_text(rt, alloc, &desk, text);
+    asks(rt, alloc, &mut desk, served.rows);
+    has_entries(rt, &mut desk, served.rows, served.room);
+    has_ballots(rt, alloc, &desk, served.ballots);
+    has_text(rt, alloc, &desk, served.journal);
     leaves(rt, alloc, desk, served);
 }
 
@@ -304,17 +326,17 @@ fn serves_requests(rt: HostRuntime) {
 }
 
 const AT_THE_LIMIT: &[Row] = &[
-    ("cast", "ann", &[0], Answer::VoterLimit),
-    ("cast", "v2", &[0], Answer::AlreadyCast),
-    ("withdraw", "v2", &[], Answer::Done),
-    ("cast", "ann", &[0], Answer::Done),
+    Row("cast", "ann", &[0], Answer::VoterLimit),
+    Row("cast", "v2", &[0], Answer::AlreadyCast),
+    Row("withdraw", "v2", &[], Answer::Done),
+    Row("cast", "ann", &[0], Answer::Done),
 ];
 
 /// The voter with this number casts a ballot.
 fn casts(rt: &impl Abort, alloc: Global, desk: &mut Desk, number: u32) {
     let id = format!(in alloc; "w{number}").expect(rt, "memory");
-    let cast = request(rt, alloc, "cast", id.as_str(), &[1]);
-    is_served(rt, desk, 0, &cast, Ok(Answer::Done));
+    is_done(rt, alloc, desk, "cast", id.as_str(), 1);
+    drop(id);
 }
 
 #[test]

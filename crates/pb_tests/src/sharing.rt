@@ -27,20 +27,21 @@ fn share(rt: &impl Abort, alloc: Global, desk: Desk, clerks: u32) -> (SharedDesk
     SharedDesk::share(alloc, desk, clerks).expect(rt, "shared")
 }
 
-/// The clerk asks this, by one try.
-fn serve(shared: &SharedDesk, clerk: &mut Clerk, request: &Request) -> Said
+/// What the clerk is answered, by one try or by this many.
+fn serve(
+    rt: &impl Abort,
+    shared: &SharedDesk,
+    clerk: &mut Clerk,
+    request: &Request,
+    tries: u32,
+) -> Said
     requires { clerk.old.desk ≡ shared.now }
     ensures { clerk.new.desk ≡ shared.now }
 {
-    shared.serve(clerk, request)
-}
-
-/// The clerk asks this, by this many tries.
-fn serve_within(shared: &SharedDesk, clerk: &mut Clerk, request: &Request, tries: u32) -> Said
-    requires own { clerk.old.desk ≡ shared.now }
-    requires some { 0 < tries }
-    ensures { clerk.new.desk ≡ shared.now }
-{
+    if tries == 1 {
+        return shared.serve(clerk, request);
+    }
+    assert!(rt; 0 < tries);
     shared.serve_within(clerk, request, tries)
 }
 
@@ -80,25 +81,21 @@ fn finishes(
 }
 
 /// A word, a voter and places, by how many tries, and what is answered.
-type Row = (&'static str, &'static str, &'static [u32], u32, Said);
+struct Row(&'static str, &'static str, &'static [u32], u32, Said);
 
 /// The clerk asks this, and is answered so.
 fn asks(rt: &impl Abort, alloc: Global, shared: &SharedDesk, clerk: &mut Clerk, row: &Row)
     requires { clerk.old.desk ≡ shared.now }
     ensures { clerk.new.desk ≡ shared.now }
 {
-    let (word, id, places, tries, said) = row;
-    assert!(rt; 0 < *tries);
+    let Row(word, id, places, tries, said) = row;
     let request = request(rt, alloc, word, id, places);
-    let served = match *tries {
-        1 => serve(shared, clerk, &request),
-        _ => serve_within(shared, clerk, &request, *tries),
-    };
-    same(rt, served, *said, word);
+    same(rt, serve(rt, shared, clerk, &request, *tries), *said, word);
+    drop(request);
 }
 
 /// One of two clerks, 0 or 1, and what that clerk asks.
-type Step = (u32, Row);
+struct Step(u32, Row);
 
 /// Each of the two clerks asks in turn.
 fn ask_in_turn(
@@ -123,86 +120,95 @@ fn ask_in_turn(
 }
 
 const FIVE: &[Step] = &[
-    (0, ("cast", "ann", &[0], 1, Ok(Answer::Done))),
-    (0, ("cast", "ann", &[1], 1, Ok(Answer::AlreadyCast))),
-    (0, ("replace", "ann", &[0, 1], 1, Ok(Answer::Done))),
-    (0, ("withdraw", "ann", &[], 1, Ok(Answer::Done))),
-    (0, ("replace", "ann", &[0], 1, Ok(Answer::NoBallot))),
+    Step(0, Row("cast", "ann", &[0], 1, Ok(Answer::Done))),
+    Step(0, Row("cast", "ann", &[1], 1, Ok(Answer::AlreadyCast))),
+    Step(0, Row("replace", "ann", &[0, 1], 1, Ok(Answer::Done))),
+    Step(0, Row("withdraw", "ann", &[], 1, Ok(Answer::Done))),
+    Step(0, Row("replace", "ann", &[0], 1, Ok(Answer::NoBallot))),
 ];
 
 const AFTER_SHUT: &[Step] = &[
-    (0, ("shut", "", &[], 1, Ok(Answer::Done))),
-    (0, ("cast", "ann", &[0], 1, Ok(Answer::DeskShut))),
-    (0, ("shut", "", &[], 1, Ok(Answer::DeskShut))),
+    Step(0, Row("shut", "", &[], 1, Ok(Answer::Done))),
+    Step(0, Row("cast", "ann", &[0], 1, Ok(Answer::DeskShut))),
+    Step(0, Row("shut", "", &[], 1, Ok(Answer::DeskShut))),
 ];
 
 const FULL: &[Step] = &[
-    (0, ("shut", "", &[], 1, Ok(Answer::Done))),
-    (0, ("shut", "", &[], 1, Ok(Answer::DeskShut))),
-    (0, ("shut", "", &[], 1, Err(SharedFault::JournalFull))),
+    Step(0, Row("shut", "", &[], 1, Ok(Answer::Done))),
+    Step(0, Row("shut", "", &[], 1, Ok(Answer::DeskShut))),
+    Step(0, Row("shut", "", &[], 1, Err(SharedFault::JournalFull))),
 ];
 
-const UNKNOWN: &[Step] = &[(
+const UNKNOWN: &[Step] = &[Step(
     0,
-    ("cast", "ann", &[0, 2, 9], 1, Ok(Answer::UnknownPlace(2))),
+    Row("cast", "ann", &[0, 2, 9], 1, Ok(Answer::UnknownPlace(2))),
 )];
 
 /// Two clerks fill a journal of two entries. Neither is then served, by one try or by more.
 const FILLED: &[Step] = &[
-    (0, ("shut", "", &[], 1, Ok(Answer::Done))),
-    (1, ("shut", "", &[], 1, Ok(Answer::DeskShut))),
-    (1, ("shut", "", &[], 1, Err(SharedFault::JournalFull))),
-    (0, ("shut", "", &[], 3, Err(SharedFault::JournalFull))),
+    Step(0, Row("shut", "", &[], 1, Ok(Answer::Done))),
+    Step(1, Row("shut", "", &[], 1, Ok(Answer::DeskShut))),
+    Step(1, Row("shut", "", &[], 1, Err(SharedFault::JournalFull))),
+    Step(0, Row("shut", "", &[], 3, Err(SharedFault::JournalFull))),
 ];
 
 /// A full journal is told to whoever asks, and the lock is free after it.
 const NO_ROOM: &[Step] = &[
-    (0, ("cast", "ann", &[0], 1, Ok(Answer::Done))),
-    (1, ("cast", "bob", &[0], 1, Err(SharedFault::JournalFull))),
-    (
+    Step(0, Row("cast", "ann", &[0], 1, Ok(Answer::Done))),
+    Step(
         1,
-        ("withdraw", "ann", &[], 1, Err(SharedFault::JournalFull)),
+        Row("cast", "bob", &[0], 1, Err(SharedFault::JournalFull)),
     ),
-    (0, ("cast", "bob", &[0], 1, Err(SharedFault::JournalFull))),
-    (
+    Step(
+        1,
+        Row("withdraw", "ann", &[], 1, Err(SharedFault::JournalFull)),
+    ),
+    Step(
         0,
-        ("withdraw", "ann", &[], 1, Err(SharedFault::JournalFull)),
+        Row("cast", "bob", &[0], 1, Err(SharedFault::JournalFull)),
+    ),
+    Step(
+        0,
+        Row("withdraw", "ann", &[], 1, Err(SharedFault::JournalFull)),
     ),
 ];
 
-/// The room, what two clerks ask, the number of entries that each then reads from the front word, and the journal.
-const SERVED: &[(u32, &[Step], u32, &str)] = &[
-    (
+/// The room of a desk, what two clerks ask, the number of entries that each then reads from the front word, and the
+/// journal.
+struct Served(u32, &'static [Step], u32, &'static str);
+
+const SERVED: &[Served] = &[
+    Served(
         10,
         FIVE,
         5,
         "journal;2\n1;0;cast;ann;0;done\n2;0;cast;ann;1;already-cast\n3;0;replace;ann;0,1;done\n4;0;withdraw;ann;;done\n5;0;replace;ann;0;no-ballot\n",
     ),
-    (
+    Served(
         10,
         AFTER_SHUT,
         3,
         "journal;2\n1;0;shut;;;done\n2;0;cast;ann;0;desk-shut\n3;0;shut;;;desk-shut\n",
     ),
-    (
+    Served(
         2,
         FULL,
         2,
         "journal;2\n1;0;shut;;;done\n2;0;shut;;;desk-shut\n",
     ),
-    (
+    Served(
         10,
         UNKNOWN,
         1,
         "journal;2\n1;0;cast;ann;0,2,9;unknown-place 2\n",
     ),
-    (
+    Served(
         2,
         FILLED,
         2,
         "journal;2\n1;0;shut;;;done\n2;1;shut;;;desk-shut\n",
     ),
-    (1, NO_ROOM, 1, "journal;2\n1;0;cast;ann;0;done\n"),
+    Served(1, NO_ROOM, 1, "journal;2\n1;0;cast;ann;0;done\n"),
 ];
 
 /// Two clerks of a new desk ask in turn, and are then handed back.
@@ -220,20 +226,30 @@ fn serves(rt: &impl Abort, alloc: Global, room: u32, steps: &[Step], entries: u3
 
 #[test]
 fn clerks_are_served_as_by_the_desk(rt: HostRuntime) {
-    for (room, steps, entries, text) in SERVED {
+    for Served(room, steps, entries, text) in SERVED {
         serves(&rt, rt.alloc(), *room, steps, *entries, text);
     }
 }
 
-/// The clerk tries once, and then five times for another voter, and these are the answers.
-fn tries(rt: &impl Abort, alloc: Global, shared: &SharedDesk, clerk: &mut Clerk, said: Said)
+/// One try, and then five for another voter, while clerk 0 has the desk.
+const TURNED_AWAY: [Row; 2] = [
+    Row("cast", "ann", &[0], 1, Err(SharedFault::Busy(0))),
+    Row("cast", "bob", &[1], 5, Err(SharedFault::Busy(0))),
+];
+
+/// The same, afterwards.
+const NOT_TURNED_AWAY: [Row; 2] = [
+    Row("cast", "ann", &[0], 1, Ok(Answer::Done)),
+    Row("cast", "bob", &[1], 5, Ok(Answer::Done)),
+];
+
+/// The clerk asks both.
+fn tries(rt: &impl Abort, alloc: Global, shared: &SharedDesk, clerk: &mut Clerk, rows: &[Row; 2])
     requires { clerk.old.desk ≡ shared.now }
     ensures { clerk.new.desk ≡ shared.now }
 {
-    let ann: Row = ("cast", "ann", &[0], 1, said);
-    let bob: Row = ("cast", "bob", &[1], 5, said);
-    asks(rt, alloc, shared, clerk, &ann);
-    asks(rt, alloc, shared, clerk, &bob);
+    asks(rt, alloc, shared, clerk, &rows[0]);
+    asks(rt, alloc, shared, clerk, &rows[1]);
 }
 
 /// While clerk 0 has the desk, this clerk is turned away, and nothing is appended.
@@ -248,7 +264,7 @@ fn is_turned_away(
     ensures { result.desk ≡ shared.now }
 {
     let mut other = other;
-    tries(rt, alloc, shared, &mut other, Err(SharedFault::Busy(0)));
+    tries(rt, alloc, shared, &mut other, &TURNED_AWAY);
     same(rt, desk.entries(), 0, "entries while a clerk looks");
     other
 }
@@ -278,7 +294,7 @@ fn a_clerk_who_looks_turns_others_away(rt: HostRuntime) {
     let other = last_of(&rt, &shared, &mut clerks);
     let mut clerk = last_of(&rt, &shared, &mut clerks);
     let mut other = looks(&rt, alloc, &shared, &mut clerk, other);
-    tries(&rt, alloc, &shared, &mut other, Ok(Answer::Done));
+    tries(&rt, alloc, &shared, &mut other, &NOT_TURNED_AWAY);
     joins(&rt, &shared, &mut clerks, clerk);
     joins(&rt, &shared, &mut clerks, other);
     let text = "journal;2\n1;1;cast;ann;0;done\n2;1;cast;bob;1;done\n";
@@ -294,13 +310,13 @@ fn looks_at_the_room(rt: &impl Abort, shared: &SharedDesk, clerk: &mut Clerk, ro
     same(rt, looked, Ok(Err(room)), "a look");
 }
 
-const CAST_ANN: Row = ("cast", "ann", &[0], 1, Ok(Answer::Done));
+const CAST_ANN: Row = Row("cast", "ann", &[0], 1, Ok(Answer::Done));
 
-const CAST_BOB: Row = ("cast", "bob", &[0], 1, Ok(Answer::Done));
+const CAST_BOB: Row = Row("cast", "bob", &[0], 1, Ok(Answer::Done));
 
-const REPLACE_ANN: Row = ("replace", "ann", &[1], 1, Ok(Answer::Done));
+const REPLACE_ANN: Row = Row("replace", "ann", &[1], 1, Ok(Answer::Done));
 
-const SHUT: Row = ("shut", "", &[], 1, Ok(Answer::Done));
+const SHUT: Row = Row("shut", "", &[], 1, Ok(Answer::Done));
 
 /// A note that another clerk meets takes nothing away, and one that nobody met may be dropped. A look that answers an
 /// error leaves the lock free.
@@ -316,7 +332,9 @@ fn a_note_may_be_met_or_dropped(rt: HostRuntime) {
     shared.meet(&mut clerk, note);
     same(&rt, shared.front(&mut clerk), 1, "the front word");
     drop(shared.note(&mut one));
+    drop(one);
     asks(&rt, alloc, &shared, &mut clerk, &CAST_BOB);
+    drop(clerk);
     let text = "journal;2\n1;1;cast;ann;0;done\n2;0;cast;bob;0;done\n";
     drop(finishes(&rt, alloc, shared, clerks, text));
 }
@@ -337,23 +355,42 @@ fn looks_at_ann(rt: &impl Abort, alloc: Global, shared: &SharedDesk, clerk: &mut
     same(rt, looked, Ok((2, true)), "what is seen");
 }
 
+/// The two ask, and the clerk who has made no call before reads as many entries.
+fn read_alike(
+    rt: &impl Abort,
+    alloc: Global,
+    shared: &SharedDesk,
+    first: &mut Clerk,
+    second: &mut Clerk,
+    third: &mut Clerk,
+)
+    requires first { first.old.desk ≡ shared.now }
+    requires second { second.old.desk ≡ shared.now }
+    requires third { third.old.desk ≡ shared.now }
+{
+    asks(rt, alloc, shared, first, &CAST_ANN);
+    asks(rt, alloc, shared, second, &REPLACE_ANN);
+    looks_at_ann(rt, alloc, shared, first);
+    let fronts = (shared.front(first), shared.front(third));
+    same(rt, fronts, (2, 2), "the front word");
+}
+
 /// What one clerk wrote another reads, by the desk and by the front word, also one that has made no call before.
 #[test]
 fn clerks_read_what_others_wrote(rt: HostRuntime) {
     let alloc = rt.alloc();
     let (shared, mut clerks) = share(&rt, alloc, desk_with_room(&rt, alloc, 10), 3);
-    let mut two = last_of(&rt, &shared, &mut clerks);
-    let mut one = last_of(&rt, &shared, &mut clerks);
-    let mut clerk = last_of(&rt, &shared, &mut clerks);
-    let numbers = (clerk.number(), one.number(), two.number());
+    let mut third = last_of(&rt, &shared, &mut clerks);
+    let mut second = last_of(&rt, &shared, &mut clerks);
+    let mut first = last_of(&rt, &shared, &mut clerks);
+    let numbers = (first.number(), second.number(), third.number());
     same(&rt, numbers, (0, 1, 2), "numbers");
-    asks(&rt, alloc, &shared, &mut clerk, &CAST_ANN);
-    asks(&rt, alloc, &shared, &mut one, &REPLACE_ANN);
-    looks_at_ann(&rt, alloc, &shared, &mut clerk);
-    let fronts = (shared.front(&mut clerk), shared.front(&mut two));
-    same(&rt, fronts, (2, 2), "the front word");
-    drop(shared);
+    read_alike(&rt, alloc, &shared, &mut first, &mut second, &mut third);
+    drop(first);
+    drop(second);
+    drop(third);
     drop(clerks);
+    drop(shared);
 }
 
 /// A desk on which clerk 5 has served one request.
@@ -361,6 +398,7 @@ fn desk_in_use(rt: &impl Abort, alloc: Global) -> Desk {
     let mut desk = desk_with_room(rt, alloc, 10);
     let ann = request(rt, alloc, "cast", "ann", &[0]);
     is_served(rt, &mut desk, 5, &ann, Ok(Answer::Done));
+    drop(ann);
     desk
 }
 
@@ -397,6 +435,13 @@ fn a_desk_comes_back_without_its_clerks(rt: HostRuntime) {
     drop(fault);
 }
 
+/// The desk leaves an election of this many voters.
+fn leaves_voters(rt: &impl Abort, desk: Desk, voters: usize) {
+    let election = desk.into_election().expect(rt, "an election");
+    same(rt, election.voters().len(), voters, "voters");
+    drop(election);
+}
+
 /// A desk that clerks have shut gives its election.
 #[test]
 fn a_shut_desk_comes_back(rt: HostRuntime) {
@@ -406,10 +451,7 @@ fn a_shut_desk_comes_back(rt: HostRuntime) {
     asks(&rt, alloc, &shared, &mut clerk, &SHUT);
     joins(&rt, &shared, &mut clerks, clerk);
     let text = "journal;2\n1;5;cast;ann;0;done\n2;0;shut;;;done\n";
-    let desk = finishes(&rt, alloc, shared, clerks, text);
-    let election = desk.into_election().expect(&rt, "an election");
-    same(&rt, election.voters().len(), 4, "voters");
-    drop(election);
+    leaves_voters(&rt, finishes(&rt, alloc, shared, clerks, text), 4);
 }
 
 /// Why a request is not served, and what is said of it.
@@ -436,6 +478,7 @@ fn tells_faults(rt: HostRuntime) {
 fn tells_share_fault(rt: &impl Abort, alloc: Global, fault: ShareFault, wanted: &str) {
     let named = (fault.number(), fault.name());
     tells(rt, alloc, named, &fault, wanted);
+    drop(fault);
 }
 
 #[test]

@@ -2,7 +2,7 @@
 
 use crate::checks::same;
 use crate::elections::{read, shown};
-use crate::serving::{has_ballots, is_served, request};
+use crate::serving::{has_ballots, is_done, is_served};
 use pb_core::answer::Answer;
 use pb_core::request::Request;
 use pb_desk::Desk;
@@ -41,8 +41,8 @@ fn ask(
     place: u32,
 ) {
     let id = format!(in alloc; "v{number}").expect(rt, "memory");
-    let request = request(rt, alloc, word, id.as_str(), &[place]);
-    is_served(rt, desk, 0, &request, Ok(Answer::Done));
+    is_done(rt, alloc, desk, word, id.as_str(), place);
+    drop(id);
     match word {
         "cast" => plain.push((number, Some(place))).expect(rt, "memory"),
         "replace" => change(plain, number, Some(place)),

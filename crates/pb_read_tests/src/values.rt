@@ -2,7 +2,6 @@
 
 use crate::checks::{holds, same, shows, tells};
 use crate::elections::{ballot, shown, voter_id};
-use crate::serving::request;
 use pb_core::devices::{FailsAfter, FailsAt, TakesNone, TakesOne};
 use pb_core::laws::{money_is_what_its_text_names, money_reads_back};
 use pb_core::{Ballot, Election, Money, MoneyFault, NoMemory, Project, Request, Voter, VoterId};
@@ -279,10 +278,21 @@ fn parts(request: &Request) -> Parts<'_> {
     }
 }
 
+/// What is asked by this word, for this voter and with these places.
+fn request(rt: &impl Abort, alloc: Global, parts: Parts<'_>) -> Request {
+    let (word, id, places) = parts;
+    match word {
+        "shut" => Request::Shut,
+        "withdraw" => Request::Withdraw(voter_id(rt, alloc, id)),
+        "cast" => Request::Cast(voter_id(rt, alloc, id), ballot(rt, alloc, places)),
+        _ => Request::Replace(voter_id(rt, alloc, id), ballot(rt, alloc, places)),
+    }
+}
+
 /// The request of these parts has them, with the places in order, and so has its copy.
 fn copies(rt: &impl Abort, alloc: Global, asked: Parts<'static>, ordered: &[u32]) {
-    let (word, id, places) = asked;
-    let request = request(rt, alloc, word, id, places);
+    let (word, id, _) = asked;
+    let request = request(rt, alloc, asked);
     let copy = request.copy(alloc).expect(rt, "memory");
     same(rt, parts(&request), (word, id, ordered), "a request");
     same(rt, parts(&copy), (word, id, ordered), "its copy");

@@ -6,7 +6,7 @@ ghost use Rattle.pb_core.specs.Election.{most_projects};
 ghost use Rattle.pb_price.specs.Price.{AreRests};
 
 use crate::checks::{holds, same, tells};
-use crate::elections::{THREE_VOTERS, read};
+use crate::elections::{THREE_VOTERS, amounts, read};
 use pb_core::money::Money;
 use pb_price::gate::{Gate, NoGate};
 use pb_price::price::price;
@@ -50,11 +50,11 @@ fn priced(
 ) -> Option<Money> {
     assert!(rt; can_price(supporters, rests, &[]) && place < supporters.projects());
     let mut tally = Tally::new();
-    let sorted = price(alloc, supporters, rests, place, &mut tally).expect(rt, "memory");
+    let sorted = price(alloc, supporters, rests, place, &mut tally);
     same(rt, tally.count(), 1, "the tally");
     let in_steps = price_in_steps(supporters, rests, place);
-    same(rt, in_steps, sorted, "in steps");
-    sorted
+    same(rt, sorted, Ok(in_steps), "in steps");
+    in_steps
 }
 
 /// The project at this place has these supporters and this cost.
@@ -119,15 +119,6 @@ const PRICES: &[(u64, &[u32], &[u64], Option<u64>)] = &[
         Some(800_000_000_000_000),
     ),
 ];
-
-/// These amounts, in hundredths.
-fn amounts(rt: &impl Abort, alloc: Global, hundredths: &[u64]) -> Vec<Money> {
-    let mut amounts = Vec::new(alloc);
-    for amount in hundredths {
-        amounts.push(Money(*amount)).expect(rt, "memory");
-    }
-    amounts
-}
 
 #[test]
 fn prices_by_what_is_left(rt: HostRuntime) {

@@ -3,10 +3,10 @@
 
 use crate::checks::same;
 use crate::elections::read;
+use crate::outcomes::{counted, run_at};
 use pb_core::election::Election;
 use pb_core::money::Money;
-use pb_price::gate::NoGate;
-use pb_rounds::count::{count, equal_shares};
+use pb_rounds::count::count;
 use pb_rounds::count_fault::CountFault;
 use pb_rounds::measure::Measure;
 use pb_rounds::options::{Completion, CountOptions};
@@ -98,19 +98,6 @@ fn has_room(election: &Election, outcome: &Outcome, left: u64) -> bool {
     false
 }
 
-/// The outcome at a share, with one worker.
-fn run_at(
-    rt: &(impl Abort + Threads + Sync),
-    alloc: Global,
-    election: &Election,
-    share: u64,
-    measure: Measure,
-) -> Outcome {
-    assert!(rt; share <= 2_000_000_000_000_000);
-    let run = equal_shares(rt, alloc, election, Money(share), 1, measure, &NoGate);
-    run.expect(rt, "an outcome")
-}
-
 /// How a run at a share ends.
 #[derive(Clone, Copy)]
 enum End {
@@ -183,7 +170,7 @@ fn counts_as(
     share: u64,
 ) {
     let plain = run_at(rt, alloc, election, share, options.measure);
-    let counted = count(rt, alloc, election, options).expect(rt, "an outcome");
+    let counted = counted(rt, alloc, election, options);
     are_same(rt, &counted, &plain);
     drop(counted);
     drop(plain);

@@ -1,0 +1,18 @@
+//! Tests of prices and of counts: what no contract says, and each public call once with ample memory.
+//!
+//! They need not wait for the desk's proof. A test is a table and a short body, which compares by `checks`: an assertion
+//! in a body takes the prover seconds, a call next to nothing.
+#![tactic(auto)]
+
+#[cfg(test)]
+mod checks;
+#[cfg(test)]
+mod counting;
+#[cfg(test)]
+mod elections;
+#[cfg(test)]
+mod outcomes;
+#[cfg(test)]
+mod prices;
+#[cfg(test)]
+mod raises;
