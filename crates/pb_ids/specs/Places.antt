@@ -23,11 +23,13 @@ pub get_inserted : (places : Places) (id : List ℕ) (place : ℕ) (text : List 
     get (insert places id place) text ≡ (if bytes_eq id text then Some place else get places text)
 get_inserted places id place text =
     get-insert nat_list_cmp_total places id place text
-    ∙ ap (λ same. if same then Some place else get places text) (is_eq-slice_cmp text id ∙ nat_list_eq_equiv.symm text id)
+    ∙ ap (λ same. if same then Some place else get places text)
+    (is_eq-slice_cmp text id ∙ nat_list_eq_equiv.symm text id)
 
 -- maps that have the same at each text are one
 pub same_places : (m n : Places) → ((text : List ℕ) → get m text ≡ get n text) → m ≡ n
-same_places m n same = same_map nat_list_cmp_total (slice_cmp-IsAntisymmetric nat_cmp-IsAntisymmetric) m n same
+same_places m n same =
+    same_map nat_list_cmp_total (slice_cmp-IsAntisymmetric nat_cmp-IsAntisymmetric) m n same
 
 -- a map that has what is found
 abbrev pub Shows : (List ℕ → Option ℕ) → Type 0

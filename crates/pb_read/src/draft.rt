@@ -70,11 +70,8 @@ impl Draft {
             Err(kind) => return Err(kind),
         };
         let place = self.election.projects().len();
-        if self
-            .project_ids
-            .insert(self.alloc, id, place as u32)?
-            .is_some()
-        {
+        let before = self.project_ids.insert(self.alloc, id, place as u32)?;
+        if before.is_some() {
             return Err(ReadKind::RepeatedProject);
         }
         if place >= MOST_PROJECTS {
@@ -99,11 +96,8 @@ impl Draft {
             Err(kind) => return Err(kind),
         };
         let place = self.election.voters().len();
-        if self
-            .voter_ids
-            .insert(self.alloc, id.text(), place as u32)?
-            .is_some()
-        {
+        let before = self.voter_ids.insert(self.alloc, id.text(), place as u32)?;
+        if before.is_some() {
             return Err(ReadKind::RepeatedVoter);
         }
         let vote = row.field(columns.vote);

@@ -18,7 +18,7 @@ pub returns-then-is_some-clause-err : goal.returns-then-is_some-clause-err
 returns-then-is_some-clause-err c =
     let e = c.args.self.now.election in
     let has = c.in-Ok.ensures.ok in
-    let among = was_among c.args.self.now.voter_ids (voter_ids e) c.text.result.now (field c.args.row.now c.args.columns.voter) c.requires.voter_ids_are (c.text.ensures.text ∙ has.id_is) c.in_ok-insert.ensures.before c.is_some.ensures c.if-is_some.true in
+    let among = was_among c.args.self.now.voter_ids (voter_ids e) c.text.result.now (field c.args.row.now c.args.columns.voter) c.requires.voter_ids_are (c.text.ensures.text ∙ has.id_is) c.in_ok-before.ensures.before c.is_some.ensures c.if-is_some.true in
     voter_checked c.args.columns c.args.row.now e _ has among refl refl
 
 pub returns-then-not-branch-clause-err : goal.returns-then-not-branch-clause-err
@@ -26,7 +26,7 @@ returns-then-not-branch-clause-err c =
     let row = c.args.row.now in
     let e = c.args.self.now.election in
     let has = c.in-Ok.ensures.ok in
-    let among = was_among c.args.self.now.voter_ids (voter_ids e) c.text.result.now (field row c.args.columns.voter) c.requires.voter_ids_are (c.text.ensures.text ∙ has.id_is) c.in_ok-insert.ensures.before c.is_some.ensures c.if-is_some.false in
+    let among = was_among c.args.self.now.voter_ids (voter_ids e) c.text.result.now (field row c.args.columns.voter) c.requires.voter_ids_are (c.text.ensures.text ∙ has.id_is) c.in_ok-before.ensures.before c.is_some.ensures c.if-is_some.false in
     let names = ap (names_only (project_ids e)) (sym c.field-vote.ensures.field) ∙ sym (c.in_ok-find_places.ensures.known (project_ids e) c.requires.project_ids_are) ∙ c.if-not-branch.true in
     voter_checked c.args.columns row e _ has among names refl
 
@@ -35,7 +35,7 @@ returns-then-place-ge-MOST_VOTERS-clause-err c =
     let row = c.args.row.now in
     let e = c.args.self.now.election in
     let has = c.in-Ok.ensures.ok in
-    let among = was_among c.args.self.now.voter_ids (voter_ids e) c.text.result.now (field row c.args.columns.voter) c.requires.voter_ids_are (c.text.ensures.text ∙ has.id_is) c.in_ok-insert.ensures.before c.is_some.ensures c.if-is_some.false in
+    let among = was_among c.args.self.now.voter_ids (voter_ids e) c.text.result.now (field row c.args.columns.voter) c.requires.voter_ids_are (c.text.ensures.text ∙ has.id_is) c.in_ok-before.ensures.before c.is_some.ensures c.if-is_some.false in
     let names = ap (names_only (project_ids e)) (sym c.field-vote.ensures.field) ∙ sym (c.in_ok-find_places.ensures.known (project_ids e) c.requires.project_ids_are) ∙ c.if-not-branch.false in
     let full = le-leb most_voters (length e.voters) (omega (arith, ap length c.voters-place.ensures.voters, c.if-place-ge-MOST_VOTERS.true)) in
     voter_checked c.args.columns row e _ has among names full
@@ -43,7 +43,7 @@ returns-then-place-ge-MOST_VOTERS-clause-err c =
 pub add_voter-requires-clause-new_id : goal.add_voter-requires-clause-new_id
 add_voter-requires-clause-new_id c =
     let e = c.args.self.now.election in
-    not_among (voter_ids e) c.in-Ok.id (was_among c.args.self.now.voter_ids (voter_ids e) c.text.result.now c.in-Ok.id c.requires.voter_ids_are c.text.ensures.text c.in_ok-insert.ensures.before c.is_some.ensures c.if-is_some.false)
+    not_among (voter_ids e) c.in-Ok.id (was_among c.args.self.now.voter_ids (voter_ids e) c.text.result.now c.in-Ok.id c.requires.voter_ids_are c.text.ensures.text c.in_ok-before.ensures.before c.is_some.ensures c.if-is_some.false)
 
 pub add_voter-requires-clause-known : goal.add_voter-requires-clause-known
 add_voter-requires-clause-known c =
@@ -61,7 +61,7 @@ returns-clause-ok c =
     let e = c.args.self.now.election in
     let has = c.in-Ok.ensures.ok in
     let vote = field row c.args.columns.vote in
-    let among = was_among c.args.self.now.voter_ids (voter_ids e) c.text.result.now (field row c.args.columns.voter) c.requires.voter_ids_are (c.text.ensures.text ∙ has.id_is) c.in_ok-insert.ensures.before c.is_some.ensures c.if-is_some.false in
+    let among = was_among c.args.self.now.voter_ids (voter_ids e) c.text.result.now (field row c.args.columns.voter) c.requires.voter_ids_are (c.text.ensures.text ∙ has.id_is) c.in_ok-before.ensures.before c.is_some.ensures c.if-is_some.false in
     let names = ap (names_only (project_ids e)) (sym c.field-vote.ensures.field) ∙ sym (c.in_ok-find_places.ensures.known (project_ids e) c.requires.project_ids_are) ∙ c.if-not-branch.false in
     let ballot = ballot_from (project_ids e) (project_ids e) c.field-vote.result.now vote c.deref.result.now c.in_ok-ballot.ballot refl c.field-vote.ensures.field
     c.voters-place.ensures.is_election.projects_differ names (c.deref.ensures.value ∙ c.in_ok-find_places.ensures.places (project_ids e) c.requires.project_ids_are c.if-not-branch.false) c.in_ok-ballot.ensures.members c.places-places.ensures.is_ballot in
@@ -69,7 +69,7 @@ returns-clause-ok c =
     let voter : VoterView = record { id = c.in-Ok.id; ballot = c.in_ok-ballot.ballot } in
     let after = c.in_ok-add_voter.ensures.ok in
     let size = ap length c.voters-place.ensures.voters ∙ sym (length-map e.voters (λ (v : VoterView). v.id)) in
-    let ids = finds_after c.args.self.now.voter_ids (voter_ids e) c.text.result.now c.in-Ok.id c.requires.voter_ids_are c.text.ensures.text (ap (is_among (voter_ids e)) has.id_is ∙ among) size c.in_ok-insert.ensures.ok in (
+    let ids = finds_after c.args.self.now.voter_ids (voter_ids e) c.text.result.now c.in-Ok.id c.requires.voter_ids_are c.text.ensures.text (ap (is_among (voter_ids e)) has.id_is ∙ among) size c.in_ok-before.ensures.ok in (
       voter_checked c.args.columns row e _ has among names room,
       after ∙ ap (λ v. record e { voters = e.voters ++ v ∷ [] }) (same_voter voter (voter_of c.args.columns (project_ids e) row) has.id_is ballot),
       record {
