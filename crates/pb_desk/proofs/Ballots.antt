@@ -1,9 +1,6 @@
 -- Lists of ballots.
-use Rattle.std.proofs.Common.{◌≡◌, ℕ, Bool, true, false, cond, List, [], ◌∷◌, ◌++◌, Option, Some, None, is_some, refl, sym, ap, ◌∙◌, true≢false}
+use Rattle.std.proofs.Common.{◌≡◌, Bool, true, false, cond, List, [], ◌∷◌, Option, Some, None, is_some, refl, sym, ap, ◌∙◌, true≢false}
 use Rattle.std.specs.Map.{lookup, set_value}
-use Rattle.std.specs.Str.{bytes_eq}
-use Rattle.indexmap.specs.IndexMap.{insert_entry}
-use Rattle.indexmap.proofs.MapLemmas.{absent_from_lookup, insert_entry-absent}
 
 -- where no key passes the test, no value is set
 pub set_value-absent : {K X : Type 0} (test : K → Bool) (es : List (K × X)) (w : X) → lookup test es ≡ None → set_value test es w ≡ es
@@ -19,8 +16,3 @@ set_value-absent {K} {X} test (e ∷ es) w none = by (test e.0) refl (set_value-
 pub none_from_false : {X : Type 0} (o : Option X) → is_some o ≡ false → o ≡ None
 none_from_false None f = refl
 none_from_false (Some x) f = absurd (true≢false f)
-
--- a ballot that is cast for a voter who has none goes last
-pub cast_last : {X : Type 0} (ballots inserted : List (List ℕ × X)) (voter : List ℕ) (x : X) → lookup (bytes_eq voter) ballots ≡ None →
-    inserted ≡ insert_entry bytes_eq ballots voter x → inserted ≡ ballots ++ (voter, x) ∷ []
-cast_last ballots inserted voter x new is = is ∙ insert_entry-absent bytes_eq voter x ballots (absent_from_lookup (bytes_eq voter) ballots new)

@@ -16,8 +16,8 @@ use Rattle.pb_desk.specs.Desk.{voters_of, AreKnown}
 use Rattle.pb_desk.specs.Sources.{ballot_at, ballots_at, brought, emptied, found_at, AreFound, IsInOrder, IsOwnVoter}
 use Rattle.pb_desk.specs.declared.source.Source.{Source}
 use Rattle.pb_desk.specs.declared.source.Source.TheVariants.{Opening, Entry}
-use Rattle.pb_desk.proofs.Listings.{NoneTwice}
-use Rattle.pb_desk.proofs.Orders.{get-take}
+use Rattle.pb_desk.proofs.Slots.{NoneTwice}
+use Rattle.pb_desk.proofs.Places.{get-take}
 use Rattle.pb_desk.proofs.Sources.{AreFound-emptied}
 
 -- the voters that are left in turned order, from this place of the opening on

@@ -1,6 +1,6 @@
 pub mod Ballots
-pub mod Orders
-pub mod Listings
+pub mod Places
+pub mod Slots
 pub mod Sources
 pub mod Openings
 pub mod Replays

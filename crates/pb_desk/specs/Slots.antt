@@ -1,31 +1,16 @@
--- Ballots in the order of a list of slots, each of which has a ballot's index or is a gap.
-use Rattle.std.specs.Prelude.{◌≡◌, ℕ, ◌==◌, List, length, filter_map, slice_get, if◌then◌else◌, Option, Some}
-use Rattle.std.specs.List.{IsDistinct}
-use Rattle.std.specs.Map.{keys_of}
-use Rattle.std.specs.Str.{bytes_eq}
+-- Ballots in the order of a list of slots, each of which has a voter's ballot or is a gap.
+use Rattle.std.specs.Prelude.{◌≡◌, ℕ, ◌<◌, List, length, filter_map, slice_get, Option, Some}
 use Rattle.pb_desk.specs.declared.source.Source.{Source}
 
--- the indices in the slots, without the gaps
-abbrev pub filed : List (Option ℕ) → List ℕ
+-- the ballots in the slots, without the gaps
+abbrev pub filed : List (Option (List ℕ × Source)) → List (List ℕ × Source)
 filed slots = filter_map (λ slot. slot) slots
 
--- the ballots that have these indices
-abbrev pub listed : List (List ℕ × Source) → List ℕ → List (List ℕ × Source)
-listed ballots indices = filter_map (λ i. slice_get ballots i) indices
-
--- the index that i becomes where the last one takes the place of a removed one
-abbrev pub moved : ℕ → ℕ → ℕ → ℕ
-moved last removed i = if i == last then removed else i
-
--- each index stands in its slot, and in no other
-pub record IsOrder (slots : List (Option ℕ)) (slot_of : List ℕ) : Type 0 where
-  pub there : (i s : ℕ) → slice_get slot_of i ≡ Some s → slice_get slots s ≡ Some (Some i)
-  pub back : (s i : ℕ) → slice_get slots s ≡ Some (Some i) → slice_get slot_of i ≡ Some s
-  pub count : length (filed slots) ≡ length slot_of
-
--- each ballot stands in one slot, and no two are of the same voter
-pub record IsListing (ballots : List (List ℕ × Source)) (slots : List (Option ℕ)) (slot_of : List ℕ)
+-- the slot in which each voter's ballot stood last
+pub record IsListing (slot_of : List ℕ → Option ℕ) (slots : List (Option (List ℕ × Source))) (filled : ℕ)
     : Type 0 where
-  pub order : IsOrder slots slot_of
-  pub each : length slot_of ≡ length ballots
-  pub unique : IsDistinct bytes_eq (keys_of ballots)
+  pub there : (s : ℕ) (b : List ℕ × Source) → slice_get slots s ≡ Some (Some b) → slot_of b.0 ≡ Some s
+  pub own : (id : List ℕ) (s : ℕ) (b : List ℕ × Source) → slot_of id ≡ Some s
+      → slice_get slots s ≡ Some (Some b) → b.0 ≡ id
+  pub within : (id : List ℕ) (s : ℕ) → slot_of id ≡ Some s → s < length slots
+  pub count : length (filed slots) ≡ filled

@@ -6,43 +6,70 @@ ghost use Rattle.std.specs.Map.{lookup, remove_entry, set_value};
 ghost use Rattle.std.specs.Str.{bytes_eq};
 ghost use Rattle.pb_core.specs.Election.{most_voters, AreDistinct};
 ghost use Rattle.pb_core.specs.Request.{asked};
+ghost use Rattle.pb_desk.specs.Slots.{filed};
 ghost use Rattle.pb_desk.specs.Sources.{filed_under, opened_from, HasNewVoter};
 
-use crate::slots;
 use crate::source::Source;
-use indexmap::IndexMap;
 use pb_core::no_memory::NoMemory;
 use pb_core::request::Request;
 use pb_core::voter::Voter;
 use pb_core::voter_id::VoterId;
+use pb_ids::IdTable;
 use std::alloc::Allocator;
-use std::hash::{BuildHasherDefault, FoldHasher};
 use std::marker::Model;
 
 mod take_voters;
 
 /// The voters who have ballots, and where these stand, in the order in which they were cast.
 ///
-/// The map finds a voter's ballot, and keeps no order: where one is removed, the last one takes its index.
-/// The slots keep the order of the indices. A removal leaves a gap there, and the gaps close where they are
-/// half of the slots, so that a call takes the same time on average, however many ballots stand after it.
+/// A ballot that is cast gets the next slot. A withdrawal leaves a gap there, which is never used again, and
+/// the table goes on naming that slot. So no call but `at` and `take_voters` goes over the slots.
 #[derive(Drop)]
 pub(crate) struct BallotList<A: Allocator> {
-    ballots: IndexMap<VoterId<A>, Source, BuildHasherDefault<FoldHasher>, A>,
-    slots: Vec<Option<usize>, A>,
-    slot_of: Vec<usize, A>,
+    slot_of: IdTable<A>,
+    slots: Vec<Option<(VoterId<A>, Source)>, A>,
+    count: usize,
 }
 
 impl<A: Allocator> Model for BallotList<A> {
     ghost use Rattle.std.specs.Prelude.{ℕ, List};
-    ghost use Rattle.pb_desk.specs.Slots.{filed, listed, IsListing};
+    ghost use Rattle.std.specs.FinMap as map;
+    ghost use Rattle.pb_desk.specs.Slots.{filed, IsListing};
     ghost use Rattle.pb_desk.specs.declared.source.Source.{Source};
 
     ghost Value = { List (List ℕ × Source) };
 
-    ghost view = { λ b. listed b.ballots.entries (filed b.slots.items) };
+    ghost view = { λ b. filed b.slots.items };
 
-    ghost invariant = { λ b. IsListing b.ballots.entries b.slots.items b.slot_of.items };
+    ghost invariant = { λ b. IsListing (map.get b.slot_of) b.slots.items b.count };
+}
+
+/// The ballot in a slot stands there from now on.
+fn set_source<A: Allocator>(slot: &mut Option<(VoterId<A>, Source)>, source: Source)
+    ensures { slot.new ≡ option_map (λ b. (b.0, source)) slot.old }
+{
+    if let Some((_voter, standing)) = slot {
+        *standing = source;
+    }
+}
+
+/// Where the ballot at this place in the order of the slots stands, from 0.
+fn nth<A: Allocator>(slots: &[Option<(VoterId<A>, Source)>], place: usize) -> Option<Source>
+    ensures { result ≡ option_map (λ b. b.1) (slice_get (filed slots.now) place) }
+{
+    let mut left = place;
+    for slot in slots {
+        match slot {
+            Some((_voter, source)) => {
+                if left == 0 {
+                    return Some(*source);
+                }
+                left -= 1;
+            }
+            None => {}
+        }
+    }
+    None
 }
 
 impl<A: Allocator> BallotList<A> {
@@ -52,10 +79,11 @@ impl<A: Allocator> BallotList<A> {
         A: Copy,
         ensures { IfOk result (λ ballots. ballots ≡ []) }
     {
+        let slots = Vec::with_capacity(alloc, n)?;
         Ok(BallotList {
-            ballots: IndexMap::with_capacity(alloc, n)?,
-            slots: Vec::with_capacity(alloc, n)?,
-            slot_of: Vec::with_capacity(alloc, n)?,
+            slot_of: IdTable::new(alloc),
+            slots,
+            count: 0,
         })
     }
 
@@ -70,7 +98,7 @@ impl<A: Allocator> BallotList<A> {
         let mut ballots = BallotList::with_capacity(alloc, voters.len())?;
         let mut place = 0u32;
         for voter in voters {
-            ballots.push(voter.id.copy(alloc)?, Source::Opening(place))?;
+            ballots.push(alloc, voter.id.copy(alloc)?, Source::Opening(place))?;
             place += 1;
         }
         Ok(ballots)
@@ -80,41 +108,49 @@ impl<A: Allocator> BallotList<A> {
     pub(crate) fn len(&self) -> usize
         ensures { result ≡ length self.now }
     {
-        self.ballots.len()
+        self.count
     }
 
     /// Whether the voter has a ballot.
     pub(crate) fn has(&self, voter: &VoterId<A>) -> bool
         ensures { result ≡ is_some (lookup (bytes_eq voter.now) self.now) }
     {
-        self.ballots.contains_key(voter)
+        self.get(voter).is_some()
     }
 
     /// Where the voter's ballot stands.
     pub(crate) fn get(&self, voter: &VoterId<A>) -> Option<Source>
         ensures { result ≡ lookup (bytes_eq voter.now) self.now }
     {
-        self.ballots.get(voter).copied()
+        let slot = self.slot_of.get(voter.text())?;
+        match &self.slots[slot as usize] {
+            Some((_voter, source)) => Some(*source),
+            None => None,
+        }
     }
 
     /// Where the ballot at this place in the order stands, from 0. It goes through the slots.
     pub(crate) fn at(&self, place: usize) -> Option<Source>
         ensures { result ≡ option_map (λ s. s.1) (slice_get self.now place) }
     {
-        let index = slots::at(self.slots.as_slice(), place)?;
-        let (_voter, source) = self.ballots.get_index(index)?;
-        Some(*source)
+        nth(self.slots.as_slice(), place)
     }
 
     /// Adds a voter who has no ballot, after the others.
-    fn push(&mut self, voter: VoterId<A>, source: Source) -> Result<(), NoMemory>
+    fn push(&mut self, alloc: A, voter: VoterId<A>, source: Source) -> Result<(), NoMemory>
+    where
+        A: Copy,
         requires { lookup (bytes_eq voter) self.old ≡ None }
         ensures ok { OnOk result (self.new ≡ self.old ++ (voter, source) ∷ []) }
         ensures err { OnErr result (self.new ≡ self.old) }
     {
-        self.ballots.reserve(1)?;
-        slots::push(&mut self.slots, &mut self.slot_of)?;
-        let _none = self.ballots.insert(voter, source).unwrap();
+        let Ok(slot) = u32::try_from(self.slots.len()) else {
+            return Err(NoMemory);
+        };
+        self.slots.reserve(1)?;
+        let _before = self.slot_of.insert(alloc, voter.text(), slot)?;
+        self.slots.push(Some((voter, source))).unwrap();
+        self.count += 1;
         Ok(())
     }
 
@@ -122,11 +158,8 @@ impl<A: Allocator> BallotList<A> {
     fn replace(&mut self, voter: &VoterId<A>, source: Source)
         ensures { self.new ≡ set_value (bytes_eq voter.now) self.old source }
     {
-        match self.ballots.get_mut(voter) {
-            Some(standing) => {
-                *standing = source;
-            }
-            None => {}
+        if let Some(slot) = self.slot_of.get(voter.text()) {
+            set_source(&mut self.slots[slot as usize], source);
         }
     }
 
@@ -134,12 +167,11 @@ impl<A: Allocator> BallotList<A> {
     fn remove(&mut self, voter: &VoterId<A>)
         ensures { self.new ≡ remove_entry (bytes_eq voter.now) self.old }
     {
-        match self.ballots.get_index_of(voter) {
-            Some(index) => {
-                let _removed = self.ballots.swap_remove_index(index);
-                slots::remove(&mut self.slots, &mut self.slot_of, index);
+        if let Some(slot) = self.slot_of.get(voter.text()) {
+            let withdrawn = self.slots[slot as usize].take();
+            if withdrawn.is_some() {
+                self.count -= 1;
             }
-            None => {}
         }
     }
 
@@ -157,7 +189,9 @@ impl<A: Allocator> BallotList<A> {
         ensures err { OnErr result (self.new ≡ self.old) }
     {
         match request {
-            Request::Cast(voter, _) => self.push(voter.copy(alloc)?, Source::Entry(index)),
+            Request::Cast(voter, _) => {
+                self.push(alloc, voter.copy(alloc)?, Source::Entry(index))
+            }
             Request::Replace(voter, _) => {
                 self.replace(voter, Source::Entry(index));
                 Ok(())

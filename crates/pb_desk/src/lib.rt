@@ -34,7 +34,6 @@ mod journal_audit;
 mod journal_rows;
 pub mod laws;
 mod row_reader;
-mod slots;
 mod source;
 pub mod start_fault;
 mod version;

@@ -1,6 +1,0 @@
-use Rattle.std.proofs.Common.{◌≡◌, drop, slice_get}
-use Rattle.pb_desk.specs.Slots.{filed}
-use Rattle.pb_desk.proofs.slots.at.Given as goal
-
-abbrev pub invariant-loop-slot : goal.invariant-loop-slot
-invariant-loop-slot = λ l. slice_get (filed (drop l.slot-index l.slots)) l.left ≡ slice_get (filed l.slots) l.place
