@@ -1,12 +1,13 @@
 // A writer that can't be flushed, and what the faults of a script say of themselves: number, name and text.
 
 use crate::checks::{THREE_VOTERS, same};
+use pb_commands::AppFault;
 use pb_commands::run_audit::run_audit;
 use pb_commands::run_count::run_count;
 use pb_commands::run_desk::run_desk;
-use pb_commands::{AppFault, ScriptFault};
 use pb_price::gate::NoGate;
 use pb_rounds::options::CountOptions;
+use pb_script::ScriptFault;
 use std::io;
 use std::io::Write;
 

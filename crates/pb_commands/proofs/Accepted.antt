@@ -21,8 +21,8 @@ use Rattle.pb_commands.specs.Counted.{CountRefuses, CountWrites, IsReportOf}
 use Rattle.pb_commands.specs.Ends.{Accepts, FailsBy, IfBothKnown, IsFromOutside}
 use Rattle.pb_commands.specs.Fault.{merged}
 use Rattle.pb_commands.specs.Report.{report_of}
-use Rattle.pb_commands.specs.declared.script_fault.ScriptFault.{ScriptFault}
-use Rattle.pb_commands.specs.declared.script_fault.ScriptFault.TheVariants as script
+use Rattle.pb_script.specs.declared.script_fault.ScriptFault.{ScriptFault}
+use Rattle.pb_script.specs.declared.script_fault.ScriptFault.TheVariants as script
 use Rattle.pb_commands.specs.declared.fault.AppFault.{AppFault}
 use Rattle.pb_commands.specs.declared.fault.AppFault.TheVariants.{Read, Script, ClerkCount, Audit, Count, Open, Write, Memory}
 
@@ -53,7 +53,7 @@ count_again : (fault : CountFault) → merged (merged (Count fault)) ≡ merged 
 count_again count.NoMemory = refl
 count_again fault = refl
 
-merged_again : (fault : AppFault) → merged (merged fault) ≡ merged fault
+pub merged_again : (fault : AppFault) → merged (merged fault) ≡ merged fault
 merged_again (Read fault) = read_again fault.kind fault.at
 merged_again (Script fault) = script_again fault
 merged_again (Audit fault) = audit_again fault

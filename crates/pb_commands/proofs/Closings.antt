@@ -35,6 +35,12 @@ report_follows d options e before middle after (Ok done) shut is row_is put =
       put.2 ∙ ap (λ (t : List ℕ). t ++ put.0) row_is ∙ append_assoc before row put.0,
     )
 
+-- the report of an election that a desk leaves
+pub report_of_closed : (d : DeskView) (options : CountOptions) (e : ElectionView) (before after : List ℕ) (r : Result (Unit {0}) CountFault) → e ≡ closed_election d
+    → OnOk r ((report : List ℕ) × IsReportOf e options report × (after ≡ before ++ report)) → OnOk r ((report : List ℕ) × IsReportOf (closed_election d) options report × (after ≡ before ++ report))
+report_of_closed d options e before after (Err fault) is put = tt
+report_of_closed d options e before after (Ok done) is put = (put.0, subst (λ (e : ElectionView). IsReportOf e options put.0) is put.1, put.2)
+
 -- a count of a shut desk's ballots that is refused
 pub refused_desk : (d : DeskView) (options : CountOptions) (e : ElectionView) (r : Result (Unit {0}) CountFault) → (standing_of d).is_shut ≡ true → e ≡ closed_election d
     → IfErr r (IsCountFault e options) → IfErr r (IsRefusedDesk d options)

@@ -3,26 +3,24 @@ use Rattle.std.proofs.Common.{◌≡◌, ◌∙◌, ℕ, ◌+◌, ◌<◌, ◌�
 use Rattle.std.specs.List.{AllZip}
 use Rattle.std.specs.Prelude.{IfErr, IfSome, IsErrAnd, OnOk, Result}
 use Rattle.pb_core.specs.Election.{ElectionView}
-use Rattle.pb_core.specs.Request.{RequestView}
 use Rattle.std.specs.Io.KnownBytes.{Appends}
-use Rattle.pb_read.proofs.Uniqueness.{one_election}
 use Rattle.pb_read.specs.FirstFault.{IsFromOutside as IsReadFromOutside}
 use Rattle.pb_read.specs.StandsFor.{StandsFor}
 use Rattle.pb_read.specs.declared.fault.ReadFault.{ReadFault}
 use Rattle.pb_rows.specs.Reading.{Fields, records_of}
-use Rattle.pb_commands.specs.Audited.{program_room}
-use Rattle.pb_commands.specs.Desked.{DeskRefuses, DeskWrites}
+use Rattle.pb_script.specs.Script.{HasScriptForm, IsScript, IsScriptRow, ScriptRowView, most_rows}
+use Rattle.pb_script.specs.ScriptReading.{IsFaultOfScript, IsNextScriptFault}
+use Rattle.pb_script.specs.Served.{IsServeFault, IsServed}
+use Rattle.pb_script.specs.declared.script_fault.ScriptFault.{ScriptFault}
+use Rattle.pb_script.specs.declared.script_fault.ScriptFault.TheVariants as script
+use Rattle.pb_script.specs.declared.serve_fault.ServeFault.{ServeFault}
+use Rattle.pb_script.specs.declared.serve_fault.ServeFault.TheVariants as serve
+use Rattle.pb_commands.specs.Desked.{DeskRefuses, DeskWrites, unserved}
 use Rattle.pb_commands.specs.Ends.{Accepts, FailsBy, HasWritten, IfBothKnown, IsFromOutside, JudgesFile}
 use Rattle.pb_commands.specs.Fault.{merged}
-use Rattle.pb_commands.specs.Script.{HasScriptForm, IsScript, IsScriptRow, ScriptRowView, most_rows}
-use Rattle.pb_commands.specs.ScriptReading.{IsFaultOfScript, IsNextScriptFault, SplitsScript}
-use Rattle.pb_commands.specs.Serving.{IsServedText, IsServingFault, opening_of}
 use Rattle.pb_commands.specs.declared.fault.AppFault.{AppFault}
-use Rattle.pb_commands.specs.declared.fault.AppFault.TheVariants.{Read, Script, ClerkCount, Write, Memory}
-use Rattle.pb_commands.specs.declared.script_fault.ScriptFault.{ScriptFault}
-use Rattle.pb_commands.specs.declared.script_fault.ScriptFault.TheVariants as script
-use Rattle.pb_commands.proofs.Accepted.{given_fault, read_from_outside}
-use Rattle.pb_commands.proofs.DeskEntries.{script_served, served_entries}
+use Rattle.pb_commands.specs.declared.fault.AppFault.TheVariants.{Read, Script, Write}
+use Rattle.pb_commands.proofs.Accepted.{given_fault, merged_again, read_from_outside}
 
 abbrev DeskFails : List ℕ → List ℕ → ℕ → AppFault → Type 0
 DeskFails bytes rows clerks fault = FailsBy (DeskRefuses rows clerks) (DeskWrites bytes rows clerks) bytes fault
@@ -49,119 +47,70 @@ script_from_outside clerks records said fault is fails = by fault fails.left fai
     by script.TooManyRows (fields ∷ rest) are next = let few = is.few in absurd (omega (arith, next.0, ap length are, length-append fails.before (fields ∷ rest)))
     by script.NoMemory left are next = refl
 
--- the script is refused
-script_fails : (bytes rows : List ℕ) (clerks : ℕ) (e : ElectionView) (fault : ScriptFault) → StandsFor (records_of bytes) e → IsFaultOfScript clerks (records_of rows) fault
-    → DeskFails bytes rows clerks (merged (Script fault))
-script_fails bytes rows clerks e script.NoMemory stands fails = tt
-script_fails bytes rows clerks e fault stands fails = (e, stands, fails)
+-- the script is not served
+not_served : (bytes rows : List ℕ) (clerks : ℕ) (e : ElectionView) (fault : ServeFault) → StandsFor (records_of bytes) e → IsServeFault clerks (records_of rows) fault
+    → DeskFails bytes rows clerks (unserved fault)
+not_served bytes rows clerks e (serve.Script script.NoMemory) stands fails = tt
+not_served bytes rows clerks e (serve.Script fault) stands fails = (e, stands, fails)
+not_served bytes rows clerks e serve.ClerkCount stands fails = (e, stands, fails)
 
-script_judges : (bytes : List ℕ) (fault : ScriptFault) → (e : ElectionView) × StandsFor (records_of bytes) e → JudgesFile bytes (Err (merged (Script fault)))
-script_judges bytes script.NoMemory is = tt
-script_judges bytes fault is = is
+file_judged : (bytes : List ℕ) (fault : ServeFault) → (e : ElectionView) × StandsFor (records_of bytes) e → JudgesFile bytes (Err (unserved fault))
+file_judged bytes (serve.Script script.NoMemory) is = tt
+file_judged bytes (serve.Script fault) is = is
+file_judged bytes serve.ClerkCount is = is
 
--- the requests are not served
-serving_fails : (bytes rows : List ℕ) (clerks : ℕ) (e : ElectionView) (lists : List (List RequestView)) (fault : AppFault) → StandsFor (records_of bytes) e
-    → SplitsScript clerks (records_of rows) lists → IsServingFault clerks fault → DeskFails bytes rows clerks fault
-serving_fails bytes rows clerks e lists ClerkCount stands splits fails = (e, stands, ((splits.0, splits.1), fails))
-serving_fails bytes rows clerks e lists Memory stands splits fails = tt
-serving_fails bytes rows clerks e lists fault stands splits fails = absurd fails
+from_outside : (bytes rows : List ℕ) (clerks : ℕ) (fault : ServeFault) (text : List ℕ) → IsServeFault clerks (records_of rows) fault → DeskWrites bytes rows clerks text
+    → IsFromOutside (unserved fault)
+from_outside bytes rows clerks (serve.Script fault) text fails writes =
+    let served = writes.2 in script_from_outside clerks (records_of rows) served.script fault served.is_script fails
+from_outside bytes rows clerks serve.ClerkCount text fails writes = let served = writes.2 in absurd (fails.2 served.in_range)
 
-serving_judges : (bytes : List ℕ) (clerks : ℕ) (fault : AppFault) → (e : ElectionView) × StandsFor (records_of bytes) e → IsServingFault clerks fault → JudgesFile bytes (Err fault)
-serving_judges bytes clerks ClerkCount is fails = is
-serving_judges bytes clerks Memory is fails = tt
-serving_judges bytes clerks fault is fails = absurd fails
+unserved_again : (fault : ServeFault) → merged (unserved fault) ≡ unserved fault
+unserved_again (serve.Script fault) = merged_again (Script fault)
+unserved_again serve.ClerkCount = refl
 
-pub serving_merged : (clerks : ℕ) (fault : AppFault) → IsServingFault clerks fault → merged fault ≡ fault
-serving_merged clerks ClerkCount fails = refl
-serving_merged clerks Memory fails = refl
-serving_merged clerks fault fails = absurd fails
+pub accepted_by_reader : (clerks : ℕ) (r : Result (Unit {0}) AppFault) (files scripts : Option (List ℕ)) (fault : ReadFault) → IsErrAnd r (λ app. app ≡ merged (Read fault))
+    → IfSome files (λ bytes. (e : ElectionView) → StandsFor (records_of bytes) e → IsReadFromOutside fault.kind) → IfBothKnown files scripts (λ bytes rows. Accepts (DeskWrites bytes rows clerks) r)
+accepted_by_reader clerks r None scripts fault is accepts = tt
+accepted_by_reader clerks r (Some bytes) None fault is accepts = tt
+accepted_by_reader clerks r (Some bytes) (Some rows) fault is accepts = λ text writes.
+    given_fault IsFromOutside r (merged (Read fault)) is (read_from_outside fault.kind fault.at (accepts writes.0 writes.1))
 
--- for a number of clerks in range the requests are refused from outside alone
-serving_from_outside : (bytes rows : List ℕ) (clerks : ℕ) (fault : AppFault) (text : List ℕ) → IsServingFault clerks fault → DeskWrites bytes rows clerks text → IsFromOutside fault
-serving_from_outside bytes rows clerks ClerkCount text fails writes = absurd (fails writes.in_range)
-serving_from_outside bytes rows clerks Memory text fails writes = refl
-serving_from_outside bytes rows clerks fault text fails writes = absurd fails
+-- the answer where the script is not served
+module _ (clerks : ℕ) (fault : ServeFault) (app : AppFault) (is : app ≡ unserved fault) where
+  pub refused_by_script : (e : ElectionView) (files scripts : Option (List ℕ)) → IfSome files (λ bytes. StandsFor (records_of bytes) e)
+      → IfSome scripts (λ rows. IsServeFault clerks (records_of rows) fault) → IfBothKnown files scripts (λ bytes rows. DeskFails bytes rows clerks app)
+  refused_by_script e None scripts stands fails = tt
+  refused_by_script e (Some bytes) None stands fails = tt
+  refused_by_script e (Some bytes) (Some rows) stands fails = subst (DeskFails bytes rows clerks) (sym is) (not_served bytes rows clerks e fault stands fails)
 
--- the text of a journal that serves the script is one that the bytes allow
-text_written : (bytes rows : List ℕ) (clerks : ℕ) (e : ElectionView) (lists : List (List RequestView)) (text : List ℕ) → StandsFor (records_of bytes) e
-    → SplitsScript clerks (records_of rows) lists → IsServedText e clerks lists text → DeskWrites bytes rows clerks text
-text_written bytes rows clerks e lists text stands split served =
-    let serves = script_served clerks split.0 lists served.journal served.in_range split.2 served.serves in
-    record {
-      election = e;
-      stands = stands;
-      script = split.0;
-      is_script = split.1;
-      in_range = served.in_range;
-      journal = served.journal;
-      sound = record { legal = served.legal; fits = served.fits; entries = served_entries (opening_of e) clerks (records_of rows) split.0 served.journal split.1 serves served.legal };
-      serves = serves;
-      text_is = served.text_is;
-    }
+  pub accepted_by_script : (files scripts : Option (List ℕ)) → IfSome scripts (λ rows. IsServeFault clerks (records_of rows) fault)
+      → IfBothKnown files scripts (λ bytes rows. Accepts (DeskWrites bytes rows clerks) (Err app))
+  accepted_by_script None scripts fails = tt
+  accepted_by_script (Some bytes) None fails = tt
+  accepted_by_script (Some bytes) (Some rows) fails = λ text writes. subst IsFromOutside (sym is) (from_outside bytes rows clerks fault text fails writes)
 
-module _ (clerks : ℕ) (r : Result (Unit {0}) AppFault) where
-  pub accepted_by_reader : (files scripts : Option (List ℕ)) (fault : ReadFault) → IsErrAnd r (λ app. app ≡ merged (Read fault))
-      → IfSome files (λ bytes. (e : ElectionView) → StandsFor (records_of bytes) e → IsReadFromOutside fault.kind) → IfBothKnown files scripts (λ bytes rows. Accepts (DeskWrites bytes rows clerks) r)
-  accepted_by_reader None scripts fault is accepts = tt
-  accepted_by_reader (Some bytes) None fault is accepts = tt
-  accepted_by_reader (Some bytes) (Some rows) fault is accepts = λ text writes.
-      given_fault IsFromOutside r (merged (Read fault)) is (read_from_outside fault.kind fault.at (accepts writes.election writes.stands))
+  pub judged_by_script : (e : ElectionView) (files : Option (List ℕ)) → IfSome files (λ bytes. StandsFor (records_of bytes) e) → IfSome files (λ bytes. JudgesFile bytes (Err app))
+  judged_by_script e None stands = tt
+  judged_by_script e (Some bytes) stands = subst (λ app. JudgesFile bytes (Err app)) (sym is) (file_judged bytes fault (e, stands))
 
-  pub accepted_by_script : (files scripts : Option (List ℕ)) (fault : ScriptFault) → IsErrAnd r (λ app. app ≡ merged (Script fault))
-      → IfSome scripts (λ rows. IsFaultOfScript clerks (records_of rows) fault) → IfBothKnown files scripts (λ bytes rows. Accepts (DeskWrites bytes rows clerks) r)
-  accepted_by_script None scripts fault is fails = tt
-  accepted_by_script (Some bytes) None fault is fails = tt
-  accepted_by_script (Some bytes) (Some rows) fault is fails = λ text writes.
-      given_fault IsFromOutside r (merged (Script fault)) is (script_from_outside clerks (records_of rows) writes.script fault writes.is_script fails)
-
-module _ (clerks : ℕ) (e : ElectionView) (r : Result (Unit {0}) AppFault) where
-  pub refused_by_script : (files scripts : Option (List ℕ)) (fault : ScriptFault) → IsErrAnd r (λ app. app ≡ merged (Script fault)) → IfSome files (λ bytes. StandsFor (records_of bytes) e)
-      → IfSome scripts (λ rows. IsFaultOfScript clerks (records_of rows) fault) → IfErr r (λ app. IfBothKnown files scripts (λ bytes rows. DeskFails bytes rows clerks app))
-  refused_by_script None scripts fault is stands fails = given_fault (λ app. Unit {0}) r (merged (Script fault)) is tt
-  refused_by_script (Some bytes) None fault is stands fails = given_fault (λ app. Unit {0}) r (merged (Script fault)) is tt
-  refused_by_script (Some bytes) (Some rows) fault is stands fails =
-      given_fault (DeskFails bytes rows clerks) r (merged (Script fault)) is (script_fails bytes rows clerks e fault stands fails)
-
-module _ (e : ElectionView) where
-  pub judged_by_script : (files : Option (List ℕ)) (r : Result (Unit {0}) AppFault) (fault : ScriptFault) → IsErrAnd r (λ app. app ≡ merged (Script fault))
-      → IfSome files (λ bytes. StandsFor (records_of bytes) e) → IfSome files (λ bytes. JudgesFile bytes r)
-  judged_by_script None r fault is stands = tt
-  judged_by_script (Some bytes) (Ok done) fault is stands = absurd is
-  judged_by_script (Some bytes) (Err app) fault is stands = subst (λ app. JudgesFile bytes (Err app)) (sym is) (script_judges bytes fault (e, stands))
+  pub script_merged : merged app ≡ app
+  script_merged = subst (λ app. merged app ≡ app) (sym is) (unserved_again fault)
 
 -- the writer's turn
-module _ (clerks : ℕ) (e : ElectionView) (lists : List (List RequestView)) where
+module _ (clerks : ℕ) (e : ElectionView) where
   pub desk_written : (r : Result (Unit {0}) AppFault) (files scripts before after : Option (List ℕ)) (text : List ℕ) → OnOk r (Appends before after text)
-      → IfSome files (λ bytes. StandsFor (records_of bytes) e) → IfSome scripts (λ rows. SplitsScript clerks (records_of rows) lists) → IsServedText e clerks lists text
+      → IfSome files (λ bytes. StandsFor (records_of bytes) e) → IfSome scripts (λ rows. IsServed e clerks (records_of rows) text)
       → OnOk r (IfBothKnown files scripts (λ bytes rows. HasWritten (DeskWrites bytes rows clerks) before after))
-  desk_written (Err fault) files scripts before after text appends stands splits served = tt
-  desk_written (Ok done) None scripts before after text appends stands splits served = tt
-  desk_written (Ok done) (Some bytes) None before after text appends stands splits served = tt
-  desk_written (Ok done) (Some bytes) (Some rows) before after text appends stands splits served =
-      (text, text_written bytes rows clerks e lists text stands splits served, appends)
+  desk_written (Err fault) files scripts before after text appends stands served = tt
+  desk_written (Ok done) None scripts before after text appends stands served = tt
+  desk_written (Ok done) (Some bytes) None before after text appends stands served = tt
+  desk_written (Ok done) (Some bytes) (Some rows) before after text appends stands served = (text, (e, stands, served), appends)
 
   pub desk_unwritten : (r : Result (Unit {0}) AppFault) (files scripts : Option (List ℕ)) (text : List ℕ) → IfErr r (λ fault. fault ≡ Write)
-      → IfSome files (λ bytes. StandsFor (records_of bytes) e) → IfSome scripts (λ rows. SplitsScript clerks (records_of rows) lists) → IsServedText e clerks lists text
+      → IfSome files (λ bytes. StandsFor (records_of bytes) e) → IfSome scripts (λ rows. IsServed e clerks (records_of rows) text)
       → IfErr r (λ fault. IfBothKnown files scripts (λ bytes rows. DeskFails bytes rows clerks fault))
-  desk_unwritten (Ok done) files scripts text is stands splits served = tt
-  desk_unwritten (Err fault) None scripts text is stands splits served = tt
-  desk_unwritten (Err fault) (Some bytes) None text is stands splits served = tt
-  desk_unwritten (Err fault) (Some bytes) (Some rows) text is stands splits served =
-      subst (DeskFails bytes rows clerks) (sym is) (text, text_written bytes rows clerks e lists text stands splits served)
-
--- the answer where the requests are not served
-module _ (clerks : ℕ) (fault : AppFault) (is : IsServingFault clerks fault) where
-  pub refused_by_serving : (e : ElectionView) (lists : List (List RequestView)) (files scripts : Option (List ℕ)) → IfSome files (λ bytes. StandsFor (records_of bytes) e) → IfSome scripts (λ rows. SplitsScript clerks (records_of rows) lists)
-      → IfBothKnown files scripts (λ bytes rows. DeskFails bytes rows clerks fault)
-  refused_by_serving e lists None scripts stands splits = tt
-  refused_by_serving e lists (Some bytes) None stands splits = tt
-  refused_by_serving e lists (Some bytes) (Some rows) stands splits = serving_fails bytes rows clerks e lists fault stands splits is
-
-  pub accepted_by_serving : (files scripts : Option (List ℕ)) → IfBothKnown files scripts (λ bytes rows. Accepts (DeskWrites bytes rows clerks) (Err fault))
-  accepted_by_serving None scripts = tt
-  accepted_by_serving (Some bytes) None = tt
-  accepted_by_serving (Some bytes) (Some rows) = λ text writes. serving_from_outside bytes rows clerks fault text is writes
-
-  pub judged_by_serving : (e : ElectionView) (files : Option (List ℕ)) → IfSome files (λ bytes. StandsFor (records_of bytes) e) → IfSome files (λ bytes. JudgesFile bytes (Err fault))
-  judged_by_serving e None stands = tt
-  judged_by_serving e (Some bytes) stands = serving_judges bytes clerks fault (e, stands) is
+  desk_unwritten (Ok done) files scripts text is stands served = tt
+  desk_unwritten (Err fault) None scripts text is stands served = tt
+  desk_unwritten (Err fault) (Some bytes) None text is stands served = tt
+  desk_unwritten (Err fault) (Some bytes) (Some rows) text is stands served = subst (DeskFails bytes rows clerks) (sym is) (text, (e, stands, served))

@@ -7,10 +7,5 @@ pub mod AuditWritten
 pub mod Accepted
 pub mod AuditAccepted
 mod ThreeVoters
-pub mod ScriptForms
-pub mod Scripts
-pub mod Servings
-pub mod Rooms
-pub mod DeskEntries
 pub mod DeskRuns
 pub mod Recounts

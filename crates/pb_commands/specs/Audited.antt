@@ -11,13 +11,10 @@ use Rattle.pb_rounds.specs.declared.count_fault.CountFault.TheVariants.{NoMemory
 use Rattle.pb_rounds.specs.declared.options.CountOptions.{CountOptions}
 use Rattle.pb_rows.specs.Reading.{Fields, records_of}
 use Rattle.pb_rows.specs.Writing.{text_of_row}
+use Rattle.pb_script.specs.Serving.{program_room}
 use Rattle.pb_commands.specs.Counted.{IsReportOf}
 use Rattle.pb_commands.specs.declared.fault.AppFault.{AppFault}
 use Rattle.pb_commands.specs.declared.fault.AppFault.TheVariants.{Audit, Count}
-
--- how many entries a desk of the program has room for
-abbrev pub program_room : ℕ
-program_room = 4294967295
 
 -- these bytes, read as a file and as a journal, are those of a desk of either version: the file stands for
 -- the election that it opened with, and the rows are its journal's

@@ -7,8 +7,8 @@ use Rattle.pb_read.specs.declared.fault.ReadKind.{ReadKind}
 use Rattle.pb_read.specs.declared.fault.ReadKind.TheVariants as read
 use Rattle.pb_rounds.specs.CountFault.{name_of as count_name, number_of as count_number}
 use Rattle.pb_rounds.specs.declared.count_fault.CountFault.TheVariants as count
-use Rattle.pb_commands.specs.ScriptFault.{numbered_name as of_script}
-use Rattle.pb_commands.specs.declared.script_fault.ScriptFault.TheVariants as script
+use Rattle.pb_script.specs.ScriptFault.{numbered_name as of_script}
+use Rattle.pb_script.specs.declared.script_fault.ScriptFault.TheVariants as script
 use Rattle.pb_commands.specs.declared.fault.AppFault.{AppFault}
 use Rattle.pb_commands.specs.declared.fault.AppFault.TheVariants.{Read, Script, ClerkCount, Audit, Count, Open, Write, Memory}
 

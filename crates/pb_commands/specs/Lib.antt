@@ -4,9 +4,4 @@ pub mod Fault
 pub mod Ends
 pub mod Counted
 pub mod Audited
-pub mod Script
-pub mod Asking
-pub mod ScriptFault
-pub mod ScriptReading
-pub mod Serving
 pub mod Desked

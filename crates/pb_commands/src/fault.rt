@@ -1,12 +1,10 @@
 // Why a run ends without what it was to write.
 
-use crate::script_fault::ScriptFault;
 use pb_core::no_memory::NoMemory;
 use pb_desk::AuditFault;
-use pb_desk::start_fault::StartFault;
 use pb_read::{ReadFault, ReadKind};
 use pb_rounds::count_fault::CountFault;
-use pb_shared::share_fault::ShareFault;
+use pb_script::ScriptFault;
 use std::alloc::AllocError;
 use thiserror::Error;
 
@@ -74,18 +72,6 @@ impl From<ReadFault> for AppFault {
     }
 }
 
-impl From<ScriptFault> for AppFault {
-    ghost use Rattle.std.specs.Prelude.{◌≡◌};
-    ghost use Rattle.pb_commands.specs.Fault.{merged};
-    ghost use Rattle.pb_commands.specs.declared.fault.AppFault.TheVariants.{Script};
-
-    ghost from_gives = { λ fault app. app ≡ merged (Script fault) };
-
-    fn from(fault: ScriptFault) -> AppFault {
-        AppFault::Script(fault).merged()
-    }
-}
-
 impl From<AuditFault> for AppFault {
     ghost use Rattle.std.specs.Prelude.{◌≡◌};
     ghost use Rattle.pb_commands.specs.Fault.{merged};
@@ -129,32 +115,5 @@ impl From<AllocError> for AppFault {
 
     fn from(_refused: AllocError) -> AppFault {
         AppFault::Memory
-    }
-}
-
-impl From<StartFault> for AppFault {
-    ghost use Rattle.std.specs.Prelude.{◌≡◌};
-    ghost use Rattle.pb_commands.specs.declared.fault.AppFault.TheVariants.{Memory};
-
-    ghost from_gives = { λ _ app. app ≡ Memory };
-
-    fn from(_refused: StartFault) -> AppFault {
-        AppFault::Memory
-    }
-}
-
-impl From<ShareFault> for AppFault {
-    ghost use Rattle.std.specs.Prelude.{◌≡◌};
-    ghost use Rattle.pb_commands.specs.Serving.{unshared};
-
-    ghost from_gives = { λ fault app. app ≡ unshared fault };
-
-    fn from(fault: ShareFault) -> AppFault {
-        let answer = match &fault {
-            ShareFault::ClerkCount(_) => AppFault::ClerkCount,
-            ShareFault::NoMemory(_) => AppFault::Memory,
-        };
-        drop(fault);
-        answer
     }
 }

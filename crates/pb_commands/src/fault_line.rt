@@ -24,36 +24,22 @@ impl AppFault {
         ensures { OnOk result (Appends (W.contents writer.old) (W.contents writer.new)
             (line (fields_of (merged self.now)))) }
     {
-        let mut digits = Buffer::new();
         match self.merged() {
             AppFault::Read(fault) => {
-                write_numbered(
-                    writer,
-                    "read",
-                    fault.number(),
-                    fault.name(),
-                    u64::from(fault.at),
-                )
+                let at = u64::from(fault.at);
+                write_numbered(writer, "read", fault.number(), fault.name(), at)
             }
             AppFault::Script(fault) => {
-                write_numbered(
-                    writer,
-                    "script",
-                    fault.number(),
-                    fault.name(),
-                    u64::from(fault.at()),
-                )
+                let at = u64::from(fault.at());
+                write_numbered(writer, "script", fault.number(), fault.name(), at)
             }
             AppFault::ClerkCount => write_fields(writer, &["clerks", "1", "ClerkCount"]),
             AppFault::Audit(fault) => {
                 let row = fault.at().unwrap_or(0);
                 write_numbered(writer, "audit", fault.number(), fault.name(), row)
             }
-            AppFault::Count(fault) => {
-                let number = digits.format(fault.number());
-                write_fields(writer, &["count", number, fault.name()])
-            }
-            AppFault::Open(number) => write_fields(writer, &["open", digits.format(number)]),
+            AppFault::Count(fault) => write_count(writer, fault),
+            AppFault::Open(number) => write_open(writer, number),
             AppFault::Write => write_fields(writer, &["write"]),
             AppFault::Memory => write_fields(writer, &["memory"]),
         }
@@ -98,6 +84,25 @@ fn write_numbered<W: Write>(
     let mut at_digits = Buffer::new();
     let number = number_digits.format(number);
     write_fields(writer, &[what, number, name, at_digits.format(at)])
+}
+
+/// Writes the line of a count that is refused.
+fn write_count<W: Write>(writer: &mut W, fault: CountFault) -> io::Result<()>
+    ensures { OnOk result (Appends (W.contents writer.old) (W.contents writer.new)
+        (line (fields_of (AppFault.Count fault)))) }
+{
+    let mut digits = Buffer::new();
+    let number = digits.format(fault.number());
+    write_fields(writer, &["count", number, fault.name()])
+}
+
+/// Writes the line of the file with this number on the command line, which could not be opened.
+fn write_open<W: Write>(writer: &mut W, number: u32) -> io::Result<()>
+    ensures { OnOk result (Appends (W.contents writer.old) (W.contents writer.new)
+        (line (fields_of (AppFault.Open number)))) }
+{
+    let mut digits = Buffer::new();
+    write_fields(writer, &["open", digits.format(number)])
 }
 
 /// Writes the line of these fields.

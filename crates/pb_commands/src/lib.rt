@@ -8,14 +8,9 @@ pub mod fault;
 mod fault_line;
 pub mod laws;
 mod report;
-mod requests;
 pub mod run_audit;
 pub mod run_count;
 pub mod run_desk;
-mod script;
-pub mod script_fault;
-mod serve_script;
 
 pub use fault::AppFault;
 pub use fault_line::BAD_ARGUMENTS;
-pub use script_fault::ScriptFault;

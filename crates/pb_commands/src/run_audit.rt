@@ -1,8 +1,10 @@
 // The command `audit`: what a journal says of a file.
 
-ghost use Rattle.std.specs.Prelude.{◌≡◌, ◌≢◌, ◌++◌, ℕ, List, IfErr, IfSome, OnOk, codes, if◌then◌else◌};
+ghost use Rattle.std.specs.Prelude.{◌≡◌, ◌≢◌, ◌++◌, ℕ, List, IfErr, IfSome, OnOk, codes, if◌then◌else◌, true};
+ghost use Rattle.pb_desk.specs.Desk.{closed_election, standing_of};
 ghost use Rattle.pb_rows.specs.Writing.{text_of_row};
 ghost use Rattle.pb_commands.specs.Audited.{AuditRefuses, AuditWrites, IsRefusedDesk, IsTextOf, entries_row};
+ghost use Rattle.pb_commands.specs.Counted.{IsReportOf};
 ghost use Rattle.pb_commands.specs.Ends.{Accepts, FailsBy, HasWritten, IfBothKnown, JudgesFile};
 ghost use Rattle.pb_commands.specs.Fault.{merged};
 
@@ -15,12 +17,10 @@ use pb_read::read_pb;
 use pb_rounds::count_fault::CountFault;
 use pb_rounds::options::CountOptions;
 use pb_rows::RowsWriter;
+use pb_script::ROOM;
 use std::alloc::Global;
 use std::io::{Read, Write};
 use std::thread::Threads;
-
-/// The most entries that the journal of a desk of the program has.
-pub(crate) const ROOM: u32 = 4_294_967_295;
 
 /// Reads a .pb file and a journal, audits the journal, and writes how many entries it has and whether
 /// its desk is shut. Where it is shut, the ballots that it leaves are counted with these options, and
@@ -78,14 +78,45 @@ fn put_desk<T: Threads + Sync>(
         × IsTextOf desk options.now text × (rows.new.text ≡ rows.old.text ++ text)) }
     ensures fault { IfErr result (IsRefusedDesk desk options.now) }
 {
-    put_entries(rows, &desk)?;
-    if !desk.is_shut() {
-        return Ok(());
+    match put_entries(rows, &desk) {
+        Ok(()) => {}
+        Err(_) => {
+            drop(desk);
+            return Err(CountFault::NoMemory);
+        }
     }
-    let Ok(election) = desk.into_election() else {
-        return Err(CountFault::NoMemory);
-    };
-    put_count(rt, alloc, rows, &election, options)
+    if desk.is_shut() {
+        put_ballots(rt, alloc, rows, desk, options)
+    } else {
+        drop(desk);
+        Ok(())
+    }
+}
+
+/// Writes the report of the ballots that the journal of a shut desk leaves.
+fn put_ballots<T: Threads + Sync>(
+    rt: &T,
+    alloc: Global,
+    rows: &mut RowsWriter,
+    desk: Desk,
+    options: &CountOptions,
+) -> Result<(), CountFault>
+    requires { (standing_of desk).is_shut ≡ true }
+    ensures ok { OnOk result ((report : List ℕ) × IsReportOf (closed_election desk) options.now report
+        × (rows.new.text ≡ rows.old.text ++ report)) }
+    ensures fault { IfErr result (IsRefusedDesk desk options.now) }
+{
+    match desk.into_election() {
+        Ok(election) => {
+            let put = put_count(rt, alloc, rows, &election, options);
+            drop(election);
+            put
+        }
+        Err(fault) => {
+            drop(fault);
+            Err(CountFault::NoMemory)
+        }
+    }
 }
 
 /// Writes the row of a desk.

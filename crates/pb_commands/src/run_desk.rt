@@ -1,16 +1,16 @@
 //! The command `desk`: a script's requests, served by the clerks of one desk.
 
 ghost use Rattle.std.specs.Prelude.{◌≡◌, ◌≢◌, IfErr, IfSome, OnOk};
-ghost use Rattle.pb_commands.specs.Desked.{DeskRefuses, DeskWrites};
+ghost use Rattle.pb_commands.specs.Desked.{DeskRefuses, DeskWrites, unserved};
 ghost use Rattle.pb_commands.specs.Ends.{Accepts, FailsBy, HasWritten, IfBothKnown, JudgesFile};
 ghost use Rattle.pb_commands.specs.Fault.{merged};
 
 use crate::fault::AppFault;
 use crate::run_count::write_out;
-use crate::script::read_script;
-use crate::serve_script::serve_script;
 use pb_price::gate::Gate;
 use pb_read::read_pb;
+use pb_script::ServeFault;
+use pb_script::serve_script::serve_script;
 use std::alloc::Global;
 use std::io::{Read, Write};
 use std::thread::Threads;
@@ -59,10 +59,19 @@ pub fn run_desk<T: Threads + Sync, P: Read + Drop, S: Read + Drop, G: Gate, W: W
     ensures merged { IfErr result (λ fault. merged fault ≡ fault) }
 {
     let election = read_pb(alloc, file)?;
-    let lists = read_script(alloc, script, clerks)?;
-    let text = match serve_script(rt, alloc, election, &lists, clerks, gate) {
+    let text = match serve_script(rt, alloc, election, script, clerks, gate) {
         Ok(text) => text,
-        Err(fault) => return Err(fault),
+        Err(fault) => return Err(unserved(fault)),
     };
     write_out(writer, text.as_slice())
+}
+
+/// A script that is not served, as a run answers it.
+fn unserved(fault: ServeFault) -> AppFault
+    ensures { result ≡ unserved fault }
+{
+    match fault {
+        ServeFault::Script(fault) => AppFault::Script(fault).merged(),
+        ServeFault::ClerkCount => AppFault::ClerkCount,
+    }
 }

@@ -1,7 +1,0 @@
-use Rattle.std.proofs.Common.{◌≡◌}
-use Rattle.pb_commands.specs.Serving.{HasServed, list_of}
-use Rattle.pb_commands.proofs.serve_script.serve_own.Given as goal
-
-abbrev pub invariant-loop-request : goal.invariant-loop-request
-invariant-loop-request g l =
-    (l.served ≡ l.request-index) × HasServed l.shared l.number (list_of l.lists l.number) l.clerk l.served

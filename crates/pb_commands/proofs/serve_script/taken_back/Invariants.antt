@@ -1,7 +1,0 @@
-use Rattle.std.proofs.Common.{◌≡◌, map}
-use Rattle.pb_commands.specs.declared.serve_script.Returned.{Returned}
-use Rattle.pb_commands.proofs.serve_script.taken_back.Given as goal
-
-abbrev pub invariant-loop-returned : goal.invariant-loop-returned
-invariant-loop-returned l =
-    (l.clerks.items ≡ map (λ (r : Returned). r.clerk) l.yielded) × (l.served.items ≡ map (λ (r : Returned). r.served) l.yielded)

@@ -1,0 +1,102 @@
+-- The journal of a script's requests can be written: each entry has the form of a journal's.
+use Rattle.std.proofs.Common.{◌≡◌, ◌∙◌, ℕ, ◌<◌, ◌≤◌, ◌^◌, List, [], ◌∷◌, length, get_or, map, Bool, true, false, cond, Option, Some, None, refl, sym, ap, subst, arith, min}
+use Rattle.std.specs.List.{AllZip, filter, find}
+use Rattle.std.specs.Option.{option_map_or}
+use Rattle.std.specs.Prelude.{All, ◌==◌, nat_le}
+use Rattle.std.proofs.lemmas.Bool.{eq-eqb}
+use Rattle.std.proofs.lemmas.List.Elements.{All-cons, All-filter, All-head, All-map, All-nil, All-tail}
+use Rattle.pb_core.specs.Election.{most_voters}
+use Rattle.pb_core.specs.Request.{EntryView, RequestView, Cast, Replace, Withdraw, Shut}
+use Rattle.pb_core.specs.declared.answer.Answer.{Answer}
+use Rattle.pb_core.specs.declared.answer.Answer.TheVariants.{Done, DeskShut, UnknownPlace, AlreadyCast, NoBallot, VoterLimit, TooLong}
+use Rattle.pb_desk.specs.Opening.{OpeningView}
+use Rattle.pb_desk.specs.Replay.{IsAnswered, IsLegal, IsLegalFrom, most_clerks, opened}
+use Rattle.pb_desk.specs.Rows.{IsAnswer, IsBallotList, IsEntry, IsRequest}
+use Rattle.pb_desk.specs.Standing.{Standing}
+use Rattle.pb_desk.specs.Step.{answer_of, first_unknown, has_ballot, is_too_long, open_answer_of, step, unless_refused}
+use Rattle.pb_rows.specs.Numbers.{AreNumbers}
+use Rattle.pb_rows.specs.Reading.{Fields}
+use Rattle.pb_shared.specs.Clerk.{entries_of}
+use Rattle.pb_script.specs.Script.{AreAsked, IsScript, IsScriptRow, ScriptRowView, asked_by, clerks_within}
+use Rattle.pb_script.specs.Serving.{AreClerks, ServesAll, ServesScript, requests_of}
+
+cond_answer : (test : Bool) (a b : Answer) → IsAnswer a → IsAnswer b → IsAnswer (cond test a b)
+cond_answer true a b is other = is
+cond_answer false a b is other = other
+
+-- the first place that a test finds among numbers is one
+found_place : (test : ℕ → Bool) (places : List ℕ) (otherwise : Answer) → AreNumbers places → IsAnswer otherwise → IsAnswer (option_map_or UnknownPlace (find test places) otherwise)
+found_place test [] otherwise are is = is
+found_place test (p ∷ ps) otherwise are is = by (test p) (found_place test ps otherwise (All-tail (λ q. q < 2 ^ 32) p ps are) is)
+  where
+    by : (b : Bool) → IsAnswer (option_map_or UnknownPlace (find test ps) otherwise) → IsAnswer (option_map_or UnknownPlace (cond b (Some p) (find test ps)) otherwise)
+    by true later = All-head (λ q. q < 2 ^ 32) p ps are
+    by false later = later
+
+-- the answer to a ballot of numbers
+ballot_answer : (o : OpeningView) (ballot : List ℕ) (otherwise : Answer) → AreNumbers ballot → IsAnswer otherwise → IsAnswer (unless_refused o ballot otherwise)
+ballot_answer o ballot otherwise are is = found_place _ ballot _ are (cond_answer (is_too_long o ballot) TooLong otherwise tt is)
+
+-- what a desk answers to a request that can be asked
+IsAnswer-of : (o : OpeningView) (s : Standing) (request : RequestView) → IsRequest request → IsAnswer (answer_of o s request)
+unfolding answer_of open_answer_of
+IsAnswer-of o s (Cast voter ballot) is =
+    cond_answer s.is_shut DeskShut _ tt (ballot_answer o ballot _ is.1.are_numbers
+    (cond_answer (has_ballot s.ballots voter) AlreadyCast _ tt (cond_answer (nat_le most_voters (length s.ballots)) VoterLimit Done tt tt)))
+IsAnswer-of o s (Replace voter ballot) is =
+    cond_answer s.is_shut DeskShut _ tt (ballot_answer o ballot _ is.1.are_numbers (cond_answer (has_ballot s.ballots voter) Done NoBallot tt tt))
+IsAnswer-of o s (Withdraw voter) is = cond_answer s.is_shut DeskShut _ tt (cond_answer (has_ballot s.ballots voter) Done NoBallot tt tt)
+IsAnswer-of o s Shut is = cond_answer s.is_shut DeskShut Done tt tt
+
+-- the entries of a legal journal, where each request can be asked
+legal_entries : (o : OpeningView) (s : Standing) (journal : List EntryView) → IsLegalFrom o s journal → All (λ x. IsRequest x.request) journal → All IsEntry journal
+legal_entries o s [] legal can = All-nil IsEntry
+legal_entries o s (x ∷ xs) legal can =
+    let request = All-head (λ (y : EntryView). IsRequest y.request) x xs can in
+    let entry : IsEntry x = record { by_clerk = legal.0.by_clerk; request = request; answer = subst IsAnswer (sym legal.0.answer) (IsAnswer-of o s x.request request) } in
+    All-cons IsEntry x xs entry (legal_entries o (step o s x.request) xs legal.1 (All-tail (λ (y : EntryView). IsRequest y.request) x xs can))
+
+-- each row of a script asks what can be asked
+requests_can_be : (clerks : ℕ) (records : List Fields) (script : List ScriptRowView) → AllZip (IsScriptRow clerks) records script → All (λ x. IsRequest x.request) script
+requests_can_be clerks [] [] rows = All-nil (λ (x : ScriptRowView). IsRequest x.request)
+requests_can_be clerks [] (x ∷ xs) rows = absurd rows
+requests_can_be clerks (r ∷ rs) [] rows = absurd rows
+requests_can_be clerks (r ∷ rs) (x ∷ xs) rows =
+    All-cons (λ (y : ScriptRowView). IsRequest y.request) x xs rows.0.can_be (requests_can_be clerks rs xs rows.1)
+
+-- what is true of all that each clerk asked is true of all entries of the clerks
+entries_by_clerk : (P : RequestView → Type 0) (clerks : ℕ) (journal : List EntryView) → All (λ x. x.clerk < clerks) journal →
+    ((clerk : ℕ) → clerk < clerks → All P (requests_of clerk journal)) → All (λ x. P x.request) journal
+entries_by_clerk P clerks [] by each = All-nil (λ (x : EntryView). P x.request)
+entries_by_clerk P clerks (x ∷ xs) by each =
+    let own = All-head (λ (y : EntryView). y.clerk < clerks) x xs by in
+    let hit : (x.clerk == x.clerk) ≡ true = eq-eqb x.clerk x.clerk refl in
+    let Q : Bool → Type 0 = λ t. All P (map (λ (y : EntryView). y.request) (cond t (x ∷ entries_of x.clerk xs) (entries_of x.clerk xs))) in
+    All-cons (λ (y : EntryView). P y.request) x xs
+    (All-head P x.request (requests_of x.clerk xs) (subst Q hit (each x.clerk own)))
+    (entries_by_clerk P clerks xs (All-tail (λ (y : EntryView). y.clerk < clerks) x xs by) (λ k below. later (x.clerk == k) (entries_of k xs) (each k below)))
+  where
+    later : (b : Bool) (rest : List EntryView) → All P (map (λ (y : EntryView). y.request) (cond b (x ∷ rest) rest)) → All P (map (λ (y : EntryView). y.request) rest)
+    later true rest all = All-tail P x.request (map (λ (y : EntryView). y.request) rest) all
+    later false rest all = all
+
+-- the journal that serves a script can be written
+pub served_entries : (o : OpeningView) (clerks : ℕ) (records : List Fields) (script : List ScriptRowView) (journal : List EntryView) → IsScript clerks records script →
+    ServesScript clerks script journal → IsLegal o journal → All IsEntry journal
+served_entries o clerks records script journal is serves legal =
+    let can = requests_can_be clerks records script is.rows in
+    let asked = λ (k : ℕ). All-map IsRequest (λ (x : ScriptRowView). x.request) (filter (λ (x : ScriptRowView). x.clerk == k) script)
+    (All-filter (λ (x : ScriptRowView). x.clerk == k) (λ (x : ScriptRowView). IsRequest x.request) script can) in
+    legal_entries o (opened o.election) journal legal
+    (entries_by_clerk IsRequest clerks journal serves.by_clerks (λ k below. let P : List RequestView → Type 0 = All IsRequest in subst P (sym (serves.in_order k below)) (asked k)))
+
+-- lists that are the rows of a script, served, are the script, served
+pub script_served : (clerks : ℕ) (script : List ScriptRowView) (lists : List (List RequestView)) (journal : List EntryView) → AreClerks clerks → AreAsked clerks script lists →
+    ServesAll lists journal → ServesScript clerks script journal
+script_served clerks script lists journal range are serves =
+    let size = are.one_each in
+    let count : length lists ≡ clerks = omega arith in
+    record {
+      in_order = λ k below. serves.in_order k (omega arith) ∙ are.asked k (omega arith);
+      by_clerks = let P : ℕ → Type 0 = λ n. All (λ x. x.clerk < n) journal in subst P count serves.by_clerks;
+    }

@@ -1,0 +1,6 @@
+pub mod ScriptForms
+pub mod Scripts
+pub mod Servings
+pub mod Rooms
+pub mod DeskEntries
+pub mod Texts

@@ -1,0 +1,6 @@
+pub mod Script
+pub mod Asking
+pub mod ScriptFault
+pub mod ScriptReading
+pub mod Serving
+pub mod Served

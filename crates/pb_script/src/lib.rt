@@ -1,0 +1,13 @@
+//! A script and its serving: the requests of a run's clerks, read, served side by side on one desk, and written as
+//! the text of its journal.
+#![tactic(auto)]
+
+mod requests;
+mod script;
+pub mod script_fault;
+pub mod serve_fault;
+pub mod serve_script;
+
+pub use script_fault::ScriptFault;
+pub use serve_fault::ServeFault;
+pub use serve_script::ROOM;

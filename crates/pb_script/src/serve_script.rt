@@ -1,0 +1,294 @@
+//! The clerks of a script at work: each serves its own requests, side by side with the others.
+
+ghost use Rattle.std.specs.Prelude.{◌≡◌, ◌+◌, ◌<◌, ◌≤◌, ℕ, List, [], All, length, map, IfErr, IfOk, IfSome, OnOk};
+ghost use Rattle.pb_core.specs.Request.{asked};
+ghost use Rattle.pb_desk.specs.Replay.{IsLegal, most_clerks};
+ghost use Rattle.pb_desk.specs.Rows.{journal_text};
+ghost use Rattle.pb_rows.specs.Reading.{records_of};
+ghost use Rattle.pb_shared.specs.Clerk.{AreNewcomers, desk_with};
+ghost use Rattle.pb_script.specs.Script.{clerks_within, most_rows};
+ghost use Rattle.pb_script.specs.Served.{IsServeFault, IsServed};
+ghost use Rattle.pb_script.specs.Serving.{AppendsFor, AreCounts, HasServed, IsServedText, ServesAll, ServesUpTo, AreBack, AreClerks, IsServingFault, list_of, opening_of, program_room, unshared};
+
+use crate::requests::Requests;
+use crate::script::read_script;
+use crate::script_fault::ScriptFault;
+use crate::serve_fault::ServeFault;
+use pb_core::election::Election;
+use pb_core::no_memory::NoMemory;
+use pb_core::request::Request;
+use pb_desk::desk::Desk;
+use pb_desk::desk_fault::DeskFault;
+use pb_price::gate::Gate;
+use pb_shared::clerk::Clerk;
+use pb_shared::share_fault::ShareFault;
+use pb_shared::shared_desk::SharedDesk;
+use pb_shared::shared_fault::SharedFault;
+use std::alloc::{AllocError, Global};
+use std::io::Read;
+use std::thread::{Threads, map_vec};
+
+/// The most entries that the journal of a desk of the program has.
+pub const ROOM: u32 = 4_294_967_295;
+
+/// How many times a clerk tries the lock for one request, offering the processor after each lost try. It is
+/// enough for a holder without a processor to get one, and for a large journal to grow.
+const TRIES: u32 = 100_000;
+
+/// A clerk back from its work.
+#[derive(Drop)]
+struct Returned {
+    clerk: Clerk,
+    /// How many of its requests it served.
+    served: u32,
+    /// Whether it stopped because memory was refused.
+    is_out_of_memory: bool,
+}
+
+/// Serves a clerk's requests in their order. It stops at the first that finds the desk busy, or that
+/// memory is refused for.
+fn serve_own<G: Gate>(shared: &SharedDesk, gate: &G, clerk: Clerk, lists: &[Requests]) -> Returned
+    requires own { clerk.desk ≡ shared.now }
+    requires fresh { clerk.mine ≡ [] }
+    requires one_each { length lists.now ≡ shared.now.clerks }
+    requires few { All (λ list. length list ≤ most_rows) lists.now }
+    ensures { HasServed shared.now clerk.number (list_of lists.now clerk.number) result.clerk result.served }
+{
+    let mut clerk = clerk;
+    let number = clerk.number();
+    let mut served = 0u32;
+    let mut is_out_of_memory = false;
+    for request in lists[number as usize].as_slice() {
+        gate.at(number, served);
+        match shared.serve_within(&mut clerk, request, TRIES) {
+            Ok(_) => served += 1,
+            Err(SharedFault::NoMemory) => {
+                is_out_of_memory = true;
+                break;
+            }
+            // Another clerk holds the desk. Its journal is never full: see `serve_rest`.
+            Err(_) => break,
+        }
+    }
+    Returned {
+        clerk,
+        served,
+        is_out_of_memory,
+    }
+}
+
+/// Serves these requests of a clerk, one after the other. There is room for them.
+fn serve_for(desk: &mut Desk, clerk: u32, requests: &[Request]) -> Result<(), NoMemory>
+    requires clerk { clerk < most_clerks }
+    requires room { length desk.old.journal + length requests.now ≤ desk.old.room }
+    ensures opening { desk.new.opening ≡ desk.old.opening }
+    ensures room { desk.new.room ≡ desk.old.room }
+    ensures appends { OnOk result
+        (AppendsFor clerk (map asked requests.now) desk.old.journal desk.new.journal) }
+{
+    for request in requests {
+        match desk.serve(clerk, request) {
+            Ok(_) => {}
+            Err(DeskFault::NoMemory) => return Err(NoMemory),
+            Err(DeskFault::JournalFull) => unreachable!(),
+        }
+    }
+    Ok(())
+}
+
+/// Serves what the clerks left over, clerks in rising number: of each clerk's requests this many were
+/// served. A desk of the program has room for all that 64 clerks ask in a script.
+fn serve_rest(desk: &mut Desk, lists: &[Requests], served: &[u32]) -> Result<(), NoMemory>
+    requires few { length lists.now ≤ most_clerks }
+    requires few_each { All (λ list. length list ≤ most_rows) lists.now }
+    requires room { desk.old.room ≡ program_room }
+    requires counts { AreCounts lists.now served.now }
+    requires so_far { ServesUpTo 0 lists.now served.now desk.old.journal }
+    ensures opening { desk.new.opening ≡ desk.old.opening }
+    ensures room { desk.new.room ≡ desk.old.room }
+    ensures all { OnOk result (ServesAll lists.now desk.new.journal) }
+{
+    for (clerk, list) in lists.iter().enumerate() {
+        let left = &list.as_slice()[served[clerk] as usize..];
+        serve_for(desk, clerk as u32, left)?;
+    }
+    Ok(())
+}
+
+/// All clerks serve their requests, each in a thread of its own where one can be made. They are back in the
+/// order of their numbers.
+fn serve_side_by_side<T: Threads + Sync, G: Gate>(
+    rt: &T,
+    shared: &SharedDesk,
+    gate: &G,
+    clerks: Vec<Clerk>,
+    lists: &[Requests],
+) -> Result<Vec<Returned>, AllocError>
+    requires fresh { AreNewcomers shared.now clerks.items }
+    requires one_each { length lists.now ≡ shared.now.clerks }
+    requires few { All (λ list. length list ≤ most_rows) lists.now }
+    ensures { IfOk result (λ back.
+        AreBack shared.now lists.now (map (λ r. r.clerk) back.items) (map (λ r. r.served) back.items)) }
+{
+    map_vec(
+        rt,
+        clerks,
+        &|clerk: Clerk| -> Returned
+            requires { (clerk.desk ≡ shared.now) × (clerk.mine ≡ []) × (length lists.now ≡ shared.now.clerks)
+                × All (λ list. length list ≤ most_rows) lists.now }
+            ensures { HasServed shared.entry.now clerk.number (list_of lists.entry.now clerk.number)
+                result.clerk result.served }
+        { serve_own(shared, gate, clerk, lists) },
+    )
+}
+
+/// The clerks who are back, and how many requests each of them served. Out of memory, where one of them was.
+fn taken_back(alloc: Global, back: Vec<Returned>) -> Result<(Vec<Clerk>, Vec<u32>), NoMemory>
+    ensures { IfOk result (λ both. (both.0.items ≡ map (λ r. r.clerk) back.items)
+        × (both.1.items ≡ map (λ r. r.served) back.items)) }
+{
+    let mut clerks = Vec::new(alloc);
+    let mut served = Vec::new(alloc);
+    for returned in back {
+        if returned.is_out_of_memory {
+            return Err(NoMemory);
+        }
+        clerks.push(returned.clerk)?;
+        served.push(returned.served)?;
+    }
+    Ok((clerks, served))
+}
+
+/// These clerks of a shared desk serve the requests of a script, and it is closed. What they leave over is served
+/// after them, clerks in rising number.
+fn serve_shared<T: Threads + Sync, G: Gate>(
+    rt: &T,
+    alloc: Global,
+    shared: SharedDesk,
+    clerks: Vec<Clerk>,
+    lists: &[Requests],
+    gate: &G,
+) -> Result<Desk, NoMemory>
+    requires empty { shared.start.journal ≡ [] }
+    requires room { shared.start.room ≡ program_room }
+    requires fresh { AreNewcomers shared clerks.items }
+    requires range { shared.clerks ≤ most_clerks }
+    requires one_each { length lists.now ≡ shared.clerks }
+    requires few { All (λ list. length list ≤ most_rows) lists.now }
+    ensures start { IfOk result (λ desk. desk ≡ desk_with shared.start desk.journal) }
+    ensures serves { IfOk result (λ desk. ServesAll lists.now desk.journal) }
+{
+    let back = serve_side_by_side(rt, &shared, gate, clerks, lists)?;
+    let (clerks, served) = taken_back(alloc, back)?;
+    let mut desk = shared.finish(clerks).unwrap();
+    serve_rest(&mut desk, lists, &served)?;
+    Ok(desk)
+}
+
+/// Why no requests are served, where the desk was not shared.
+fn unshared(fault: ShareFault) -> ServeFault
+    ensures { result ≡ unshared fault }
+{
+    let answer = match &fault {
+        ShareFault::ClerkCount(_) => ServeFault::ClerkCount,
+        ShareFault::NoMemory(_) => ServeFault::Script(ScriptFault::NoMemory),
+    };
+    drop(fault);
+    answer
+}
+
+/// This many clerks serve the requests of a script on a shared desk of this election.
+fn serve_all<T: Threads + Sync, G: Gate>(
+    rt: &T,
+    alloc: Global,
+    election: Election,
+    lists: &[Requests],
+    clerks: u32,
+    gate: &G,
+) -> Result<Desk, ServeFault>
+    requires one_each { length lists.now ≡ clerks_within clerks }
+    requires few { All (λ list. length list ≤ most_rows) lists.now }
+    ensures opening { IfOk result (λ desk. desk.opening ≡ opening_of election) }
+    ensures room { IfOk result (λ desk. desk.room ≡ program_room) }
+    ensures serves { IfOk result (λ desk. ServesAll lists.now desk.journal) }
+    ensures clerks { OnOk result (AreClerks clerks) }
+    ensures err { IfErr result (IsServingFault clerks) }
+{
+    let Ok(desk) = Desk::start(alloc, election, ROOM) else {
+        return Err(ServeFault::Script(ScriptFault::NoMemory));
+    };
+    let (shared, fresh) = match SharedDesk::share(alloc, desk, clerks) {
+        Ok(both) => both,
+        Err(fault) => return Err(unshared(fault)),
+    };
+    let desk = serve_shared(rt, alloc, shared, fresh, lists, gate)?;
+    Ok(desk)
+}
+
+/// Serves the requests of each clerk on a shared desk of this election, and makes the text of its journal.
+fn serve_lists<T: Threads + Sync, G: Gate>(
+    rt: &T,
+    alloc: Global,
+    election: Election,
+    lists: &[Requests],
+    clerks: u32,
+    gate: &G,
+) -> Result<Vec<u8>, ServeFault>
+    requires one_each { length lists.now ≡ clerks_within clerks }
+    requires few { All (λ list. length list ≤ most_rows) lists.now }
+    ensures ok { IfOk result (λ text. IsServedText election clerks lists.now text.items) }
+    ensures err { IfErr result (IsServingFault clerks) }
+{
+    match serve_all(rt, alloc, election, lists, clerks, gate) {
+        Ok(desk) => Ok(written(alloc, desk)?),
+        Err(fault) => Err(fault),
+    }
+}
+
+/// The text of a desk's journal.
+fn written(alloc: Global, desk: Desk) -> Result<Vec<u8>, NoMemory>
+    ensures legal { IfOk result (λ text. IsLegal desk.opening desk.journal) }
+    ensures fits { IfOk result (λ text. length desk.journal ≤ desk.room) }
+    ensures text { IfOk result (λ text. text.items ≡ journal_text desk.opening.version desk.journal) }
+{
+    // Its journal is legal, and fits the room.
+    let _entries = desk.entries();
+    let text = desk.journal_text(alloc);
+    drop(desk);
+    match text {
+        Ok(text) => Ok(text),
+        Err(_) => Err(NoMemory),
+    }
+}
+
+/// Reads a script for this many clerks, serves its requests on a shared desk of this election, and makes the text of
+/// its journal.
+///
+/// Each clerk serves its own rows in their order, by at most 100,000 tries of the lock for each. One who finds
+/// the desk busy all that time stops; what the clerks leave over is served after all of them have stopped,
+/// clerks in rising number. Before the first try of a row the gate is called with the clerk's number and the
+/// row's place among the clerk's own rows, from 0.
+///
+/// The script is refused before the number of clerks, 1 to 64.
+pub fn serve_script<T: Threads + Sync, S: Read + Drop, G: Gate>(
+    rt: &T,
+    alloc: Global,
+    election: Election,
+    script: S,
+    clerks: u32,
+    gate: &G,
+) -> Result<Vec<u8>, ServeFault>
+    // Where the script's bytes are known, the text is that of a journal that they and the number of clerks allow,
+    ensures ok { IfOk result (λ text. IfSome (S.remaining script) (λ bytes.
+        IsServed election clerks (records_of bytes) text.items)) }
+
+    // and they decide which fault comes.
+    ensures fault { IfErr result (λ fault. IfSome (S.remaining script) (λ bytes.
+        IsServeFault clerks (records_of bytes) fault)) }
+{
+    let lists = read_script(alloc, script, clerks)?;
+    match serve_lists(rt, alloc, election, &lists, clerks, gate) {
+        Ok(text) => Ok(text),
+        Err(fault) => Err(fault),
+    }
+}
