@@ -1,6 +1,6 @@
 //! Values made by calls, and elections as text.
 
-use pb_core::{Ballot, Election, Voter, VoterId};
+use pb_core::{Ballot, Election, Project, Voter, VoterId};
 use std::alloc::Global;
 use std::process::Abort;
 
@@ -14,6 +14,23 @@ pub(crate) fn ballot(rt: &impl Abort, alloc: Global, places: &[u32]) -> Ballot {
     Ballot::of(alloc, places).expect(rt, "memory")
 }
 
+/// The places below 10,000, rising.
+pub(crate) fn ten_thousand(rt: &impl Abort, alloc: Global) -> Vec<u32> {
+    let mut places = Vec::new(alloc);
+    for place in 0..10_000u32 {
+        places.push(place).expect(rt, "memory");
+    }
+    places
+}
+
+/// Each project's id, name and cost.
+fn show_projects(rt: &impl Abort, text: &mut String, projects: &[Project]) {
+    for project in projects {
+        let (id, name, cost) = (project.id(), project.name(), project.cost().0);
+        write!(text, "{id},{name},{cost};").expect(rt, "memory");
+    }
+}
+
 /// A voter's id, and the places of the ballot.
 fn show_voter(rt: &impl Abort, text: &mut String, voter: &Voter) {
     text.push_str(voter.id.text()).expect(rt, "memory");
@@ -23,17 +40,19 @@ fn show_voter(rt: &impl Abort, text: &mut String, voter: &Voter) {
     text.push(';').expect(rt, "memory");
 }
 
+/// Each voter.
+fn show_voters(rt: &impl Abort, text: &mut String, voters: &[Voter]) {
+    for voter in voters {
+        show_voter(rt, text, voter);
+    }
+}
+
 /// Budget and projects, and the voters after a bar.
 pub(crate) fn shown(rt: &impl Abort, alloc: Global, election: &Election) -> String {
-    let mut text = String::new(alloc);
-    write!(text, "{};", election.budget().0).expect(rt, "memory");
-    for project in election.projects() {
-        let (id, name, cost) = (project.id(), project.name(), project.cost().0);
-        write!(text, "{id},{name},{cost};").expect(rt, "memory");
-    }
+    let budget = election.budget().0;
+    let mut text = format!(in alloc; "{budget};").expect(rt, "memory");
+    show_projects(rt, &mut text, election.projects());
     text.push('|').expect(rt, "memory");
-    for voter in election.voters() {
-        show_voter(rt, &mut text, voter);
-    }
+    show_voters(rt, &mut text, election.voters());
     text
 }

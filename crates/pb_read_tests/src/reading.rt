@@ -1,25 +1,35 @@
 //! Files as the library shows them: names, limits, and the largest files. What else a file may say, and its faults, the
 //! cases of `crates/pb_app` show.
 
-use crate::checks::{holds, same, tells};
-use crate::elections::shown;
+use crate::checks::{same, tells};
+use crate::elections::{shown, ten_thousand};
 use pb_core::election::Election;
 use pb_read::{MOST_RECORDS, ReadFault, ReadKind, read_pb};
 use std::alloc::Global;
 use std::process::Abort;
 
-/// What the reader answers: the election, or the fault's number and record.
-fn answer(rt: &impl Abort, alloc: Global, file: &str) -> String {
-    match read_pb(alloc, file.as_bytes()) {
-        Ok(election) => shown(rt, alloc, &election),
+/// What the reader answered: the election, or the fault's number and record.
+fn said(rt: &impl Abort, alloc: Global, answer: &Result<Election, ReadFault>) -> String {
+    match answer {
+        Ok(election) => shown(rt, alloc, election),
         Err(fault) => { format!(in alloc; "{} {}", fault.number(), fault.at).expect(rt, "memory") }
     }
 }
 
 /// The reader answers so to this file.
 fn answers(rt: &impl Abort, alloc: Global, file: &str, wanted: &str) {
-    let answered = answer(rt, alloc, file);
-    same(rt, answered.as_str(), wanted, "a file");
+    let answer = read_pb(alloc, file.as_bytes());
+    let said = said(rt, alloc, &answer);
+    same(rt, said.as_str(), wanted, "a file");
+    drop(said);
+    drop(answer);
+}
+
+/// The reader answers so to this file with one line more.
+fn answers_with(rt: &impl Abort, alloc: Global, file: &str, line: &str, wanted: &str) {
+    let whole = and(rt, alloc, file, line);
+    answers(rt, alloc, whole.as_str(), wanted);
+    drop(whole);
 }
 
 fn read(rt: &impl Abort, alloc: Global, file: &str) -> Election {
@@ -82,6 +92,8 @@ fn reads_the_limit_on_a_ballot(rt: HostRuntime) {
         ).expect(&rt, "memory");
         let election = read(&rt, rt.alloc(), file.as_str());
         same(&rt, election.max_length(), *wanted, value);
+        drop(election);
+        drop(file);
     }
 }
 
@@ -102,7 +114,7 @@ fn with_lines(
 }
 
 /// The text and one line more.
-fn and(rt: &impl Abort, alloc: Global, text: &String, line: &str) -> String {
+fn and(rt: &impl Abort, alloc: Global, text: &str, line: &str) -> String {
     format!(in alloc; "{text}{line}").expect(rt, "memory")
 }
 
@@ -110,64 +122,80 @@ fn and(rt: &impl Abort, alloc: Global, text: &String, line: &str) -> String {
 const BEFORE_PROJECTS: &str =
     "META\nk;v\nbudget;1\nvote_type;approval\nPROJECTS\nproject_id;cost\n";
 
+/// The file has this many projects, and its first ballot these places.
+fn has_ballot(rt: &impl Abort, alloc: Global, file: &str, projects: usize, places: &[u32]) {
+    let election = read(rt, alloc, file);
+    same(rt, election.projects().len(), projects, "projects");
+    let voter = election.voters().first().expect(rt, "a voter");
+    same(rt, voter.ballot.places(), places, "places");
+    drop(election);
+}
+
 #[test]
 fn reads_ten_thousand_projects(rt: HostRuntime) {
     let alloc = rt.alloc();
     let projects = with_lines(&rt, alloc, BEFORE_PROJECTS, 10_000, ("p", ";1\n"));
-    let one_more = and(&rt, alloc, &projects, "q;1\n");
-    answers(&rt, alloc, one_more.as_str(), "19 10007");
-    let repeated = and(&rt, alloc, &projects, "p0;1\n");
-    answers(&rt, alloc, repeated.as_str(), "16 10007");
-    let whole = and(&rt, alloc, &projects, "VOTES\nvoter_id;vote\nv;p9999,p7\n");
-    let election = read(&rt, alloc, whole.as_str());
-    same(&rt, election.projects().len(), 10_000, "projects");
-    let voter = election.voters().first().expect(&rt, "a voter");
-    same(&rt, voter.ballot.places(), [7, 9_999].as_slice(), "places");
+    answers_with(&rt, alloc, projects.as_str(), "q;1\n", "19 10007");
+    answers_with(&rt, alloc, projects.as_str(), "p0;1\n", "16 10007");
+    let vote = "VOTES\nvoter_id;vote\nv;p9999,p7\n";
+    let whole = and(&rt, alloc, projects.as_str(), vote);
+    has_ballot(&rt, alloc, whole.as_str(), 10_000, &[7, 9_999]);
 }
 
-/// One ballot names all projects, from the last to the first.
+/// A vote for ten thousand projects, from the last to the first.
+fn vote_for_all(rt: &impl Abort, alloc: Global) -> String {
+    let mut vote = String::from_str(alloc, "VOTES\nvoter_id;vote\nw;").expect(rt, "memory");
+    for i in (0..10_000).rev() {
+        write!(vote, "p{i},").expect(rt, "memory");
+    }
+    vote
+}
+
 #[test]
 fn reads_a_ballot_of_ten_thousand_places(rt: HostRuntime) {
     let alloc = rt.alloc();
     let projects = with_lines(&rt, alloc, BEFORE_PROJECTS, 10_000, ("p", ";1\n"));
-    let mut whole = and(&rt, alloc, &projects, "VOTES\nvoter_id;vote\nw;");
-    for i in (0..10_000).rev() {
-        write!(whole, "p{i},").expect(&rt, "memory");
-    }
-    let election = read(&rt, alloc, whole.as_str());
-    let voter = election.voters().first().expect(&rt, "a voter");
-    same(&rt, voter.ballot.places().len(), 10_000, "places");
-    for (i, place) in voter.ballot.places().iter().enumerate() {
-        holds(&rt, *place as usize == i, "all places, rising");
-    }
+    let vote = vote_for_all(&rt, alloc);
+    let whole = and(&rt, alloc, projects.as_str(), vote.as_str());
+    let places = ten_thousand(&rt, alloc);
+    has_ballot(&rt, alloc, whole.as_str(), 10_000, places.as_slice());
 }
 
 /// The start of a file with two projects, up to its voters.
 const BEFORE_VOTERS: &str =
     "META\nk;v\nbudget;1\nvote_type;approval\nPROJECTS\nproject_id;cost\na;1\nb;1\nVOTES\nvoter_id;vote\n";
 
+/// The file has this many voters.
+fn has_voters(rt: &impl Abort, alloc: Global, file: &str, voters: usize) {
+    let election = read(rt, alloc, file);
+    same(rt, election.voters().len(), voters, "voters");
+    drop(election);
+}
+
 #[test]
 fn reads_a_million_voters(rt: HostRuntime) {
     let alloc = rt.alloc();
-    let mut voters = with_lines(&rt, alloc, BEFORE_VOTERS, 1_000_000, ("", ";a\n"));
-    let election = read(&rt, alloc, voters.as_str());
-    same(&rt, election.voters().len(), 1_000_000, "voters");
-    voters.push_str("x;a\n").expect(&rt, "memory");
-    answers(&rt, alloc, voters.as_str(), "20 1000011");
+    let voters = with_lines(&rt, alloc, BEFORE_VOTERS, 1_000_000, ("", ";a\n"));
+    has_voters(&rt, alloc, voters.as_str(), 1_000_000);
+    answers_with(&rt, alloc, voters.as_str(), "x;a\n", "20 1000011");
+}
+
+/// A text of META of two million records, as many as there may be.
+fn two_million_records(rt: &impl Abort, alloc: Global) -> String {
+    let mut records = String::from_str(alloc, "META\nk;v\n").expect(rt, "memory");
+    for _ in 2..MOST_RECORDS {
+        records.push_str("k;v\n").expect(rt, "memory");
+    }
+    records
 }
 
 #[test]
 fn reads_two_million_records(rt: HostRuntime) {
     let alloc = rt.alloc();
-    let mut records = String::from_str(alloc, "META\nk;v\n").expect(&rt, "memory");
-    for _ in 2..MOST_RECORDS {
-        records.push_str("k;v\n").expect(&rt, "memory");
-    }
+    let records = two_million_records(&rt, alloc);
     answers(&rt, alloc, records.as_str(), "4 2000001");
-    let blank = and(&rt, alloc, &records, ";\n");
-    answers(&rt, alloc, blank.as_str(), "3 2000001");
-    let one_more = and(&rt, alloc, &records, "k;v\n");
-    answers(&rt, alloc, one_more.as_str(), "3 2000001");
+    answers_with(&rt, alloc, records.as_str(), ";\n", "3 2000001");
+    answers_with(&rt, alloc, records.as_str(), "k;v\n", "3 2000001");
 }
 
 /// The kinds, and what a fault of each at record 7 says of itself.

@@ -19,6 +19,21 @@ fn show_row(rt: &impl Abort, shown: &mut String, row: &StringRecord) {
     shown.push('|').expect(rt, "memory");
 }
 
+/// What a read gave.
+fn show_read(
+    rt: &impl Abort,
+    shown: &mut String,
+    read: Result<bool, RecordsFault>,
+    row: &StringRecord,
+) {
+    match read {
+        Ok(true) => show_row(rt, shown, row),
+        Ok(false) if row.is_empty() => shown.push('.').expect(rt, "memory"),
+        Ok(false) => show_row(rt, shown, row),
+        Err(fault) => write!(shown, "({fault})").expect(rt, "memory"),
+    }
+}
+
 /// What so many reads give, one after the other: each record's fields in brackets, and a bar; a point at the end, where
 /// the record is empty; and the fault of a read that fails.
 fn shown<R: Read + Drop>(rt: &impl Abort, alloc: Global, reader: R, reads: u32) -> String {
@@ -26,13 +41,11 @@ fn shown<R: Read + Drop>(rt: &impl Abort, alloc: Global, reader: R, reads: u32) 
     let mut row = StringRecord::new(alloc);
     let mut shown = String::new(alloc);
     for _ in 0..reads {
-        match records.read(&mut row) {
-            Ok(true) => show_row(rt, &mut shown, &row),
-            Ok(false) if row.is_empty() => shown.push('.').expect(rt, "memory"),
-            Ok(false) => show_row(rt, &mut shown, &row),
-            Err(fault) => write!(shown, "({fault})").expect(rt, "memory"),
-        }
+        let read = records.read(&mut row);
+        show_read(rt, &mut shown, read, &row);
     }
+    drop(row);
+    drop(records);
     shown
 }
 
@@ -164,6 +177,9 @@ fn come_back(rt: &impl Abort, alloc: Global, first: &[&str], second: &[&str]) {
     let text = rows.finish().expect(rt, "memory");
     let found = shown(rt, alloc, text.as_slice(), 3);
     same(rt, found.as_str(), wanted.as_str(), "rows");
+    drop(found);
+    drop(text);
+    drop(wanted);
 }
 
 #[test]

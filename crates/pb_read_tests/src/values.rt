@@ -1,7 +1,7 @@
 //! Amounts, ids, ballots, elections, requests and devices that fail.
 
 use crate::checks::{holds, same, shows, tells};
-use crate::elections::{ballot, shown, voter_id};
+use crate::elections::{ballot, shown, ten_thousand, voter_id};
 use pb_core::devices::{FailsAfter, FailsAt, TakesNone, TakesOne};
 use pb_core::laws::{money_is_what_its_text_names, money_reads_back};
 use pb_core::{Ballot, Election, Money, MoneyFault, NoMemory, Project, Request, Voter, VoterId};
@@ -134,6 +134,8 @@ fn is_trimmed(rt: &impl Abort, alloc: Global, text: &str, wanted: &str) {
     same(rt, id.text(), wanted, text);
     let copy = id.copy(alloc).expect(rt, "memory");
     same(rt, copy.text(), wanted, text);
+    drop(copy);
+    drop(id);
 }
 
 #[test]
@@ -161,15 +163,7 @@ fn has_places(rt: &impl Abort, alloc: Global, ballot: &Ballot, wanted: &[u32]) {
     same(rt, ballot.places(), wanted, "a ballot");
     let copy = ballot.copy(alloc).expect(rt, "memory");
     same(rt, copy.places(), wanted, "its copy");
-}
-
-/// The places below 10,000, rising.
-fn ten_thousand(rt: &impl Abort, alloc: Global) -> Vec<u32> {
-    let mut places = Vec::new(alloc);
-    for place in 0..10_000u32 {
-        places.push(place).expect(rt, "memory");
-    }
-    places
+    drop(copy);
 }
 
 #[test]
@@ -178,14 +172,28 @@ fn orders_ballots(rt: HostRuntime) {
     has_places(&rt, rt.alloc(), &few, &[0, 2, 9]);
     holds(&rt, few.has(2), "2 of 0, 2, 9");
     holds(&rt, !few.has(3), "3 of 0, 2, 9");
-    let mut places = Vec::new(rt.alloc());
+    drop(few);
+}
+
+/// The places below 10,000, each twice, rising and falling in turn.
+fn twice_ten_thousand(rt: &impl Abort, alloc: Global) -> Vec<u32> {
+    let mut places = Vec::new(alloc);
     for place in 0..10_000u32 {
-        places.push(9_999 - place).expect(&rt, "memory");
-        places.push(place).expect(&rt, "memory");
+        places.push(9_999 - place).expect(rt, "memory");
+        places.push(place).expect(rt, "memory");
     }
+    places
+}
+
+#[test]
+fn orders_a_long_ballot(rt: HostRuntime) {
+    let places = twice_ten_thousand(&rt, rt.alloc());
     let all = ballot(&rt, rt.alloc(), places.as_slice());
     let wanted = ten_thousand(&rt, rt.alloc());
     has_places(&rt, rt.alloc(), &all, wanted.as_slice());
+    drop(wanted);
+    drop(all);
+    drop(places);
 }
 
 /// Whether a ballot is made of these places as they stand. It then has them.
@@ -242,6 +250,28 @@ fn is_shown(rt: &impl Abort, alloc: Global, election: &Election, limit: Option<u
     let text = shown(rt, alloc, election);
     same(rt, text.as_str(), wanted, "an election");
     same(rt, election.max_length(), limit, "the limit");
+    drop(text);
+}
+
+/// The election has one project, a.
+fn has_a(rt: &impl Abort, alloc: Global, election: &Election) {
+    holds(rt, election.has_project("a"), "a");
+    holds(rt, !election.has_project("Park"), "no id");
+    let both = ballot(rt, alloc, &[0, 1]);
+    holds(rt, !election.knows(&both), "an unknown place");
+    drop(both);
+    is_shown(rt, alloc, election, None, "10000;a,Park,3000;|");
+}
+
+/// The election takes the voter v1, who approves its one project.
+fn takes_v1(rt: &impl Abort, alloc: Global, election: &mut Election) {
+    let v1 = voter(rt, alloc, "v1", &[0]);
+    let name = voter_id(rt, alloc, "v1");
+    holds(rt, election.knows(&v1.ballot), "a known place");
+    holds(rt, !election.has_voter(&name), "before v1");
+    add_voter(rt, election, v1);
+    holds(rt, election.has_voter(&name), "after v1");
+    drop(name);
 }
 
 #[test]
@@ -249,21 +279,13 @@ fn holds_projects_and_voters(rt: HostRuntime) {
     let alloc = rt.alloc();
     let mut election = Election::start(alloc, Money(10_000));
     add_project(&rt, &mut election, project(&rt, alloc, "a", "Park"));
-    holds(&rt, election.has_project("a"), "a");
-    holds(&rt, !election.has_project("Park"), "no id");
-    let both = ballot(&rt, alloc, &[0, 1]);
-    holds(&rt, !election.knows(&both), "an unknown place");
-    is_shown(&rt, alloc, &election, None, "10000;a,Park,3000;|");
-    let v1 = voter(&rt, alloc, "v1", &[0]);
-    let name = voter_id(&rt, alloc, "v1");
-    holds(&rt, election.knows(&v1.ballot), "a known place");
-    holds(&rt, !election.has_voter(&name), "before v1");
+    has_a(&rt, alloc, &election);
     election.set_max_length(Some(0));
-    add_voter(&rt, &mut election, v1);
-    holds(&rt, election.has_voter(&name), "after v1");
+    takes_v1(&rt, alloc, &mut election);
     is_shown(&rt, alloc, &election, Some(0), "10000;a,Park,3000;|v1 0;");
     election.set_max_length(None);
     is_shown(&rt, alloc, &election, None, "10000;a,Park,3000;|v1 0;");
+    drop(election);
 }
 
 /// A request's word, voter and places.
@@ -296,6 +318,8 @@ fn copies(rt: &impl Abort, alloc: Global, asked: Parts<'static>, ordered: &[u32]
     let copy = request.copy(alloc).expect(rt, "memory");
     same(rt, parts(&request), (word, id, ordered), "a request");
     same(rt, parts(&copy), (word, id, ordered), "its copy");
+    drop(copy);
+    drop(request);
 }
 
 #[test]
@@ -314,24 +338,34 @@ fn fails_after_its_bytes(rt: HostRuntime) {
     same(&rt, bytes.as_slice(), b"abc".as_slice(), "what it gave");
 }
 
+/// The writer takes these bytes, or fails.
+fn writes<W: Write>(rt: &impl Abort, writer: &mut W, bytes: &[u8], takes: bool, case: &str) {
+    holds(rt, writer.write_all(bytes).is_ok() == takes, case);
+}
+
+/// The writer can be flushed, or fails.
+fn flushes<W: Write>(rt: &impl Abort, writer: &mut W, can: bool, case: &str) {
+    holds(rt, writer.flush().is_ok() == can, case);
+}
+
 #[test]
 fn fails_at_a_write(rt: HostRuntime) {
     let mut two = FailsAt::new(Vec::new(rt.alloc()), 2);
-    holds(&rt, two.write_all(b"ab").is_ok(), "the first write");
-    holds(&rt, two.flush().is_ok(), "a flush after the first");
-    holds(&rt, two.write_all(b"cd").is_ok(), "the second write");
-    holds(&rt, two.flush().is_err(), "a flush after the second");
-    holds(&rt, two.write_all(b"ef").is_err(), "the third write");
+    writes(&rt, &mut two, b"ab", true, "the first write");
+    flushes(&rt, &mut two, true, "a flush after the first");
+    writes(&rt, &mut two, b"cd", true, "the second write");
+    flushes(&rt, &mut two, false, "a flush after the second");
+    writes(&rt, &mut two, b"ef", false, "the third write");
     let taken = two.into_inner();
     same(&rt, taken.as_slice(), b"abcd".as_slice(), "what it took");
 }
 
 #[test]
 fn takes_little(rt: HostRuntime) {
-    holds(&rt, TakesNone.write_all(b"ab").is_err(), "takes none");
+    writes(&rt, &mut TakesNone, b"ab", false, "takes none");
     let mut one = TakesOne::new(Vec::new(rt.alloc()));
-    holds(&rt, one.write_all(b"abc").is_ok(), "takes one at a time");
-    holds(&rt, one.flush().is_ok(), "a flush");
+    writes(&rt, &mut one, b"abc", true, "takes one at a time");
+    flushes(&rt, &mut one, true, "a flush");
     let taken = one.into_inner();
     same(&rt, taken.as_slice(), b"abc".as_slice(), "what it took");
 }
