@@ -19,7 +19,7 @@ const ROOM: u32 = 352;
 /// The binary logarithm of the fewest groups of a table that is counted.
 const FEWEST_BITS: u32 = 5;
 
-/// The binary logarithm of the most groups of a table that is counted, of 1,179,648 entries.
+/// The binary logarithm of the most groups of a table, of 1,179,648 entries. It gets no more of them.
 const MOST_BITS: u32 = 17;
 
 /// Counts for each region of a table, and of each larger table that it may become, how many entries'
@@ -52,7 +52,7 @@ impl<A: Allocator> Crowd<A> {
                 });
             }
         }
-        Ok(true)
+        Ok(false)
     }
 
     /// Counts an entry of this hash for a table of `len` entries, and for each larger one; not again where
