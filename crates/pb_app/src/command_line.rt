@@ -32,99 +32,185 @@ pub(crate) enum Task<'a> {
     Audit(Source<'a>, &'a str, CountOptions),
 }
 
-/// What FILE is.
-const ELECTION: &str = "The election, a .pb file with approval votes; - is standard input";
+/// What an argument of a command takes.
+#[derive(Clone, Copy)]
+enum Takes {
+    /// The path of a file, which has to be named.
+    Path,
+    /// A whole number, which its help calls so.
+    Number(&'static str),
+    /// The name of a measure.
+    Measure,
+    /// Nothing: it is given or not.
+    Nothing,
+}
+
+/// An argument of a command.
+#[derive(Clone, Copy)]
+struct Argument {
+    name: &'static str,
+    takes: Takes,
+    help: &'static str,
+}
+
+/// A command that the program knows.
+#[derive(Clone, Copy)]
+struct CommandForm {
+    name: &'static str,
+    about: &'static str,
+    files: &'static [Argument],
+    options: &'static [Argument],
+}
+
+/// The file that each command reads first.
+const ELECTION: Argument = Argument {
+    name: "FILE",
+    takes: Takes::Path,
+    help: "The election, a .pb file with approval votes; - is standard input",
+};
+
+/// The script that the desk serves.
+const SCRIPT: Argument = Argument {
+    name: "SCRIPT",
+    takes: Takes::Path,
+    help: "What each clerk asks, a row a request",
+};
+
+/// The journal that is audited.
+const JOURNAL: Argument = Argument {
+    name: "JOURNAL",
+    takes: Takes::Path,
+    help: "The journal of a desk that opened with it",
+};
+
+/// The option of a desk.
+const CLERKS: Argument = Argument {
+    name: "clerks",
+    takes: Takes::Number("N"),
+    help: "How many clerks serve side by side, 1 to 64 [default: 1]",
+};
+
+/// The options of a count.
+const COUNT_OPTIONS: &[Argument] = &[
+    Argument {
+        name: "workers",
+        takes: Takes::Number("N"),
+        help: "How many workers compute prices, 1 to 64 [default: 1]",
+    },
+    Argument {
+        name: "step",
+        takes: Takes::Number("H"),
+        help: "By how many hundredths a raise lifts the share, 1 to 1000000000 [default: 100]",
+    },
+    Argument {
+        name: "raises",
+        takes: Takes::Number("L"),
+        help: "How many raises there are at most, 0 to 1000000 [default: 1000000]",
+    },
+    Argument {
+        name: "plain",
+        takes: Takes::Nothing,
+        help: "Lets the outcome at the opening share stand, without raises",
+    },
+    Argument {
+        name: "measure",
+        takes: Takes::Measure,
+        help: "Elects the least price (votes), or the least price over cost (cost) [default: votes]",
+    },
+];
 
 /// The commands that the program knows.
-pub(crate) fn commands<'a>(alloc: Global) -> Result<Command<'a>, AllocError> {
-    let program = program(alloc)?.subcommand(count(alloc)?)?;
-    let program = program.subcommand(desk(alloc)?)?;
-    program.subcommand(audit(alloc)?)
-}
+const COMMANDS: &[CommandForm] = &[
+    CommandForm {
+        name: "count",
+        about: "Counts a .pb file, and prints the report",
+        files: &[ELECTION],
+        options: COUNT_OPTIONS,
+    },
+    CommandForm {
+        name: "desk",
+        about: "Serves a script's requests on the desk of a .pb file, and prints the journal",
+        files: &[ELECTION, SCRIPT],
+        options: &[CLERKS],
+    },
+    CommandForm {
+        name: "audit",
+        about: "Audits a journal on a .pb file, and prints the report of a shut desk",
+        files: &[ELECTION, JOURNAL],
+        options: COUNT_OPTIONS,
+    },
+];
 
-/// The program, without its commands.
-fn program<'a>(alloc: Global) -> Result<Command<'a>, AllocError> {
+/// The command line that the program reads.
+pub(crate) fn command_line<'a>(alloc: Global) -> Result<Command<'a>, AllocError> {
     let about = "Counts standard input by the Method of Equal Shares, where no command is given";
     let program = Command::new(alloc, "pb_app").bin_name("pb_app")?;
-    Ok(program.version(VERSION).about(about))
+    with_commands(alloc, program.version(VERSION).about(about))
 }
 
-/// The command `count`.
-fn count<'a>(alloc: Global) -> Result<Command<'a>, AllocError> {
-    let command = Command::new(alloc, "count").about("Counts a .pb file, and prints the report");
-    with_options(alloc, command.arg(path(alloc, "FILE", ELECTION))?)
+/// The program with the commands that it knows.
+fn with_commands<'a>(alloc: Global, program: Command<'a>) -> Result<Command<'a>, AllocError> {
+    let mut program = program;
+    for form in COMMANDS {
+        program = with_command(program, command(alloc, form))?;
+    }
+    Ok(program)
 }
 
-/// The command `desk`.
-fn desk<'a>(alloc: Global) -> Result<Command<'a>, AllocError> {
-    let clerks = "How many clerks serve side by side, 1 to 64 [default: 1]";
-    Command::new(alloc, "desk")
-        .about("Serves a script's requests on the desk of a .pb file, and prints the journal")
-        .arg(path(alloc, "FILE", ELECTION))?
-        .arg(path(alloc, "SCRIPT", "What each clerk asks, a row a request"))?
-        .arg(number(alloc, "clerks", "N", clerks))
+/// The program with one command more, where memory sufficed to make it.
+fn with_command<'a>(
+    program: Command<'a>,
+    command: Result<Command<'a>, AllocError>,
+) -> Result<Command<'a>, AllocError> {
+    match command {
+        Ok(command) => program.subcommand(command),
+        Err(refused) => {
+            drop(program);
+            Err(refused)
+        }
+    }
 }
 
-/// The command `audit`.
-fn audit<'a>(alloc: Global) -> Result<Command<'a>, AllocError> {
-    let journal = "The journal of a desk that opened with it";
-    let command = Command::new(alloc, "audit")
-        .about("Audits a journal on a .pb file, and prints the report of a shut desk")
-        .arg(path(alloc, "FILE", ELECTION))?
-        .arg(path(alloc, "JOURNAL", journal))?;
-    with_options(alloc, command)
+/// The command of this form.
+fn command<'a>(alloc: Global, form: &CommandForm) -> Result<Command<'a>, AllocError> {
+    let command = Command::new(alloc, form.name).about(form.about);
+    let command = with_arguments(alloc, command, form.files)?;
+    with_arguments(alloc, command, form.options)
 }
 
-/// A file that has to be named.
-fn path<'a>(alloc: Global, name: &'a str, help: &'a str) -> Arg<'a> {
-    Arg::new(alloc, name)
-        .value_name(name)
-        .help(help)
-        .required(true)
-        .action(ArgAction::Set)
+/// A command with these arguments more.
+fn with_arguments<'a>(
+    alloc: Global,
+    command: Command<'a>,
+    arguments: &[Argument],
+) -> Result<Command<'a>, AllocError> {
+    let mut command = command;
+    for argument in arguments {
+        command = command.arg(made(alloc, argument))?;
+    }
+    Ok(command)
 }
 
-/// An option that takes a whole number.
-fn number<'a>(alloc: Global, name: &'a str, value_name: &'a str, help: &'a str) -> Arg<'a> {
-    Arg::new(alloc, name)
-        .long(name)
-        .value_name(value_name)
-        .help(help)
-        .value_parser(value_parser!(u32))
-        .action(ArgAction::Set)
-}
-
-/// A command with the options of a count.
-fn with_options<'a>(alloc: Global, command: Command<'a>) -> Result<Command<'a>, AllocError> {
-    let workers = "How many workers compute prices, 1 to 64 [default: 1]";
-    let step = "By how many hundredths a raise lifts the share, 1 to 1000000000 [default: 100]";
-    let raises = "How many raises there are at most, 0 to 1000000 [default: 1000000]";
-    command
-        .arg(number(alloc, "workers", "N", workers))?
-        .arg(number(alloc, "step", "H", step))?
-        .arg(number(alloc, "raises", "L", raises))?
-        .arg(plain(alloc))?
-        .arg(measure(alloc))
-}
-
-/// The option that leaves out completion.
-fn plain<'a>(alloc: Global) -> Arg<'a> {
-    Arg::new(alloc, "plain")
-        .long("plain")
-        .help("Lets the outcome at the opening share stand, without raises")
-        .action(ArgAction::SetTrue)
-}
-
-/// The option that names the measure.
-fn measure<'a>(alloc: Global) -> Arg<'a> {
-    let help =
-        "Elects the least price (votes), or the least price over cost (cost) [default: votes]";
-    Arg::new(alloc, "measure")
-        .long("measure")
-        .value_name("MEASURE")
-        .help(help)
-        .value_parser(MEASURES)
-        .action(ArgAction::Set)
+/// An argument, as `clap` takes it.
+fn made<'a>(alloc: Global, argument: &Argument) -> Arg<'a> {
+    let arg = Arg::new(alloc, argument.name).help(argument.help);
+    match argument.takes {
+        Takes::Path => arg
+            .value_name(argument.name)
+            .required(true)
+            .action(ArgAction::Set),
+        Takes::Number(name) => arg
+            .long(argument.name)
+            .value_name(name)
+            .value_parser(value_parser!(u32))
+            .action(ArgAction::Set),
+        Takes::Measure => arg
+            .long(argument.name)
+            .value_name("MEASURE")
+            .value_parser(MEASURES)
+            .action(ArgAction::Set),
+        Takes::Nothing => arg.long(argument.name).action(ArgAction::SetTrue),
+    }
 }
 
 /// What parsed arguments ask for; without a command it is a count of standard input.

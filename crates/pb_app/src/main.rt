@@ -5,6 +5,7 @@
 mod command_line;
 mod perform;
 
+use clap::Error;
 use clap::error::ErrorKind;
 use pb_commands::{AppFault, BAD_ARGUMENTS};
 use std::process::ExitCode;
@@ -44,16 +45,27 @@ fn obey<R>(rt: &R, arguments: &[String]) -> Result<ExitCode, AppFault>
 where
     R: Files + Input + Print + Eprint + AllocGlobal + Threads + Sync,
 {
-    let commands = command_line::commands(rt.alloc())?;
-    match commands.try_get_matches_from(arguments) {
+    let command_line = command_line::command_line(rt.alloc())?;
+    match command_line.try_get_matches_from(arguments) {
         Ok(matches) => {
-            perform::perform(rt, &command_line::task_of(&matches))?;
+            let task = command_line::task_of(&matches);
+            drop(matches);
+            perform::perform(rt, &task)?;
             Ok(ExitCode::SUCCESS)
         }
-        Err(error) if error.kind() == ErrorKind::OutOfMemory => Err(AppFault::Memory),
         Err(error) => {
-            let _ = error.print(rt);
-            Ok(ExitCode::from(error.exit_code() as u8))
+            let refused = refused(rt, &error);
+            drop(error);
+            refused
         }
     }
+}
+
+/// How the program ends where clap refuses its arguments, or prints what they ask for.
+fn refused<R: Print + Eprint>(rt: &R, error: &Error) -> Result<ExitCode, AppFault> {
+    if error.kind() == ErrorKind::OutOfMemory {
+        return Err(AppFault::Memory);
+    }
+    let _ = error.print(rt);
+    Ok(ExitCode::from(error.exit_code() as u8))
 }

@@ -7,6 +7,7 @@ use pb_commands::run_count::run_count;
 use pb_commands::run_desk::run_desk;
 use pb_price::gate::NoGate;
 use pb_rounds::options::CountOptions;
+use std::io::Read;
 use std::rt::Files;
 use std::thread::Threads;
 use std::{fs, io};
@@ -29,15 +30,18 @@ fn count<R>(rt: &R, source: &Source<'_>, options: &CountOptions) -> Result<(), A
 where
     R: Files + Input + Print + AllocGlobal + Threads + Sync,
 {
-    let alloc = rt.alloc();
-    let mut out = io::writer(rt);
     match source {
-        Source::Input => run_count(rt, alloc, rt.reader(), &mut out, options),
-        Source::File(path) => {
-            let file = open(rt, path, 1)?;
-            run_count(rt, alloc, file, &mut out, options)
-        }
+        Source::Input => count_from(rt, rt.reader(), options),
+        Source::File(path) => count_from(rt, open(rt, path, 1)?, options),
     }
+}
+
+/// Counts the .pb file that a reader gives.
+fn count_from<R, P: Read + Drop>(rt: &R, file: P, options: &CountOptions) -> Result<(), AppFault>
+where
+    R: Print + AllocGlobal + Threads + Sync,
+{
+    run_count(rt, rt.alloc(), file, &mut io::writer(rt), options)
 }
 
 /// Lets this many clerks serve a script on the desk of a .pb file.
@@ -45,17 +49,25 @@ fn serve<R>(rt: &R, source: &Source<'_>, script: &str, clerks: u32) -> Result<()
 where
     R: Files + Input + Print + AllocGlobal + Threads + Sync,
 {
-    let alloc = rt.alloc();
-    let mut out = io::writer(rt);
     match source {
-        Source::Input => {
-            let script = open(rt, script, 2)?;
-            run_desk(rt, alloc, rt.reader(), script, clerks, &NoGate, &mut out)
+        Source::Input => serve_from(rt, rt.reader(), script, clerks),
+        Source::File(path) => serve_from(rt, open(rt, path, 1)?, script, clerks),
+    }
+}
+
+/// Lets this many clerks serve a script on the desk of the .pb file that a reader gives.
+fn serve_from<R, P: Read + Drop>(rt: &R, file: P, script: &str, clerks: u32) -> Result<(), AppFault>
+where
+    R: Files + Print + AllocGlobal + Threads + Sync,
+{
+    match open(rt, script, 2) {
+        Ok(script) => {
+            let mut out = io::writer(rt);
+            run_desk(rt, rt.alloc(), file, script, clerks, &NoGate, &mut out)
         }
-        Source::File(path) => {
-            let file = open(rt, path, 1)?;
-            let script = open(rt, script, 2)?;
-            run_desk(rt, alloc, file, script, clerks, &NoGate, &mut out)
+        Err(fault) => {
+            drop(file);
+            Err(fault)
         }
     }
 }
@@ -70,17 +82,30 @@ fn audit<R>(
 where
     R: Files + Input + Print + AllocGlobal + Threads + Sync,
 {
-    let alloc = rt.alloc();
-    let mut out = io::writer(rt);
     match source {
-        Source::Input => {
-            let journal = open(rt, journal, 2)?;
-            run_audit(rt, alloc, rt.reader(), journal, &mut out, options)
+        Source::Input => audit_from(rt, rt.reader(), journal, options),
+        Source::File(path) => audit_from(rt, open(rt, path, 1)?, journal, options),
+    }
+}
+
+/// Audits a journal on the .pb file that a reader gives.
+fn audit_from<R, P: Read + Drop>(
+    rt: &R,
+    file: P,
+    journal: &str,
+    options: &CountOptions,
+) -> Result<(), AppFault>
+where
+    R: Files + Print + AllocGlobal + Threads + Sync,
+{
+    match open(rt, journal, 2) {
+        Ok(journal) => {
+            let mut out = io::writer(rt);
+            run_audit(rt, rt.alloc(), file, journal, &mut out, options)
         }
-        Source::File(path) => {
-            let file = open(rt, path, 1)?;
-            let journal = open(rt, journal, 2)?;
-            run_audit(rt, alloc, file, journal, &mut out, options)
+        Err(fault) => {
+            drop(file);
+            Err(fault)
         }
     }
 }
