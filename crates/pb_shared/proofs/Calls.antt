@@ -140,7 +140,7 @@ module _ (c c' : ClerkView) (lost : List ℕ) (tries : ℕ) (others : All (IsAno
   full_later few r = (sees_later few r.0, r.1)
 
   pub no_memory_later : length lost < tries → Refuses 1 (after_losses c lost) NoMemory c' → Refuses tries c NoMemory c'
-  no_memory_later few r = sees_later few r
+  no_memory_later few r = (sees_later few r.0, r.1)
 
   -- refused at the last of the tries
   pub refuses_last : (fault : SharedFault) → length lost + 1 ≡ tries → Refuses 1 (after_losses c lost) fault c' → Refuses tries c fault c'

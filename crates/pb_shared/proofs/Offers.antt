@@ -7,7 +7,7 @@ use Rattle.atomic_table.specs.Seated.{TableId}
 use Rattle.atomic_table.specs.Table.{Allows, Splits, rest, opening}
 use Rattle.pb_core.specs.Request.{EntryView}
 use Rattle.pb_desk.specs.Desk.{DeskView}
-use Rattle.pb_desk.specs.Replay.{IsLegal}
+use Rattle.pb_desk.specs.Replay.{IsLegal, most_clerks}
 use Rattle.pb_shared.specs.Clerk.{SharedView, ClerkView, blank, desk_with}
 use Rattle.pb_shared.specs.Rule.{DeskRule, Sitter, seated, stock}
 use Rattle.pb_shared.specs.Plays.{tries_lock, frees, publishes, dealt_left, dealt_right}
@@ -66,7 +66,7 @@ starts_at a desk entries slots is laid count legal fits =
     (starts a (subst (λ (d : DeskView). IsLegal d.opening d.journal) (sym is) legal) (subst (λ (d : DeskView). length d.journal ≤ d.room) (sym is) fits))
 
 -- the seat of a clerk who leaves the stock
-pub dealt : (a : About) (k : ℕ) (v : SeatView) (m : Sitter) → v ≡ seated Stock a (blank a.desk.value.journal k) → m ≡ (dealt_right v, []) → k < a.clerks → a.clerks ≤ 64 → IsIdle k m
+pub dealt : (a : About) (k : ℕ) (v : SeatView) (m : Sitter) → v ≡ seated Stock a (blank a.desk.value.journal k) → m ≡ (dealt_right v, []) → k < a.clerks → a.clerks ≤ most_clerks → IsIdle k m
 dealt a k v m is out known few =
     let same : m ≡ (seated Clerk a (blank a.desk.value.journal k), []) = out ∙ ap (λ (z : SeatView). (dealt_right z, [])) is in
     subst (IsIdle k) (sym same) record { role = refl; number_is = refl; known = known; few = few; free = refl; empty = refl }

@@ -3,6 +3,7 @@ use Rattle.std.specs.Prelude.{◌≡◌, ◌≢◌, ℕ, ◌+◌, ◌<◌, ◌�
 use Rattle.atomic_table.specs.Seated.{TableId}
 use Rattle.pb_core.specs.Request.{EntryView}
 use Rattle.pb_desk.specs.Desk.{DeskView}
+use Rattle.pb_desk.specs.Replay.{most_clerks}
 use Rattle.pb_shared.specs.Clerk.{SharedView, ClerkView, blank, clerk_of, desk_with}
 use Rattle.pb_shared.specs.Rule.{stock, Sitter}
 use Rattle.pb_shared.specs.Plays.{CanSee, won, lost}
@@ -35,7 +36,7 @@ pub record IsIdle (number : ℕ) (m : Sitter) : Type 0 where
   pub role : m.0.role ≡ Clerk
   pub number_is : m.0.sheet.number ≡ number
   pub known : number < m.0.about.clerks
-  pub few : m.0.about.clerks ≤ 64
+  pub few : m.0.about.clerks ≤ most_clerks
   pub free : m.0.holds ≡ false
   pub empty : m.1 ≡ []
 

@@ -7,9 +7,3 @@ use Rattle.pb_shared.specs.declared.share_fault.ShareFault.TheVariants.{ClerkCou
 abbrev pub numbered_name : ShareFault → ℕ × List ℕ
 numbered_name (ClerkCount desk) = (1, codes "ClerkCount")
 numbered_name (NoMemory desk) = (2, codes "NoMemory")
-
-abbrev pub number_of : ShareFault → ℕ
-number_of fault = (numbered_name fault).0
-
-abbrev pub name_of : ShareFault → List ℕ
-name_of fault = (numbered_name fault).1

@@ -8,9 +8,3 @@ abbrev pub numbered_name : SharedFault → ℕ × List ℕ
 numbered_name (Busy holder) = (1, codes "Busy")
 numbered_name JournalFull = (2, codes "JournalFull")
 numbered_name NoMemory = (3, codes "NoMemory")
-
-abbrev pub number_of : SharedFault → ℕ
-number_of fault = (numbered_name fault).0
-
-abbrev pub name_of : SharedFault → List ℕ
-name_of fault = (numbered_name fault).1

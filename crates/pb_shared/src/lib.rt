@@ -18,3 +18,11 @@ pub mod share_fault;
 pub mod shared_desk;
 pub mod shared_fault;
 pub mod unfinished;
+
+pub use busy::Busy;
+pub use clerk::Clerk;
+pub use note::Note;
+pub use share_fault::ShareFault;
+pub use shared_desk::SharedDesk;
+pub use shared_fault::SharedFault;
+pub use unfinished::Unfinished;

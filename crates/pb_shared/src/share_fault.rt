@@ -5,7 +5,7 @@ use thiserror::Error;
 /// Why a desk was not shared. It carries the desk back, unchanged.
 #[derive(Drop, Error)]
 pub enum ShareFault {
-    /// The number of clerks is not 1 to 64.
+    /// The number of clerks is not 1 to `MOST_CLERKS`.
     #[error("the number of clerks is not 1 to 64")]
     ClerkCount(Desk),
     /// Memory was refused.
@@ -21,11 +21,11 @@ impl fmt::Debug for ShareFault {
 
 impl ShareFault {
     ghost use Rattle.std.specs.Prelude.{◌≡◌};
-    ghost use Rattle.pb_shared.specs.ShareFault.{number_of, name_of};
+    ghost use Rattle.pb_shared.specs.ShareFault.{numbered_name};
 
     /// The fault's number, from 1.
     pub fn number(&self) -> u32
-        ensures { result ≡ number_of self.now }
+        ensures { result ≡ (numbered_name self.now).0 }
     {
         match self {
             ShareFault::ClerkCount(_) => 1,
@@ -35,7 +35,7 @@ impl ShareFault {
 
     /// The fault's name.
     pub fn name(&self) -> &'static str
-        ensures { result.now ≡ name_of self.now }
+        ensures { result.now ≡ (numbered_name self.now).1 }
     {
         match self {
             ShareFault::ClerkCount(_) => "ClerkCount",

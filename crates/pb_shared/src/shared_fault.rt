@@ -1,5 +1,5 @@
 ghost use Rattle.std.specs.Prelude.{◌≡◌};
-ghost use Rattle.pb_shared.specs.SharedFault.{number_of, name_of};
+ghost use Rattle.pb_shared.specs.SharedFault.{numbered_name};
 
 use thiserror::Error;
 
@@ -20,7 +20,7 @@ pub enum SharedFault {
 impl SharedFault {
     /// The fault's number, from 1.
     pub fn number(&self) -> u32
-        ensures { result ≡ number_of self.now }
+        ensures { result ≡ (numbered_name self.now).0 }
     {
         match self {
             SharedFault::Busy(_) => 1,
@@ -31,7 +31,7 @@ impl SharedFault {
 
     /// The fault's name.
     pub fn name(&self) -> &'static str
-        ensures { result.now ≡ name_of self.now }
+        ensures { result.now ≡ (numbered_name self.now).1 }
     {
         match self {
             SharedFault::Busy(_) => "Busy",

@@ -1,4 +1,5 @@
 ghost use Rattle.std.specs.Prelude.{◌≡◌, ◌<◌, ◌≤◌, All, IfOk, IfErr, OnOk};
+ghost use Rattle.pb_desk.specs.Replay.{most_clerks};
 ghost use Rattle.pb_shared.specs.Clerk.{AreNewcomers};
 ghost use Rattle.pb_shared.specs.Refusal.{HandsBack};
 ghost use Rattle.pb_shared.specs.Seats.{IsLaid};
@@ -14,8 +15,8 @@ use std::alloc::Global;
 use std::snapshot::Snapshot;
 
 impl SharedDesk {
-    /// Shares a desk among this many clerks, 1 to 64. They have the numbers from 0 on, in the list's order, and
-    /// have seen the desk's journal.
+    /// Shares a desk among this many clerks, 1 to `MOST_CLERKS`. They have the numbers from 0 on, in the
+    /// list's order, and have seen the desk's journal.
     pub fn share(
         alloc: Global,
         desk: Desk,
@@ -24,7 +25,7 @@ impl SharedDesk {
         ensures ok { IfOk result (λ shared. (shared.0.start ≡ desk) × (shared.0.clerks ≡ clerks)
             × AreNewcomers shared.0 shared.1.items) }
         ensures own { IfOk result (λ shared. All (λ clerk. clerk.desk ≡ shared.0) shared.1.items) }
-        ensures range { OnOk result ((0 < clerks) × (clerks ≤ 64)) }
+        ensures range { OnOk result ((0 < clerks) × (clerks ≤ most_clerks)) }
         ensures err { IfErr result (λ fault. HandsBack desk clerks fault) }
     {
         if clerks == 0 || clerks > MOST_CLERKS {
@@ -48,7 +49,7 @@ impl SharedDesk {
 /// A table with the desk in its slot, and its first seat, which has all clerks in stock. Without memory the
 /// desk comes back.
 fn lay_table(alloc: Global, desk: Desk, clerks: u32) -> Result<(DeskTable, Place), Desk>
-    requires { (0 < clerks) × (clerks ≤ 64) }
+    requires { (0 < clerks) × (clerks ≤ most_clerks) }
     ensures ok { IfOk result (λ laid.
         IsLaid desk clerks laid.0.shared.table_id laid.0.shared.key laid.1.table_id laid.1.me) }
     ensures err { IfErr result (λ back. back ≡ desk) }
