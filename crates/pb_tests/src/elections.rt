@@ -35,12 +35,12 @@ pub(crate) fn add_limit(election: Election, limit: Option<u32>) -> Election {
     election
 }
 
-/// A project's id, name and cost.
-fn show_project(rt: &impl Abort, text: &mut String, project: &Project) {
-    text.push_str(project.id()).expect(rt, "memory");
-    text.push(',').expect(rt, "memory");
-    text.push_str(project.name()).expect(rt, "memory");
-    write!(text, ",{};", project.cost().0).expect(rt, "memory");
+/// Each project's id, name and cost.
+fn show_projects(rt: &impl Abort, text: &mut String, projects: &[Project]) {
+    for project in projects {
+        let (id, name, cost) = (project.id(), project.name(), project.cost().0);
+        write!(text, "{id},{name},{cost};").expect(rt, "memory");
+    }
 }
 
 /// A voter's id, and the places of the ballot.
@@ -52,16 +52,19 @@ fn show_voter(rt: &impl Abort, text: &mut String, voter: &Voter) {
     text.push(';').expect(rt, "memory");
 }
 
+/// Each voter.
+fn show_voters(rt: &impl Abort, text: &mut String, voters: &[Voter]) {
+    for voter in voters {
+        show_voter(rt, text, voter);
+    }
+}
+
 /// Budget and projects, and the voters after a bar.
 pub(crate) fn shown(rt: &impl Abort, alloc: Global, election: &Election) -> String {
-    let mut text = String::new(alloc);
-    write!(text, "{};", election.budget().0).expect(rt, "memory");
-    for project in election.projects() {
-        show_project(rt, &mut text, project);
-    }
+    let budget = election.budget().0;
+    let mut text = format!(in alloc; "{budget};").expect(rt, "memory");
+    show_projects(rt, &mut text, election.projects());
     text.push('|').expect(rt, "memory");
-    for voter in election.voters() {
-        show_voter(rt, &mut text, voter);
-    }
+    show_voters(rt, &mut text, election.voters());
     text
 }

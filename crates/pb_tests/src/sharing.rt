@@ -318,6 +318,25 @@ const REPLACE_ANN: Row = Row("replace", "ann", &[1], 1, Ok(Answer::Done));
 
 const SHUT: Row = Row("shut", "", &[], 1, Ok(Answer::Done));
 
+/// Once the first has cast, the second meets its note, and reads one entry. Another note is dropped.
+fn a_note_is_met(
+    rt: &impl Abort,
+    alloc: Global,
+    shared: &SharedDesk,
+    first: &mut Clerk,
+    second: &mut Clerk,
+)
+    requires first { first.old.desk ≡ shared.now }
+    requires second { second.old.desk ≡ shared.now }
+    ensures second { second.new.desk ≡ shared.now }
+{
+    asks(rt, alloc, shared, first, &CAST_ANN);
+    let note = shared.note(first);
+    shared.meet(second, note);
+    same(rt, shared.front(second), 1, "the front word");
+    drop(shared.note(first));
+}
+
 /// A note that another clerk meets takes nothing away, and one that nobody met may be dropped. A look that answers an
 /// error leaves the lock free.
 #[test]
@@ -327,11 +346,7 @@ fn a_note_may_be_met_or_dropped(rt: HostRuntime) {
     let mut one = last_of(&rt, &shared, &mut clerks);
     let mut clerk = last_of(&rt, &shared, &mut clerks);
     looks_at_the_room(&rt, &shared, &mut clerk, 10);
-    asks(&rt, alloc, &shared, &mut one, &CAST_ANN);
-    let note = shared.note(&mut one);
-    shared.meet(&mut clerk, note);
-    same(&rt, shared.front(&mut clerk), 1, "the front word");
-    drop(shared.note(&mut one));
+    a_note_is_met(&rt, alloc, &shared, &mut one, &mut clerk);
     drop(one);
     asks(&rt, alloc, &shared, &mut clerk, &CAST_BOB);
     drop(clerk);

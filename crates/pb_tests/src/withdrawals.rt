@@ -76,31 +76,36 @@ fn leaves_the_same(rt: &impl Abort, alloc: Global, desk: Desk, plain: &Plain) {
     let voters = shown_plain(rt, alloc, plain.as_slice());
     let wanted = format!(in alloc; "10000;a,,3000;b,,3000;|{voters}").expect(rt, "memory");
     same(rt, found.as_str(), wanted.as_str(), "the election");
+    drop(wanted);
+    drop(voters);
+    drop(found);
     drop(election);
 }
 
-/// 64 voters cast. All but each eighth withdraw, from the front: the gaps close at 32 of 64 slots, at 16 of
-/// 32, and at 8 of 16. Those who withdrew and are odd cast again, now last, and voters 8 and 9 replace.
-#[test]
-fn ballots_keep_their_order_where_gaps_close(rt: HostRuntime) {
-    let alloc = rt.alloc();
-    let (mut desk, mut plain) = (start(&rt, alloc), Vec::new(alloc));
-    for number in 0..64u32 {
-        ask(
-            &rt,
-            alloc,
-            &mut desk,
-            &mut plain,
-            "cast",
-            number,
-            number % 2,
-        );
+/// This many voters cast a ballot, for the two projects in turn.
+fn all_cast(rt: &impl Abort, alloc: Global, desk: &mut Desk, plain: &mut Plain, voters: u32) {
+    for number in 0..voters {
+        ask(rt, alloc, desk, plain, "cast", number, number % 2);
     }
-    for number in 0..64u32 {
+}
+
+/// Of this many voters all but each eighth withdraw.
+fn most_withdraw(rt: &impl Abort, alloc: Global, desk: &mut Desk, plain: &mut Plain, voters: u32) {
+    for number in 0..voters {
         if number % 8 != 0 {
-            ask(&rt, alloc, &mut desk, &mut plain, "withdraw", number, 0);
+            ask(rt, alloc, desk, plain, "withdraw", number, 0);
         }
     }
+}
+
+/// 64 voters cast. All but each eighth withdraw, from the front. Those who withdrew and are odd cast again, now last,
+/// and voters 8 and 9 replace.
+#[test]
+fn ballots_keep_their_order_where_many_withdraw(rt: HostRuntime) {
+    let alloc = rt.alloc();
+    let (mut desk, mut plain) = (start(&rt, alloc), Vec::new(alloc));
+    all_cast(&rt, alloc, &mut desk, &mut plain, 64);
+    most_withdraw(&rt, alloc, &mut desk, &mut plain, 64);
     are_same(&rt, alloc, &desk, &plain);
     for half in 0..32u32 {
         ask(&rt, alloc, &mut desk, &mut plain, "cast", 2 * half + 1, 1);
@@ -109,6 +114,16 @@ fn ballots_keep_their_order_where_gaps_close(rt: HostRuntime) {
     ask(&rt, alloc, &mut desk, &mut plain, "replace", 9, 0);
     are_same(&rt, alloc, &desk, &plain);
     leaves_the_same(&rt, alloc, desk, &plain);
+    drop(plain);
+}
+
+/// The voter who withdraws at this step: from the back, and then from the middle.
+fn withdrawing(step: u32) -> u32 {
+    if step < 10 {
+        19 - step
+    } else {
+        step.wrapping_mul(7).wrapping_add(3) % 10
+    }
 }
 
 /// Voters withdraw from the back and from the middle until none stands, and then all cast again.
@@ -116,36 +131,13 @@ fn ballots_keep_their_order_where_gaps_close(rt: HostRuntime) {
 fn a_desk_without_a_ballot_takes_ballots_again(rt: HostRuntime) {
     let alloc = rt.alloc();
     let (mut desk, mut plain) = (start(&rt, alloc), Vec::new(alloc));
-    for number in 0..20u32 {
-        ask(
-            &rt,
-            alloc,
-            &mut desk,
-            &mut plain,
-            "cast",
-            number,
-            number % 2,
-        );
-    }
+    all_cast(&rt, alloc, &mut desk, &mut plain, 20);
     for step in 0..20u32 {
-        let number = if step < 10 {
-            19 - step
-        } else {
-            (step * 7 + 3) % 10
-        };
+        let number = withdrawing(step);
         ask(&rt, alloc, &mut desk, &mut plain, "withdraw", number, 0);
         are_same(&rt, alloc, &desk, &plain);
     }
-    for number in 0..20u32 {
-        ask(
-            &rt,
-            alloc,
-            &mut desk,
-            &mut plain,
-            "cast",
-            number,
-            number % 2,
-        );
-    }
+    all_cast(&rt, alloc, &mut desk, &mut plain, 20);
     leaves_the_same(&rt, alloc, desk, &plain);
+    drop(plain);
 }
