@@ -239,10 +239,8 @@ fn serve_lists<T: Threads + Sync, G: Gate>(
     ensures ok { IfOk result (λ text. IsServedText election clerks lists.now text.items) }
     ensures err { IfErr result (IsServingFault clerks) }
 {
-    match serve_all(rt, alloc, election, lists, clerks, gate) {
-        Ok(desk) => Ok(written(alloc, desk)?),
-        Err(fault) => Err(fault),
-    }
+    let desk = serve_all(rt, alloc, election, lists, clerks, gate)?;
+    Ok(written(alloc, desk)?)
 }
 
 /// The text of a desk's journal.
@@ -287,8 +285,6 @@ pub fn serve_script<T: Threads + Sync, S: Read + Drop, G: Gate>(
         IsServeFault clerks (records_of bytes) fault)) }
 {
     let lists = read_script(alloc, script, clerks)?;
-    match serve_lists(rt, alloc, election, &lists, clerks, gate) {
-        Ok(text) => Ok(text),
-        Err(fault) => Err(fault),
-    }
+    let text = serve_lists(rt, alloc, election, &lists, clerks, gate)?;
+    Ok(text)
 }

@@ -7,8 +7,8 @@ use Rattle.pb_script.proofs.serve_script.serve_script.Goals as goal
 pub returns-in_err-lists-clause-fault : goal.returns-in_err-lists-clause-fault
 returns-in_err-lists-clause-fault g c = script_refused c.args.clerks _ c.in_err-lists.field-0.0 _ c.from_residual.ensures.1 c.in_err-lists.ensures.fault
 
-pub returns-in-Ok-clause-ok : goal.returns-in-Ok-clause-ok
-returns-in-Ok-clause-ok g c =
-    let P : List (List RequestView) → Type 0 = λ lists. IsServedText c.args.election c.args.clerks lists c.in-Ok.text.items in
-    script_text c.args.clerks c.in_ok-lists.lists.items c.args.election _ c.in-Ok.text.items c.in_ok-lists.ensures.script
-    (subst P c.deref.ensures.value c.in-Ok.ensures.ok)
+pub returns-clause-ok : goal.returns-clause-ok
+returns-clause-ok g c =
+    let P : List (List RequestView) → Type 0 = λ lists. IsServedText c.args.election c.args.clerks lists c.in_ok-text.text.items in
+    script_text c.args.clerks c.in_ok-lists.lists.items c.args.election _ c.in_ok-text.text.items c.in_ok-lists.ensures.script
+    (subst P c.deref.ensures.value c.in_ok-text.ensures.ok)
