@@ -1,10 +1,6 @@
 // Each allocation of a count refused in turn.
 
-ghost use Rattle.std.specs.Prelude.{◌<◌, ◌≤◌, All, length};
-ghost use Rattle.std.specs.Bool.{OnTrue};
-ghost use Rattle.pb_core.specs.Election.{most_projects};
-ghost use Rattle.pb_price.specs.Price.{AreRests};
-
+use crate::checks::are;
 use crate::refusing::Refusing;
 use crate::walk::{Heap, MOST, goes_on, refused};
 use pb_core::{Election, Money, NoMemory};
@@ -25,8 +21,7 @@ use std::thread::Threads;
 const FOUR_VOTERS: &str =
     "META\nkey;value\nbudget;40\nvote_type;approval\nPROJECTS\nproject_id;cost\np1;12\np2;19\np3;6.50\np4;9.90\nVOTES\nvoter_id;vote\nv1;p1,p2\nv2;p1,p2\nv3;p1\nv4;p2,p3,p4\n";
 
-/// The calls whose allocations are refused.
-#[derive(Clone, Copy, Drop)]
+/// The calls whose allocations are refused. They may start threads.
 enum Call {
     Supporters,
     Price,
@@ -39,7 +34,7 @@ impl Call {
     /// Makes ready, lets the nth allocation from then on be refused, calls, and answers whether all is as it
     /// should be.
     fn run<R: Threads + Sync + Abort>(
-        self,
+        &self,
         rt: &R,
         heap: Heap<'_>,
         election: &Election,
@@ -48,7 +43,7 @@ impl Call {
         match self {
             Call::Supporters => supported(heap, election, nth),
             Call::Price => priced(rt, heap, election, nth),
-            Call::Prices(workers) => all_priced(rt, heap, election, workers, nth),
+            Call::Prices(workers) => all_priced(rt, heap, election, *workers, nth),
             Call::Shares => shared_equally(rt, heap, election, nth),
             Call::Count => counted(rt, heap, election, nth),
         }
@@ -56,12 +51,13 @@ impl Call {
 }
 
 /// Refuses each allocation of the call in turn.
-fn walk<R: Threads + Sync + Abort>(rt: &R, alloc: Global, call: Call) {
-    let election = read_pb(alloc, FOUR_VOTERS.as_bytes()).expect(rt, "accepted");
+fn walk<R: Threads + Sync + Abort>(rt: &R, alloc: Global, election: &Election, call: &Call) {
     for nth in 1..=MOST {
         let heap = Refusing::new(alloc);
-        let answer = call.run(rt, &heap, &election, nth);
-        if !goes_on(rt, &heap, nth, answer) {
+        let answer = call.run(rt, &heap, election, nth);
+        let goes_on = goes_on(rt, &heap, nth, answer);
+        drop(heap);
+        if !goes_on {
             return;
         }
     }
@@ -70,24 +66,17 @@ fn walk<R: Threads + Sync + Abort>(rt: &R, alloc: Global, call: Call) {
 fn supported(heap: Heap<'_>, election: &Election, nth: u64) -> Result<bool, NoMemory> {
     heap.refuse(nth);
     let supporters = Supporters::build(heap, election)?;
-    Ok(
-        supporters.projects() == 4
-            && supporters.voters() == 4
-            && supporters.of(1) == [0, 1, 3].as_slice()
-            && supporters.cost(1) == Money(1_900),
-    )
+    let is_whole = are_supporters(&supporters);
+    drop(supporters);
+    Ok(is_whole)
 }
 
-/// Whether there is a rest for each voter, none above the largest share, and a project at each place.
-fn can_price(supporters: &Supporters<Heap<'_>>, rests: &[Money], projects: &[u32]) -> bool
-    ensures rests { OnTrue result (AreRests supporters.now.voters rests.now) }
-    ensures known { OnTrue result (All (λ place. place < length supporters.now.costs) projects.now) }
-    ensures few { OnTrue result (length projects.now ≤ most_projects) }
-{
-    rests.len() == supporters.voters() as usize
-        && projects.len() <= 10_000
-        && projects.iter().all(|place| *place < supporters.projects())
-        && rests.iter().all(|rest| rest.0 <= 2_000_000_000_000_000)
+/// Whether these are the supporters of the four projects.
+fn are_supporters(supporters: &Supporters<Heap<'_>>) -> bool {
+    supporters.projects() == 4
+        && supporters.voters() == 4
+        && are(supporters.of(1), &[0, 1, 3])
+        && supporters.cost(1) == Money(1_900)
 }
 
 /// What is left to the voters once p1 is elected.
@@ -105,7 +94,7 @@ fn price_of(
     supporters: &Supporters<Heap<'_>>,
     tally: &mut Tally,
 ) -> Result<Option<Money>, NoMemory> {
-    assert!(rt; can_price(supporters, &RESTS, &[1]));
+    assert!(rt; supporters.voters() == 4 && supporters.projects() == 4);
     price(heap, supporters, &RESTS, 1, tally)
 }
 
@@ -120,14 +109,22 @@ fn priced(
     heap.refuse(nth);
     let answer = match price_of(rt, heap, &supporters, &mut tally) {
         Ok(price) => Ok(price == Some(Money(700)) && tally.count() == 1),
-        Err(NoMemory) => {
-            let is_as_before = tally.count() == 0;
-            let again = price_of(rt, heap, &supporters, &mut tally);
-            refused(is_as_before && again == Ok(Some(Money(700))))
-        }
+        Err(NoMemory) => priced_again(rt, heap, &supporters, &mut tally),
     };
     drop(supporters);
     answer
+}
+
+/// The tally has not grown, and there is a price when it is asked again.
+fn priced_again(
+    rt: &impl Abort,
+    heap: Heap<'_>,
+    supporters: &Supporters<Heap<'_>>,
+    tally: &mut Tally,
+) -> Result<bool, NoMemory> {
+    let is_as_before = tally.count() == 0;
+    let again = price_of(rt, heap, supporters, tally);
+    refused(is_as_before && again == Ok(Some(Money(700))))
 }
 
 /// The prices of p2 and p4 by this many workers.
@@ -138,10 +135,16 @@ fn prices_of<'a, R: Threads + Sync + Abort>(
     workers: u32,
     tally: &mut Tally,
 ) -> Result<Vec<Option<Money>, Heap<'a>>, PriceFault> {
-    let projects = [1, 3];
-    assert!(rt; can_price(supporters, &RESTS, &projects));
+    assert!(rt; supporters.voters() == 4 && supporters.projects() == 4);
     price_all(
-        rt, heap, workers, &NoGate, &projects, supporters, &RESTS, tally,
+        rt,
+        heap,
+        workers,
+        &NoGate,
+        &[1, 3],
+        supporters,
+        &RESTS,
+        tally,
     )
 }
 
@@ -156,15 +159,25 @@ fn all_priced<R: Threads + Sync + Abort>(
     let supporters = supporters(rt, heap, election);
     let mut tally = Tally::new();
     heap.refuse(nth);
-    let wanted = [Some(Money(700)), Some(Money(990))];
     let prices = prices_of(rt, heap, &supporters, workers, &mut tally);
-    let answer = match &prices {
-        Ok(prices) => Ok(prices.as_slice() == wanted.as_slice() && tally.count() == 2),
-        Err(fault) => refused(*fault == PriceFault::NoMemory && tally.count() == 0),
-    };
+    let answer = are_the_prices(&prices, tally.count());
     drop(prices);
     drop(supporters);
     answer
+}
+
+/// Whether these are both prices, and so many were counted.
+fn are_the_prices(
+    prices: &Result<Vec<Option<Money>, Heap<'_>>, PriceFault>,
+    counted: u64,
+) -> Result<bool, NoMemory> {
+    match prices {
+        Ok(prices) => {
+            let wanted = [Some(Money(700)), Some(Money(990))];
+            Ok(are(prices.as_slice(), &wanted) && counted == 2)
+        }
+        Err(fault) => refused(*fault == PriceFault::NoMemory && counted == 0),
+    }
 }
 
 /// A run at a share of 10.00.
@@ -196,8 +209,8 @@ fn shared_equally<R: Threads + Sync>(
 fn is_run(outcome: &Outcome<Heap<'_>>) -> bool {
     let rests = [Money(600), Money(600), Money(600), Money(350)];
     outcome.elected.len() == 2
-        && outcome.priced.as_slice() == [4, 2, 2].as_slice()
-        && outcome.rests.as_slice() == rests.as_slice()
+        && are(outcome.priced.as_slice(), &[4, 2, 2])
+        && are(outcome.rests.as_slice(), &rests)
 }
 
 /// A count with Add1.
@@ -241,7 +254,9 @@ const CALLS: &[Call] = &[
 
 #[test]
 fn calls_of_a_count_end_or_memory_is_refused(rt: HostRuntime) {
+    let election = read_pb(rt.alloc(), FOUR_VOTERS.as_bytes()).expect(&rt, "accepted");
     for call in CALLS {
-        walk(&rt, rt.alloc(), *call);
+        walk(&rt, rt.alloc(), &election, call);
     }
+    drop(election);
 }

@@ -1,17 +1,14 @@
 // Desks that serve: a refused call leaves the journal and every ballot as they were.
 
-use crate::checks::same;
+use crate::checks::{are, same};
 use crate::elections::{id, one_voter};
-use crate::refusing::Refusing;
-use crate::walk::{Heap, MOST, goes_on, refused};
+use crate::walk::{Call, Heap, refused, walk};
 use pb_core::{Answer, Ballot, Election, NoMemory, Request};
 use pb_desk::{Desk, DeskFault, IntoFault, StartFault};
-use std::alloc::Global;
 use std::process::Abort;
 
 /// The calls whose allocations are refused.
-#[derive(Clone, Copy, Drop)]
-enum Call {
+enum DeskCall {
     Start,
     Cast,
     Replace,
@@ -20,34 +17,21 @@ enum Call {
     Leave,
 }
 
-impl Call {
-    /// Makes ready, lets the nth allocation from then on be refused, calls, and answers whether all is as it
-    /// should be.
-    fn run(self, rt: &impl Abort, heap: Heap<'_>, nth: u64) -> Result<bool, NoMemory> {
+impl Call for DeskCall {
+    fn run<R: Abort>(&self, rt: &R, heap: Heap<'_>, nth: u64) -> Result<bool, NoMemory> {
         match self {
-            Call::Start => started(rt, heap, nth),
-            Call::Cast => served(rt, heap, nth, cast(rt, heap, 0), (Answer::Done, 2)),
-            Call::Replace => served(rt, heap, nth, replace(rt, heap), (Answer::Done, 1)),
-            Call::Withdraw => served(rt, heap, nth, withdraw(rt, heap), (Answer::Done, 0)),
-            Call::Unknown => served(
+            DeskCall::Start => started(rt, heap, nth),
+            DeskCall::Cast => served(rt, heap, nth, cast(rt, heap, 0), (Answer::Done, 2)),
+            DeskCall::Replace => served(rt, heap, nth, replace(rt, heap), (Answer::Done, 1)),
+            DeskCall::Withdraw => served(rt, heap, nth, withdraw(rt, heap), (Answer::Done, 0)),
+            DeskCall::Unknown => served(
                 rt,
                 heap,
                 nth,
                 cast(rt, heap, 9),
                 (Answer::UnknownPlace(9), 1),
             ),
-            Call::Leave => left(rt, heap, nth),
-        }
-    }
-}
-
-/// Refuses each allocation of the call in turn.
-fn walk(rt: &impl Abort, alloc: Global, call: Call) {
-    for nth in 1..=MOST {
-        let heap = Refusing::new(alloc);
-        let answer = call.run(rt, &heap, nth);
-        if !goes_on(rt, &heap, nth, answer) {
-            return;
+            DeskCall::Leave => left(rt, heap, nth),
         }
     }
 }
@@ -83,7 +67,7 @@ fn starts<'a>(
 /// Whether the desk is as it was opened: no entry, and one ballot, v1's for project 0.
 fn is_as_opened(desk: &Desk<Heap<'_>>) -> bool {
     let has_its_ballot = match desk.ballot_at(0) {
-        Some((voter, ballot)) => voter.text() == "v1" && ballot.places() == [0].as_slice(),
+        Some((voter, ballot)) => voter.text() == "v1" && are(ballot.places(), &[0]),
         None => false,
     };
     has_its_ballot && desk.ballots() == 1 && desk.entries() == 0 && !desk.is_shut()
@@ -188,18 +172,18 @@ fn left_again(rt: &impl Abort, fault: IntoFault<Heap<'_>>) -> Result<bool, NoMem
     refused(is_whole && has_one)
 }
 
-const CALLS: &[Call] = &[
-    Call::Start,
-    Call::Cast,
-    Call::Replace,
-    Call::Withdraw,
-    Call::Unknown,
-    Call::Leave,
+const CALLS: &[DeskCall] = &[
+    DeskCall::Start,
+    DeskCall::Cast,
+    DeskCall::Replace,
+    DeskCall::Withdraw,
+    DeskCall::Unknown,
+    DeskCall::Leave,
 ];
 
 #[test]
 fn calls_of_a_desk_end_or_it_stays_as_it_was(rt: HostRuntime) {
     for call in CALLS {
-        walk(&rt, rt.alloc(), *call);
+        walk(&rt, rt.alloc(), call);
     }
 }

@@ -1,7 +1,6 @@
 // Elections that grow: a refused addition leaves them as they were.
 
-use crate::refusing::Refusing;
-use crate::walk::{Heap, MOST, goes_on, refused};
+use crate::walk::{Call, Heap, refused, walk};
 use pb_core::{Ballot, Election, Money, NoMemory, Project, Voter, VoterId};
 use std::process::Abort;
 
@@ -88,7 +87,9 @@ fn takes_voter<'a>(rt: &impl Abort, heap: Heap<'a>, election: &mut Election<Heap
     let name = id(rt, heap, "v1");
     let was_empty = election.voters().is_empty() && !election.has_voter(&name);
     add_voter(rt, election, voter(rt, heap, "v1")).expect(rt, "memory");
-    was_empty && election.has_voter(&name)
+    let has_voter = election.has_voter(&name);
+    drop(name);
+    was_empty && has_voter
 }
 
 fn voter_added(rt: &impl Abort, heap: Heap<'_>, nth: u64) -> Result<bool, NoMemory> {
@@ -99,28 +100,28 @@ fn voter_added(rt: &impl Abort, heap: Heap<'_>, nth: u64) -> Result<bool, NoMemo
         Ok(()) => Ok(election.has_voter(&name)),
         Err(NoMemory) => refused(takes_voter(rt, heap, &mut election)),
     };
+    drop(name);
     drop(election);
     answer
 }
 
-#[test]
-fn projects_are_added_or_memory_is_refused(rt: HostRuntime) {
-    for nth in 1..=MOST {
-        let heap = Refusing::new(rt.alloc());
-        let answer = project_added(&rt, &heap, nth);
-        if !goes_on(&rt, &heap, nth, answer) {
-            return;
+/// The calls whose allocations are refused.
+enum ElectionCall {
+    Project,
+    Voter,
+}
+
+impl Call for ElectionCall {
+    fn run<R: Abort>(&self, rt: &R, heap: Heap<'_>, nth: u64) -> Result<bool, NoMemory> {
+        match self {
+            ElectionCall::Project => project_added(rt, heap, nth),
+            ElectionCall::Voter => voter_added(rt, heap, nth),
         }
     }
 }
 
 #[test]
-fn voters_are_added_or_memory_is_refused(rt: HostRuntime) {
-    for nth in 1..=MOST {
-        let heap = Refusing::new(rt.alloc());
-        let answer = voter_added(&rt, &heap, nth);
-        if !goes_on(&rt, &heap, nth, answer) {
-            return;
-        }
-    }
+fn projects_and_voters_are_added_or_memory_is_refused(rt: HostRuntime) {
+    walk(&rt, rt.alloc(), &ElectionCall::Project);
+    walk(&rt, rt.alloc(), &ElectionCall::Voter);
 }

@@ -1,9 +1,8 @@
 // A journal that is cut or damaged, whose reader fails, or whose writer fails.
 
-use crate::checks::same;
+use crate::checks::{are, same};
 use crate::files::{first, three_voters, whole_lines};
-use crate::refusing::Refusing;
-use crate::walk::{Heap, MOST, goes_on};
+use crate::walk::{Call, Heap, walk};
 use pb_core::devices::{FailsAfter, FailsAt, TakesNone, TakesOne};
 use pb_core::{Answer, NoMemory, Request};
 use pb_desk::audit;
@@ -113,17 +112,30 @@ fn writes_so<W: Write>(
     same(rt, desk.write_journal(alloc, writer), wanted, 1);
 }
 
+/// Writing fails at a writer that takes this many writes.
+fn fails_after(rt: &impl Abort, alloc: Global, desk: &Desk, writes: u32) {
+    let mut writer = FailsAt::new(Vec::new(alloc), writes);
+    writes_so(rt, alloc, desk, &mut writer, Err(WriteFault::WriteFailed));
+    drop(writer);
+}
+
 /// Of two writes the first fails, or the flush after it does.
 #[test]
 fn a_writer_that_fails_is_told(rt: HostRuntime) {
     let alloc = rt.alloc();
     let desk = shut_desk(&rt, alloc);
+    fails_after(&rt, alloc, &desk, 0);
+    fails_after(&rt, alloc, &desk, 1);
     let failed = Err(WriteFault::WriteFailed);
-    for writes in [0, 1] {
-        let mut writer = FailsAt::new(Vec::new(alloc), writes);
-        writes_so(&rt, alloc, &desk, &mut writer, failed);
-    }
     writes_so(&rt, alloc, &desk, &mut TakesNone, failed);
+    drop(desk);
+}
+
+/// What a writer that takes one byte at a time has got.
+fn taken_one_by_one(rt: &impl Abort, alloc: Global, desk: &Desk) -> Vec<u8> {
+    let mut one = TakesOne::new(Vec::new(alloc));
+    writes_so(rt, alloc, desk, &mut one, Ok(()));
+    one.into_inner()
 }
 
 #[test]
@@ -133,31 +145,37 @@ fn a_writer_that_takes_little_gets_it_all(rt: HostRuntime) {
     let mut ample = Vec::new(alloc);
     writes_so(&rt, alloc, &desk, &mut ample, Ok(()));
     same(&rt, ample.as_slice(), SHUT, 0);
-    let mut one = TakesOne::new(Vec::new(alloc));
-    writes_so(&rt, alloc, &desk, &mut one, Ok(()));
-    let taken = one.into_inner();
+    drop(ample);
+    let taken = taken_one_by_one(&rt, alloc, &desk);
     same(&rt, taken.as_slice(), SHUT, 1);
+    drop(taken);
+    drop(desk);
 }
 
-/// Whether a journal of one row goes into a writer in memory, whose nth allocation is refused.
-fn written(alloc: Global, heap: Heap<'_>, desk: &Desk, nth: u64) -> Result<bool, NoMemory> {
-    let mut writer = Vec::new(heap);
-    heap.refuse(nth);
-    match desk.write_journal(alloc, &mut writer) {
-        Ok(()) => Ok(writer.as_slice() == SHUT),
-        Err(WriteFault::NoMemory) => Err(NoMemory),
-        Err(WriteFault::WriteFailed) => Ok(false),
+/// A journal of one row goes into a writer in memory, whose allocations are refused.
+#[derive(Drop)]
+struct Written<'a> {
+    alloc: Global,
+    desk: &'a Desk,
+}
+
+impl<'a> Call for Written<'a> {
+    fn run<R: Abort>(&self, _rt: &R, heap: Heap<'_>, nth: u64) -> Result<bool, NoMemory> {
+        let mut writer = Vec::new(heap);
+        heap.refuse(nth);
+        match self.desk.write_journal(self.alloc, &mut writer) {
+            Ok(()) => Ok(are(writer.as_slice(), SHUT)),
+            Err(WriteFault::NoMemory) => Err(NoMemory),
+            Err(WriteFault::WriteFailed) => Ok(false),
+        }
     }
 }
 
 #[test]
 fn a_writer_without_room_is_out_of_memory(rt: HostRuntime) {
-    let desk = shut_desk(&rt, rt.alloc());
-    for nth in 1..=MOST {
-        let heap = Refusing::new(rt.alloc());
-        let answer = written(rt.alloc(), &heap, &desk, nth);
-        if !goes_on(&rt, &heap, nth, answer) {
-            return;
-        }
-    }
+    let alloc = rt.alloc();
+    let desk = shut_desk(&rt, alloc);
+    let written = Written { alloc, desk: &desk };
+    walk(&rt, alloc, &written);
+    drop(desk);
 }

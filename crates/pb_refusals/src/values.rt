@@ -1,11 +1,10 @@
 // Values that hold memory: an amount's text, ids, ballots and copies.
 
+use crate::checks::are;
 use crate::elections::id;
-use crate::refusing::Refusing;
-use crate::walk::{Heap, MOST, goes_on};
+use crate::walk::{Call, Heap, walk};
 use pb_core::{Ballot, Money, NoMemory, Request, VoterId};
 use pb_rows::{read_places, write_places};
-use std::alloc::Global;
 use std::process::Abort;
 
 /// The places 0 to 39 in no order, 7 apart: more than a sort arranges without memory.
@@ -15,8 +14,7 @@ const MIXED: [u32; 40] = [
 ];
 
 /// The calls whose allocations are refused.
-#[derive(Clone, Copy, Drop)]
-enum Call {
+enum ValueCall {
     Text,
     Id,
     Places,
@@ -27,30 +25,17 @@ enum Call {
     PlacesWritten,
 }
 
-impl Call {
-    /// Makes ready, lets the nth allocation from then on be refused, calls, and answers whether all is as it
-    /// should be.
-    fn run(self, rt: &impl Abort, heap: Heap<'_>, nth: u64) -> Result<bool, NoMemory> {
+impl Call for ValueCall {
+    fn run<R: Abort>(&self, rt: &R, heap: Heap<'_>, nth: u64) -> Result<bool, NoMemory> {
         match self {
-            Call::Text => text(heap, nth),
-            Call::Id => voter_id(heap, nth),
-            Call::Places => ballot(heap, nth),
-            Call::CopiedId => copied_id(rt, heap, nth),
-            Call::CopiedPlaces => copied_ballot(rt, heap, nth),
-            Call::CopiedRequest => copied_request(rt, heap, nth),
-            Call::PlacesRead => places_read(heap, nth),
-            Call::PlacesWritten => places_written(heap, nth),
-        }
-    }
-}
-
-/// Refuses each allocation of the call in turn.
-fn walk(rt: &impl Abort, alloc: Global, call: Call) {
-    for nth in 1..=MOST {
-        let heap = Refusing::new(alloc);
-        let answer = call.run(rt, &heap, nth);
-        if !goes_on(rt, &heap, nth, answer) {
-            return;
+            ValueCall::Text => text(heap, nth),
+            ValueCall::Id => voter_id(heap, nth),
+            ValueCall::Places => ballot(heap, nth),
+            ValueCall::CopiedId => copied_id(rt, heap, nth),
+            ValueCall::CopiedPlaces => copied_ballot(rt, heap, nth),
+            ValueCall::CopiedRequest => copied_request(rt, heap, nth),
+            ValueCall::PlacesRead => places_read(heap, nth),
+            ValueCall::PlacesWritten => places_written(heap, nth),
         }
     }
 }
@@ -85,13 +70,27 @@ fn counts_up(places: &[u32]) -> bool {
 fn copied_id(rt: &impl Abort, heap: Heap<'_>, nth: u64) -> Result<bool, NoMemory> {
     let ann = id(rt, heap, "ann");
     heap.refuse(nth);
-    Ok(ann.copy(heap)?.text() == "ann")
+    let copy = ann.copy(heap);
+    let answer = match &copy {
+        Ok(copy) => Ok(copy.text() == "ann"),
+        Err(NoMemory) => Err(NoMemory),
+    };
+    drop(copy);
+    drop(ann);
+    answer
 }
 
 fn copied_ballot(rt: &impl Abort, heap: Heap<'_>, nth: u64) -> Result<bool, NoMemory> {
     let ballot = Ballot::of(heap, &MIXED).expect(rt, "memory");
     heap.refuse(nth);
-    Ok(counts_up(ballot.copy(heap)?.places()))
+    let copy = ballot.copy(heap);
+    let answer = match &copy {
+        Ok(copy) => Ok(counts_up(copy.places())),
+        Err(NoMemory) => Err(NoMemory),
+    };
+    drop(copy);
+    drop(ballot);
+    answer
 }
 
 /// Whether ann asks to replace her ballot by one of the places 0 and 1.
@@ -108,14 +107,20 @@ fn copied_request(rt: &impl Abort, heap: Heap<'_>, nth: u64) -> Result<bool, NoM
     let ballot = Ballot::of(heap, &[0, 1]).expect(rt, "memory");
     let request = Request::Replace(id(rt, heap, "ann"), ballot);
     heap.refuse(nth);
-    let copy = request.copy(heap)?;
-    Ok(is_the_request(&copy))
+    let copy = request.copy(heap);
+    let answer = match &copy {
+        Ok(copy) => Ok(is_the_request(copy)),
+        Err(NoMemory) => Err(NoMemory),
+    };
+    drop(copy);
+    drop(request);
+    answer
 }
 
 fn places_read(heap: Heap<'_>, nth: u64) -> Result<bool, NoMemory> {
     let mut places = Vec::new(heap);
     heap.refuse(nth);
-    Ok(read_places("0,2,9", &mut places)? && places.as_slice() == [0, 2, 9].as_slice())
+    Ok(read_places("0,2,9", &mut places)? && are(places.as_slice(), &[0, 2, 9]))
 }
 
 fn places_written(heap: Heap<'_>, nth: u64) -> Result<bool, NoMemory> {
@@ -125,20 +130,20 @@ fn places_written(heap: Heap<'_>, nth: u64) -> Result<bool, NoMemory> {
     Ok(text.as_str() == "0,2,9")
 }
 
-const CALLS: &[Call] = &[
-    Call::Text,
-    Call::Id,
-    Call::Places,
-    Call::CopiedId,
-    Call::CopiedPlaces,
-    Call::CopiedRequest,
-    Call::PlacesRead,
-    Call::PlacesWritten,
+const CALLS: &[ValueCall] = &[
+    ValueCall::Text,
+    ValueCall::Id,
+    ValueCall::Places,
+    ValueCall::CopiedId,
+    ValueCall::CopiedPlaces,
+    ValueCall::CopiedRequest,
+    ValueCall::PlacesRead,
+    ValueCall::PlacesWritten,
 ];
 
 #[test]
 fn values_are_made_or_memory_is_refused(rt: HostRuntime) {
     for call in CALLS {
-        walk(&rt, rt.alloc(), *call);
+        walk(&rt, rt.alloc(), call);
     }
 }
