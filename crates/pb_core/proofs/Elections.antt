@@ -1,7 +1,7 @@
 -- What may join an election, and ids among its projects and voters.
-use Rattle.std.proofs.Common.{◌≡◌, ◌≢◌, ℕ, ◌+◌, ◌<◌, List, [], ◌∷◌, ◌++◌, length, Contains, map, sym, ◌∙◌, subst, arith, length-append}
+use Rattle.std.proofs.Common.{◌≡◌, ◌≢◌, ℕ, ◌+◌, ◌<◌, List, [], ◌∷◌, ◌++◌, length, Contains, map, sym, ◌∙◌, ap, subst, arith, below_more, length-append}
 use Rattle.std.specs.List.{slice_index_or}
-use Rattle.std.proofs.lemmas.List.{map_push, length-map, get_or-map}
+use Rattle.std.proofs.lemmas.List.{map_push, length-map, get_or-map, get_or_default}
 use Rattle.std.proofs.lemmas.List.Elements.{All-push, Contains-get_or}
 use Rattle.std.proofs.lemmas.List.Quantifiers.{all_pairs_push}
 use Rattle.pb_core.specs.Election.{ProjectView, VoterView, ElectionView, IsProject, IsVoter, IsElection, AreDistinct, project_ids, voter_ids, most_projects, most_voters}
@@ -45,32 +45,28 @@ IsElection-push_voter e v is is_voter room new =
       voters_differ = rw (map_push (λ (w : VoterView). w.id) e.voters v) (AreDistinct-push (voter_ids e) v.id is.voters_differ new);
     }
 
--- an id at some place of a list of projects is among their ids
-pub Contains-project_ids : (ps : List ProjectView) (k : ℕ) (d : ProjectView) (id : List ℕ) → k < length ps → (slice_index_or ps k d).id ≡ id →
-    Contains (map (λ (p : ProjectView). p.id) ps) id
-Contains-project_ids ps k d id below same =
-    let at : slice_index_or (map (λ (p : ProjectView). p.id) ps) k id ≡ id = get_or-map (λ (p : ProjectView). p.id) ps k d id below ∙ same in
-    (k, rw (length-map ps (λ (p : ProjectView). p.id)) below, at)
+element : {X : Type 0} (xs : List X) → 0 < length xs → X
+element [] some = absurd (omega arith)
+element (x ∷ xs) some = x
 
--- an id at no place of a list of projects is not among their ids
-pub not-Contains-project_ids : (ps : List ProjectView) (id : List ℕ) → ((k : ℕ) (d : ProjectView) → k < length ps → (slice_index_or ps k d).id ≢ id) →
-    ¬ Contains (map (λ (p : ProjectView). p.id) ps) id
-not-Contains-project_ids ps id nowhere (k, within, found) =
-    let below : k < length ps = subst (λ n. k < n) (length-map ps (λ (p : ProjectView). p.id)) within in
-    let d : ProjectView = record { id = id; name = []; cost = 0 } in
-    nowhere k d below (sym (get_or-map (λ (p : ProjectView). p.id) ps k d id below) ∙ found)
+-- ids among those of a list's elements
+module _ {X : Type 0} (id_of : X → List ℕ) (xs : List X) (id : List ℕ) where
+  -- the elements before this place have other ids
+  abbrev pub HaveOthers : ℕ → Type 0
+  HaveOthers i = (k : ℕ) (d : X) → k < i → id_of (slice_index_or xs k d) ≢ id
 
--- an id at some place of a list of voters is among their ids
-pub Contains-voter_ids : (vs : List VoterView) (k : ℕ) (d : VoterView) (id : List ℕ) → k < length vs → (slice_index_or vs k d).id ≡ id →
-    Contains (map (λ (v : VoterView). v.id) vs) id
-Contains-voter_ids vs k d id below same =
-    let at : slice_index_or (map (λ (v : VoterView). v.id) vs) k id ≡ id = get_or-map (λ (v : VoterView). v.id) vs k d id below ∙ same in
-    (k, rw (length-map vs (λ (v : VoterView). v.id)) below, at)
+  -- so has the next
+  pub others_more : (i : ℕ) (x : X) → i < length xs → x ≡ slice_index_or xs i x → id_of x ≢ id → HaveOthers i → HaveOthers (i + 1)
+  others_more i x below at other before k d =
+      below_more (λ j. id_of (slice_index_or xs j d) ≢ id) i (λ j less. before j d less)
+      (λ same. other (ap id_of (at ∙ get_or_default xs i x d below) ∙ same)) k
 
--- an id at no place of a list of voters is not among their ids
-pub not-Contains-voter_ids : (vs : List VoterView) (id : List ℕ) → ((k : ℕ) (d : VoterView) → k < length vs → (slice_index_or vs k d).id ≢ id) →
-    ¬ Contains (map (λ (v : VoterView). v.id) vs) id
-not-Contains-voter_ids vs id nowhere (k, within, found) =
-    let below : k < length vs = subst (λ n. k < n) (length-map vs (λ (v : VoterView). v.id)) within in
-    let d : VoterView = record { id = id; ballot = [] } in
-    nowhere k d below (sym (get_or-map (λ (v : VoterView). v.id) vs k d id below) ∙ found)
+  pub Contains-ids : (i : ℕ) (x : X) → i < length xs → x ≡ slice_index_or xs i x → id_of x ≡ id → Contains (map id_of xs) id
+  Contains-ids i x below at same =
+      (i, rw (length-map xs id_of) below, get_or-map id_of xs i x id below ∙ (ap id_of (sym at) ∙ same))
+
+  pub not-Contains-ids : HaveOthers (length xs) → ¬ Contains (map id_of xs) id
+  not-Contains-ids others (k, within, found) =
+      let below : k < length xs = subst (λ n. k < n) (length-map xs id_of) within in
+      let some : X = element xs (omega (arith, below)) in
+      others k some below (sym (get_or-map id_of xs k some id below) ∙ found)
