@@ -9,14 +9,19 @@
 
 ghost use Rattle.std.specs.Prelude.{◌≡◌, All, IfSome};
 
-use pb_core::{Answer, Ballot, Election, Money, NoMemory, Project, Request, Voter, VoterId};
+use pb_core::{Answer, Ballot, NoMemory, Request, VoterId};
 use pb_desk::Desk;
+use pb_read::read_pb;
 use pb_shared::clerk::Clerk;
 use pb_shared::share_fault::ShareFault;
 use pb_shared::shared_desk::SharedDesk;
 use pb_shared::shared_fault::SharedFault;
 use std::alloc::Global;
 use std::io;
+
+/// An election of two projects and three voters.
+const THREE_VOTERS: &str =
+    "META\nkey;value\nbudget;100\nvote_type;approval\nPROJECTS\nproject_id;cost\na;30\nb;60\nVOTES\nvoter_id;vote\nv1;a\nv2;a,b\nv3;b\n";
 
 fn main(rt: HostRuntime) -> io::Result<()> {
     let said = match run(rt.alloc()) {
@@ -26,62 +31,68 @@ fn main(rt: HostRuntime) -> io::Result<()> {
     println!(rt; "{said}")
 }
 
-/// The voter of this id.
-fn id(alloc: Global, name: &str) -> Result<VoterId, NoMemory> {
-    VoterId::new(alloc, name)?.ok_or(NoMemory)
-}
-
 /// A new ballot of this voter, for project 0.
 fn cast(alloc: Global, name: &str) -> Result<Request, NoMemory> {
-    Ok(Request::Cast(id(alloc, name)?, Ballot::of(alloc, &[0])?))
+    let voter = VoterId::new(alloc, name)?.ok_or(NoMemory)?;
+    Ok(Request::Cast(voter, Ballot::of(alloc, &[0])?))
 }
 
-/// An election of one project, and of one voter, who approves it.
-fn election(alloc: Global) -> Result<Election, NoMemory> {
-    let mut election = Election::start(alloc, Money(10_000));
-    let name = String::from_str(alloc, "a")?;
-    if name.is_empty() {
-        return Err(NoMemory);
-    }
-    election.add_project(Project::new(name, String::new(alloc), Money(3_000)))?;
-    let voter = Voter {
-        id: id(alloc, "v1")?,
-        ballot: Ballot::of(alloc, &[0])?,
-    };
-    if !election.knows(&voter.ballot) {
-        return Err(NoMemory);
-    }
-    election.add_voter(voter)?;
-    Ok(election)
-}
-
-/// A desk on that election.
+/// A desk on the three voters.
 fn desk(alloc: Global) -> Result<Desk, NoMemory> {
-    match Desk::start(alloc, election(alloc)?, 10) {
+    let Ok(election) = read_pb(alloc, THREE_VOTERS.as_bytes()) else {
+        return Err(NoMemory);
+    };
+    match Desk::start(alloc, election, 10) {
         Ok(desk) => Ok(desk),
         Err(_) => Err(NoMemory),
     }
 }
 
-/// Whether nothing was served on the desk: no entry, and the one ballot.
+/// Whether nothing was served on the desk: no entry, and the three ballots.
 fn is_as_opened(desk: &Desk) -> bool {
-    desk.entries() == 0 && desk.ballots() == 1 && !desk.is_shut()
+    desk.entries() == 0 && desk.ballots() == 3 && !desk.is_shut()
 }
 
-/// Shares a desk among two clerks, and says what became of it.
+/// Has two requests ready, and says what becomes of them.
 fn run(alloc: Global) -> Result<&'static str, NoMemory> {
-    let desk = desk(alloc)?;
-    let (ann, bob) = (cast(alloc, "ann")?, cast(alloc, "bob")?);
-    match SharedDesk::share(alloc, desk, 2) {
-        Ok((shared, clerks)) => Ok(visit(&shared, clerks, &ann, &bob)),
-        Err(ShareFault::NoMemory(desk)) => {
-            if is_as_opened(&desk) && SharedDesk::share(alloc, desk, 2).is_ok() {
-                Ok("share refused")
-            } else {
-                Ok("other")
-            }
+    let ann = cast(alloc, "ann")?;
+    let said = match cast(alloc, "bob") {
+        Ok(bob) => share(alloc, &ann, &bob),
+        Err(NoMemory) => Err(NoMemory),
+    };
+    drop(ann);
+    said
+}
+
+/// Shares a desk among two clerks, who ask this.
+fn share(alloc: Global, ann: &Request, bob: &Request) -> Result<&'static str, NoMemory> {
+    match SharedDesk::share(alloc, desk(alloc)?, 2) {
+        Ok((shared, clerks)) => {
+            let mut clerks = clerks;
+            let said = visit(&shared, &mut clerks, ann, bob);
+            drop(clerks);
+            drop(shared);
+            Ok(said)
         }
-        Err(ShareFault::ClerkCount(_)) => Ok("other"),
+        Err(fault) => Ok(share_again(alloc, fault)),
+    }
+}
+
+/// Shares a desk that came back.
+fn share_again(alloc: Global, fault: ShareFault) -> &'static str {
+    let is_memory = fault.number() == 2;
+    let desk = match fault {
+        ShareFault::ClerkCount(desk) => desk,
+        ShareFault::NoMemory(desk) => desk,
+    };
+    let was_as_opened = is_as_opened(&desk);
+    let shared = SharedDesk::share(alloc, desk, 2);
+    let is_shared = shared.is_ok();
+    drop(shared);
+    if is_memory && was_as_opened && is_shared {
+        "share refused"
+    } else {
+        "other"
     }
 }
 
@@ -96,24 +107,43 @@ fn last_of(shared: &SharedDesk, clerks: &mut Vec<Clerk>) -> Option<Clerk>
 }
 
 /// Both clerks ask, the first one first.
-fn visit(shared: &SharedDesk, mut clerks: Vec<Clerk>, ann: &Request, bob: &Request) -> &'static str
-    requires { All (λ clerk. clerk.desk ≡ shared.now) clerks.items }
+fn visit(shared: &SharedDesk, clerks: &mut Vec<Clerk>, ann: &Request, bob: &Request) -> &'static str
+    requires { All (λ clerk. clerk.desk ≡ shared.now) clerks.old.items }
 {
-    let Some(mut second) = last_of(shared, &mut clerks) else {
+    let Some(mut second) = last_of(shared, clerks) else {
         return "other";
     };
-    let Some(mut first) = last_of(shared, &mut clerks) else {
-        return "other";
+    let said = match last_of(shared, clerks) {
+        Some(first) => both_ask(shared, first, &mut second, ann, bob),
+        None => "other",
     };
-    match shared.serve(&mut first, ann) {
-        Ok(Answer::Done) => match shared.serve_within(&mut second, bob, 5) {
+    drop(second);
+    said
+}
+
+/// The first clerk asks, and then the second, who tries up to five times.
+fn both_ask(
+    shared: &SharedDesk,
+    first: Clerk,
+    second: &mut Clerk,
+    ann: &Request,
+    bob: &Request,
+) -> &'static str
+    requires first { first.desk ≡ shared.now }
+    requires second { second.old.desk ≡ shared.now }
+{
+    let mut first = first;
+    let said = match shared.serve(&mut first, ann) {
+        Ok(Answer::Done) => match shared.serve_within(second, bob, 5) {
             Ok(Answer::Done) => "served",
-            Err(SharedFault::NoMemory) => after_refusal(shared, &mut second, &mut first, bob, 1),
+            Err(SharedFault::NoMemory) => after_refusal(shared, second, &mut first, bob, 1),
             _ => "other",
         },
-        Err(SharedFault::NoMemory) => after_refusal(shared, &mut first, &mut second, ann, 0),
+        Err(SharedFault::NoMemory) => after_refusal(shared, &mut first, second, ann, 0),
         _ => "other",
-    }
+    };
+    drop(first);
+    said
 }
 
 /// A clerk to whom memory was refused sees the desk with this many entries, as it was; another clerk is served,
@@ -129,7 +159,7 @@ fn after_refusal(
     requires other { other.old.desk ≡ shared.now }
 {
     let seen = shared.look(clerk, |desk| {
-        desk.entries() == entries && desk.ballots().checked_sub(1) == Some(entries)
+        desk.entries() == entries && desk.ballots().checked_sub(3) == Some(entries)
     });
     if seen == Ok(true)
         && shared.serve(other, &Request::Shut) == Ok(Answer::Done)
