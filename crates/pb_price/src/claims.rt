@@ -57,7 +57,8 @@ impl<A: Allocator> Claims<A> {
     /// Draws the next number. Where it is below the number of pieces, that piece is the claim's alone.
     pub(crate) fn draw(&self, claim: &mut Claim) -> u64
         requires same { claim.old.seat.table_id ≡ self.now.table.shared.table_id }
-        requires may_draw { past_end self.now.table.shared.key.pieces claim.old.seat.me.0.numbers < claim.old.seat.me.0.seats }
+        requires may_draw { past_end self.now.table.shared.key.pieces claim.old.seat.me.0.numbers
+            < claim.old.seat.me.0.seats }
         ensures same { claim.new.seat.table_id ≡ self.now.table.shared.table_id }
         ensures drawn { claim.new.seat.me.0 ≡ drawn claim.old.seat.me.0.seats
             (claim.old.seat.me.0.numbers ++ result ∷ []) }

@@ -1,6 +1,7 @@
 -- Raises that are tried: what their ends say of the completion.
-use Rattle.std.proofs.Common.{◌≡◌, ℕ, ◌+◌, ◌-◌, ◌*◌, ◌<◌, ◌≤◌, List, Some, Bool, true, false, subst, sym, ◌∙◌, ap, inl, inr, arith}
+use Rattle.std.proofs.Common.{◌≡◌, ℕ, ◌+◌, ◌-◌, ◌*◌, ◌<◌, ◌≤◌, List, ◌++◌, length, take, Some, Bool, true, false, subst, sym, ◌∙◌, ap, inl, inr, arith}
 use Rattle.std.specs.Prelude.{IfOk, Ok, Result, max, min, nat_lt}
+use Rattle.std.proofs.Math.Seq.{take-append_seam}
 use Rattle.std.proofs.lemmas.Bool.{and_parts, cases_eq, leb-true, or_from}
 use Rattle.pb_core.specs.Election.{ElectionView}
 use Rattle.pb_price.specs.PriceFault.{is_worker_count}
@@ -14,6 +15,10 @@ use Rattle.pb_rounds.specs.Queue.{AreMarked, IsWholeRun, is_above}
 use Rattle.pb_rounds.specs.RaiseEnds.{IsRaiseEnd}
 use Rattle.pb_rounds.specs.Run.{ElectedView, run_of}
 use Rattle.pb_rounds.proofs.Completing.{decided_before, decided_here}
+
+-- a slice of a whole list, written back
+pub whole_left : {X : Type 0} (xs ys : List X) (n : ℕ) → n ≡ length xs → take n (xs ++ ys) ≡ xs
+whole_left xs ys n e = ap (λ k. take k (xs ++ ys)) e ∙ take-append_seam xs ys
 
 -- the end of a run that was whole, within the budget
 module _ (m : Measure) (s : SupportView) (workers share raised budget : ℕ) (o : OutcomeView) (marks : List Bool) (spent : ℕ)

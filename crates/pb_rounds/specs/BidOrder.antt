@@ -1,6 +1,6 @@
 -- That the order of bids is an order.
 use Rattle.std.proofs.Common.{◌≡◌, ℕ, ◌*◌, ◌<◌, true, refl, sym, ◌∙◌, ap, inl, inr, arith}
-use Rattle.std.specs.Prelude.{◌==◌, ◌&&◌, max}
+use Rattle.std.specs.Prelude.{Bool, ◌==◌, ◌&&◌, max}
 use Rattle.std.specs.Cmp.{IsTotalOrder, Equal-is, both_ways, then_total, on_total, nat_cmp_total, ranks, tied_itself}
 use Rattle.std.specs.Ordering.{is_eq, nat_cmp, ordering_then}
 use Rattle.std.specs.declared.cmp.Ordering.{Ordering}
@@ -36,12 +36,14 @@ module _ (a b c u v w : ℕ) (hu : 0 < u) (hv : 0 < v) (hw : 0 < w) where
   third =
       let left : a * w * v ≡ a * v * w = omega arith in
       let right : c * u * v ≡ c * v * u = omega arith in
-      sym (scaled (a * w) (c * u) v hv) ∙ ap (λ n. nat_cmp n (c * u * v)) left ∙ ap (nat_cmp (a * v * w)) right
+      sym (scaled (a * w) (c * u) v hv) ∙ ap (λ n. nat_cmp n (c * u * v)) left
+      ∙ ap (nat_cmp (a * v * w)) right
 
   middle : b * u * w ≡ b * w * u
   middle = omega arith
 
-  trans-ratios : nat_cmp (a * v) (b * u) ≡ Less → nat_cmp (b * w) (c * v) ≡ Less → nat_cmp (a * w) (c * u) ≡ Less
+  trans-ratios : nat_cmp (a * v) (b * u) ≡ Less → nat_cmp (b * w) (c * v) ≡ Less
+      → nat_cmp (a * w) (c * u) ≡ Less
   trans-ratios first second =
       third ∙ nat_cmp_total.trans (a * v * w) (b * u * w) (c * v * u) (scaled (a * v) (b * u) w hw ∙ first)
       (ap (λ n. nat_cmp n (c * v * u)) middle ∙ scaled (b * w) (c * v) u hu ∙ second)
@@ -54,12 +56,18 @@ module _ (a b c u v w : ℕ) (hu : 0 < u) (hv : 0 < v) (hw : 0 < w) where
 ratio-total : IsTotalOrder ratio_cmp
 ratio-total = record {
   antisymm = λ a b. nat_cmp_total.antisymm (a.price * max 1 b.weight) (b.price * max 1 a.weight);
-  trans = λ a b c. trans-ratios a.price b.price c.price (max 1 a.weight) (max 1 b.weight) (max 1 c.weight) (omega arith) (omega arith) (omega arith);
-  congr = λ a b c. congr-ratios a.price b.price c.price (max 1 a.weight) (max 1 b.weight) (max 1 c.weight) (omega arith) (omega arith) (omega arith);
+  trans = λ a b c.
+      trans-ratios a.price b.price c.price (max 1 a.weight) (max 1 b.weight) (max 1 c.weight)
+      (omega arith) (omega arith) (omega arith);
+  congr = λ a b c.
+      congr-ratios a.price b.price c.price (max 1 a.weight) (max 1 b.weight) (max 1 c.weight)
+      (omega arith) (omega arith) (omega arith);
 }
 
 pub bid_cmp-total : IsTotalOrder bid_cmp
-bid_cmp-total = then_total ratio-total (then_total (on_total (λ b. b.place) nat_cmp_total) (on_total (λ b. b.weight) nat_cmp_total))
+bid_cmp-total =
+    then_total ratio-total
+    (then_total (on_total (λ b. b.place) nat_cmp_total) (on_total (λ b. b.weight) nat_cmp_total))
 
 then_equal : (o p : Ordering) → ordering_then o p ≡ Equal → (o ≡ Equal) × (p ≡ Equal)
 then_equal Less p e = absurd (true≢false (sym (ap is_eq e)))
@@ -84,22 +92,28 @@ tied_bids a b e =
     let weight : a.weight ≡ b.weight = equal_numbers _ _ later.1 in
     let ratio : nat_cmp (a.price * max 1 b.weight) (b.price * max 1 b.weight) ≡ Equal =
     ap (λ w. nat_cmp (a.price * max 1 b.weight) (b.price * max 1 w)) (sym weight) ∙ parts.0 in
-    let price : a.price ≡ b.price = equal_numbers _ _ (sym (scaled a.price b.price (max 1 b.weight) (omega arith)) ∙ ratio) in
+    let scaled_price = scaled a.price b.price (max 1 b.weight) (omega arith) in
+    let price : a.price ≡ b.price = equal_numbers _ _ (sym scaled_price ∙ ratio) in
     same_fields a b price weight place
 
-tie_from_fields : (a b : Bid) → ((a.price == b.price) && ((a.weight == b.weight) && (a.place == b.place))) ≡ true → is_eq (bid_cmp a b) ≡ true
+-- whether all fields of two bids are equal
+abbrev pub have_equal_fields : Bid → Bid → Bool
+have_equal_fields a b = (a.price == b.price) && ((a.weight == b.weight) && (a.place == b.place))
+
+tie_from_fields : (a b : Bid) → have_equal_fields a b ≡ true → is_eq (bid_cmp a b) ≡ true
 tie_from_fields a b e =
     let parts = and_parts _ _ e in
     let later = and_parts _ _ parts.1 in
     let same = same_fields a b (eqb-true _ _ parts.0) (eqb-true _ _ later.0) (eqb-true _ _ later.1) in
     ap (λ c. is_eq (bid_cmp a c)) (sym same) ∙ ap is_eq (tied_itself bid_cmp-total a)
 
-fields_from_tie : (a b : Bid) → is_eq (bid_cmp a b) ≡ true → ((a.price == b.price) && ((a.weight == b.weight) && (a.place == b.place))) ≡ true
+fields_from_tie : (a b : Bid) → is_eq (bid_cmp a b) ≡ true → have_equal_fields a b ≡ true
 fields_from_tie a b e =
     let same = tied_bids a b ((Equal-is (bid_cmp a b)).0 e) in
     and_from _ _ (eq-eqb _ _ (ap (λ (c : Bid). c.price) same))
-    (and_from _ _ (eq-eqb _ _ (ap (λ (c : Bid). c.weight) same)) (eq-eqb _ _ (ap (λ (c : Bid). c.place) same)))
+    (and_from _ _ (eq-eqb _ _ (ap (λ (c : Bid). c.weight) same))
+    (eq-eqb _ _ (ap (λ (c : Bid). c.place) same)))
 
--- whether all fields are equal is whether the order does not tell the bids apart
-pub fields_tie : (a b : Bid) → ((a.price == b.price) && ((a.weight == b.weight) && (a.place == b.place))) ≡ is_eq (bid_cmp a b)
+-- all fields are equal just where the order does not tell the bids apart
+pub fields_tie : (a b : Bid) → have_equal_fields a b ≡ is_eq (bid_cmp a b)
 fields_tie a b = both_ways _ _ (tie_from_fields a b) (fields_from_tie a b)

@@ -40,7 +40,13 @@ impl CountOptions {
     /// One worker, steps of 1.00, up to 1,000,000 raises, completion by raises, and measure votes.
     pub fn standard() -> CountOptions
         ensures { result
-            ≡ record { step = 100; max_raises = most_raises; workers = 1; completion = Add1; measure = Votes } }
+            ≡ record {
+              step = 100;
+              max_raises = most_raises;
+              workers = 1;
+              completion = Add1;
+              measure = Votes;
+            } }
     {
         CountOptions {
             step: Money(100),

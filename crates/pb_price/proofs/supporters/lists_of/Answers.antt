@@ -1,4 +1,6 @@
-use Rattle.std.proofs.Common.{◌≡◌, length, ap, ◌∙◌, arith}
+use Rattle.std.proofs.Common.{◌≡◌, length, ap, sym, subst, ◌∙◌, arith}
+use Rattle.std.specs.List.Sorted.{IsStrictlyIncreasing}
+use Rattle.std.proofs.lemmas.Result.{IfOk-from_err}
 use Rattle.pb_price.proofs.BuiltLists.{ballot_read, ballot_known, ListsSoFar-more, ListsSoFar-none, lists_from_all}
 use Rattle.pb_price.proofs.supporters.lists_of.Goals as goal
 
@@ -32,3 +34,22 @@ returns g c =
     let same = c.voters-voter-items.ensures.voters in
     let end : c.loop-position.position ≡ length e.voters = omega (arith, ap length same) in
     lists_from_all e c.loop-position.lists.items (rw (← end) c.loop-position.invariant)
+
+pub bounds-voter-items-position : goal.bounds-voter-items-position
+bounds-voter-items-position g c = c.loop-position-test.true
+
+pub overflow_cast-position : goal.overflow_cast-position
+overflow_cast-position g c =
+    omega (arith, c.loop-position-test.true, ap length c.voters-voter-items.ensures.voters, c.voters-voter-items.ensures.is_election.few_voters)
+
+pub add_ballot-requires-clause-rises : goal.add_ballot-requires-clause-rises
+add_ballot-requires-clause-rises g c = subst IsStrictlyIncreasing (sym c.places.ensures.places) c.places.ensures.is_ballot
+
+pub returns-in_err-counts : goal.returns-in_err-counts
+returns-in_err-counts g c = IfOk-from_err _ _ c.from_residual.ensures.0
+
+pub returns-in_err-lists : goal.returns-in_err-lists
+returns-in_err-lists g c = IfOk-from_err _ _ c.from_residual-in_err-lists.ensures.0
+
+pub returns-in_err-add_ballot : goal.returns-in_err-add_ballot
+returns-in_err-add_ballot g c = IfOk-from_err _ _ c.from_residual-in_err-add_ballot.ensures.0
