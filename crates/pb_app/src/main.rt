@@ -2,11 +2,10 @@
 //! the desk that took its ballots.
 #![tactic(auto)]
 
-mod command_line;
 mod perform;
 
-use clap::Error;
-use clap::error::ErrorKind;
+use pb_command_line::Parsed;
+use pb_command_line::parse::parse;
 use pb_commands::{AppFault, BAD_ARGUMENTS};
 use std::process::ExitCode;
 use std::rt::{Env, Files};
@@ -40,32 +39,17 @@ where
     obey(rt, arguments.as_slice())
 }
 
-/// Does what these arguments ask for; where it is nothing that can be done, clap's own text is printed.
+/// Does what these arguments ask for.
 fn obey<R>(rt: &R, arguments: &[String]) -> Result<ExitCode, AppFault>
 where
     R: Files + Input + Print + Eprint + AllocGlobal + Threads + Sync,
 {
-    let command_line = command_line::command_line(rt.alloc())?;
-    match command_line.try_get_matches_from(arguments) {
-        Ok(matches) => {
-            let task = command_line::task_of(&matches);
-            drop(matches);
+    match parse(rt, rt.alloc(), arguments) {
+        Ok(Parsed::Asks(task)) => {
             perform::perform(rt, &task)?;
             Ok(ExitCode::SUCCESS)
         }
-        Err(error) => {
-            let refused = refused(rt, &error);
-            drop(error);
-            refused
-        }
+        Ok(Parsed::Ends(status)) => Ok(ExitCode::from(status)),
+        Err(_) => Err(AppFault::Memory),
     }
-}
-
-/// How the program ends where clap refuses its arguments, or prints what they ask for.
-fn refused<R: Print + Eprint>(rt: &R, error: &Error) -> Result<ExitCode, AppFault> {
-    if error.kind() == ErrorKind::OutOfMemory {
-        return Err(AppFault::Memory);
-    }
-    let _ = error.print(rt);
-    Ok(ExitCode::from(error.exit_code() as u8))
 }

@@ -1,6 +1,6 @@
 // What the command line asks for, done on real files.
 
-use crate::command_line::{Source, Task};
+use pb_command_line::{Source, Task};
 use pb_commands::AppFault;
 use pb_commands::run_audit::run_audit;
 use pb_commands::run_count::run_count;

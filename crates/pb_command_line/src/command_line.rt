@@ -1,5 +1,6 @@
-// The command line: the commands and options that the program knows, and what parsed arguments ask for.
+// The commands and options that the program knows, and what parsed arguments ask for.
 
+use crate::task::{Source, Task};
 use clap::{Arg, ArgAction, ArgMatches, Command, value_parser};
 use pb_core::money::Money;
 use pb_rounds::measure::Measure;
@@ -11,26 +12,6 @@ const VERSION: &str = "1.0.0";
 
 /// The measures by their names, votes first.
 const MEASURES: &[&str] = &["votes", "cost"];
-
-/// Where a .pb file is read from.
-#[derive(Clone, Copy)]
-pub(crate) enum Source<'a> {
-    /// Standard input, which `-` names.
-    Input,
-    /// The file with this path.
-    File(&'a str),
-}
-
-/// What the arguments ask for.
-#[derive(Clone, Copy)]
-pub(crate) enum Task<'a> {
-    /// A count of a .pb file.
-    Count(Source<'a>, CountOptions),
-    /// A run of the desk of a .pb file: this many clerks serve the script with this path.
-    Desk(Source<'a>, &'a str, u32),
-    /// An audit of the journal with this path on a .pb file.
-    Audit(Source<'a>, &'a str, CountOptions),
-}
 
 /// What an argument of a command takes.
 #[derive(Clone, Copy)]
@@ -58,8 +39,7 @@ struct Argument {
 struct CommandForm {
     name: &'static str,
     about: &'static str,
-    files: &'static [Argument],
-    options: &'static [Argument],
+    arguments: &'static [Argument],
 }
 
 /// The file that each command reads first.
@@ -83,61 +63,64 @@ const JOURNAL: Argument = Argument {
     help: "The journal of a desk that opened with it",
 };
 
-/// The option of a desk.
+/// How many clerks a desk has.
 const CLERKS: Argument = Argument {
     name: "clerks",
     takes: Takes::Number("N"),
     help: "How many clerks serve side by side, 1 to 64 [default: 1]",
 };
 
-/// The options of a count.
-const COUNT_OPTIONS: &[Argument] = &[
-    Argument {
-        name: "workers",
-        takes: Takes::Number("N"),
-        help: "How many workers compute prices, 1 to 64 [default: 1]",
-    },
-    Argument {
-        name: "step",
-        takes: Takes::Number("H"),
-        help: "By how many hundredths a raise lifts the share, 1 to 1000000000 [default: 100]",
-    },
-    Argument {
-        name: "raises",
-        takes: Takes::Number("L"),
-        help: "How many raises there are at most, 0 to 1000000 [default: 1000000]",
-    },
-    Argument {
-        name: "plain",
-        takes: Takes::Nothing,
-        help: "Lets the outcome at the opening share stand, without raises",
-    },
-    Argument {
-        name: "measure",
-        takes: Takes::Measure,
-        help: "Elects the least price (votes), or the least price over cost (cost) [default: votes]",
-    },
-];
+/// How many workers a count has.
+const WORKERS: Argument = Argument {
+    name: "workers",
+    takes: Takes::Number("N"),
+    help: "How many workers compute prices, 1 to 64 [default: 1]",
+};
+
+/// The step of a raise.
+const STEP: Argument = Argument {
+    name: "step",
+    takes: Takes::Number("H"),
+    help: "By how many hundredths a raise lifts the share, 1 to 1000000000 [default: 100]",
+};
+
+/// The limit of raises.
+const RAISES: Argument = Argument {
+    name: "raises",
+    takes: Takes::Number("L"),
+    help: "How many raises there are at most, 0 to 1000000 [default: 1000000]",
+};
+
+/// Whether completion is left out.
+const PLAIN: Argument = Argument {
+    name: "plain",
+    takes: Takes::Nothing,
+    help: "Lets the outcome at the opening share stand, without raises",
+};
+
+/// What a project is worth to those who approve it.
+const MEASURE: Argument = Argument {
+    name: "measure",
+    takes: Takes::Measure,
+    help: "Elects the least price (votes), or the least price over cost (cost) [default: votes]",
+};
 
 /// The commands that the program knows.
 const COMMANDS: &[CommandForm] = &[
     CommandForm {
         name: "count",
         about: "Counts a .pb file, and prints the report",
-        files: &[ELECTION],
-        options: COUNT_OPTIONS,
+        arguments: &[ELECTION, WORKERS, STEP, RAISES, PLAIN, MEASURE],
     },
     CommandForm {
         name: "desk",
         about: "Serves a script's requests on the desk of a .pb file, and prints the journal",
-        files: &[ELECTION, SCRIPT],
-        options: &[CLERKS],
+        arguments: &[ELECTION, SCRIPT, CLERKS],
     },
     CommandForm {
         name: "audit",
         about: "Audits a journal on a .pb file, and prints the report of a shut desk",
-        files: &[ELECTION, JOURNAL],
-        options: COUNT_OPTIONS,
+        arguments: &[ELECTION, JOURNAL, WORKERS, STEP, RAISES, PLAIN, MEASURE],
     },
 ];
 
@@ -152,30 +135,25 @@ pub(crate) fn command_line<'a>(alloc: Global) -> Result<Command<'a>, AllocError>
 fn with_commands<'a>(alloc: Global, program: Command<'a>) -> Result<Command<'a>, AllocError> {
     let mut program = program;
     for form in COMMANDS {
-        program = with_command(program, command(alloc, form))?;
+        program = with_command(alloc, program, form)?;
     }
     Ok(program)
 }
 
-/// The program with one command more, where memory sufficed to make it.
+/// The program with one command more, of this form.
 fn with_command<'a>(
+    alloc: Global,
     program: Command<'a>,
-    command: Result<Command<'a>, AllocError>,
+    form: &CommandForm,
 ) -> Result<Command<'a>, AllocError> {
-    match command {
+    let command = Command::new(alloc, form.name).about(form.about);
+    match with_arguments(alloc, command, form.arguments) {
         Ok(command) => program.subcommand(command),
         Err(refused) => {
             drop(program);
             Err(refused)
         }
     }
-}
-
-/// The command of this form.
-fn command<'a>(alloc: Global, form: &CommandForm) -> Result<Command<'a>, AllocError> {
-    let command = Command::new(alloc, form.name).about(form.about);
-    let command = with_arguments(alloc, command, form.files)?;
-    with_arguments(alloc, command, form.options)
 }
 
 /// A command with these arguments more.

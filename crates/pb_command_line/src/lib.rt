@@ -1,0 +1,9 @@
+//! The command line: the commands and options that the program knows, and what given arguments ask for.
+#![tactic(auto)]
+
+mod command_line;
+pub mod parse;
+pub mod task;
+
+pub use parse::Parsed;
+pub use task::{Source, Task};

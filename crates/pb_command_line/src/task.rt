@@ -1,0 +1,23 @@
+//! What the arguments of the command line ask for.
+
+use pb_rounds::options::CountOptions;
+
+/// Where a .pb file is read from.
+#[derive(Clone, Copy)]
+pub enum Source<'a> {
+    /// Standard input, which `-` names.
+    Input,
+    /// The file with this path.
+    File(&'a str),
+}
+
+/// What the arguments ask for.
+#[derive(Clone, Copy)]
+pub enum Task<'a> {
+    /// A count of a .pb file.
+    Count(Source<'a>, CountOptions),
+    /// A run of the desk of a .pb file: this many clerks serve the script with this path.
+    Desk(Source<'a>, &'a str, u32),
+    /// An audit of the journal with this path on a .pb file.
+    Audit(Source<'a>, &'a str, CountOptions),
+}
