@@ -1,6 +1,7 @@
 -- Runs of `audit` whose bytes may be known.
 use Rattle.std.proofs.Common.{◌≡◌, ℕ, List, Option, Some, None, Ok, Err, sym, subst}
-use Rattle.std.specs.Prelude.{IfErr, IfSome, IsErrAnd, Result}
+use Rattle.std.specs.Io.KnownBytes.{Appends}
+use Rattle.std.specs.Prelude.{IfErr, IfSome, IsErrAnd, OnOk, Result}
 use Rattle.pb_core.specs.Election.{ElectionView}
 use Rattle.pb_desk.specs.Audit.{IsFaultOfJournal}
 use Rattle.pb_desk.specs.Desk.{DeskView}
@@ -17,7 +18,7 @@ use Rattle.pb_rounds.specs.declared.options.CountOptions.{CountOptions}
 use Rattle.pb_rows.specs.Reading.{records_of}
 use Rattle.pb_script.specs.Serving.{program_room}
 use Rattle.pb_commands.specs.Audited.{AuditRefuses, AuditWrites, IsDeskOf, IsRefusedDesk, IsTextOf}
-use Rattle.pb_commands.specs.Ends.{FailsBy, IfBothKnown, JudgesFile}
+use Rattle.pb_commands.specs.Ends.{FailsBy, HasWritten, IfBothKnown, JudgesFile}
 use Rattle.pb_commands.specs.Fault.{merged}
 use Rattle.pb_commands.specs.declared.fault.AppFault.{AppFault}
 use Rattle.pb_commands.specs.declared.fault.AppFault.TheVariants.{Read, Audit, Count, Write}
@@ -29,6 +30,16 @@ AuditFails bytes journal options fault = FailsBy (AuditRefuses bytes journal opt
 
 abbrev IsElectionFile : List ℕ → Type 0
 IsElectionFile bytes = (e : ElectionView) × StandsFor (records_of bytes) e
+
+-- what was written is what the bytes make `audit` write
+pub audit_written : (files journals before after : Option (List ℕ)) (options : CountOptions) (e : ElectionView) (d : DeskView) (text : List ℕ) (r : Result (Unit {0}) AppFault)
+    → OnOk r (Appends before after text) → IsAudited files journals e d → IsTextOf d options text
+    → OnOk r (IfBothKnown files journals (λ bytes journal. HasWritten (AuditWrites bytes journal options) before after))
+audit_written files journals before after options e d text (Err fault) appends audited written = tt
+audit_written None journals before after options e d text (Ok done) appends audited written = tt
+audit_written (Some bytes) None before after options e d text (Ok done) appends audited written = tt
+audit_written (Some bytes) (Some journal) before after options e d text (Ok done) appends audited written =
+    (text, (d, desk_of bytes journal e d audited, written), appends)
 
 -- what is to be written is known where the bytes are, and then a writer that fails is the fault
 pub write_fails : (files journals : Option (List ℕ)) (options : CountOptions) (e : ElectionView) (d : DeskView) (text : List ℕ) (r : Result (Unit {0}) AppFault)

@@ -1,6 +1,7 @@
+use Rattle.std.proofs.Common.{◌≡◌, ◌∙◌, ◌++◌, ap}
 use Rattle.pb_commands.proofs.Accepted.{refused_of_both, stays_merged}
 use Rattle.pb_commands.proofs.AuditAccepted.{audited_by_desk, audited_by_journal, audited_by_reader}
-use Rattle.pb_commands.proofs.AuditWritten.{judged_by_audit, judged_by_count, judged_by_reader, judged_by_writer, refused_by_desk, refused_by_journal, write_fails}
+use Rattle.pb_commands.proofs.AuditWritten.{audit_written, judged_by_audit, judged_by_count, judged_by_reader, judged_by_writer, refused_by_desk, refused_by_journal, write_fails}
 use Rattle.pb_commands.specs.Audited.{AuditRefuses, AuditWrites}
 use Rattle.pb_commands.specs.declared.fault.AppFault.TheVariants.{Read, Audit, Count}
 use Rattle.pb_commands.proofs.run_audit.run_audit.Goals as goal
@@ -18,6 +19,15 @@ returns-in_err-desk-clause-merged g c = stays_merged (Audit c.in_err-desk.field-
 
 pub returns-in_err-put_desk-clause-merged : goal.returns-in_err-put_desk-clause-merged
 returns-in_err-put_desk-clause-merged g c = stays_merged (Count c.in_err-put_desk.field-0.0) _ c.from_residual-in_err-put_desk.ensures.1
+
+pub returns-clause-ok : goal.returns-clause-ok
+returns-clause-ok g c =
+    let desk = c.in_ok-desk.ensures in
+    let text = c.in_ok-put_desk.ensures.ok in
+    let items : c.in_ok-text.text.items ≡ text.0 = c.in_ok-text.ensures.text ∙ text.2 ∙ ap (λ before. before ++ text.0) c.start-rows.ensures.text in
+    audit_written _ _ _ _ _ c.in_ok-election.election c.in_ok-desk.desk text.0 c.write_out.result
+    (rw (c.as_slice.ensures.value ∙ items) at c.write_out.ensures.ok)
+    (record { stands = c.in_ok-election.ensures.ok; election = desk.opening; room = desk.room; sound = desk.sound; rows = desk.rows }) text.1
 
 pub returns-clause-fault : goal.returns-clause-fault
 returns-clause-fault g c =
