@@ -2,8 +2,7 @@
 
 ghost use Rattle.std.specs.Prelude.{◌<◌};
 
-use pb_core::no_memory::NoMemory;
-use std::alloc::Allocator;
+use std::alloc::{AllocError, Allocator};
 
 /// An `IndexMap` keeps its entries in groups of twelve lanes. A hash says at which group its search
 /// starts, and where that is full it goes on to the next. It has twice as many groups once there are
@@ -40,7 +39,7 @@ impl<A: Allocator> Crowd<A> {
     }
 
     /// Whether a table of `len` entries has room for an entry of this hash in its region.
-    pub(crate) fn has_room(&mut self, hash: u64, len: usize) -> Result<bool, NoMemory> {
+    pub(crate) fn has_room(&mut self, hash: u64, len: usize) -> Result<bool, AllocError> {
         if self.counts.is_empty() {
             self.counts.resize(2 * (1 << MOST_BITS) / REGION, 0)?;
         }

@@ -6,8 +6,7 @@ ghost use Rattle.pb_ids.specs.Kept.{found};
 ghost use Rattle.pb_ids.specs.Places.{Shows, Shows-prop};
 
 use crate::kept_ids::KeptIds;
-use pb_core::no_memory::NoMemory;
-use std::alloc::{Allocator, Global};
+use std::alloc::{AllocError, Allocator, Global};
 use std::marker::Model;
 
 /// A table of ids, each with a place. A contract sees a map from their texts to their places.
@@ -53,8 +52,9 @@ impl<A: Allocator> IdTable<A> {
         self.kept.get(id)
     }
 
-    /// Gives an id this place, new or not, and answers the place that it had.
-    pub fn insert(&mut self, alloc: A, id: &str, place: u32) -> Result<Option<u32>, NoMemory>
+    /// Gives an id this place, new or not, and answers the place that it had. Where memory is refused, the
+    /// table stays as it was.
+    pub fn insert(&mut self, alloc: A, id: &str, place: u32) -> Result<Option<u32>, AllocError>
     where
         A: Copy,
         ensures before { IfOk result (λ before. before ≡ map.get self.old id.now) }

@@ -6,8 +6,7 @@ ghost use Rattle.pb_ids.specs.Kept.{code_of, found, has_code, hashed};
 
 use crate::crowd::Crowd;
 use indexmap::IndexMap;
-use pb_core::no_memory::NoMemory;
-use std::alloc::Allocator;
+use std::alloc::{AllocError, Allocator};
 use std::collections::BTreeMap;
 use std::hash::{BuildHasher, BuildHasherDefault, FoldHasher};
 
@@ -68,7 +67,12 @@ impl<A: Allocator> KeptIds<A> {
     }
 
     /// Gives an id this place, new or not, and answers the place that it had.
-    pub(crate) fn insert(&mut self, alloc: A, id: &str, place: u32) -> Result<Option<u32>, NoMemory>
+    pub(crate) fn insert(
+        &mut self,
+        alloc: A,
+        id: &str,
+        place: u32,
+    ) -> Result<Option<u32>, AllocError>
     where
         A: Copy,
         ensures before { IfOk result (λ before. before ≡ found self.old id.now) }
@@ -102,7 +106,7 @@ impl<A: Allocator> KeptIds<A> {
     }
 
     /// The same of an id for which its table has no room, or that is kept in order already.
-    fn insert_crowded(&mut self, alloc: A, id: &str, place: u32) -> Result<Option<u32>, NoMemory>
+    fn insert_crowded(&mut self, alloc: A, id: &str, place: u32) -> Result<Option<u32>, AllocError>
     where
         A: Copy,
         ensures before { IfOk result (λ before. before ≡ found self.old id.now) }
