@@ -135,10 +135,13 @@ impl<A: Allocator> Election<A> {
         ensures { IsTrue result ↔ All (λ place. place < length self.now.projects) ballot.now }
     {
         let projects = self.projects.len();
-        ballot
-            .places()
-            .iter()
-            .all(|place| (*place as usize) < projects)
+        let places = ballot.places();
+        for place in places {
+            if *place as usize >= projects {
+                return false;
+            }
+        }
+        true
     }
 
     /// Adds a project after the others. Where memory is refused the project is given up.
