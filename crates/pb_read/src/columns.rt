@@ -7,7 +7,7 @@ use pb_core::voter_id::VoterId;
 use std::alloc::Global;
 
 /// The places of the columns of PROJECTS, from 0.
-#[derive(Clone, Copy, Debug)]
+#[derive(Clone, Copy)]
 pub(crate) struct ProjectColumns {
     pub(crate) id: usize,
     pub(crate) cost: usize,
@@ -15,7 +15,7 @@ pub(crate) struct ProjectColumns {
 }
 
 /// The places of the columns of VOTES, from 0.
-#[derive(Clone, Copy, Debug)]
+#[derive(Clone, Copy)]
 pub(crate) struct VoteColumns {
     pub(crate) voter: usize,
     pub(crate) vote: usize,

@@ -3,7 +3,7 @@
 use crate::row::{Row, is_word};
 
 /// A section of a file, in the order in which sections come.
-#[derive(Clone, Copy, PartialEq, Eq, Debug)]
+#[derive(Clone, Copy)]
 pub(crate) enum Section {
     Meta,
     Projects,
