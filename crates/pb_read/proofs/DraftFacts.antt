@@ -1,7 +1,7 @@
 -- What the checks of a row find, from the tests of its parts.
-use Rattle.std.proofs.Common.{◌≡◌, ◌≢◌, ◌==◌, ℕ, Bool, true, false, cond, not, List, [], ◌∷◌, ◌++◌, length, map, Option, Some, None, Result, Ok, Err, refl, ap, sym, ◌∙◌}
+use Rattle.std.proofs.Common.{◌≡◌, ◌≢◌, ◌==◌, ℕ, Bool, true, false, cond, not, List, [], ◌∷◌, ◌++◌, length, map, Option, Some, None, Ok, Err, refl, ap, sym, ◌∙◌}
 use Rattle.std.specs.FinMap as places
-use Rattle.std.specs.Prelude.{is_some, nat_le, IsErrAnd}
+use Rattle.std.specs.Prelude.{is_some, nat_le}
 use Rattle.std.specs.Str.{bytes_eq, trim}
 use Rattle.std.proofs.lemmas.List.{map_push}
 use Rattle.pb_core.specs.Election.{ElectionView, ProjectView, VoterView, most_projects, most_voters, project_ids, voter_ids}
@@ -35,14 +35,9 @@ module _ (columns : ProjectColumns) (row : Fields) (e : ElectionView) where
   unfolding project_row_checks
   project_lacks whole = λ i. project_checks (whole i) (money_of (field row columns.cost)) (is_empty (field row columns.id)) (is_among (project_ids e) (field row columns.id)) (nat_le most_projects (length e.projects))
 
-  pub project_unread : has_fields columns.id columns.cost row ≡ true → (kind : ReadKind) → IsErrAnd (money_of (field row columns.cost)) (λ fault. kind ≡ kind_of_money fault) → project_row_checks columns row e ≡ Some kind
+  pub project_unread : has_fields columns.id columns.cost row ≡ true → (fault : MoneyFault) → money_of (field row columns.cost) ≡ Err fault → project_row_checks columns row e ≡ Some (kind_of_money fault)
   unfolding project_row_checks
-  project_unread whole kind reads = go (money_of (field row columns.cost)) refl reads
-    where
-      go : (cost : Result ℕ MoneyFault) → money_of (field row columns.cost) ≡ cost → IsErrAnd cost (λ fault. kind ≡ kind_of_money fault) → project_row_checks columns row e ≡ Some kind
-      go (Ok cost) m err = absurd err
-      go (Err fault) m err =
-          (λ i. project_checks (whole i) (m i) (is_empty (field row columns.id)) (is_among (project_ids e) (field row columns.id)) (nat_le most_projects (length e.projects))) ∙ ap Some (sym err)
+  project_unread whole fault reads = λ i. project_checks (whole i) (reads i) (is_empty (field row columns.id)) (is_among (project_ids e) (field row columns.id)) (nat_le most_projects (length e.projects))
 
   pub project_found : {cost : ℕ} {free no_id repeated full : Bool} → has_fields columns.id columns.cost row ≡ true → money_of (field row columns.cost) ≡ Ok cost → (cost == 0) ≡ free → is_empty (field row columns.id) ≡ no_id → is_among (project_ids e) (field row columns.id) ≡ repeated → nat_le most_projects (length e.projects) ≡ full →
       project_row_checks columns row e ≡ cond free (Some kinds.ZeroCost) (cond no_id (Some kinds.EmptyId) (cond repeated (Some kinds.RepeatedProject) (cond full (Some kinds.TooManyProjects) None)))

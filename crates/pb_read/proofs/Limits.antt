@@ -1,5 +1,5 @@
 -- The limit that an amount names.
-use Rattle.std.proofs.Common.{◌≡◌, ℕ, ◌+◌, ◌*◌, ◌/◌, ◌==◌, Bool, true, false, cond, not, nat_le, List, [], ◌∷◌, ◌++◌, take, Option, Some, None, Result, Ok, Err, refl, sym, ◌∙◌, ap, subst, arith, inl, inr}
+use Rattle.std.proofs.Common.{◌≡◌, ◌≢◌, ℕ, ◌+◌, ◌*◌, ◌/◌, ◌==◌, ◌&&◌, Bool, true, false, cond, not, nat_le, List, [], ◌∷◌, ◌++◌, drop, take, Option, Some, None, Result, Ok, Err, refl, sym, ◌∙◌, ap, subst, arith, inl, inr}
 use Rattle.std.specs.Prelude.{codes}
 use Rattle.std.specs.List.{list_all}
 use Rattle.std.specs.Str.Parse.{digits_value}
@@ -11,7 +11,7 @@ use Rattle.pb_core.specs.Money.{largest_money, money_of}
 use Rattle.pb_core.specs.MoneyText.{fraction, has_money_form, hundredths, is_in_hundredths, whole_part}
 use Rattle.pb_core.specs.declared.money_fault.MoneyFault.{MoneyFault}
 use Rattle.pb_core.specs.declared.money_fault.MoneyFault.TheVariants.{BadMoney, MoneyTooFine, MoneyTooLarge}
-use Rattle.pb_read.proofs.ListFacts.{ok≢err, same_Ok}
+use Rattle.pb_read.proofs.ListFacts.{ok≢err, same_Err, same_Ok}
 use Rattle.pb_read.specs.Lengths.{has_length_form, max_length_of}
 use Rattle.pb_read.specs.Rows.{is_empty}
 use Rattle.pb_read.specs.declared.fault.ReadKind.{ReadKind}
@@ -92,3 +92,35 @@ no_limit_read text some zeros read =
     let is = large_is (has_money_form text) (is_in_hundredths text) (nat_le (hundredths text) largest_money) (hundredths text) read in
     none_is (is_empty text) (has_length_form text) (nat_le (digits_value 10 (whole_part text)) most_projects) (digits_value 10 (whole_part text)) some
     (both (has_money_form text) (list_all (λ c. c == 48) (fraction text)) is.0 zeros) (far_above (hundredths text) (digits_value 10 (whole_part text)) (whole_only text zeros) is.1)
+
+-- no text
+pub no_text_read : (text : List ℕ) → is_empty text ≡ true → Ok None ≡ max_length_of text
+no_text_read text empty = sym (ap (λ t. limit_by t (has_length_form text) (nat_le (digits_value 10 (whole_part text)) most_projects) (digits_value 10 (whole_part text))) empty)
+
+bad_form : (form zeros small : Bool) (w : ℕ) → zeros ≡ false → limit_by false (form && zeros) small w ≡ Err BadLength
+bad_form false zeros small w z = refl
+bad_form true zeros small w z = ap (λ t. limit_by false t small w) z
+
+-- decimals that are not zeros
+pub bad_decimals_read : (text : List ℕ) → is_empty text ≡ false → list_all (λ c. c == 48) (fraction text) ≡ false → Err BadLength ≡ max_length_of text
+bad_decimals_read text some zeros =
+    let w = digits_value 10 (whole_part text) in
+    sym (ap (λ t. limit_by t (has_length_form text) (nat_le w most_projects) w) some ∙ bad_form (has_money_form text) (list_all (λ c. c == 48) (fraction text)) (nat_le w most_projects) w zeros)
+
+bad_is : (form fine fits : Bool) (n : ℕ) → fine ≡ true → (kind : MoneyFault) → kind ≢ MoneyTooLarge → read_by form fine fits n ≡ Err kind → form ≡ false
+bad_is false fine fits n is kind other e = refl
+bad_is true true true n is kind other e = absurd (ok≢err e)
+bad_is true true false n is kind other e = absurd (other (sym (same_Err e)))
+bad_is true false fits n is kind other e = absurd (false≢true is)
+
+zeros_dropped : (ds : List ℕ) → list_all (λ c. c == 48) ds ≡ true → list_all (λ c. c == 48) (drop 2 ds) ≡ true
+zeros_dropped [] all = refl
+zeros_dropped (a ∷ []) all = refl
+zeros_dropped (a ∷ b ∷ ds) all = right_of (b == 48) (list_all (λ c. c == 48) ds) (right_of (a == 48) (list_all (λ c. c == 48) (b ∷ ds)) all)
+
+-- a text that is no amount, though its decimals are zeros
+pub bad_money_read : (text : List ℕ) → is_empty text ≡ false → list_all (λ c. c == 48) (fraction text) ≡ true → (kind : MoneyFault) → kind ≢ MoneyTooLarge → money_of text ≡ Err kind → Err BadLength ≡ max_length_of text
+bad_money_read text some zeros kind other read =
+    let w = digits_value 10 (whole_part text) in
+    let form = bad_is (has_money_form text) (is_in_hundredths text) (nat_le (hundredths text) largest_money) (hundredths text) (zeros_dropped (fraction text) zeros) kind other read in
+    sym (ap (λ t. limit_by t (has_length_form text) (nat_le w most_projects) w) some ∙ ap (λ t. limit_by false (t && list_all (λ c. c == 48) (fraction text)) (nat_le w most_projects) w) form)

@@ -27,6 +27,9 @@ ok≢err e = cc
 pub same_Ok : {A E : Type 0} {x y : A} → ◌≡◌ {A = Result A E} (Ok x) (Ok y) → x ≡ y
 same_Ok e = cc
 
+pub same_Err : {A E : Type 0} {x y : E} → ◌≡◌ {A = Result A E} (Err x) (Err y) → x ≡ y
+same_Err e = cc
+
 -- a check that was passed
 pub cond_none : {A : Type 0} (t : Bool) (k : A) (x : Option A) → cond t (Some k) x ≡ None → (t ≡ false) × (x ≡ None)
 cond_none true k x e = absurd (some≢none e)

@@ -14,7 +14,7 @@ use Rattle.pb_read.proofs.ListFacts.{cond_none, some≢none}
 use Rattle.pb_read.specs.Columns.{has_fields}
 use Rattle.pb_read.specs.Faults.{fails_by}
 use Rattle.pb_read.specs.Stages.{head, plain, next_row}
-use Rattle.pb_read.specs.Machine.{Position, with_row, step, bind, run, head_checks, project_checks, vote_checks, row_fault}
+use Rattle.pb_read.specs.Machine.{Position, with_row, step, bind, run, head_checks, project_checks, vote_checks, vote_row_checks, row_fault}
 use Rattle.pb_read.specs.Lengths.{max_length_of}
 use Rattle.pb_read.specs.MetaRows.{meta_of, value_of}
 use Rattle.pb_read.specs.Rows.{field, is_empty, is_word}
@@ -168,14 +168,20 @@ pub record PassesVote (columns : VoteColumns) (row : Fields) (e : ElectionView) 
   pub known : names_only (project_ids e) (field row columns.vote) ≡ true
   pub room : length e.voters < most_voters
 
-pub passes_vote : (columns : VoteColumns) (row : Fields) (e : ElectionView) → row_fault (InVotes columns, e) (plain row) ≡ None → PassesVote columns row e
-passes_vote columns row e none =
-    let whole = cond_none _ _ _ (sym (vote_fault columns row e) ∙ none) in
+-- by its checks, and as the first fault there
+pub passes_checks : (columns : VoteColumns) (row : Fields) (e : ElectionView) → vote_row_checks columns row e ≡ None → PassesVote columns row e
+unfolding vote_row_checks
+passes_checks columns row e none =
+    let whole = cond_none _ _ _ none in
     let has_id = cond_none _ _ _ whole.1 in
     let new_id = cond_none _ _ _ has_id.1 in
     let known = cond_none _ _ _ new_id.1 in
     let few = cond_none _ _ _ known.1 in
     record { whole = not-false _ whole.0; has_id = has_id.0; new_id = new_id.0; known = not-false _ known.0; room = leb-false most_voters (length e.voters) few.0 }
+
+pub passes_vote : (columns : VoteColumns) (row : Fields) (e : ElectionView) → row_fault (InVotes columns, e) (plain row) ≡ None → PassesVote columns row e
+unfolding vote_row_checks
+passes_vote columns row e none = passes_checks columns row e (sym (vote_fault columns row e) ∙ none)
 
 pub vote_passes : (columns : VoteColumns) (row : Fields) (e : ElectionView) → PassesVote columns row e → row_fault (InVotes columns, e) (plain row) ≡ None
 vote_passes columns row e p =

@@ -22,14 +22,11 @@ pub(crate) struct VoteColumns {
 }
 
 impl ProjectColumns {
-    ghost use Rattle.std.specs.Prelude.{◌≡◌, Ok, IfErr, IfOk, IsErrAnd, MatchResult};
+    ghost use Rattle.std.specs.Prelude.{◌≡◌, IfErr, IfOk};
     ghost use Rattle.pb_core.specs.Election.{ElectionView};
-    ghost use Rattle.pb_core.specs.Money.{money_of};
-    ghost use Rattle.pb_read.specs.MoneyKinds.{kind_of_money};
     ghost use Rattle.pb_read.specs.Drafts.{HasProject};
     ghost use Rattle.pb_read.specs.Machine.{Explains, project_row_checks};
-    ghost use Rattle.pb_read.specs.Columns.{has_fields, name_field, project_columns};
-    ghost use Rattle.pb_read.specs.Rows.{field};
+    ghost use Rattle.pb_read.specs.Columns.{name_field, project_columns};
 
     /// The columns that a header row of PROJECTS names: `project_id` and `cost` are needed.
     pub(crate) fn of(header: &Row) -> Option<ProjectColumns>
@@ -41,34 +38,18 @@ impl ProjectColumns {
         Some(ProjectColumns { id, cost, name })
     }
 
-    /// Whether a row has a field in each needed column.
-    fn are_in(&self, row: &Row) -> bool
-        ensures { result ≡ has_fields self.now.id self.now.cost row.now }
-    {
-        row.has_field(self.id) && row.has_field(self.cost)
-    }
-
-    /// The cost in a row.
-    fn cost(&self, row: &Row) -> Result<Money, ReadKind>
-        ensures { MatchResult result (λ cost. money_of (field row.now self.now.cost) ≡ Ok cost)
-            (λ kind.
-            IsErrAnd (money_of (field row.now self.now.cost)) (λ fault. kind ≡ kind_of_money fault)) }
-    {
-        Money::read(row.field(self.cost)).map_err(ReadKind::of_money)
-    }
-
     /// The id and the cost of the project in a row, or why it has none.
     pub(crate) fn id_and_cost<'r>(&self, row: &'r Row) -> Result<(&'r str, Money), ReadKind>
         ensures ok { IfOk result (λ found. HasProject self.now row.now found.0.now found.1) }
         ensures err { IfErr result (λ kind.
             (e : ElectionView) → Explains kind (project_row_checks self.now row.now e)) }
     {
-        if !self.are_in(row) {
+        if !row.has_fields(self.id, self.cost) {
             return Err(ReadKind::MissingField);
         }
-        let cost = match self.cost(row) {
+        let cost = match Money::read(row.field(self.cost)) {
             Ok(cost) => cost,
-            Err(kind) => return Err(kind),
+            Err(fault) => return Err(ReadKind::of_money(fault)),
         };
         if cost.0 == 0 {
             return Err(ReadKind::ZeroCost);
@@ -96,7 +77,7 @@ impl VoteColumns {
     ghost use Rattle.pb_core.specs.Election.{ElectionView};
     ghost use Rattle.pb_read.specs.Drafts.{HasVoter};
     ghost use Rattle.pb_read.specs.Machine.{Explains, vote_row_checks};
-    ghost use Rattle.pb_read.specs.Columns.{has_fields, vote_columns};
+    ghost use Rattle.pb_read.specs.Columns.{vote_columns};
 
     /// The columns that a header row of VOTES names: `voter_id` and `vote`, both needed.
     pub(crate) fn of(header: &Row) -> Option<VoteColumns>
@@ -107,20 +88,13 @@ impl VoteColumns {
         Some(VoteColumns { voter, vote })
     }
 
-    /// Whether a row has a field in each needed column.
-    fn are_in(&self, row: &Row) -> bool
-        ensures { result ≡ has_fields self.now.voter self.now.vote row.now }
-    {
-        row.has_field(self.voter) && row.has_field(self.vote)
-    }
-
     /// The voter's id in a row, or why it has none.
     pub(crate) fn voter_id(&self, alloc: Global, row: &Row) -> Result<VoterId, ReadKind>
         ensures ok { IfOk result (HasVoter self.now row.now) }
         ensures err { IfErr result (λ kind.
             (e : ElectionView) → Explains kind (vote_row_checks self.now row.now e)) }
     {
-        if !self.are_in(row) {
+        if !row.has_fields(self.voter, self.vote) {
             return Err(ReadKind::MissingField);
         }
         let Some(id) = VoterId::new(alloc, row.field(self.voter))? else {

@@ -1,10 +1,14 @@
 // The election as far as its rows were read.
 
-ghost use Rattle.std.specs.Prelude.{◌≡◌, ◌≤◌, [], IfErr, OnOk, None};
+ghost use Rattle.std.specs.Prelude.{◌≡◌, ◌≤◌, [], ◌∷◌, ◌++◌, IfErr, IfOk, OnOk, None};
+ghost use Rattle.pb_core.specs.Election.{project_ids, voter_ids};
 ghost use Rattle.pb_core.specs.Money.{largest_money};
-ghost use Rattle.pb_read.specs.Drafts.{IsTied};
+ghost use Rattle.pb_read.specs.Drafts.{HasVoter, IsTied};
+ghost use Rattle.pb_read.specs.Ids.{Finds};
 ghost use Rattle.pb_read.specs.Machine.{Explains, project_row_checks, vote_row_checks, with_project, with_voter};
+ghost use Rattle.pb_read.specs.Rows.{field};
 ghost use Rattle.pb_read.specs.StandsFor.{opening};
+ghost use Rattle.pb_read.specs.Voting.{ballot_of};
 
 use crate::columns::{ProjectColumns, VoteColumns};
 use crate::fault::ReadKind;
@@ -15,6 +19,7 @@ use pb_core::election::{Election, MOST_PROJECTS, MOST_VOTERS};
 use pb_core::money::Money;
 use pb_core::project::Project;
 use pb_core::voter::Voter;
+use pb_core::voter_id::VoterId;
 use pb_ids::IdTable;
 use std::alloc::Global;
 use std::mem;
@@ -95,6 +100,34 @@ impl Draft {
             Ok(id) => id,
             Err(kind) => return Err(kind),
         };
+        match self.note_voter(columns, row, &id) {
+            Ok(ballot) => {
+                self.election.add_voter(Voter { id, ballot })?;
+                Ok(())
+            }
+            Err(kind) => Err(kind),
+        }
+    }
+
+    /// Notes the id of a row of VOTES as that of the next voter, and answers the row's ballot, or why it
+    /// gives none.
+    fn note_voter(
+        &mut self,
+        columns: VoteColumns,
+        row: &Row,
+        id: &VoterId,
+    ) -> Result<Ballot, ReadKind>
+        requires tied { IsTied self.old }
+        requires id { HasVoter columns row.now id.now }
+        ensures ok { IfOk result (λ ballot. (vote_row_checks columns row.now self.old.election ≡ None)
+            × (ballot ≡ ballot_of (project_ids self.old.election) (field row.now columns.vote))) }
+        ensures noted { OnOk result (Finds self.new.voter_ids
+            (voter_ids self.old.election ++ id.now ∷ [])) }
+        ensures kept { (self.new.election ≡ self.old.election)
+            × (self.new.project_ids ≡ self.old.project_ids) }
+        ensures err { IfErr result (λ kind.
+            Explains kind (vote_row_checks columns row.now self.old.election)) }
+    {
         let place = self.election.voters().len();
         let before = self.voter_ids.insert(self.alloc, id.text(), place as u32)?;
         if before.is_some() {
@@ -110,7 +143,6 @@ impl Draft {
         let ballot = Ballot::of(self.alloc, &self.places)?;
         // The clause of `places` tells the proof that the ballot rises.
         let _places = ballot.places();
-        self.election.add_voter(Voter { id, ballot })?;
-        Ok(())
+        Ok(ballot)
     }
 }

@@ -26,7 +26,8 @@ pub(crate) fn read_max_length(text: &str) -> Result<Option<u32>, ReadKind>
     match Money::read(text) {
         Ok(amount) => Ok(limit(amount.0 / 100)),
         Err(MoneyFault::MoneyTooLarge) => Ok(None),
-        Err(MoneyFault::BadMoney | MoneyFault::MoneyTooFine) => Err(ReadKind::BadLength),
+        Err(MoneyFault::BadMoney) => Err(ReadKind::BadLength),
+        Err(MoneyFault::MoneyTooFine) => Err(ReadKind::BadLength),
     }
 }
 

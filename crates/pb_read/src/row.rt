@@ -1,10 +1,10 @@
 // A record of the file as its trimmed fields.
 
-ghost use Rattle.std.specs.Prelude.{◌≡◌, IfOk, length, nat_lt};
+ghost use Rattle.std.specs.Prelude.{◌≡◌, IfOk};
 ghost use Rattle.std.specs.Str.{trim};
 ghost use Rattle.csv.specs.Records.{fields_of};
 ghost use Rattle.pb_rows.specs.Reading.{NextIsNoText};
-ghost use Rattle.pb_read.specs.Columns.{column};
+ghost use Rattle.pb_read.specs.Columns.{column, has_fields};
 ghost use Rattle.pb_read.specs.Rows.{field, is_blank, is_word, trimmed};
 ghost use Rattle.pb_read.specs.Tracking.{IsNextRow};
 
@@ -46,11 +46,12 @@ impl Row {
         records.read(&mut self.untrimmed)
     }
 
-    /// Whether the record has a field at a place, from 0.
-    pub(crate) fn has_field(&self, place: usize) -> bool
-        ensures { result ≡ nat_lt place (length self.now) }
+    /// Whether the record has a field at each of two places, from 0.
+    pub(crate) fn has_fields(&self, place: usize, other: usize) -> bool
+        ensures { result ≡ has_fields place other self.now }
     {
-        place < self.untrimmed.len()
+        let fields = self.untrimmed.len();
+        place < fields && other < fields
     }
 
     /// The field at a place, from 0; the empty text where the record ends before it.
