@@ -6,56 +6,77 @@ ghost use Rattle.pb_read.specs.Kinds.{name_of, number_of};
 use pb_core::money_fault::MoneyFault;
 use pb_core::no_memory::NoMemory;
 use std::alloc::AllocError;
-use std::fmt;
 use thiserror::Error;
 
 /// Why a file is refused. Within one record the checks run in rising number.
-#[derive(Clone, Copy, PartialEq, Eq, Debug)]
+#[derive(Clone, Copy, PartialEq, Eq, Debug, Error)]
 pub enum ReadKind {
     /// The reader failed; the records before this one have no fault.
+    #[error("the reader failed")]
     ReadFailed,
     /// A field of this record is not UTF-8.
+    #[error("a field is not UTF-8")]
     NotText,
     /// This is record 2,000,001.
+    #[error("too many records")]
     TooManyRecords,
     /// A section's head was due: the first record that is not blank is none, or the file ends
     /// before META, or while PROJECTS or VOTES is still to come.
+    #[error("a section is missing")]
     NoSection,
     /// A section's head that is not the next in order.
+    #[error("a section out of order")]
     SectionOrder,
     /// A section's head, or the end of the file, where a header row is due.
+    #[error("a section has no header row")]
     NoHeader,
     /// A header row of PROJECTS or VOTES lacks a needed column.
+    #[error("a needed column is missing")]
     MissingColumn,
     /// A row of PROJECTS or VOTES ends before a needed column.
+    #[error("a needed field is missing")]
     MissingField,
     /// At PROJECTS' head: META lacks `budget` or `vote_type`.
+    #[error("a needed key of META is missing")]
     MissingKey,
     /// At PROJECTS' head: the vote type is not `approval`.
+    #[error("the vote type is not approval")]
     VoteType,
     /// The budget, at PROJECTS' head, or a project's cost is no money text.
+    #[error("an amount is malformed")]
     BadMoney,
     /// The same is finer than a hundredth.
+    #[error("an amount is finer than a hundredth")]
     MoneyTooFine,
     /// The same is above the largest amount.
+    #[error("an amount is too large")]
     MoneyTooLarge,
     /// A project's cost is 0.
+    #[error("a project costs nothing")]
     ZeroCost,
     /// A project's or a voter's id is empty.
+    #[error("an id is empty")]
     EmptyId,
     /// The project's id stood in an earlier row.
+    #[error("a project's id is repeated")]
     RepeatedProject,
     /// The voter's id stood in an earlier row.
+    #[error("a voter's id is repeated")]
     RepeatedVoter,
     /// A vote names an id that no project has.
+    #[error("a vote names an unknown project")]
     UnknownProject,
     /// The 10,001st project row.
+    #[error("too many projects")]
     TooManyProjects,
     /// The 1,000,001st vote row.
+    #[error("too many voters")]
     TooManyVoters,
     /// Memory was refused; the records before this one have no fault.
+    #[error("out of memory")]
     NoMemory,
     /// At PROJECTS' head: META's `max_length` is no number, perhaps with zeros as decimals, nor empty.
+    #[error("the limit on a ballot's length is malformed")]
     BadLength,
 }
 
@@ -132,43 +153,7 @@ impl ReadKind {
             ReadKind::BadLength => "BadLength",
         }
     }
-
-    /// What is wrong, in words.
-    fn message(&self) -> &'static str {
-        match self {
-            ReadKind::ReadFailed => "the reader failed",
-            ReadKind::NotText => "a field is not UTF-8",
-            ReadKind::TooManyRecords => "too many records",
-            ReadKind::NoSection => "a section is missing",
-            ReadKind::SectionOrder => "a section out of order",
-            ReadKind::NoHeader => "a section has no header row",
-            ReadKind::MissingColumn => "a needed column is missing",
-            ReadKind::MissingField => "a needed field is missing",
-            ReadKind::MissingKey => "a needed key of META is missing",
-            ReadKind::VoteType => "the vote type is not approval",
-            ReadKind::BadMoney => "an amount is malformed",
-            ReadKind::MoneyTooFine => "an amount is finer than a hundredth",
-            ReadKind::MoneyTooLarge => "an amount is too large",
-            ReadKind::ZeroCost => "a project costs nothing",
-            ReadKind::EmptyId => "an id is empty",
-            ReadKind::RepeatedProject => "a project's id is repeated",
-            ReadKind::RepeatedVoter => "a voter's id is repeated",
-            ReadKind::UnknownProject => "a vote names an unknown project",
-            ReadKind::TooManyProjects => "too many projects",
-            ReadKind::TooManyVoters => "too many voters",
-            ReadKind::NoMemory => "out of memory",
-            ReadKind::BadLength => "the limit on a ballot's length is malformed",
-        }
-    }
 }
-
-impl fmt::Display for ReadKind {
-    fn fmt<W: fmt::Write>(&self, f: &mut fmt::Formatter<W>) -> fmt::Result {
-        f.write_str(self.message())
-    }
-}
-
-impl std::error::Error for ReadKind {}
 
 impl From<NoMemory> for ReadKind {
     ghost use Rattle.std.specs.Prelude.{◌≡◌};
