@@ -1,16 +1,16 @@
 -- What is true of the supporters of an election.
-use Rattle.std.proofs.Common.{◌≡◌, ℕ, zero, suc, ◌+◌, ◌<◌, ◌≤◌, true, List, [], ◌∷◌, length, get_or, sym, ◌∙◌, add-one, arith}
-use Rattle.std.specs.Prelude.{All, slice_index}
+use Rattle.std.proofs.Common.{ℕ, ◌+◌, ◌<◌, ◌≤◌, length, sym, ◌∙◌, arith}
+use Rattle.std.specs.Prelude.{All}
 use Rattle.std.specs.List.{range_with_len}
 use Rattle.std.specs.List.Sorted.{IsStrictlyIncreasing}
-use Rattle.std.proofs.lemmas.List.{get_or-map, length-map}
-use Rattle.std.proofs.lemmas.List.FromFn.{length-range_with_len, get_or-range_with_len, get_or-map-range_with_len, length-map-range_with_len}
-use Rattle.std.proofs.lemmas.List.Elements.{All-filter, All-map, All-from_get_or, filter_passes}
+use Rattle.std.proofs.lemmas.List.{length-map}
+use Rattle.std.proofs.lemmas.List.FromFn.{length-range_with_len, get_or-range_with_len, length-map-range_with_len}
+use Rattle.std.proofs.lemmas.List.Elements.{All-filter, All-map, All-from_get_or}
 use Rattle.std.proofs.lemmas.List.Kept.{IsStrictlyIncreasing-filter}
 use Rattle.pb_core.specs.Ballot.{approves}
-use Rattle.pb_core.specs.Election.{ElectionView, ProjectView, IsElection}
+use Rattle.pb_core.specs.Election.{ElectionView, IsElection}
 use Rattle.pb_core.specs.Money.{largest_money}
-use Rattle.pb_price.specs.Supporters.{ballot_at, supporters_of, SupportView, support_of, supporters_at, cost_at, IsSupport}
+use Rattle.pb_price.specs.Supporters.{ballot_at, supporters_of, support_of, IsSupport}
 
 range_with_len_rises : (a n : ℕ) → IsStrictlyIncreasing (range_with_len a n)
 range_with_len_rises a n k h =

@@ -1,6 +1,6 @@
 -- What a worker draws and answers, and how the answers come together.
-use Rattle.std.proofs.Common.{◌≡◌, ℕ, zero, suc, ◌+◌, ◌<◌, ◌≤◌, min, cond, List, [], ◌∷◌, ◌++◌, length, map, Option, None, get_or, set, refl, sym, ap, subst, ◌∙◌, inl, inr, arith, append_assoc, append-nil}
-use Rattle.std.specs.Prelude.{All, nat_eq, nat_le, nat_lt, sum_by, slice_index}
+use Rattle.std.proofs.Common.{◌≡◌, ℕ, zero, suc, ◌+◌, ◌<◌, ◌≤◌, min, cond, List, [], ◌∷◌, ◌++◌, length, map, Option, None, Result, Ok, get_or, set, refl, sym, ap, subst, ◌∙◌, inl, inr, arith, append_assoc, append-nil}
+use Rattle.std.specs.Prelude.{All, IfOk, nat_eq, nat_le, nat_lt, sum_by, slice_index}
 use Rattle.std.specs.List.{range_with_len}
 use Rattle.std.proofs.lemmas.Bool.{cases_eq, cases_lt, eq-eqb, ne_eqb, le-ltb, lt-leb, lt-ltb, le-leb}
 use Rattle.std.proofs.lemmas.List.{ext_get_or, get_or-map, get_or-set_other, get_or-set_same, length-append, length-map, length-set, map-append}
@@ -48,8 +48,14 @@ all_popped P (y ∷ ys) x h =
     let others = all_popped P ys x (All-tail P y (ys ++ x ∷ []) h) in
     (all_cons P y ys (h 0 y (omega arith)) others.0, others.1)
 
-pub popped : {X : Type 0} (P : X → Type 0) (old new : List X) (x : X) → old ≡ new ++ x ∷ [] → All P old → All P new × P x
+popped : {X : Type 0} (P : X → Type 0) (old new : List X) (x : X) → old ≡ new ++ x ∷ [] → All P old → All P new × P x
 popped P old new x e h = all_popped P new x (subst (All P) e h)
+
+-- the last of some results, where it is none of a refusal
+pub popped_done : {X E : Type 0} (P : X → Type 0) (old new : List (Result X E)) (r : Result X E) (x : X) → old ≡ new ++ r ∷ [] → r ≡ Ok x → All (λ r. IfOk r P) old → All (λ r. IfOk r P) new × P x
+popped_done P old new r x e is h =
+    let both = popped (λ r. IfOk r P) old new r e h in
+    (both.0, subst (λ r. IfOk r P) is both.1)
 
 module _ (s : SupportView) (rests projects : List ℕ) where
   -- answers are of pieces

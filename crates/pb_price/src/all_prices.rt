@@ -3,10 +3,10 @@ ghost use Rattle.pb_core.specs.Election.{most_projects};
 ghost use Rattle.pb_price.specs.Claims.{drawn};
 ghost use Rattle.pb_price.specs.Price.{price_at, AreRests, largest_count};
 ghost use Rattle.pb_price.specs.PriceFault.{is_worker_count};
-ghost use Rattle.pb_price.specs.Working.{IsBatch, IsDone};
+ghost use Rattle.pb_price.specs.Working.{AreGathered, IsBatch, IsDone};
 
-use crate::claims::Claims;
 use crate::claims::rule::Batch;
+use crate::claims::{Claim, Claims};
 use crate::common_rest::{common_rest, price_by};
 use crate::gate::Gate;
 use crate::gathering::{Gathered, take_in};
@@ -126,14 +126,49 @@ fn price_side_by_side<
 {
     let pieces = projects.len() as u32;
     let (claims, mut stock) = Claims::open(alloc, Batch { pieces, workers })?;
-    let staff = staff(alloc, &claims, &mut stock, workers)?;
-    let mut done = work_side_by_side(rt, staff, &claims, gate, projects, supporters, rests)?;
+    match gather_answers(
+        rt, alloc, workers, &claims, &mut stock, gate, projects, supporters, rests,
+    ) {
+        Ok(gathered) => {
+            claims.close(stock);
+            Ok(gathered)
+        }
+        Err(refused) => Err(refused),
+    }
+}
+
+/// Lets this many workers work, and gathers their answers; all their seats and numbers are then in `stock`.
+fn gather_answers<
+    R: Threads + Sync,
+    A: Allocator + Copy + Send + Sync,
+    B: Allocator + Sync,
+    G: Gate,
+>(
+    rt: &R,
+    alloc: A,
+    workers: u32,
+    claims: &Claims<A>,
+    stock: &mut Claim,
+    gate: &G,
+    projects: &[u32],
+    supporters: &Supporters<B>,
+    rests: &[Money],
+) -> Result<Gathered<A>, NoMemory>
+    requires same { stock.old.seat.table_id ≡ claims.now.table.shared.table_id }
+    requires seats { stock.old.seat.me.0 ≡ drawn workers [] }
+    requires batch { IsBatch supporters.now rests.now projects.now claims.now.table.shared.key.pieces }
+    ensures same { stock.new.seat.table_id ≡ claims.now.table.shared.table_id }
+    ensures all { OnOk result (stock.new.seat.me.0.seats ≡ workers) }
+    ensures gathered { IfOk result (λ g.
+        AreGathered supporters.now rests.now projects.now stock.new.seat.me.0 g.prices.items g.priced) }
+{
+    let staff = staff(alloc, claims, stock, workers)?;
+    let mut done = work_side_by_side(rt, staff, claims, gate, projects, supporters, rests)?;
     let mut prices = vec![in alloc; None; projects.len()]?;
     let mut priced = 0;
     while let Some(worker) = done.pop() {
-        priced += take_in(&claims, &mut stock, &mut prices, worker?);
+        priced += take_in(claims, stock, &mut prices, worker?);
     }
-    claims.close(stock);
     Ok(Gathered { prices, priced })
 }
 

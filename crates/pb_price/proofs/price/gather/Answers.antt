@@ -1,5 +1,6 @@
 use Rattle.std.proofs.Common.{get_or, ◌∙◌, arith}
 use Rattle.std.proofs.lemmas.List.{get_or_read}
+use Rattle.std.proofs.lemmas.Result.{IfOk-from_err}
 use Rattle.pb_price.proofs.WalkedRests.{gathered_more}
 use Rattle.pb_price.proofs.price.gather.Goals as goal
 
@@ -23,3 +24,9 @@ loop-voter-preserved g c =
       added = omega (arith, more.1, c.from-total.ensures);
       fits = omega (arith, read, c.requires.bounded voter 0 l);
     }
+
+pub returns-in_err-reserve-clause-total : goal.returns-in_err-reserve-clause-total
+returns-in_err-reserve-clause-total g c = IfOk-from_err _ _ c.from_residual.ensures.0
+
+pub returns-in_err-push-clause-total : goal.returns-in_err-push-clause-total
+returns-in_err-push-clause-total g c = IfOk-from_err _ _ c.from_residual-in_err-push.ensures.0

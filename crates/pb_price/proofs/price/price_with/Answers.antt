@@ -1,4 +1,5 @@
 use Rattle.std.proofs.Common.{sym, arith}
+use Rattle.std.proofs.lemmas.Result.{IfOk-from_err}
 use Rattle.pb_price.specs.Supporters.{supporters_at, cost_at}
 use Rattle.pb_price.proofs.Payments.{price_from_least, no_price_from_short}
 use Rattle.pb_price.proofs.WalkedRests.{ordered_rests, ordered_slice, sum-ordered, gathered_total, least_from_ordered}
@@ -35,3 +36,9 @@ returns-clause-least g c =
 pub returns-clause-price : goal.returns-clause-price
 returns-clause-price g c =
     sym (price_from_least (supporters_at c.args.supporters.now c.args.place) c.args.rests.now (cost_at c.args.supporters.now c.args.place) c.least_payment-payment.result (returns-clause-least g c))
+
+pub returns-in_err-total-clause-price : goal.returns-in_err-total-clause-price
+returns-in_err-total-clause-price g c = IfOk-from_err _ _ c.from_residual.ensures.0
+
+pub returns-in_err-total-clause-least : goal.returns-in_err-total-clause-least
+returns-in_err-total-clause-least g c = IfOk-from_err _ _ c.from_residual.ensures.0

@@ -1,4 +1,5 @@
 use Rattle.std.proofs.Common.{◌≡◌, length, ap, sym, ◌∙◌, arith}
+use Rattle.std.proofs.lemmas.Result.{IfOk-from_err}
 use Rattle.pb_price.proofs.BuiltLists.{ballot_read, ballot_known}
 use Rattle.pb_price.proofs.supporters.supporter_counts.Goals as goal
 
@@ -13,3 +14,9 @@ count_ballot-requires g c =
     let known = ballot_known e i ballot c.voters-voter-items.ensures.is_election (omega (arith, ap length same)) read in
     let counted : length c.loop-voter.counts.items ≡ length e.projects = c.loop-voter.invariant ∙ sym c.in_ok-counts.counts.ok.0 ∙ c.in_ok-counts.ensures.len ∙ ap length c.projects.ensures.projects in
     record { known = λ k d h. omega (arith, known k d h, counted) }
+
+pub returns-in_err-counts : goal.returns-in_err-counts
+returns-in_err-counts g c = IfOk-from_err _ _ c.from_residual.ensures.0
+
+pub returns : goal.returns
+returns g c = c.loop-voter.invariant ∙ sym c.in_ok-counts.counts.ok.0 ∙ c.in_ok-counts.ensures.len ∙ ap length c.projects.ensures.projects

@@ -1,5 +1,6 @@
 use Rattle.std.proofs.Common.{◌≡◌, ℕ, ◌+◌, ◌-◌, [], ap, ◌∙◌, arith, rules}
 use Rattle.std.proofs.lemmas.List.Elements.{All-push}
+use Rattle.std.proofs.lemmas.Result.{IfOk-from_err}
 use Rattle.pb_price.specs.Claims.{drawn}
 use Rattle.pb_price.proofs.worker.staff.Goals as goal
 
@@ -12,3 +13,21 @@ loop-number-preserved g c =
       claims = rw c.in_ok-push.ensures.items (All-push (λ w. w.claim.seat.table_id ≡ c.args.claims.now.table.shared.table_id) _ _ c.loop-number.invariant.claims c.split-claim.ensures.worker.0);
       fresh = rw c.in_ok-push.ensures.items (All-push (λ w. (w.claim.seat.me.0 ≡ drawn 1 []) × (w.answers.items ≡ [])) _ _ c.loop-number.invariant.fresh (c.split-claim.ensures.worker.1, c.new-answers.ensures.items));
     }
+
+pub returns-in_err-staff-clause-all : goal.returns-in_err-staff-clause-all
+returns-in_err-staff-clause-all g c = IfOk-from_err _ _ c.from_residual.ensures.0
+
+pub returns-in_err-staff-clause-claims : goal.returns-in_err-staff-clause-claims
+returns-in_err-staff-clause-claims g c = IfOk-from_err _ _ c.from_residual.ensures.0
+
+pub returns-in_err-staff-clause-fresh : goal.returns-in_err-staff-clause-fresh
+returns-in_err-staff-clause-fresh g c = IfOk-from_err _ _ c.from_residual.ensures.0
+
+pub returns-in_err-push-clause-all : goal.returns-in_err-push-clause-all
+returns-in_err-push-clause-all g c = IfOk-from_err _ _ c.from_residual-in_err-push.ensures.0
+
+pub returns-in_err-push-clause-claims : goal.returns-in_err-push-clause-claims
+returns-in_err-push-clause-claims g c = IfOk-from_err _ _ c.from_residual-in_err-push.ensures.0
+
+pub returns-in_err-push-clause-fresh : goal.returns-in_err-push-clause-fresh
+returns-in_err-push-clause-fresh g c = IfOk-from_err _ _ c.from_residual-in_err-push.ensures.0

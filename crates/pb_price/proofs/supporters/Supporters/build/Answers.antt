@@ -1,4 +1,5 @@
 use Rattle.std.proofs.Common.{length, ap}
+use Rattle.std.proofs.lemmas.Result.{IfOk-from_err}
 use Rattle.pb_price.proofs.SupporterLists.{IsSupport-support_of}
 use Rattle.pb_price.proofs.supporters.Supporters.build.Goals as goal
 
@@ -6,3 +7,9 @@ pub invariant_of-result : goal.invariant_of-result
 invariant_of-result g c =
     rw (ap length c.voters.ensures.voters, c.in_ok-costs.ensures, c.in_ok-lists.ensures)
     (IsSupport-support_of c.args.election.now c.voters.ensures.is_election)
+
+pub returns-in_err-costs : goal.returns-in_err-costs
+returns-in_err-costs g c = IfOk-from_err _ _ c.from_residual.ensures.0
+
+pub returns-in_err-lists : goal.returns-in_err-lists
+returns-in_err-lists g c = IfOk-from_err _ _ c.from_residual-in_err-lists.ensures.0

@@ -1,5 +1,6 @@
 use Rattle.std.proofs.Common.{◌≡◌, ◌<◌, length, refl, rules, arith}
 use Rattle.std.specs.Prelude.{slice_index}
+use Rattle.std.proofs.lemmas.Result.{IfOk-from_err}
 use Rattle.pb_price.proofs.Workers.{may_draw, works_on, works_towards}
 use Rattle.pb_price.proofs.worker.Worker.work.Goals as goal
 
@@ -27,3 +28,6 @@ loop-place-smaller g c =
     let after = works_towards c.args.supporters.now c.args.rests.now c.args.projects.now c.loop-place.self.claim.seat.me.0 c.draw-number.new.claim.seat.me.0
     c.loop-place.self.answers.items c.draw-number.result c.loop-place.invariant.working c.draw-number.ensures.drawn c.draw-number.ensures.once in
     omega (arith, less, after, c.in_ok-push.ensures.len)
+
+pub returns-in_err-push : goal.returns-in_err-push
+returns-in_err-push g c = IfOk-from_err _ _ c.from_residual.ensures.0

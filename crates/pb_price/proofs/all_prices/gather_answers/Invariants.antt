@@ -1,7 +1,7 @@
 use Rattle.std.proofs.Common.{◌≡◌, ◌+◌, length}
 use Rattle.std.specs.Prelude.{All, IfOk}
 use Rattle.pb_price.specs.Working.{AreGathered, IsDone}
-use Rattle.pb_price.proofs.all_prices.price_side_by_side.Given as goal
+use Rattle.pb_price.proofs.all_prices.gather_answers.Given as goal
 
 abbrev pub invariant-loop-worker : goal.invariant-loop-worker
 invariant-loop-worker g l = record {
