@@ -1,16 +1,18 @@
 -- Ballots in slots.
-use Rattle.std.proofs.Common.{◌≡◌, ◌≢◌, ℕ, zero, suc, ◌+◌, ◌-◌, ◌<◌, ◌⊎◌, if◌then◌else◌, inl, inr, Bool, true, false, cond, List, [], ◌∷◌, ◌++◌, length, slice_get, slice_set, drop, Option, Some, None, is_some, refl, sym, ap, subst, ◌∙◌, true≢false, arith, length-append}
+use Rattle.std.proofs.Common.{◌≡◌, ◌≢◌, ℕ, zero, suc, ◌+◌, ◌-◌, ◌<◌, ◌≤◌, ◌⊎◌, if◌then◌else◌, inl, inr, Bool, true, false, cond, List, [], ◌∷◌, ◌++◌, length, get_or, slice_get, slice_set, drop, Option, Some, None, is_some, refl, sym, ap, subst, ◌∙◌, true≢false, add-one, arith, length-append}
 use Rattle.std.specs.Bool.{⊤}
+use Rattle.std.specs.FinMap as map
 use Rattle.std.specs.List.{cons_option}
 use Rattle.std.specs.Map.{lookup, remove_entry, set_value}
 use Rattle.std.specs.Option.{option_map}
 use Rattle.std.specs.Str.{bytes_eq}
 use Rattle.std.proofs.lemmas.Bool.Decides.{eqb_tells}
-use Rattle.std.proofs.lemmas.List.{length-set}
+use Rattle.std.proofs.lemmas.List.{drop_all, length-set}
 use Rattle.std.proofs.lemmas.List.Elements.{filter_map-append}
 use Rattle.std.proofs.lemmas.Map.{NonePasses, lookup-none}
-use Rattle.std.proofs.lemmas.Option.{none-some, same_Some, slice_get_within}
+use Rattle.std.proofs.lemmas.Option.{none-some, same_Some, slice_get_read, slice_get_within}
 use Rattle.std.proofs.lemmas.Slice.Eq.{bytes_eq-Decides}
+use Rattle.pb_ids.specs.Places.{Places, get_inserted}
 use Rattle.pb_desk.specs.declared.source.Source.{Source}
 use Rattle.pb_desk.specs.Slots.{filed, IsListing}
 use Rattle.pb_desk.proofs.Ballots.{set_value-absent}
@@ -248,37 +250,94 @@ set_same [] k x at = refl
 set_same (y ∷ ys) zero x at = ap (λ z. z ∷ ys) (sym (same_Some y x at))
 set_same (y ∷ ys) (suc k) x at = ap (λ zs. y ∷ zs) (set_same ys k x at)
 
-module _ (slot_of : List ℕ → Option ℕ) (slots : List (Option (List ℕ × Source))) (count : ℕ) (is : IsListing slot_of slots count) (voter : List ℕ)
-    (s : ℕ) (known : slot_of voter ≡ Some s) where
-  pub get_at : (slot : Option (List ℕ × Source)) → slice_get slots s ≡ Some slot → option_map (λ (b : List ℕ × Source). b.1) slot ≡ lookup (bytes_eq voter) (filed slots)
-  get_at None at = get_gap slot_of slots count is voter s known at
-  get_at (Some b) at = get_filled slot_of slots count is voter s b known at
+module _ (slot_of : List ℕ → Option ℕ) (slots : List (Option (List ℕ × Source))) (count : ℕ) (is : IsListing slot_of slots count)
+    (ballots : List (List ℕ × Source)) (listed : filed slots ≡ ballots) (voter text : List ℕ) (told : text ≡ voter) (looked : Option ℕ) (got : looked ≡ slot_of text) where
+  -- the table has no slot of the voter
+  module _ (none : looked ≡ None) where
+    unknown : slot_of voter ≡ None
+    unknown = ap slot_of (sym told) ∙ sym got ∙ none
 
-  pub replace_at : (w : Source) (slot : Option (List ℕ × Source)) → slice_get slots s ≡ Some slot →
-      filed (slice_set slots s (option_map (λ (b : List ℕ × Source). (b.0, w)) slot)) ≡ set_value (bytes_eq voter) (filed slots) w
-  replace_at w None at = ap filed (set_same slots s None at) ∙ replace_gap slot_of slots count is voter w s known at
-  replace_at w (Some b) at = replace_filled slot_of slots count is voter s b known at w
+    pub none_found : None ≡ lookup (bytes_eq voter) ballots
+    none_found = get_unknown slot_of slots count is voter unknown ∙ ap (lookup (bytes_eq voter)) listed
 
-  pub IsListing-replace_at : (w : Source) (slot : Option (List ℕ × Source)) → slice_get slots s ≡ Some slot →
-      IsListing slot_of (slice_set slots s (option_map (λ (b : List ℕ × Source). (b.0, w)) slot)) count
-  IsListing-replace_at w None at = subst (λ now. IsListing slot_of now count) (sym (set_same slots s None at)) is
-  IsListing-replace_at w (Some b) at = IsListing-replaced slot_of slots count is voter s b known at w
+    pub none_replaced : (w : Source) → ballots ≡ set_value (bytes_eq voter) ballots w
+    none_replaced w = sym listed ∙ replace_unknown slot_of slots count is voter w unknown ∙ ap (λ bs. set_value (bytes_eq voter) bs w) listed
 
-  pub remove_at : (slot : Option (List ℕ × Source)) → slice_get slots s ≡ Some slot → filed (slice_set slots s None) ≡ remove_entry (bytes_eq voter) (filed slots)
-  remove_at None at = ap filed (set_same slots s None at) ∙ remove_gap slot_of slots count is voter s known at
-  remove_at (Some b) at = remove_filled slot_of slots count is voter s b known at
+    pub none_removed : ballots ≡ remove_entry (bytes_eq voter) ballots
+    none_removed = sym listed ∙ remove_unknown slot_of slots count is voter unknown ∙ ap (remove_entry (bytes_eq voter)) listed
 
-  pub IsListing-remove_at : (slot : Option (List ℕ × Source)) → slice_get slots s ≡ Some slot → is_some slot ≡ true → IsListing slot_of (slice_set slots s None) (count - 1)
-  IsListing-remove_at None at says = absurd (true≢false (sym says))
-  IsListing-remove_at (Some b) at says = IsListing-removed slot_of slots count is voter s b known at
+  -- the slot that the table names is a gap, or the voter's
+  module _ (s : ℕ) (says : looked ≡ Some s) (slot : Option (List ℕ × Source)) (read : slot ≡ get_or slots s slot) where
+    known : slot_of voter ≡ Some s
+    known = ap slot_of (sym told) ∙ sym got ∙ says
 
-  pub IsListing-gap_at : (slot : Option (List ℕ × Source)) → slice_get slots s ≡ Some slot → is_some slot ≡ false → IsListing slot_of (slice_set slots s None) count
-  IsListing-gap_at None at says = subst (λ now. IsListing slot_of now count) (sym (set_same slots s None at)) is
-  IsListing-gap_at (Some b) at says = absurd (true≢false says)
+    at : slice_get slots s ≡ Some slot
+    at = slice_get_read slots (length slots) s slot refl (is.within voter s known) read
 
-  pub some_at : (slot : Option (List ℕ × Source)) → slice_get slots s ≡ Some slot → is_some slot ≡ true → zero < count
-  some_at None at says = absurd (true≢false (sym says))
-  some_at (Some b) at says = some_filled slot_of slots count is voter s b known at
+    pub slot_found : option_map (λ (b : List ℕ × Source). b.1) slot ≡ lookup (bytes_eq voter) ballots
+    slot_found = by slot at ∙ ap (lookup (bytes_eq voter)) listed
+      where
+        by : (there : Option (List ℕ × Source)) → slice_get slots s ≡ Some there → option_map (λ (b : List ℕ × Source). b.1) there ≡ lookup (bytes_eq voter) (filed slots)
+        by None gap = get_gap slot_of slots count is voter s known gap
+        by (Some b) filled = get_filled slot_of slots count is voter s b known filled
+
+    pub slot_replaced : (w : Source) (now : Option (List ℕ × Source)) → now ≡ option_map (λ (b : List ℕ × Source). (b.0, w)) slot →
+        filed (slice_set slots s now) ≡ set_value (bytes_eq voter) ballots w
+    slot_replaced w now written = ap (λ o. filed (slice_set slots s o)) written ∙ by slot at ∙ ap (λ bs. set_value (bytes_eq voter) bs w) listed
+      where
+        by : (there : Option (List ℕ × Source)) → slice_get slots s ≡ Some there →
+            filed (slice_set slots s (option_map (λ (b : List ℕ × Source). (b.0, w)) there)) ≡ set_value (bytes_eq voter) (filed slots) w
+        by None gap = ap filed (set_same slots s None gap) ∙ replace_gap slot_of slots count is voter w s known gap
+        by (Some b) filled = replace_filled slot_of slots count is voter s b known filled w
+
+    pub IsListing-slot_replaced : (w : Source) (now : Option (List ℕ × Source)) → now ≡ option_map (λ (b : List ℕ × Source). (b.0, w)) slot → IsListing slot_of (slice_set slots s now) count
+    IsListing-slot_replaced w now written = rw written (by slot at)
+      where
+        by : (there : Option (List ℕ × Source)) → slice_get slots s ≡ Some there → IsListing slot_of (slice_set slots s (option_map (λ (b : List ℕ × Source). (b.0, w)) there)) count
+        by None gap = subst (λ os. IsListing slot_of os count) (sym (set_same slots s None gap)) is
+        by (Some b) filled = IsListing-replaced slot_of slots count is voter s b known filled w
+
+    pub slot_removed : (now : Option (List ℕ × Source)) → now ≡ None → filed (slice_set slots s now) ≡ remove_entry (bytes_eq voter) ballots
+    slot_removed now emptied = ap (λ o. filed (slice_set slots s o)) emptied ∙ by slot at ∙ ap (remove_entry (bytes_eq voter)) listed
+      where
+        by : (there : Option (List ℕ × Source)) → slice_get slots s ≡ Some there → filed (slice_set slots s None) ≡ remove_entry (bytes_eq voter) (filed slots)
+        by None gap = ap filed (set_same slots s None gap) ∙ remove_gap slot_of slots count is voter s known gap
+        by (Some b) filled = remove_filled slot_of slots count is voter s b known filled
+
+    pub IsListing-slot_removed : (now : Option (List ℕ × Source)) → now ≡ None → is_some slot ≡ true → IsListing slot_of (slice_set slots s now) (count - 1)
+    IsListing-slot_removed now emptied stood = rw emptied (by slot at stood)
+      where
+        by : (there : Option (List ℕ × Source)) → slice_get slots s ≡ Some there → is_some there ≡ true → IsListing slot_of (slice_set slots s None) (count - 1)
+        by None gap stood = absurd (true≢false (sym stood))
+        by (Some b) filled stood = IsListing-removed slot_of slots count is voter s b known filled
+
+    pub some_stood : is_some slot ≡ true → zero < count
+    some_stood stood = by slot at stood
+      where
+        by : (there : Option (List ℕ × Source)) → slice_get slots s ≡ Some there → is_some there ≡ true → zero < count
+        by None gap stood = absurd (true≢false (sym stood))
+        by (Some b) filled stood = some_filled slot_of slots count is voter s b known filled
+
+-- a list whose table and slots are as they were
+pub IsListing-kept : (table now : Places) (slots slots_now : List (Option (List ℕ × Source))) (count : ℕ) → IsListing (map.get table) slots count → now ≡ table → slots_now ≡ slots →
+    IsListing (map.get now) slots_now count
+IsListing-kept table now slots slots_now count is same kept = rw (same, kept) is
+
+-- a list with a ballot more
+module _ (slots between slots_now : List (Option (List ℕ × Source))) (voter own : List ℕ) (source : Source)
+    (grown : slots_now ≡ between ++ Some (own, source) ∷ []) (kept : between ≡ slots) (copied : own ≡ voter) where
+  are_now : slots_now ≡ slots ++ Some (voter, source) ∷ []
+  are_now = grown ∙ (λ j. kept j ++ Some (copied j, source) ∷ [])
+
+  pub IsListing-pushed : (table now : Places) (count slot : ℕ) (text : List ℕ) → IsListing (map.get table) slots count → now ≡ map.insert table text slot → text ≡ voter →
+      slot ≡ length slots → lookup (bytes_eq voter) (filed slots) ≡ None → IsListing (map.get now) slots_now (count + 1)
+  IsListing-pushed table now count slot text is inserted told last new =
+      let given : (id : List ℕ) → map.get now id ≡ (if bytes_eq voter id then Some slot else map.get table id) =
+      λ id. ap (λ (m : Places). map.get m id) inserted ∙ ap (λ (t : List ℕ). map.get (map.insert table t slot) id) told ∙ get_inserted table voter slot id in
+      rw are_now (IsListing-push (map.get table) slots count is voter (map.get now) slot source given last new)
+
+  pub filed_pushed : (ballots : List (List ℕ × Source)) → filed slots ≡ ballots → filed slots_now ≡ ballots ++ (voter, source) ∷ []
+  filed_pushed ballots listed = ap filed are_now ∙ filed-push slots (voter, source) ∙ ap (λ bs. bs ++ (voter, source) ∷ []) listed
 
 -- no voter stands twice
 abbrev pub NoneTwice : List (List ℕ × Source) → Type 0
@@ -304,3 +363,23 @@ pub none_after : (slot_of : List ℕ → Option ℕ) (slots : List (Option (List
 none_after slot_of slots count is k b at =
     absent (bytes_eq b.0) (drop (suc k) slots) (λ t p at_t.
     others_fail slot_of slots count is b.0 k (suc k + t) p (is.there k b at) (omega arith) (get-drop (suc k) slots t ∙ at_t))
+
+-- the ballot at a place in the order of the slots, looked for from a slot on
+module _ (slots : List (Option (List ℕ × Source))) (k left place : ℕ) (so_far : slice_get (filed (drop k slots)) left ≡ slice_get (filed slots) place) where
+  pub nth_past : length slots ≤ k → None ≡ slice_get (filed slots) place
+  nth_past past = sym (ap (λ os. slice_get (filed os) left) (drop_all k slots past)) ∙ so_far
+
+  module _ (slot : Option (List ℕ × Source)) (below : k < length slots) (is : slot ≡ get_or slots k slot) where
+    begins_here : filed (drop k slots) ≡ cons_option slot (filed (drop (k + 1) slots))
+    begins_here = filed-drop slots k slot (slice_get_read slots (length slots) k slot refl below is) ∙ ap (λ n. cons_option slot (filed (drop n slots))) (sym (add-one k))
+
+    pub nth_gap : slot ≡ None → slice_get (filed (drop (k + 1) slots)) left ≡ slice_get (filed slots) place
+    nth_gap gap = sym (ap (λ bs. slice_get bs left) (begins_here ∙ ap (λ o. cons_option o (filed (drop (k + 1) slots))) gap)) ∙ so_far
+
+    pub nth_here : (b : List ℕ × Source) → slot ≡ Some b → left ≡ 0 → Some b ≡ slice_get (filed slots) place
+    nth_here b filled last = sym ((λ j. slice_get ((begins_here ∙ ap (λ o. cons_option o (filed (drop (k + 1) slots))) filled) j) (last j))) ∙ so_far
+
+    pub nth_later : (b : List ℕ × Source) → slot ≡ Some b → zero < left → slice_get (filed (drop (k + 1) slots)) (left - 1) ≡ slice_get (filed slots) place
+    nth_later b filled more =
+        let one_less : left ≡ suc (left - 1) = omega (arith, more) in
+        sym ((λ j. slice_get ((begins_here ∙ ap (λ o. cons_option o (filed (drop (k + 1) slots))) filled) j) (one_less j))) ∙ so_far

@@ -96,12 +96,30 @@ impl<A: Allocator> BallotList<A> {
         ensures { IfOk result (λ ballots. ballots ≡ opened_from 0 voters.now) }
     {
         let mut ballots = BallotList::with_capacity(alloc, voters.len())?;
+        match ballots.fill(alloc, voters) {
+            Ok(()) => Ok(ballots),
+            Err(NoMemory) => {
+                drop(ballots);
+                Err(NoMemory)
+            }
+        }
+    }
+
+    /// Adds the ballots of an election's voters, in their order, where there are none.
+    fn fill(&mut self, alloc: A, voters: &[Voter<A>]) -> Result<(), NoMemory>
+    where
+        A: Copy,
+        requires none { self.old ≡ [] }
+        requires few { length voters.now ≤ most_voters }
+        requires differ { AreDistinct (map (λ v. v.id) voters.now) }
+        ensures { OnOk result (self.new ≡ opened_from 0 voters.now) }
+    {
         let mut place = 0u32;
         for voter in voters {
-            ballots.push(alloc, voter.id.copy(alloc)?, Source::Opening(place))?;
+            self.push(alloc, &voter.id, Source::Opening(place))?;
             place += 1;
         }
-        Ok(ballots)
+        Ok(())
     }
 
     /// How many ballots there are.
@@ -137,19 +155,26 @@ impl<A: Allocator> BallotList<A> {
     }
 
     /// Adds a voter who has no ballot, after the others.
-    fn push(&mut self, alloc: A, voter: VoterId<A>, source: Source) -> Result<(), NoMemory>
+    fn push(&mut self, alloc: A, voter: &VoterId<A>, source: Source) -> Result<(), NoMemory>
     where
         A: Copy,
-        requires { lookup (bytes_eq voter) self.old ≡ None }
-        ensures ok { OnOk result (self.new ≡ self.old ++ (voter, source) ∷ []) }
+        requires { lookup (bytes_eq voter.now) self.old ≡ None }
+        ensures ok { OnOk result (self.new ≡ self.old ++ (voter.now, source) ∷ []) }
         ensures err { OnErr result (self.new ≡ self.old) }
     {
         let Ok(slot) = u32::try_from(self.slots.len()) else {
             return Err(NoMemory);
         };
         self.slots.reserve(1)?;
-        let _before = self.slot_of.insert(alloc, voter.text(), slot)?;
-        self.slots.push(Some((voter, source))).unwrap();
+        let own = voter.copy(alloc)?;
+        match self.slot_of.insert(alloc, voter.text(), slot) {
+            Ok(_) => {}
+            Err(_) => {
+                drop(own);
+                return Err(NoMemory);
+            }
+        }
+        self.slots.push(Some((own, source))).unwrap();
         self.count += 1;
         Ok(())
     }
@@ -168,8 +193,7 @@ impl<A: Allocator> BallotList<A> {
         ensures { self.new ≡ remove_entry (bytes_eq voter.now) self.old }
     {
         if let Some(slot) = self.slot_of.get(voter.text()) {
-            let withdrawn = self.slots[slot as usize].take();
-            if withdrawn.is_some() {
+            if self.slots[slot as usize].take().is_some() {
                 self.count -= 1;
             }
         }
@@ -189,9 +213,7 @@ impl<A: Allocator> BallotList<A> {
         ensures err { OnErr result (self.new ≡ self.old) }
     {
         match request {
-            Request::Cast(voter, _) => {
-                self.push(alloc, voter.copy(alloc)?, Source::Entry(index))
-            }
+            Request::Cast(voter, _) => self.push(alloc, voter, Source::Entry(index)),
             Request::Replace(voter, _) => {
                 self.replace(voter, Source::Entry(index));
                 Ok(())

@@ -1,10 +1,12 @@
 // The election that is left once no more changes.
 
-ghost use Rattle.std.specs.Prelude.{◌≡◌, IfErr, IfOk};
+ghost use Rattle.std.specs.Prelude.{◌≡◌, ◌≤◌, [], length, IfErr, IfOk};
+ghost use Rattle.std.specs.Vec.{vec_capacity};
 ghost use Rattle.pb_desk.specs.Desk.{voters_of, IsStanding};
 
 use super::BallotBox;
 use pb_core::election::Election;
+use pb_core::voter::Voter;
 use std::alloc::Allocator;
 
 impl<A: Allocator> BallotBox<A> {
@@ -18,12 +20,25 @@ impl<A: Allocator> BallotBox<A> {
             ≡ record self.election { voters = voters_of self.standing.ballots }) }
         ensures err { IfErr result (λ back. back ≡ self) }
     {
+        let alloc = *self.journal.allocator();
+        match Vec::with_capacity(alloc, self.len()) {
+            Ok(voters) => Ok(self.closed(voters)),
+            Err(_) => Err(self),
+        }
+    }
+
+    /// The same, where the voters are put into `voters`.
+    fn closed(self, mut voters: Vec<Voter<A>, A>) -> Election<A>
+    where
+        A: Copy,
+        requires standing { IsStanding self.election self.standing }
+        requires empty { voters.items ≡ [] }
+        requires room { length self.standing.ballots ≤ vec_capacity voters }
+        ensures { result ≡ record self.election { voters = voters_of self.standing.ballots } }
+    {
         // An election's voters have ids and ballots, which stay as they are.
         let _voters = self.election.voters();
         let alloc = *self.journal.allocator();
-        let Ok(mut voters) = Vec::with_capacity(alloc, self.ballots.len()) else {
-            return Err(self);
-        };
         let BallotBox {
             mut election,
             journal,
@@ -32,7 +47,8 @@ impl<A: Allocator> BallotBox<A> {
         } = self;
         let opening = election.replace_voters(Vec::new(alloc));
         ballots.take_voters(opening, journal, &mut voters);
-        let _none = election.replace_voters(voters);
-        Ok(election)
+        drop(ballots);
+        drop(election.replace_voters(voters));
+        election
     }
 }

@@ -1,44 +1,16 @@
-use Rattle.std.proofs.Common.{◌≡◌, ◌∙◌, length, ap}
-use Rattle.std.proofs.lemmas.List.{length-map}
-use Rattle.pb_desk.specs.Desk.{voters_of}
-use Rattle.pb_desk.specs.Sources.{ballots_at, BoxView}
-use Rattle.pb_desk.proofs.Closings.{are_voters, own_voters}
+use Rattle.std.proofs.Common.{arith}
 use Rattle.pb_desk.proofs.ballot_box.BallotBox.close.Goals as goal
 
-pub take_voters-requires-clause-sources : goal.take_voters-requires-clause-sources
-take_voters-requires-clause-sources g c = rw c.replace_voters-opening.ensures.handed_out c.self.invariant
+pub closed-requires-clause-standing : goal.closed-requires-clause-standing
+closed-requires-clause-standing g c = c.requires
 
-pub take_voters-requires-clause-own : goal.take_voters-requires-clause-own
-take_voters-requires-clause-own g c =
-    let election = c.self.inside.election in
-    rw c.replace_voters-opening.ensures.handed_out (own_voters (length election.projects) election.voters c.voters-voters.ensures.is_election.are_voters)
+pub closed-requires-clause-empty : goal.closed-requires-clause-empty
+closed-requires-clause-empty g c = c.in-Ok.ensures.items
 
-pub replace_voters-none-requires-clause-few : goal.replace_voters-none-requires-clause-few
-replace_voters-none-requires-clause-few g c =
-    let inside = c.self.inside in
-    let is : c.take_voters.new.voters.items ≡ voters_of c.args.self.standing.ballots =
-    c.take_voters.ensures.voters ∙ ap (λ opening. voters_of (ballots_at opening inside.journal.items inside.ballots)) c.replace_voters-opening.ensures.handed_out
-    ∙ ap (λ (b : BoxView). voters_of b.standing.ballots) c.self.view_is in
-    rw is (rw length-map c.requires.few)
+pub closed-requires-clause-room : goal.closed-requires-clause-room
+closed-requires-clause-room g c =
+    let room = c.in-Ok.ensures.capacity in
+    omega (arith, room)
 
-pub replace_voters-none-requires-clause-are_voters : goal.replace_voters-none-requires-clause-are_voters
-replace_voters-none-requires-clause-are_voters g c =
-    let inside = c.self.inside in
-    let is : c.take_voters.new.voters.items ≡ voters_of c.args.self.standing.ballots =
-    c.take_voters.ensures.voters ∙ ap (λ opening. voters_of (ballots_at opening inside.journal.items inside.ballots)) c.replace_voters-opening.ensures.handed_out
-    ∙ ap (λ (b : BoxView). voters_of b.standing.ballots) c.self.view_is in
-    let projects : c.replace_voters-opening.new.self.projects ≡ c.args.self.election.projects =
-    (λ j. (c.replace_voters-opening.ensures.replaced j).projects) ∙ ap (λ (b : BoxView). b.election.projects) c.self.view_is in
-    rw (is, projects) (are_voters c.args.self.election c.args.self.standing.ballots c.requires.known (rw is at c.take_voters.ensures.own))
-
-pub replace_voters-none-requires-clause-differ : goal.replace_voters-none-requires-clause-differ
-replace_voters-none-requires-clause-differ g c = c.take_voters.ensures.differ
-
-pub returns-clause-ok : goal.returns-clause-ok
-returns-clause-ok g c =
-    let inside = c.self.inside in
-    let is : c.take_voters.new.voters.items ≡ voters_of c.args.self.standing.ballots =
-    c.take_voters.ensures.voters ∙ ap (λ opening. voters_of (ballots_at opening inside.journal.items inside.ballots)) c.replace_voters-opening.ensures.handed_out
-    ∙ ap (λ (b : BoxView). voters_of b.standing.ballots) c.self.view_is in
-    c.replace_voters-none.ensures.replaced ∙ (λ j. record (c.replace_voters-opening.ensures.replaced j) { voters = is j })
-    ∙ ap (λ (b : BoxView). record b.election { voters = voters_of c.args.self.standing.ballots }) c.self.view_is
+pub returns-in-Ok-clause-ok : goal.returns-in-Ok-clause-ok
+returns-in-Ok-clause-ok g c = c.closed.ensures

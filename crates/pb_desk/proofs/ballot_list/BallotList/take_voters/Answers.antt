@@ -9,7 +9,7 @@ use Rattle.pb_desk.specs.Slots.{filed, IsListing}
 use Rattle.pb_desk.specs.Sources.{ballots_at, IsOwnVoter}
 use Rattle.pb_desk.specs.declared.source.Source.{Source}
 use Rattle.pb_desk.specs.declared.source.Source.TheVariants.{Opening, Entry}
-use Rattle.pb_desk.proofs.Closings.{after_entry, after_opening, entry_taken, opening_taken, room_left, taken_all, within_journal, within_opening, within_turned, pair_of, AreDistinct-sources}
+use Rattle.pb_desk.proofs.Closings.{after_entry, after_opening, entry_taken, opening_taken, room_left, taken_all, within_journal, within_opening, within_turned, pair_of, AreDistinct-sources, IsSoFar-start}
 use Rattle.pb_desk.proofs.Slots.{filed-drop, none_after, NoneTwice-filed}
 use Rattle.pb_desk.proofs.ballot_list.BallotList.take_voters.Goals as goal
 use Rattle.pb_desk.proofs.ballot_list.BallotList.take_voters.Goals.{in-Some, in-Opening, in-Entry, in-None}
@@ -159,3 +159,28 @@ returns-clause-differ g c =
     let is : IsListing (map.get inside.slot_of) slots inside.count = rw c.as_slice-slots.ensures.value c.self.invariant in
     let done_is = taken_all (voters_of (ballots_at opening journal (filed slots))) c.loop-slot.voters.items opening c.loop-slot.journal.items _ c.loop-slot.invariant.0.taken none in
     rw done_is (AreDistinct-sources opening journal (filed slots) (NoneTwice-filed (map.get inside.slot_of) slots inside.count is))
+
+pub loop-slot-init : goal.loop-slot-init
+loop-slot-init g c =
+    let slots = c.as_slice-slots.result.now in
+    let listed = ap filed c.as_slice-slots.ensures.value ∙ c.self.view_is in (
+      IsSoFar-start c.args.opening.items c.reverse.new.self.items c.args.journal.items c.args.voters.now.items (filed slots) (rw listed c.requires.sources.found) (rw listed c.requires.sources.in_order)
+          c.reverse.ensures.items c.requires.empty,
+      rw listed c.requires.room,
+    )
+
+pub returns-clause-own : goal.returns-clause-own
+returns-clause-own g c = c.loop-slot.invariant.0.own
+
+pub overflow_sub-count : goal.overflow_sub-count
+overflow_sub-count g c =
+    let slots = c.as_slice-slots.result.now in
+    let k = c.loop-slot.slot-index in
+    let opening = c.args.opening.items in
+    let id = c.in-Some._voter in
+    let at = slice_get_read slots (length slots) k c.slot-item.result refl c.loop-slot-test.true c.slot-item.is ∙ ap Some c.in-Some.is in
+    let rest = filed (drop (suc k) slots) in
+    let here : slice_get slots k ≡ Some (Some (id, Opening c.in-Opening.place)) = at ∙ ap (λ (s : Source). Some (Some (id, s))) c.in-Opening.is in
+    let left = rw (filed-drop slots k (Some (id, Opening c.in-Opening.place)) here) at c.loop-slot.invariant.0.left in
+    let below = within_opening opening opening c.loop-slot.turned.items c.loop-slot.journal.items c.loop-slot.voters.items id rest c.in-Opening.place left in
+    omega (arith, below)
