@@ -1,18 +1,16 @@
 -- What is known of the best project of a round.
-use Rattle.std.proofs.Common.{◌≡◌, ℕ, ◌+◌, ◌<◌, List, [], ◌∷◌, ◌++◌, length, take, get_or, Option, Some, None, Bool, true, false, cond, refl, sym, ◌∙◌, ap, inl, inr}
+use Rattle.std.proofs.Common.{◌≡◌, ℕ, List, [], ◌∷◌, Option, Some, None, Bool, true, false, cond, refl, sym, ◌∙◌, ap, inl, inr}
 use Rattle.std.specs.Prelude.{◌==◌, option_map}
 use Rattle.std.specs.List.{find, cons_option}
-use Rattle.std.proofs.lemmas.List.{append-nil, take_more}
-use Rattle.std.proofs.lemmas.List.Elements.{filter_map-append}
 use Rattle.std.proofs.lemmas.Option.{none-some, same_Some}
 use Rattle.std.proofs.lemmas.Bool.{true≢false, or_left, or_right, or_cases, eq-eqb, eqb-true}
 use Rattle.pb_price.specs.Supporters.{SupportView}
 use Rattle.pb_price.specs.Price.{price_at}
 use Rattle.pb_rounds.specs.declared.measure.Measure.{Measure}
-use Rattle.pb_rounds.specs.Bid.{is_before, first_least, better_of, Bid}
+use Rattle.pb_rounds.specs.Bid.{Bid}
 use Rattle.pb_rounds.specs.Queue.{IsIn}
-use Rattle.pb_rounds.specs.Run.{bid, bid_at, bids_at, best_of, is_listed}
-use Rattle.pb_rounds.proofs.Best.{no_bid, first_least-push}
+use Rattle.pb_rounds.specs.Run.{bid, bids_at, best_of, is_listed}
+use Rattle.pb_rounds.proofs.Best.{no_bid}
 
 -- a bid is made for a project that is left, at its price
 pub record IsBid (m : Measure) (s : SupportView) (rests left : List ℕ) (b : Bid) : Type 0 where
@@ -75,51 +73,6 @@ pub no_price_without_best : (m : Measure) (s : SupportView) (rests left : List �
     → (place : ℕ) → is_listed left place ≡ true → price_at s rests place ≡ None
 unfolding best_of
 no_price_without_best m s rests left e = no_price_without_bid m s rests left (no_bid (bids_at m s rests left) e)
-
--- the running best of a round
-pub best_of-nil : (m : Measure) (s : SupportView) (rests : List ℕ) → best_of m s rests [] ≡ None
-unfolding best_of
-best_of-nil m s rests = refl
-
-best_of-push_some : (m : Measure) (s : SupportView) (rests left : List ℕ) (place price : ℕ) → price_at s rests place ≡ Some price
-    → best_of m s rests (left ++ place ∷ []) ≡ Some (better_of (best_of m s rests left) (bid m s place price))
-unfolding best_of
-best_of-push_some m s rests left place price e =
-    ap (first_least is_before) (filter_map-append (bid_at m s rests) left (place ∷ [])
-    ∙ ap (λ o. bids_at m s rests left ++ cons_option (option_map (bid m s place) o) []) e)
-    ∙ first_least-push (bids_at m s rests left) (bid m s place price)
-
-best_of-push_none : (m : Measure) (s : SupportView) (rests left : List ℕ) (place : ℕ) → price_at s rests place ≡ None
-    → best_of m s rests (left ++ place ∷ []) ≡ best_of m s rests left
-unfolding best_of
-best_of-push_none m s rests left place e =
-    ap (first_least is_before) (filter_map-append (bid_at m s rests) left (place ∷ [])
-    ∙ ap (λ o. bids_at m s rests left ++ cons_option (option_map (bid m s place) o) []) e
-    ∙ append-nil (bids_at m s rests left))
-
-module _ (m : Measure) (s : SupportView) (rests left : List ℕ) (i : ℕ) (below : i < length left) (best : Option Bid) (best_is : best ≡ best_of m s rests (take i left)) where
-  pub best_more_some : (price : ℕ) → Some price ≡ price_at s rests (get_or left i 0)
-      → Some (better_of best (bid m s (get_or left i 0) price)) ≡ best_of m s rests (take (i + 1) left)
-  best_more_some price e =
-      rw (take_more left i 0 below, best_is) (sym (best_of-push_some m s rests (take i left) (get_or left i 0) price (sym e)))
-
-  pub best_more_none : None ≡ price_at s rests (get_or left i 0) → best ≡ best_of m s rests (take (i + 1) left)
-  best_more_none e = best_is ∙ rw (take_more left i 0 below) (sym (best_of-push_none m s rests (take i left) (get_or left i 0) (sym e)))
-
--- one step of the loop over the projects left: the rests as the price saw them, the answer, and the best afterwards
-module _ (m : Measure) (s : SupportView) (rests left : List ℕ) (i : ℕ) (below : i < length left) (best : Option Bid) (best_is : best ≡ best_of m s rests (take i left))
-    (seen : List ℕ) (seen_is : seen ≡ rests) (answer : Option ℕ) (answer_is : answer ≡ price_at s seen (get_or left i 0)) (after : Option Bid) where
-  answered : answer ≡ price_at s rests (get_or left i 0)
-  answered = answer_is ∙ ap (λ rs. price_at s rs (get_or left i 0)) seen_is
-
-  pub best_step_some : (price : ℕ) → answer ≡ Some price → (offer chosen : Bid) → offer ≡ bid m s (get_or left i 0) price
-      → chosen ≡ better_of best offer → after ≡ Some chosen → after ≡ best_of m s rests (take (i + 1) left)
-  best_step_some price priced offer chosen offer_is chosen_is after_is =
-      after_is ∙ ap (λ b. Some b) (chosen_is ∙ ap (better_of best) offer_is)
-      ∙ best_more_some m s rests left i below best best_is price (sym priced ∙ answered)
-
-  pub best_step_none : answer ≡ None → after ≡ best → after ≡ best_of m s rests (take (i + 1) left)
-  best_step_none none after_is = after_is ∙ best_more_none m s rests left i below best best_is (sym none ∙ answered)
 
 -- the bids of projects, as elements
 bid_from_by : (m : Measure) (s : SupportView) (rests : List ℕ) (first : ℕ) (left : List ℕ) (b : Bid) → (IsIn b (bids_at m s rests left) → IsBid m s rests left b)

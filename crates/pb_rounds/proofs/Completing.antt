@@ -1,22 +1,20 @@
 -- How many raises the completion decides on.
 use Rattle.std.proofs.Common.{◌≡◌, ℕ, ◌+◌, ◌-◌, ◌*◌, ◌/◌, ◌<◌, ◌≤◌, length, Option, Some, None, Bool, true, false, refl, sym, subst, ◌∙◌, ap, inl, inr, arith}
-use Rattle.std.specs.Prelude.{IfErr, IsErrAnd, List, Ok, Err, Result, option_map, if◌then◌else◌, MatchOption, nat_lt, ◌==◌}
+use Rattle.std.specs.Prelude.{IfErr, IsErrAnd, List, Ok, Err, Result, option_map, if◌then◌else◌, MatchOption, ◌==◌}
 use Rattle.std.proofs.lemmas.Option.{none-some, same_Some}
-use Rattle.std.proofs.lemmas.Bool.{cases_Bool, true≢false, or_left, or_right, or_from, or_parts, cond-true, cond-false, cases_eq, eq-eqb, ne_eqb, ltb-false}
+use Rattle.std.proofs.lemmas.Bool.{cases_Bool, true≢false, or_left, or_right, or_parts, cond-true, cond-false, cases_eq, eq-eqb, ne_eqb, ltb-false}
 use Rattle.pb_core.specs.Election.{ElectionView}
 use Rattle.pb_price.proofs.FirstInRange.{IsFirstInRange, NoneInRange, find-range_with_len, find_from_first}
 use Rattle.pb_price.specs.Supporters.{SupportView, IsSupport, support_of}
 use Rattle.pb_rounds.specs.declared.count_fault.CountFault.{CountFault}
 use Rattle.pb_rounds.specs.declared.count_fault.CountFault.TheVariants.{NoMemory}
 use Rattle.pb_rounds.specs.declared.measure.Measure.{Measure}
-use Rattle.pb_rounds.specs.Count.{IsCompletionFault, spent_on, is_over, is_exhausted, is_over_after, is_exhausted_after, is_decisive, first_decisive, add1_of, opening_share, share_after, elected_after, settled_after}
-use Rattle.pb_rounds.specs.Outcome.{OutcomeView, Settled, settled, settled_by}
-use Rattle.pb_rounds.specs.Run.{run_of, ElectedView}
+use Rattle.pb_rounds.specs.Count.{IsCompletionFault, spent_on, is_over, is_over_after, is_exhausted_after, is_decisive, first_decisive, add1_of, opening_share, share_after, elected_after, settled_after}
+use Rattle.pb_rounds.specs.Outcome.{OutcomeView, Settled, settled}
+use Rattle.pb_rounds.specs.Run.{ElectedView}
 use Rattle.pb_rounds.specs.PriceSystem.{HasPriceSystem}
-use Rattle.pb_rounds.specs.PricingRecord.{HasPricing}
-use Rattle.pb_rounds.specs.Queue.{AreMarked, IsWholeRun, is_above}
 use Rattle.pb_rounds.specs.RaiseEnds.{IsCompletion, IsOutcomeAt}
-use Rattle.pb_rounds.proofs.Exhausted.{over_from_more, over_from_within}
+use Rattle.pb_rounds.proofs.Exhausted.{over_from_within}
 use Rattle.pb_rounds.proofs.Explained.{run_within_shares, run_has_price_system}
 
 -- the voters' shares together are within the budget
@@ -68,99 +66,13 @@ module _ (m : Measure) (e : ElectionView) (step limit : ℕ) where
       ap (option_map (λ n. if is_over_after m e step n then n - 1 else n)) (end_found raises within tried (or_right _ _ exhausted))
       ∙ ap (λ n. Some n) (cond-false _ _ _ within_budget)
 
--- what the code computes of an outcome is what the definition says after this many raises
-module _ (m : Measure) (e : ElectionView) (step raises : ℕ) (s : SupportView) (same : s ≡ support_of e) (budget : ℕ) (budget_is : budget ≡ e.budget)
-    (o : OutcomeView) (settled_is : settled o ≡ settled_after m e step raises) where
-  elected_is : o.elected ≡ elected_after m e step raises
-  elected_is = ap (λ (x : Settled). x.elected) settled_is
-
-  pub over_is : is_over s budget o.elected ≡ is_over_after m e step raises
-  over_is = rw (same, budget_is, elected_is) refl
-
-  pub exhausted_is : is_exhausted s budget o.elected ≡ is_exhausted_after m e step raises
-  exhausted_is = rw (same, budget_is, elected_is) refl
-
-  pub raised_is : o.raised ≡ raises
-  raised_is = ap (λ (x : Settled). x.raised) settled_is
-
-pub settled_next : (m : Measure) (e : ElectionView) (step raises : ℕ) (s : SupportView) → s ≡ support_of e → (opening : ℕ) → opening ≡ opening_share e
-    → (share : ℕ) → share ≡ opening + raises * step → (o : OutcomeView) → settled o ≡ settled_by share raises (run_of m s share) → settled o ≡ settled_after m e step raises
-settled_next m e step raises s same opening opening_is share share_is o is =
-    let at : share ≡ share_after e step raises = share_is ∙ ap (λ n. n + raises * step) opening_is in
-    is ∙ ap (λ sh. settled_by sh raises (run_of m s sh)) at ∙ ap (λ t. settled_by (share_after e step raises) raises (run_of m t (share_after e step raises))) same
-
--- One raise as the code makes it. share is what it runs at; all but the first begin with the outcome of the raise before.
-module _ (m : Measure) (e : ElectionView) (step limit raised : ℕ) (within : raised ≤ limit) (tried : (j : ℕ) → j < raised → is_decisive m e step j ≡ false)
-    (s : SupportView) (same : s ≡ support_of e) (h : IsSupport s) (opening : ℕ) (opening_is : opening ≡ opening_share e)
-    (share : ℕ) (share_is : share ≡ opening + raised * step) (budget : ℕ) (budget_is : budget ≡ e.budget) where
-  share_at : share ≡ share_after e step raised
-  share_at = share_is ∙ ap (λ n. n + raised * step) opening_is
-
-  -- a raise that ends over the budget
-  module _ (over : budget < spent_on s (run_of m s share).elected) where
-    found_over : is_over_after m e step raised ≡ true
-    found_over = over_from_more (support_of e) e.budget (elected_after m e step raised)
-        (subst (λ (t : SupportView). e.budget < spent_on t (run_of m t (share_after e step raised)).elected) same
-        (subst (λ n. e.budget < spent_on s (run_of m s n).elected) share_at
-        (subst (λ n. n < spent_on s (run_of m s share).elected) budget_is over)))
-
-    pub raised_once : 0 < raised
-    raised_once = elim (cases_eq raised 0) [
-      | inl none ↦ absurd (true≢false (sym found_over ∙ rw none (opening_not_over m e (rw same at h) step)))
-      | inr some ↦ omega arith
-    ]
-
-    module _ (workers : ℕ) (last : OutcomeView)
-        (last_is : 0 < raised → IsOutcomeAt m (support_of e) workers (share_after e step (raised - 1)) (raised - 1) last) where
-      last_raised : last.raised ≡ raised - 1
-      last_raised = ap (λ (x : Settled). x.raised) (last_is raised_once).settled_is
-
-      pub over_completes : IsCompletion m e workers step limit last
-      over_completes = record {
-        decided = decided_before m e step limit raised within tried found_over ∙ ap (λ n. Some n) (sym last_raised);
-        ended = subst (λ n. IsOutcomeAt m (support_of e) workers (share_after e step n) n last) (sym last_raised) (last_is raised_once);
-      }
-
-  -- a raise that ends within it
-  module _ (workers : ℕ) (next : OutcomeView) (marks : List Bool) (spent : ℕ) (whole : IsWholeRun m s workers share raised next marks spent)
-      (spent_within : is_above (Some budget) spent ≡ false) where
-    next_settled : settled next ≡ settled_after m e step raised
-    next_settled = settled_next m e step raised s same opening opening_is share share_is next whole.settled_is
-
-    pub next_at : IsOutcomeAt m (support_of e) workers (share_after e step raised) raised next
-    next_at = record {
-      settled_is = next_settled;
-      priced = subst (λ n. HasPricing m (support_of e) workers n next.priced) share_at
-          (subst (λ (t : SupportView). HasPricing m t workers share next.priced) same whole.priced);
-      is_support = rw same at h;
-    }
-
-    next_raised : next.raised ≡ raised
-    next_raised = ap (λ (x : Settled). x.raised) next_settled
-
-    not_over : is_over s budget next.elected ≡ false
-    unfolding is_over
-    not_over = ap (nat_lt budget) (sym whole.spent_is) ∙ spent_within
-
-    found_within : is_over_after m e step raised ≡ false
-    found_within = sym (over_is m e step raised s same budget budget_is next next_settled) ∙ not_over
-
-    -- what the test of the outcome answered
-    module _ (exhausted : Bool) (says : (elected : List ElectedView) → AreMarked s elected marks → spent ≡ spent_on s elected → exhausted ≡ is_exhausted s budget elected) where
-      found_exhausted : exhausted ≡ is_exhausted_after m e step raised
-      found_exhausted = says next.elected whole.marked whole.spent_is ∙ exhausted_is m e step raised s same budget budget_is next next_settled
-
-      pub exhausted_completes : exhausted ≡ true → IsCompletion m e workers step limit next
-      exhausted_completes yes_exhausted = record {
-        decided = decided_here m e step limit raised within tried found_within (sym found_exhausted ∙ yes_exhausted) ∙ ap (λ n. Some n) (sym next_raised);
-        ended = subst (λ n. IsOutcomeAt m (support_of e) workers (share_after e step n) n next) (sym next_raised) next_at;
-      }
-
-      pub goes_on : exhausted ≡ false → (j : ℕ) → j < raised + 1 → is_decisive m e step j ≡ false
-      goes_on not_exhausted j below = elim (cases_eq j raised) [
-        | inl here ↦ ap (is_decisive m e step) here ∙ or_from _ _ found_within (sym found_exhausted ∙ not_exhausted)
-        | inr before ↦ tried j (omega arith)
-      ]
+-- the outcome at a share, as one after raises of an election
+pub outcome_moves : (m : Measure) (e : ElectionView) (s : SupportView) → s ≡ support_of e → (workers step raised opening share : ℕ)
+    → opening ≡ opening_share e → share ≡ opening + raised * step → (o : OutcomeView) → IsOutcomeAt m s workers share raised o
+    → IsOutcomeAt m (support_of e) workers (share_after e step raised) raised o
+outcome_moves m e s same workers step raised opening share opening_is share_is o h =
+    subst (λ n. IsOutcomeAt m (support_of e) workers n raised o) (share_is ∙ ap (λ n. n + raised * step) opening_is)
+    (subst (λ (t : SupportView). IsOutcomeAt m t workers share raised o) same h)
 
 -- the outcome after as many raises as the completion decides on
 pub completion_at : (m : Measure) (e : ElectionView) (workers step limit raises : ℕ) → add1_of m e step limit ≡ Some raises → (o : OutcomeView)

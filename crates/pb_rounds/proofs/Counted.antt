@@ -1,17 +1,18 @@
 -- What a count promises of its outcome, from the outcome of a whole run.
-use Rattle.std.proofs.Common.{◌≡◌, ℕ, ◌+◌, ◌*◌, ◌≤◌, Bool, true, false, Some, None, sym, subst, ◌∙◌, ap, refl, arith}
+use Rattle.std.proofs.Common.{◌≡◌, ℕ, ◌≤◌, Bool, true, false, Some, None, sym, subst, ◌∙◌, ap, refl, arith}
 use Rattle.std.specs.Prelude.{IfOk, IfErr, Result, Ok, Err, option_map, not, nat_le, ◌&&◌, if◌then◌else◌}
 use Rattle.std.proofs.lemmas.Bool.{and_parts, leb-true}
 use Rattle.pb_core.specs.Election.{ElectionView}
 use Rattle.pb_price.specs.PriceFault.{is_worker_count}
 use Rattle.pb_price.specs.Supporters.{SupportView, support_of}
 use Rattle.pb_rounds.specs.Cheapest.{EachWasCheapest}
-use Rattle.pb_rounds.specs.Count.{opening_share, raises_of, settled_after, share_after, IsCompletionFault, IsCountFault}
+use Rattle.pb_rounds.specs.Count.{raises_of, settled_after, share_after, IsCompletionFault, IsCountFault}
+use Rattle.pb_rounds.specs.Counted.{IsCountOf}
 use Rattle.pb_rounds.specs.CountFault.{largest_step, most_raises, refusal_of}
 use Rattle.pb_rounds.specs.Outcome.{OutcomeView, Settled, settled, settled_by}
 use Rattle.pb_rounds.specs.PriceSystem.{HasPriceSystem}
 use Rattle.pb_rounds.specs.PricingRecord.{HasPricing}
-use Rattle.pb_rounds.specs.RaiseEnds.{CanComplete, IsCompletion, IsCounted, IsOutcomeAt}
+use Rattle.pb_rounds.specs.RaiseEnds.{CanComplete, IsCompletion, IsOutcomeAt}
 use Rattle.pb_rounds.specs.Run.{outcome_of, run_of}
 use Rattle.pb_rounds.specs.declared.count_fault.CountFault.{CountFault}
 use Rattle.pb_rounds.specs.declared.count_fault.CountFault.TheVariants.{WorkerCount, StepRange, RaisesRange, RaisesSpent, NoMemory}
@@ -54,14 +55,6 @@ can_complete e s same options in_range raises few =
       own_supporters = same;
     }
 
--- the outcome at a share, as one after raises of an election
-pub outcome_moves : (m : Measure) (e : ElectionView) (s : SupportView) → s ≡ support_of e → (workers step raised opening share : ℕ)
-    → opening ≡ opening_share e → share ≡ opening + raised * step → (o : OutcomeView) → IsOutcomeAt m s workers share raised o
-    → IsOutcomeAt m (support_of e) workers (share_after e step raised) raised o
-outcome_moves m e s same workers step raised opening share opening_is share_is o h =
-    subst (λ n. IsOutcomeAt m (support_of e) workers n raised o) (share_is ∙ ap (λ n. n + raised * step) opening_is)
-    (subst (λ (t : SupportView). IsOutcomeAt m t workers share raised o) same h)
-
 not_both : {X : Type 0} → (c : Completion) → c ≡ Plain → c ≡ Add1 → X
 not_both Plain first second = cc
 not_both Add1 first second = cc
@@ -78,9 +71,10 @@ module _ (e : ElectionView) (options : CountOptions) (o : OutcomeView) where
       settled_was_cheapest options.measure e (support_of e) refl h.is_support (share_after e options.step raised) raised o h.settled_is
 
   -- the count at the opening share
-  pub plain_counted : options.completion ≡ Plain
-      → IsOutcomeAt options.measure (support_of e) options.workers (share_after e options.step 0) 0 o → IsCounted e options o
-  plain_counted plain h = record {
+  pub plain_counted : refusal_of options ≡ None → options.completion ≡ Plain
+      → IsOutcomeAt options.measure (support_of e) options.workers (share_after e options.step 0) 0 o → IsCountOf e options o
+  plain_counted in_range plain h = record {
+    in_range = in_range;
     counted = ap (λ c. option_map (settled_after options.measure e options.step) (raises_of c options.measure e options.step options.max_raises)) plain
         ∙ ap (λ x. Some x) (sym h.settled_is);
     priced = priced_at_share 0 h;
@@ -91,9 +85,10 @@ module _ (e : ElectionView) (options : CountOptions) (o : OutcomeView) where
   }
 
   -- the count that is completed by raises
-  pub add1_counted : options.completion ≡ Add1
-      → IsCompletion options.measure e options.workers options.step options.max_raises o → IsCounted e options o
-  add1_counted add1 h = record {
+  pub add1_counted : refusal_of options ≡ None → options.completion ≡ Add1
+      → IsCompletion options.measure e options.workers options.step options.max_raises o → IsCountOf e options o
+  add1_counted in_range add1 h = record {
+    in_range = in_range;
     counted = ap (λ c. option_map (settled_after options.measure e options.step) (raises_of c options.measure e options.step options.max_raises)) add1
         ∙ ap (option_map (settled_after options.measure e options.step)) h.decided ∙ ap (λ x. Some x) (sym h.ended.settled_is);
     priced = priced_at_share o.raised h.ended;

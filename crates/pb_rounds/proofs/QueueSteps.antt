@@ -12,15 +12,12 @@ use Rattle.pb_price.specs.Price.{largest_count, price_at}
 use Rattle.pb_price.specs.Supporters.{SupportView}
 use Rattle.pb_rounds.specs.declared.measure.Measure.{Measure}
 use Rattle.pb_rounds.specs.Bid.{Bid, better_of, bid_cmp, first_least, is_before}
-use Rattle.pb_rounds.specs.Queue.{IsDone, IsFull, IsIn, IsTaken, PricesHeads, PutsBack, Rises, TakesHeads, places_of}
+use Rattle.pb_rounds.specs.Queue.{IsDone, IsFull, IsIn, IsTaken, PricesHeads, PutsBack, TakesHeads, places_of}
 use Rattle.pb_rounds.specs.Run.{bid, bid_at, bids_at}
 use Rattle.pb_rounds.proofs.Best.{first_least-push}
 use Rattle.pb_rounds.proofs.QueueLists.{in_either, in_left, in_right, put_from, put_is_in, put_keeps, rises_from_sorted}
 
 -- the queue of one project more
-pub full_none : (m : Measure) (s : SupportView) → IsFull m s 0 []
-full_none m s = record { sound = λ b h. absurd h; whole = λ place below. absurd (omega arith); rises = tt }
-
 pub full_more : (m : Measure) (s : SupportView) (n : ℕ) (queue : List Bid) → IsFull m s n queue → (k : Bid) → k ≡ bid m s n 0
     → (new : List Bid) → new ≡ insert_key bid_cmp queue k → IsStrictlySortedBy bid_cmp new → IsFull m s (n + 1) new
 full_more m s n queue h k k_is new new_is sorted = record {
@@ -54,9 +51,6 @@ puts_one place k queue new apart new_is sorted = record {
   rises = rises_from_sorted new sorted;
 }
 
-pub puts_nothing : (place : ℕ) (queue : List Bid) → Rises queue → PutsBack place [] queue queue
-puts_nothing place queue rises = record { from = λ b i. inl i; kept = λ b i. i; put = λ b i other. absurd i; rises = rises }
-
 pub puts_more : (place : ℕ) (fresh : List Bid) (k : Bid) (queue middle new : List Bid) → PutsBack place fresh queue middle → PutsBack place (k ∷ []) middle new
     → PutsBack place (fresh ++ k ∷ []) queue new
 puts_more place fresh k queue middle new first second = record {
@@ -88,15 +82,6 @@ pub record Taking (best : Option Bid) (count : ℕ) (queue rest : List Bid) (pla
   pub placed : all ≡ places ++ places_of heads
   pub counted : length heads ≡ count
   pub taken : (head : Bid) (others : List Bid) → heads ≡ head ∷ others → IsTaken best head
-
-pub taking_none : (best : Option Bid) (queue : List Bid) (places : List ℕ) → Taking best 0 queue queue places places
-taking_none best queue places = record {
-  heads = [];
-  cut = refl;
-  placed = sym (append-nil places);
-  counted = refl;
-  taken = λ head others e. cc;
-}
 
 first_taken : (best : Option Bid) (heads : List Bid) (head : Bid) → IsTaken best head
     → ((h : Bid) (others : List Bid) → heads ≡ h ∷ others → IsTaken best h)

@@ -229,13 +229,3 @@ module _ (s : SupportView) (share seen within : ℕ) (least : Option ℕ) (h : A
             | inr here ↦ rw here.1 (record { place = seen; known = omega arith; supported = rw count_is at here.0; beyond = far_test; costs = sym cost_is })
           ];
         }
-
-pub seen_leave_room : (s : SupportView) (budget share seen within cost : ℕ) → length s.costs ≡ seen → AreSeen s share seen within (Some cost)
-    → within + cost ≤ budget → LeavesRoom s budget share
-seen_leave_room s budget share seen within cost all h fits = record {
-  place = h.found.place;
-  known = (let below = h.found.known in omega arith);
-  supported = h.found.supported;
-  beyond = h.found.beyond;
-  room = (let sum = h.sum_is ∙ ap (λ n. sum_by (reach_cost s share) (range_with_len 0 n)) (sym all) in let costs = h.found.costs in omega (arith, sum, costs, fits));
-}

@@ -9,7 +9,7 @@ use Rattle.std.proofs.lemmas.List.Sums.{sum_by_push, sum_by-append, sum_by-cons}
 use Rattle.std.proofs.lemmas.Option.{none-some, same_Some}
 use Rattle.pb_core.specs.Election.{most_projects}
 use Rattle.pb_core.specs.Money.{largest_money}
-use Rattle.pb_price.specs.Price.{AreRests, largest_share, price_at}
+use Rattle.pb_price.specs.Price.{largest_share, price_at}
 use Rattle.pb_price.specs.Supporters.{IsSupport, SupportView, cost_at, supporters_at}
 use Rattle.pb_rounds.specs.declared.measure.Measure.{Measure}
 use Rattle.pb_rounds.specs.Bid.{Bid}
@@ -151,9 +151,6 @@ module _ (m : Measure) (s : SupportView) (workers share raised most : ℕ) (queu
 
       pub winner_price : price_at s priced.rests w.place ≡ Some w.price
       winner_price = ap (λ (x : OutcomeView). price_at s x.rests w.place) priced_is ∙ (best_is_bid m s o.rests st.left w found_best).is_price
-
-      pub rests_priced : AreRests s.voters priced.rests
-      rests_priced = subst (λ (x : OutcomeView). AreRests s.voters x.rests) (sym priced_is) st.progress.rests_are
 
       pub spent_fits : spent + cost_at s w.place < 2 ^ 128
       spent_fits =

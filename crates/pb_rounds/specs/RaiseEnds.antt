@@ -1,19 +1,14 @@
 -- What the outcome of a raise is to its completion. Only clauses of private functions speak of it.
-use Rattle.std.specs.Prelude.{◌≡◌, ℕ, ◌≤◌, Some, true, false}
+use Rattle.std.specs.Prelude.{◌≡◌, ◌≢◌, ℕ, ◌≤◌, IfOk, Result, Some, true, false}
 use Rattle.pb_core.specs.Election.{ElectionView}
 use Rattle.pb_price.specs.PriceFault.{is_worker_count}
 use Rattle.pb_price.specs.Supporters.{SupportView, IsSupport, support_of}
-use Rattle.pb_rounds.specs.Cheapest.{EachWasCheapest}
-use Rattle.pb_rounds.specs.Completed.{IsCompleted}
-use Rattle.pb_rounds.specs.Count.{add1_of, count_of, is_exhausted, is_over, share_after, spent_on}
+use Rattle.pb_rounds.specs.Count.{add1_of, is_exhausted, is_over, share_after}
 use Rattle.pb_rounds.specs.CountFault.{largest_step, most_raises}
 use Rattle.pb_rounds.specs.Outcome.{OutcomeView, settled, settled_by}
-use Rattle.pb_rounds.specs.PriceSystem.{HasPriceSystem}
 use Rattle.pb_rounds.specs.PricingRecord.{HasPricing}
 use Rattle.pb_rounds.specs.Run.{run_of}
 use Rattle.pb_rounds.specs.declared.measure.Measure.{Measure}
-use Rattle.pb_rounds.specs.declared.options.Completion.TheVariants.{Add1}
-use Rattle.pb_rounds.specs.declared.options.CountOptions.{CountOptions}
 use Rattle.pb_rounds.specs.declared.raise_end.RaiseEnd.{RaiseEnd}
 use Rattle.pb_rounds.specs.declared.raise_end.RaiseEnd.TheVariants.{GoesOn, Exhausted, Over}
 
@@ -26,6 +21,11 @@ IsRaiseEnd m s budget share Exhausted =
     (is_over s budget (run_of m s share).elected ≡ false)
     × (is_exhausted s budget (run_of m s share).elected ≡ true)
 IsRaiseEnd m s budget share Over = is_over s budget (run_of m s share).elected ≡ true
+
+-- where memory was enough, it was found how a run at this share ends
+pub record IsFound {F : Type 0} (m : Measure) (s : SupportView) (budget share : ℕ) (end : Result RaiseEnd F)
+    : Type 0 where
+  pub found : IfOk end (IsRaiseEnd m s budget share)
 
 -- what an election can be completed with: the numbers are within their ranges, and the supporters are the election's own
 pub record CanComplete (e : ElectionView) (workers : ℕ) (s : SupportView) (step raises : ℕ) : Type 0 where
@@ -41,17 +41,15 @@ pub record IsOutcomeAt (m : Measure) (s : SupportView) (workers share raised : �
   pub priced : HasPricing m s workers share o.priced
   pub is_support : IsSupport s
 
+-- how a run at this share, after this many raises, ends, and the outcome that it leaves where it is not over
+pub record IsTried (m : Measure) (s : SupportView) (workers budget share raised : ℕ) (o : OutcomeView)
+    (end : RaiseEnd) : Type 0 where
+  pub is_support : IsSupport s
+  pub ends : IsRaiseEnd m s budget share end
+  pub outcome_is : end ≢ Over → IsOutcomeAt m s workers share raised o
+
 -- the outcome in which a completion by raises ends
 pub record IsCompletion (m : Measure) (e : ElectionView) (workers step limit : ℕ) (o : OutcomeView)
     : Type 0 where
   pub decided : add1_of m e step limit ≡ Some o.raised
   pub ended : IsOutcomeAt m (support_of e) workers (share_after e step o.raised) o.raised o
-
--- what a count promises of its outcome
-pub record IsCounted (e : ElectionView) (options : CountOptions) (o : OutcomeView) : Type 0 where
-  pub counted : count_of e options ≡ Some (settled o)
-  pub priced : HasPricing options.measure (support_of e) options.workers o.share o.priced
-  pub within_budget : spent_on (support_of e) o.elected ≤ e.budget
-  pub completed : options.completion ≡ Add1 → IsCompleted options.measure e options.step o.raised
-  pub cheapest : EachWasCheapest options.measure (support_of e) o.share o.elected
-  pub price_system : HasPriceSystem (support_of e) o.share o.elected o.rests

@@ -1,33 +1,33 @@
-ghost use Rattle.std.specs.Prelude.{◌≡◌, ◌+◌, ◌*◌, ◌<◌, ◌≤◌, length, None, Some, IfOk, IfErr, MatchBool, MatchOption, IsOkUnless, ⊤, true};
+ghost use Rattle.std.specs.Prelude.{◌≡◌, ◌≤◌, None, IfOk, IfErr, MatchBool, MatchOption, IsOkUnless, ⊤};
 ghost use Rattle.pb_core.specs.Money.{largest_money};
 ghost use Rattle.pb_price.specs.Price.{largest_share};
 ghost use Rattle.pb_price.specs.PriceFault.{is_worker_count};
 ghost use Rattle.pb_price.specs.Supporters.{support_of};
 ghost use Rattle.pb_rounds.specs.Cheapest.{EachWasCheapest};
-ghost use Rattle.pb_rounds.specs.Completed.{IsCompleted};
-ghost use Rattle.pb_rounds.specs.Count.{count_of, opening_share, share_after, spent_on, IsCountFault, IsCompletionFault};
-ghost use Rattle.pb_rounds.specs.CountFault.{most_raises, refusal_of};
+ghost use Rattle.pb_rounds.specs.Count.{opening_share, share_after, IsCountFault, IsCompletionFault};
+ghost use Rattle.pb_rounds.specs.CountFault.{refusal_of};
+ghost use Rattle.pb_rounds.specs.Counted.{IsCountOf};
 ghost use Rattle.pb_rounds.specs.Outcome.{settled, settled_by};
 ghost use Rattle.pb_rounds.specs.PriceSystem.{HasPriceSystem};
 ghost use Rattle.pb_rounds.specs.PricingRecord.{HasPricing};
-ghost use Rattle.pb_rounds.specs.RaiseEnds.{CanComplete, IsCompletion, IsCounted, IsOutcomeAt};
+ghost use Rattle.pb_rounds.specs.RaiseEnds.{CanComplete, IsCompletion, IsOutcomeAt};
 ghost use Rattle.pb_rounds.specs.Run.{outcome_of};
 
 use crate::count_fault::CountFault;
+use crate::in_turn::{complete_in_turn, end_in_turn};
 use crate::measure::Measure;
 use crate::options::{Completion, CountOptions, LARGEST_STEP, MOST_RAISES};
 use crate::outcome::Outcome;
 use crate::pricing::Pricing;
 use crate::reach::{raised_share, raises_with_room};
-use crate::run::{Run, whole_run};
-use crate::run_end::RunEnd;
+use crate::run::whole_run;
 use crate::side_by_side::complete_side_by_side;
+use crate::trial::Trial;
 use pb_core::election::Election;
 use pb_core::money::Money;
 use pb_core::no_memory::NoMemory;
 use pb_price::{Gate, NoGate, Supporters, is_worker_count};
 use std::alloc::Allocator;
-use std::mem::swap;
 use std::thread::Threads;
 
 /// The first of the options that is out of its range.
@@ -124,17 +124,7 @@ where
     ensures refused { MatchOption (refusal_of options.now) ⊤ (λ fault. result ≡ Err fault) }
     ensures faults { IfErr result (IsCountFault election.now options.now) }
     // what is answered
-    ensures counted { IfOk result (λ o. count_of election.now options.now ≡ Some (settled o)) }
-    ensures priced { IfOk result (λ o.
-        HasPricing options.now.measure (support_of election.now) options.now.workers o.share o.priced) }
-    ensures within_budget { IfOk result (λ o.
-        spent_on (support_of election.now) o.elected ≤ election.now.budget) }
-    ensures completed { IfOk result (λ o. options.now.completion ≡ Completion.Add1
-        → IsCompleted options.now.measure election.now options.now.step o.raised) }
-    ensures cheapest { IfOk result (λ o.
-        EachWasCheapest options.now.measure (support_of election.now) o.share o.elected) }
-    ensures price_system { IfOk result (λ o.
-        HasPriceSystem (support_of election.now) o.share o.elected o.rests) }
+    ensures counted { IfOk result (IsCountOf election.now options.now) }
 {
     if let Some(fault) = refusal_of(options) {
         return Err(fault);
@@ -153,7 +143,7 @@ fn count_in_range<R: Threads + Sync, A: Allocator + Copy + Send + Sync, B: Alloc
 ) -> Result<Outcome<A>, CountFault>
     requires in_range { refusal_of options.now ≡ None }
     requires own { supporters.now ≡ support_of election.now }
-    ensures counted { IfOk result (IsCounted election.now options.now) }
+    ensures counted { IfOk result (IsCountOf election.now options.now) }
     ensures faults { IfErr result (IsCountFault election.now options.now) }
 {
     let pricing = Pricing {
@@ -193,23 +183,7 @@ pub(crate) fn outcome_after<
     whole_run(pricing, share, raised)
 }
 
-/// Where the raises end that are run one after the other, each by all workers: one worker has all of them, several have the
-/// first alone, since it may decide.
-fn end_in_turn(workers: u32, first: u32, max_raises: u32) -> u32
-    requires raises { max_raises ≤ most_raises }
-    requires first { first ≤ max_raises + 1 }
-    ensures first { first ≤ result }
-    ensures some { 0 < result }
-    ensures few { result ≤ max_raises + 1 }
-{
-    if workers == 1 || first > max_raises {
-        return max_raises + 1;
-    }
-    first + 1
-}
-
-/// Counts with completion by raises. The first raises that leave room decide nothing and are not run; a raise whose elected
-/// cost more than the budget runs no further.
+/// Counts with completion by raises. The first raises that leave room decide nothing and are not run.
 fn complete<R: Threads + Sync, G: Gate, A: Allocator + Copy + Send + Sync, B: Allocator>(
     pricing: &Pricing<R, G, A>,
     election: &Election<B>,
@@ -224,25 +198,23 @@ fn complete<R: Threads + Sync, G: Gate, A: Allocator + Copy + Send + Sync, B: Al
     let budget = election.budget();
     let opening = opening_share(election);
     let first = raises_with_room(pricing.supporters, budget, opening, step, max_raises);
-    let mut run = Run::new(pricing.alloc);
-    let mut last = Outcome::unfilled(pricing.alloc);
-    let mut next = Outcome::unfilled(pricing.alloc);
     let end = end_in_turn(pricing.workers, first, max_raises);
-    for raised in first..end {
-        let share = raised_share(opening, raised, step);
-        let run_end = run.run(pricing, share, raised, Some(budget), &mut next)?;
-        match run_end {
-            RunEnd::OverLimit if raised == first => {
-                let outcome = outcome_after(pricing, election, step, raised - 1)?;
-                return Ok(outcome);
-            }
-            RunEnd::OverLimit => return Ok(last),
-            RunEnd::Whole => {}
-        }
-        if run.is_exhausted(pricing.supporters, budget) {
-            return Ok(next);
-        }
-        swap(&mut last, &mut next);
+    let mut outcome = Outcome::unfilled(pricing.alloc);
+    let mut trial = Trial::new(pricing.alloc);
+    let ended = complete_in_turn(
+        pricing,
+        election,
+        step,
+        first,
+        end,
+        &mut trial,
+        &mut outcome,
+    );
+    drop(trial);
+    let decided = ended?;
+    if decided {
+        return Ok(outcome);
     }
+    drop(outcome);
     complete_side_by_side(pricing, election, step, max_raises, end)
 }

@@ -3,6 +3,7 @@
 
 pub mod count;
 pub mod count_fault;
+mod in_turn;
 pub mod key;
 pub mod laws;
 pub mod measure;
@@ -17,6 +18,7 @@ mod run;
 mod run_end;
 mod side_by_side;
 mod standing;
+mod trial;
 
 pub use count::equal_shares;
 pub use count_fault::CountFault;

@@ -76,9 +76,45 @@ fn price_heads<R: Threads + Sync, G: Gate, A: Allocator + Copy + Send + Sync>(
     Ok(())
 }
 
-/// Prices the heads of the queue, in batches of at most this many, until the best that was priced comes before the head,
-/// and gives that best. The places that were priced and the fresh keys are those of this round alone; how many prices it
-/// took goes after the outcome's other counts.
+/// Prices the heads of the queue at these rests, in batches of at most this many, until the best that was priced comes before
+/// the head, and gives that best.
+fn price_batches<R: Threads + Sync, G: Gate, A: Allocator + Copy + Send + Sync>(
+    pricing: &Pricing<R, G, A>,
+    rests: &[Money],
+    most: u32,
+    queue: &mut BTreeSet<Key, A>,
+    places: &mut Vec<u32, A>,
+    fresh: &mut Vec<Key, A>,
+    tally: &mut Tally,
+) -> Result<Option<Key>, NoMemory>
+    requires workers { is_worker_count pricing.now.workers ≡ true }
+    requires most { 0 < most }
+    requires rests { AreRests pricing.now.supporters.now.voters rests.now }
+    requires known { (b : Bid) → IsIn b queue.old.keys → b.place < length pricing.now.supporters.now.costs }
+    requires few { length queue.old.keys ≤ most_projects }
+    requires places { places.old.items ≡ [] }
+    requires fresh { fresh.old.items ≡ [] }
+    requires tally { tally.old ≡ 0 }
+    ensures priced { IfOk result
+        (PricesHeads pricing.now.measure pricing.now.supporters.now rests.now most
+        queue.old.keys queue.new.keys places.new.items fresh.new.items) }
+    ensures done { IfOk result (λ best. IsDone best queue.new.keys) }
+    ensures counted { IfOk result (λ best. tally.new ≡ length places.new.items) }
+{
+    let mut best = None;
+    loop {
+        let before = places.len();
+        take_heads(queue, &best, most, places)?;
+        if places.len() == before {
+            return Ok(best);
+        }
+        let heads = &places[before..];
+        price_heads(pricing, rests, heads, fresh, &mut best, tally)?;
+    }
+}
+
+/// Prices the heads of the queue, as far as the best of this round needs, and gives that best. The places that were priced and
+/// the fresh keys are those of this round alone; how many prices it took goes after the outcome's other counts.
 pub(crate) fn price_round<R: Threads + Sync, G: Gate, A: Allocator + Copy + Send + Sync>(
     pricing: &Pricing<R, G, A>,
     most: u32,
@@ -101,18 +137,9 @@ pub(crate) fn price_round<R: Threads + Sync, G: Gate, A: Allocator + Copy + Send
 {
     places.clear();
     fresh.clear();
-    let mut best = None;
     let mut tally = Tally::new();
-    loop {
-        let before = places.len();
-        take_heads(queue, &best, most, places)?;
-        if places.len() == before {
-            break;
-        }
-        let heads = &places[before..];
-        let rests = outcome.rests.as_slice();
-        price_heads(pricing, rests, heads, fresh, &mut best, &mut tally)?;
-    }
+    let rests = outcome.rests.as_slice();
+    let best = price_batches(pricing, rests, most, queue, places, fresh, &mut tally)?;
     outcome.priced.push(tally.count())?;
     Ok(best)
 }

@@ -3,11 +3,12 @@ ghost use Rattle.pb_price.specs.Price.{largest_share};
 ghost use Rattle.pb_price.specs.PriceFault.{is_worker_count};
 ghost use Rattle.pb_price.specs.Supporters.{IsSupport};
 ghost use Rattle.pb_rounds.specs.Count.{is_exhausted, spent_on};
-ghost use Rattle.pb_rounds.specs.Queue.{AreMarked, IsRunEnd, is_above};
+ghost use Rattle.pb_rounds.specs.Queue.{AreMarked, IsFull, IsRunEnd, is_above};
 ghost use Rattle.pb_rounds.specs.RaiseEnds.{IsOutcomeAt};
 ghost use Rattle.pb_rounds.specs.Run.{ElectedView};
 
 use crate::key::Key;
+use crate::measure::Measure;
 use crate::outcome::Outcome;
 use crate::pricing::Pricing;
 use crate::queue::{fill, put_back};
@@ -51,6 +52,36 @@ impl<A: Allocator> Run<A> {
         }
     }
 
+    /// Begins a run: every project is in the queue, none is marked, and nobody is elected.
+    fn start(
+        &mut self,
+        measure: Measure,
+        supporters: &Supporters<A>,
+        share: Money,
+        raised: u32,
+        outcome: &mut Outcome<A>,
+    ) -> Result<(), NoMemory>
+    where
+        A: Copy,
+        ensures queue { OnOk result
+            (IsFull measure supporters.now (length supporters.now.costs) self.new.queue.keys) }
+        ensures marks { OnOk result
+            (self.new.marks.items ≡ replicate (length supporters.now.costs) false) }
+        ensures outcome { OnOk result (outcome.new
+            ≡ record {
+              share = share;
+              raised = raised;
+              elected = [];
+              rests = replicate supporters.now.voters share;
+              priced = [];
+            }) }
+    {
+        fill(&mut self.queue, measure, supporters)?;
+        open(outcome, share, raised, supporters.voters())?;
+        clear_marks(&mut self.marks, supporters.projects())?;
+        Ok(())
+    }
+
     /// Runs at this share, into an outcome whose lists are used again. The run goes no further once its elected cost more
     /// than the limit, where there is one.
     pub(crate) fn run<R: Threads + Sync, G: Gate>(
@@ -71,9 +102,7 @@ impl<A: Allocator> Run<A> {
     {
         let supporters = pricing.supporters;
         let projects = supporters.projects();
-        fill(&mut self.queue, pricing.measure, supporters)?;
-        open(outcome, share, raised, supporters.voters())?;
-        clear_marks(&mut self.marks, projects)?;
+        self.start(pricing.measure, supporters, share, raised, outcome)?;
         self.spent = 0;
         let mut most = projects.max(1);
         while let Some(best) = price_round(
@@ -120,7 +149,10 @@ pub(crate) fn whole_run<R: Threads + Sync, G: Gate, A: Allocator + Copy + Send +
         (IsOutcomeAt pricing.now.measure pricing.now.supporters.now pricing.now.workers share raised) }
 {
     let mut outcome = Outcome::unfilled(pricing.alloc);
-    Run::new(pricing.alloc).run(pricing, share, raised, None, &mut outcome)?;
+    let mut run = Run::new(pricing.alloc);
+    let end = run.run(pricing, share, raised, None, &mut outcome);
+    drop(run);
+    end?;
     Ok(outcome)
 }
 

@@ -1,13 +1,10 @@
 //! Completion with several workers: raises are tried side by side, each by a run of one worker.
 
-ghost use Rattle.std.specs.Prelude.{◌≡◌, ◌+◌, ◌*◌, ◌<◌, ◌≤◌, ℕ, length, slice_index_or, Some, IfOk, IfErr, MatchOption, OnOk, true, false};
+ghost use Rattle.std.specs.Prelude.{◌≡◌, ◌+◌, ◌*◌, ◌<◌, ◌≤◌, ℕ, None, length, slice_index_or, Some, IfOk, IfErr, MatchOption, OnOk, ⊤, false};
 ghost use Rattle.pb_core.specs.Money.{largest_money};
-ghost use Rattle.pb_price.specs.Price.{largest_share};
-ghost use Rattle.pb_price.specs.PriceFault.{is_worker_count};
-ghost use Rattle.pb_price.specs.Supporters.{support_of};
 ghost use Rattle.pb_rounds.specs.Count.{add1_of, is_decisive, IsCompletionFault};
 ghost use Rattle.pb_rounds.specs.CountFault.{largest_step, most_raises};
-ghost use Rattle.pb_rounds.specs.RaiseEnds.{CanComplete, IsCompletion, IsRaiseEnd};
+ghost use Rattle.pb_rounds.specs.RaiseEnds.{CanComplete, IsCompletion, IsFound};
 
 use crate::count::{opening_share, outcome_after};
 use crate::count_fault::CountFault;
@@ -15,120 +12,71 @@ use crate::outcome::Outcome;
 use crate::pricing::Pricing;
 use crate::raise_end::RaiseEnd;
 use crate::reach::raised_share;
-use crate::run::Run;
-use crate::run_end::RunEnd;
+use crate::trial::Trial;
 use pb_core::election::Election;
 use pb_core::money::Money;
 use pb_core::no_memory::NoMemory;
 use pb_price::gate::Gate;
-use std::alloc::{Allocator, Global};
+use std::alloc::Allocator;
 use std::thread::{self, Threads};
 
-/// A worker's trial of one raise after the other, with what it uses again from raise to raise.
+/// Raises that are tried side by side, from this number of raises on.
 #[derive(Drop)]
-pub(crate) struct Trial<A: Allocator = Global> {
-    run: Run<A>,
-    outcome: Outcome<A>,
-    /// How the last raise ended that was tried.
-    end: Result<RaiseEnd, NoMemory>,
-}
-
-impl<A: Allocator> Trial<A> {
-    fn new(alloc: A) -> Trial<A>
-    where
-        A: Copy,
-    {
-        Trial {
-            run: Run::new(alloc),
-            outcome: Outcome::unfilled(alloc),
-            end: Ok(RaiseEnd::GoesOn),
-        }
-    }
-
-    /// How the raise to this share ends.
-    fn end_of<R: Threads + Sync, G: Gate>(
-        &mut self,
-        pricing: &Pricing<R, G, A>,
-        budget: Money,
-        share: Money,
-    ) -> Result<RaiseEnd, NoMemory>
-    where
-        A: Copy + Send + Sync,
-        requires share { share ≤ largest_share }
-        requires workers { is_worker_count pricing.now.workers ≡ true }
-        ensures { IfOk result
-            (IsRaiseEnd pricing.now.measure pricing.now.supporters.now budget share) }
-    {
-        let outcome = &mut self.outcome;
-        let end = self.run.run(pricing, share, 0, Some(budget), outcome)?;
-        match end {
-            RunEnd::OverLimit => return Ok(RaiseEnd::Over),
-            RunEnd::Whole => {}
-        }
-        if self.run.is_exhausted(pricing.supporters, budget) {
-            return Ok(RaiseEnd::Exhausted);
-        }
-        Ok(RaiseEnd::GoesOn)
-    }
-
-    /// Tries this raise, by a run of one worker.
-    fn try_raise<R: Threads + Sync, G: Gate>(
-        &mut self,
-        pricing: &Pricing<R, G, A>,
-        budget: Money,
-        opening: Money,
-        step: Money,
-        raised: u32,
-    )
-    where
-        A: Copy + Send + Sync,
-        requires opening { opening ≤ largest_money }
-        requires raised { raised ≤ most_raises }
-        requires step { step ≤ largest_step }
-        ensures { IfOk self.new.end (IsRaiseEnd pricing.now.measure pricing.now.supporters.now budget
-            (opening + raised * step)) }
-    {
-        let alone = Pricing {
-            rt: pricing.rt,
-            gate: pricing.gate,
-            alloc: pricing.alloc,
-            workers: 1,
-            measure: pricing.measure,
-            supporters: pricing.supporters,
-        };
-        let share = raised_share(opening, raised, step);
-        let end = self.end_of(&alone, budget, share);
-        self.end = end;
-    }
-}
-
-/// Tries raises side by side, one for each trial, from this number of raises on.
-fn try_group<R: Threads + Sync, G: Gate, A: Allocator + Copy + Send + Sync>(
-    pricing: &Pricing<R, G, A>,
-    trials: &mut Vec<Trial<A>, A>,
+struct Group<'a, R, G, A: Allocator> {
+    pricing: &'a Pricing<'a, R, G, A>,
     budget: Money,
     opening: Money,
     step: Money,
     next: u32,
+}
+
+impl<'a, R: Threads + Sync, G: Gate, A: Allocator + Copy + Send + Sync> Group<'a, R, G, A> {
+    /// Tries the raise at this place of the group, by a run of one worker.
+    fn try_raise(&self, i: usize, trial: &mut Trial<A>)
+        requires opening { self.now.opening ≤ largest_money }
+        requires raised { self.now.next + i ≤ most_raises }
+        requires step { self.now.step ≤ largest_step }
+        ensures { IsFound self.now.pricing.now.measure self.now.pricing.now.supporters.now self.now.budget
+            (self.now.opening + (self.now.next + i) * self.now.step) trial.new.end }
+    {
+        let alone = Pricing {
+            rt: self.pricing.rt,
+            gate: self.pricing.gate,
+            alloc: self.pricing.alloc,
+            workers: 1,
+            measure: self.pricing.measure,
+            supporters: self.pricing.supporters,
+        };
+        let share = raised_share(self.opening, self.next + i as u32, self.step);
+        let end = trial.end_of(&alone, self.budget, share, 0);
+        trial.end = end;
+    }
+}
+
+/// Tries the raises of a group, one for each trial.
+fn try_group<R: Threads + Sync, G: Gate, A: Allocator + Copy + Send + Sync>(
+    group: &Group<R, G, A>,
+    trials: &mut Vec<Trial<A>, A>,
 )
-    requires opening { opening ≤ largest_money }
-    requires step { step ≤ largest_step }
+    requires opening { group.now.opening ≤ largest_money }
+    requires step { group.now.step ≤ largest_step }
     requires some { 0 < length trials.old.items }
-    requires few { next + length trials.old.items ≤ most_raises + 1 }
+    requires few { group.now.next + length trials.old.items ≤ most_raises + 1 }
     ensures len { length trials.new.items ≡ length trials.old.items }
     ensures ends { (i : ℕ) (d : _) → i < length trials.old.items
-        → IfOk (slice_index_or trials.new.items i d).end (IsRaiseEnd pricing.now.measure
-        pricing.now.supporters.now budget (opening + (next + i) * step)) }
+        → IsFound group.now.pricing.now.measure group.now.pricing.now.supporters.now group.now.budget
+        (group.now.opening + (group.now.next + i) * group.now.step) (slice_index_or trials.new.items i d).end }
 {
     let try_one = |i: usize, trial: &mut Trial<A>|
-        requires opening { opening ≤ largest_money }
-        requires raised { next + i ≤ most_raises }
-        requires step { step ≤ largest_step }
-        ensures { IfOk trial.new.end (IsRaiseEnd pricing.entry.now.measure
-            pricing.entry.now.supporters.now budget (opening + (next + i) * step)) }
-    { trial.try_raise(pricing, budget, opening, step, next + i as u32) };
+        requires opening { group.now.opening ≤ largest_money }
+        requires raised { group.now.next + i ≤ most_raises }
+        requires step { group.now.step ≤ largest_step }
+        ensures { IsFound group.entry.now.pricing.now.measure group.entry.now.pricing.now.supporters.now
+            group.entry.now.budget
+            (group.entry.now.opening + (group.entry.now.next + i) * group.entry.now.step) trial.new.end }
+    { group.try_raise(i, trial) };
     let count = trials.len();
-    thread::for_each_mut(pricing.rt, trials.as_mut_slice(), count, &try_one);
+    thread::for_each_mut(group.pricing.rt, trials.as_mut_slice(), count, &try_one);
 }
 
 /// Tries raises side by side, one for each trial, from this number of raises on, none before which decides: how many raises
@@ -141,9 +89,7 @@ fn try_raises<R: Threads + Sync, G: Gate, A: Allocator + Copy + Send + Sync, B: 
     max_raises: u32,
     next: u32,
 ) -> Result<Option<u32>, NoMemory>
-    requires step { step ≤ largest_step }
-    requires raises { max_raises ≤ most_raises }
-    requires supporters { pricing.now.supporters.now ≡ support_of election.now }
+    requires given { CanComplete election.now pricing.now.workers pricing.now.supporters.now step max_raises }
     requires some { (0 < next) × (0 < length trials.old.items) }
     requires few { next + length trials.old.items ≤ max_raises + 1 }
     requires tried { (raises : ℕ) → raises < next
@@ -155,9 +101,15 @@ fn try_raises<R: Threads + Sync, G: Gate, A: Allocator + Copy + Send + Sync, B: 
         (λ raises. (raises ≤ max_raises)
         × (add1_of pricing.now.measure election.now step max_raises ≡ Some raises))) }
 {
-    let budget = election.budget();
-    let opening = opening_share(election);
-    try_group(pricing, trials, budget, opening, step, next);
+    let group = Group {
+        pricing,
+        budget: election.budget(),
+        opening: opening_share(election),
+        step,
+        next,
+    };
+    try_group(&group, trials);
+    drop(group);
     for i in 0..trials.len() {
         let raised = next + i as u32;
         let end = trials[i].end?;
@@ -186,6 +138,16 @@ fn most_trials(rt: &impl Threads, workers: u32) -> u32
     }
 }
 
+/// How many raises the next group tries, of this many that are left: twice as many as the last one, and at least 2.
+fn group_size(last: usize, side_by_side: u32, left: u32) -> usize
+    requires last { last ≤ 64 }
+    requires some { (0 < side_by_side) × (0 < left) }
+    ensures some { 0 < result }
+    ensures few { (result ≤ side_by_side) × (result ≤ left) }
+{
+    (2 * last).max(2).min(side_by_side.min(left) as usize)
+}
+
 /// Makes the trials this many.
 fn resize<A: Allocator + Copy>(
     alloc: A,
@@ -201,8 +163,41 @@ fn resize<A: Allocator + Copy>(
     Ok(())
 }
 
-/// Completes by raises from this number on, none before which decides, in groups that grow until each worker has a raise, or
-/// each processor where those are fewer. The raise that is answered is run once more, with all workers.
+/// How many raises the completion decides on, from this number on, none before which decides. They are tried in groups that
+/// grow until each worker has a raise, or each processor where those are fewer.
+fn decide_side_by_side<R: Threads + Sync, G: Gate, A: Allocator + Copy + Send + Sync, B: Allocator>(
+    pricing: &Pricing<R, G, A>,
+    election: &Election<B>,
+    trials: &mut Vec<Trial<A>, A>,
+    step: Money,
+    max_raises: u32,
+    from: u32,
+) -> Result<Option<u32>, NoMemory>
+    requires given { CanComplete election.now pricing.now.workers pricing.now.supporters.now step max_raises }
+    requires from { (0 < from) × (from ≤ max_raises + 1) }
+    requires few { length trials.old.items ≤ 64 }
+    requires tried { (raises : ℕ) → raises < from
+        → is_decisive pricing.now.measure election.now step raises ≡ false }
+    ensures { IfOk result (λ found.
+        (add1_of pricing.now.measure election.now step max_raises ≡ found)
+        × MatchOption found ⊤ (λ raises. raises ≤ max_raises)) }
+{
+    let side_by_side = most_trials(pricing.rt, pricing.workers);
+    let mut next = from;
+    while next <= max_raises {
+        let count = group_size(trials.len(), side_by_side, max_raises + 1 - next);
+        resize(pricing.alloc, trials, count)?;
+        let found = try_raises(pricing, election, trials, step, max_raises, next)?;
+        if let Some(raises) = found {
+            return Ok(Some(raises));
+        }
+        next += count as u32;
+    }
+    Ok(None)
+}
+
+/// Completes by raises from this number on, none before which decides. The raise that is answered is run once more, with all
+/// workers.
 pub(crate) fn complete_side_by_side<
     R: Threads + Sync,
     G: Gate,
@@ -224,18 +219,10 @@ pub(crate) fn complete_side_by_side<
     ensures faults { IfErr result (IsCompletionFault pricing.now.measure election.now step max_raises) }
 {
     let mut trials = Vec::new(pricing.alloc);
-    let side_by_side = most_trials(pricing.rt, pricing.workers);
-    let mut next = from;
-    while next <= max_raises {
-        let most = side_by_side.min(max_raises + 1 - next) as usize;
-        let count = (2 * trials.len()).max(2).min(most);
-        resize(pricing.alloc, &mut trials, count)?;
-        let found = try_raises(pricing, election, &mut trials, step, max_raises, next)?;
-        if let Some(raises) = found {
-            let outcome = outcome_after(pricing, election, step, raises)?;
-            return Ok(outcome);
-        }
-        next += count as u32;
+    let found = decide_side_by_side(pricing, election, &mut trials, step, max_raises, from);
+    drop(trials);
+    match found? {
+        Some(raises) => Ok(outcome_after(pricing, election, step, raises)?),
+        None => Err(CountFault::RaisesSpent),
     }
-    Err(CountFault::RaisesSpent)
 }

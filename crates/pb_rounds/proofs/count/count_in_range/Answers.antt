@@ -1,6 +1,7 @@
 use Rattle.std.proofs.Common.{arith}
 use Rattle.pb_rounds.specs.Count.{IsCompletionFault, IsCountFault}
-use Rattle.pb_rounds.specs.RaiseEnds.{IsCompletion, IsCounted}
+use Rattle.pb_rounds.specs.Counted.{IsCountOf}
+use Rattle.pb_rounds.specs.RaiseEnds.{IsCompletion}
 use Rattle.pb_rounds.proofs.Counted.{add1_counted, add1_fault, can_complete, each_err, each_ok, plain_counted}
 use Rattle.pb_rounds.proofs.count.count_in_range.Goals as goal
 
@@ -14,14 +15,14 @@ complete-requires-clause-given g c =
 
 pub returns-in_ok-outcome-in-Plain-clause-counted : goal.returns-in_ok-outcome-in-Plain-clause-counted
 returns-in_ok-outcome-in-Plain-clause-counted g c =
-    plain_counted c.args.election.now c.args.options.now c.in_ok-outcome-in-Plain.outcome c.in-Plain.is c.in_ok-outcome-in-Plain.ensures
+    plain_counted c.args.election.now c.args.options.now c.in_ok-outcome-in-Plain.outcome c.requires.in_range c.in-Plain.is c.in_ok-outcome-in-Plain.ensures
 
 pub returns-in-Add1-clause-counted : goal.returns-in-Add1-clause-counted
 returns-in-Add1-clause-counted g c =
     each_ok
     (IsCompletion c.args.options.now.measure c.args.election.now c.args.options.now.workers c.args.options.now.step c.args.options.now.max_raises)
-    (IsCounted c.args.election.now c.args.options.now)
-    (λ o h. add1_counted c.args.election.now c.args.options.now o c.in-Add1.is h) c.complete.result c.complete.ensures.completed
+    (IsCountOf c.args.election.now c.args.options.now)
+    (λ o h. add1_counted c.args.election.now c.args.options.now o c.requires.in_range c.in-Add1.is h) c.complete.result c.complete.ensures.completed
 
 pub returns-in-Add1-clause-faults : goal.returns-in-Add1-clause-faults
 returns-in-Add1-clause-faults g c =

@@ -1,3 +1,4 @@
+use Rattle.std.proofs.lemmas.Result.{IfOk-from_err}
 use Rattle.pb_rounds.proofs.Counted.{shared_from_run}
 use Rattle.pb_rounds.proofs.count.equal_shares.Goals as goal
 
@@ -20,3 +21,27 @@ pub returns-clause-price_system : goal.returns-clause-price_system
 returns-clause-price_system g c =
     (shared_from_run c.args.measure c.args.election.now c.in_ok-supporters.supporters c.in_ok-supporters.ensures c.args.workers c.args.share
     c.in_ok-outcome.outcome c.in_ok-outcome.ensures).price_system
+
+pub returns-in_err-supporters-clause-outcome : goal.returns-in_err-supporters-clause-outcome
+returns-in_err-supporters-clause-outcome g c = IfOk-from_err _ _ c.from_residual.ensures.0
+
+pub returns-in_err-supporters-clause-priced : goal.returns-in_err-supporters-clause-priced
+returns-in_err-supporters-clause-priced g c = IfOk-from_err _ _ c.from_residual.ensures.0
+
+pub returns-in_err-supporters-clause-cheapest : goal.returns-in_err-supporters-clause-cheapest
+returns-in_err-supporters-clause-cheapest g c = IfOk-from_err _ _ c.from_residual.ensures.0
+
+pub returns-in_err-supporters-clause-price_system : goal.returns-in_err-supporters-clause-price_system
+returns-in_err-supporters-clause-price_system g c = IfOk-from_err _ _ c.from_residual.ensures.0
+
+pub returns-in_err-outcome-clause-outcome : goal.returns-in_err-outcome-clause-outcome
+returns-in_err-outcome-clause-outcome g c = IfOk-from_err _ _ c.from_residual-in_err-outcome.ensures.0
+
+pub returns-in_err-outcome-clause-priced : goal.returns-in_err-outcome-clause-priced
+returns-in_err-outcome-clause-priced g c = IfOk-from_err _ _ c.from_residual-in_err-outcome.ensures.0
+
+pub returns-in_err-outcome-clause-cheapest : goal.returns-in_err-outcome-clause-cheapest
+returns-in_err-outcome-clause-cheapest g c = IfOk-from_err _ _ c.from_residual-in_err-outcome.ensures.0
+
+pub returns-in_err-outcome-clause-price_system : goal.returns-in_err-outcome-clause-price_system
+returns-in_err-outcome-clause-price_system g c = IfOk-from_err _ _ c.from_residual-in_err-outcome.ensures.0

@@ -1,60 +1,14 @@
-use Rattle.std.proofs.Common.{◌<◌, ◌≤◌, ◌∙◌, ◌++◌, sym, ap, subst, ℕ, List, length, drop, arith}
-use Rattle.std.specs.Prelude.{All}
-use Rattle.pb_core.specs.Election.{most_projects}
-use Rattle.pb_rounds.specs.Run.{bids_at}
-use Rattle.pb_rounds.proofs.QueueSteps.{counted_more, cut_off, fewer_left, heads_more, heads_none, none_taken, taken_few, taken_known}
+use Rattle.std.proofs.Common.{subst, sym, List, ℕ}
+use Rattle.pb_price.specs.Price.{AreRests}
+use Rattle.pb_rounds.specs.Queue.{PricesHeads}
 use Rattle.pb_rounds.proofs.round.price_round.Goals as goal
-
-pub price_heads-requires-clause-known : goal.price_heads-requires-clause-known
-price_heads-requires-clause-known g c = λ κs _.
-    subst (All (λ place. place < length c.args.pricing.now.supporters.now.costs))
-    (sym (cut_off c.loop-places.places.items c.take_heads.new.places.items c.deref.result.now c.len-before.result c.deref.ensures.value (omega (arith, c.len-before.ensures, c.loop-places.places.ok.0))))
-    (taken_known c.args.pricing.now.measure c.args.pricing.now.supporters.now c.outcome.inside.rests.items c.args.most c.args.queue.now.keys c.loop-places.queue.keys
-    c.loop-places.places.items c.loop-places.fresh.items c.loop-places.best c.loop-places.invariant.heads c.take_heads.new.queue.keys c.take_heads.new.places.items
-    c.in_ok-take_heads.ensures (length c.args.pricing.now.supporters.now.costs) c.requires.known)
-
-pub price_heads-requires-clause-few : goal.price_heads-requires-clause-few
-price_heads-requires-clause-few g c = λ κs _.
-    subst (λ (xs : List ℕ). length xs ≤ most_projects)
-    (sym (cut_off c.loop-places.places.items c.take_heads.new.places.items c.deref.result.now c.len-before.result c.deref.ensures.value (omega (arith, c.len-before.ensures, c.loop-places.places.ok.0))))
-    (taken_few c.args.pricing.now.measure c.args.pricing.now.supporters.now c.outcome.inside.rests.items c.args.most c.args.queue.now.keys c.loop-places.queue.keys
-    c.loop-places.places.items c.loop-places.fresh.items c.loop-places.best c.loop-places.invariant.heads c.take_heads.new.queue.keys c.take_heads.new.places.items
-    c.in_ok-take_heads.ensures most_projects c.requires.few)
-
-pub loop-places-init : goal.loop-places-init
-loop-places-init g c = record { heads = rw (c.clear.ensures.items, c.clear-2.ensures.items) (heads_none _ _ _ _ _); counted = c.new-tally.ensures ∙ sym (ap length c.clear.ensures.items) }
-
-pub loop-places-smaller : goal.loop-places-smaller
-loop-places-smaller g c =
-    fewer_left c.args.pricing.now.measure c.args.pricing.now.supporters.now c.outcome.inside.rests.items c.args.most c.args.queue.now.keys c.loop-places.queue.keys
-    c.loop-places.places.items c.loop-places.fresh.items c.loop-places.best c.loop-places.invariant.heads c.take_heads.new.queue.keys c.take_heads.new.places.items
-    c.in_ok-take_heads.ensures (λ e. c.if-len-before.false (omega (arith, e, c.len.ensures, c.len-before.ensures, c.loop-places.places.ok.0, c.take_heads.new.places.ok.0)))
-
-pub loop-places-preserved : goal.loop-places-preserved
-loop-places-preserved g c =
-    let cut = cut_off c.loop-places.places.items c.take_heads.new.places.items c.deref.result.now c.len-before.result c.deref.ensures.value
-    (omega (arith, c.len-before.ensures, c.loop-places.places.ok.0)) in
-    record {
-      heads = heads_more c.args.pricing.now.measure c.args.pricing.now.supporters.now c.outcome.inside.rests.items c.args.most c.args.queue.now.keys c.loop-places.queue.keys
-          c.loop-places.places.items c.loop-places.fresh.items c.loop-places.best c.loop-places.invariant.heads c.take_heads.new.queue.keys c.take_heads.new.places.items
-          c.in_ok-take_heads.ensures (λ e. c.if-len-before.false (omega (arith, e, c.len.ensures, c.len-before.ensures, c.loop-places.places.ok.0, c.take_heads.new.places.ok.0))) c.price_heads.new.fresh.items
-          (c.in_ok-price_heads.ensures.fresh
-          ∙ ap (λ xs. c.loop-places.fresh.items ++ bids_at c.args.pricing.now.measure c.args.pricing.now.supporters.now c.as_slice-rests.result.now xs) cut
-          ∙ ap (λ rs. c.loop-places.fresh.items ++ bids_at c.args.pricing.now.measure c.args.pricing.now.supporters.now rs (drop (length c.loop-places.places.items) c.take_heads.new.places.items)) c.as_slice-rests.ensures.value)
-          c.price_heads.new.best c.in_ok-price_heads.ensures.best;
-      counted = counted_more c.args.pricing.now.measure c.args.pricing.now.supporters.now c.outcome.inside.rests.items c.args.most c.args.queue.now.keys c.loop-places.queue.keys
-          c.loop-places.places.items c.loop-places.fresh.items c.loop-places.best c.loop-places.invariant.heads c.take_heads.new.queue.keys c.take_heads.new.places.items
-          c.in_ok-take_heads.ensures c.loop-places.tally c.price_heads.new.tally _ c.loop-places.invariant.counted cut c.in_ok-price_heads.ensures.counted c.requires.few;
-    }
 
 pub returns-clause-priced : goal.returns-clause-priced
 returns-clause-priced g c = rw (← c.outcome.view_is)
-    (none_taken c.args.pricing.now.measure c.args.pricing.now.supporters.now c.outcome.inside.rests.items c.args.most c.args.queue.now.keys c.loop-places.queue.keys
-    c.loop-places.places.items c.loop-places.fresh.items c.loop-places.best c.loop-places.invariant.heads c.take_heads.new.queue.keys c.take_heads.new.places.items
-    c.in_ok-take_heads.ensures (omega (arith, c.if-len-before.true, c.len.ensures, c.len-before.ensures, c.loop-places.places.ok.0, c.take_heads.new.places.ok.0))).0
+    (subst (λ (rests : List ℕ). PricesHeads c.args.pricing.now.measure c.args.pricing.now.supporters.now rests c.args.most c.args.queue.now.keys
+    c.price_batches.new.queue.keys c.price_batches.new.places.items c.price_batches.new.fresh.items c.in_ok-best.best)
+    c.as_slice-rests.ensures.value c.in_ok-best.ensures.priced)
 
-pub returns-clause-done : goal.returns-clause-done
-returns-clause-done g c =
-    (none_taken c.args.pricing.now.measure c.args.pricing.now.supporters.now c.outcome.inside.rests.items c.args.most c.args.queue.now.keys c.loop-places.queue.keys
-    c.loop-places.places.items c.loop-places.fresh.items c.loop-places.best c.loop-places.invariant.heads c.take_heads.new.queue.keys c.take_heads.new.places.items
-    c.in_ok-take_heads.ensures (omega (arith, c.if-len-before.true, c.len.ensures, c.len-before.ensures, c.loop-places.places.ok.0, c.take_heads.new.places.ok.0))).1
+pub price_batches-requires-clause-rests : goal.price_batches-requires-clause-rests
+price_batches-requires-clause-rests g c = λ κs _.
+    subst (AreRests c.args.pricing.now.supporters.now.voters) (sym c.as_slice-rests.ensures.value) (rw (← c.outcome.view_is) at c.requires.rests)

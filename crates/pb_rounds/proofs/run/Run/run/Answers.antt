@@ -1,5 +1,4 @@
-use Rattle.std.proofs.Common.{◌≡◌, ◌+◌, ◌∙◌, [], set, true, false, sym, ap, arith}
-use Rattle.std.specs.Prelude.{replicate}
+use Rattle.std.proofs.Common.{◌≡◌, ◌+◌, ◌∙◌, set, true, sym, ap, arith}
 use Rattle.pb_price.specs.Supporters.{cost_at}
 use Rattle.pb_rounds.proofs.RunQueue.{fewer_rounds, mark_known, nothing_above, over_limit, queue_known, queue_within, puts_at, queued_open, rest_rises, round_end, round_more, some_worker, spent_fits, winner_known, winner_price}
 use Rattle.pb_rounds.proofs.run.Run.run.Goals as goal
@@ -9,8 +8,7 @@ loop-best-init g c = record {
   is_support = c.projects-projects.ensures.is_support;
   within = nothing_above c.args.limit;
   queued = queued_open c.args.pricing.now.measure c.args.pricing.now.supporters.now c.args.pricing.now.workers c.args.share c.args.raised c.requires.share
-      c.fill.new.queue.keys c.in_ok-fill.ensures c.open.new.outcome (c.in_ok-open.ensures ∙ ap (λ n. record { share = c.args.share; raised = c.args.raised; elected = []; rests = replicate n c.args.share; priced = [] }) c.voters.ensures.voters) c.clear_marks.new.marks.items
-      (c.in_ok-clear_marks.ensures ∙ ap (λ n. replicate n false) c.projects-projects.ensures.projects)
+      c.start.new.self.queue.keys c.in_ok-start.ensures.queue c.start.new.outcome c.in_ok-start.ensures.outcome c.start.new.self.marks.items c.in_ok-start.ensures.marks
       c.max-most.result (omega (arith, c.max-most.ensures));
 }
 

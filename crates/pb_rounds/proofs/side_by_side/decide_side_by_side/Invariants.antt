@@ -1,6 +1,6 @@
 use Rattle.std.proofs.Common.{◌≡◌, ℕ, ◌+◌, ◌-◌, ◌<◌, ◌≤◌, false, length}
 use Rattle.pb_rounds.specs.Count.{is_decisive}
-use Rattle.pb_rounds.proofs.side_by_side.complete_side_by_side.Given as goal
+use Rattle.pb_rounds.proofs.side_by_side.decide_side_by_side.Given as goal
 
 abbrev pub invariant-loop-next : goal.invariant-loop-next
 invariant-loop-next g l = record {

@@ -1,10 +1,10 @@
 use Rattle.std.proofs.Common.{◌≡◌, length}
 use Rattle.pb_rounds.specs.Queue.{PricesHeads}
-use Rattle.pb_rounds.proofs.round.price_round.Given as goal
+use Rattle.pb_rounds.proofs.round.price_batches.Given as goal
 
 abbrev pub invariant-loop-places : goal.invariant-loop-places
 invariant-loop-places g l = record {
-  heads : PricesHeads l.pricing.measure l.pricing.supporters.now l.outcome-inside.rests.items l.most l.fn.queue.keys l.queue.keys l.places.items l.fresh.items l.best;
+  heads : PricesHeads l.pricing.measure l.pricing.supporters.now l.rests l.most l.fn.queue.keys l.queue.keys l.places.items l.fresh.items l.best;
   counted : l.tally ≡ length l.places.items;
 }
 
