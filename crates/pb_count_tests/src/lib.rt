@@ -1,7 +1,9 @@
-//! Tests of prices and of counts: what no contract says, and each public call once with ample memory.
+//! Tests of all that a count needs: values, the rows of texts, the `.pb` reader, prices and counts. They show what no
+//! contract says, and each public call once with ample memory.
 //!
-//! They need not wait for the desk's proof. A test is a table and a short body, which compares by `checks`: an assertion
-//! in a body takes the prover seconds, a call next to nothing.
+//! They stand apart, since a crate that has tests is proved a second time with them, and need not wait for the desk's
+//! proof. A test is a table and a short body, which compares by `checks`: an assertion in a body takes the prover
+//! seconds, a call next to nothing.
 #![tactic(auto)]
 
 #[cfg(test)]
@@ -16,3 +18,9 @@ mod outcomes;
 mod prices;
 #[cfg(test)]
 mod raises;
+#[cfg(test)]
+mod reading;
+#[cfg(test)]
+mod rows;
+#[cfg(test)]
+mod values;

@@ -5,16 +5,16 @@ ghost use Rattle.std.specs.Bool.{OnTrue};
 ghost use Rattle.pb_core.specs.Election.{most_projects};
 ghost use Rattle.pb_price.specs.Price.{AreRests};
 
-use crate::checks::{holds, same, tells};
-use crate::elections::{THREE_VOTERS, amounts, read};
+use crate::checks::{same, tells};
+use crate::elections::{THREE_VOTERS, amounts, push_amount, read};
 use pb_core::money::Money;
 use pb_price::gate::{Gate, NoGate};
 use pb_price::price::price;
 use pb_price::{PriceFault, Supporters, Tally, price_all, price_in_steps};
 use std::alloc::Global;
 use std::process::Abort;
+use std::sync::atomic::AtomicU32;
 use std::sync::atomic::Ordering::SeqCst;
-use std::sync::atomic::{AtomicBool, AtomicU32};
 use std::thread::{Threads, yield_now};
 
 /// The largest share of a voter.
@@ -73,19 +73,25 @@ fn lists_supporters(rt: HostRuntime) {
     is_supported(&rt, &supporters, 1, &[1, 2], 6000);
 }
 
-/// The supporters of one project of this cost: of as many voters as there are numbers, those whose number is not 0.
-fn some_support(rt: &impl Abort, alloc: Global, cost: u64, numbers: &[u32]) -> Supporters {
-    let mut file = String::new(alloc);
-    let cost = Money(cost).text(alloc).expect(rt, "memory");
-    write!(
-        file,
-        "META\nkey;value\nbudget;0\nvote_type;approval\nPROJECTS\nproject_id;cost\np;{cost}\nVOTES\nvoter_id;vote\n"
-    )
-    .expect(rt, "memory");
+/// A row for each of these numbers: a voter, who supports the project where the number is not 0.
+fn add_voters(rt: &impl Abort, file: &mut String, numbers: &[u32]) {
     for (i, number) in numbers.iter().enumerate() {
         let vote = if *number > 0 { "p" } else { "" };
         write!(file, "{i};{vote}\n").expect(rt, "memory");
     }
+}
+
+/// The start of a file with one project, up to its cost.
+const BEFORE_COST: &str =
+    "META\nkey;value\nbudget;0\nvote_type;approval\nPROJECTS\nproject_id;cost\np;";
+
+/// The supporters of one project of this cost: of as many voters as there are numbers, those whose number is not 0.
+fn some_support(rt: &impl Abort, alloc: Global, cost: u64, numbers: &[u32]) -> Supporters {
+    let mut file = String::from_str(alloc, BEFORE_COST).expect(rt, "memory");
+    push_amount(rt, alloc, &mut file, cost);
+    file.push_str("\nVOTES\nvoter_id;vote\n")
+        .expect(rt, "memory");
+    add_voters(rt, &mut file, numbers);
     supporters(rt, alloc, file.as_str())
 }
 
@@ -120,16 +126,27 @@ const PRICES: &[(u64, &[u32], &[u64], Option<u64>)] = &[
     ),
 ];
 
+/// With these voters and rests the project has this price.
+fn has_price(
+    rt: &impl Abort,
+    alloc: Global,
+    supporters: &Supporters,
+    rests: &[u64],
+    wanted: Option<u64>,
+) {
+    let rests = amounts(rt, alloc, rests);
+    let found = priced(rt, alloc, supporters, rests.as_slice(), 0);
+    let wanted = wanted.map(|price| Money(price));
+    same(rt, found, wanted, "a price");
+    drop(rests);
+}
+
 #[test]
 fn prices_by_what_is_left(rt: HostRuntime) {
     for (cost, voters, rests, wanted) in PRICES {
         let supporters = some_support(&rt, rt.alloc(), *cost, voters);
-        let rests = amounts(&rt, rt.alloc(), rests);
-        let found = match priced(&rt, rt.alloc(), &supporters, rests.as_slice(), 0) {
-            Some(price) => Some(price.0),
-            None => None,
-        };
-        same(&rt, found, *wanted, "a price");
+        has_price(&rt, rt.alloc(), &supporters, rests, *wanted);
+        drop(supporters);
     }
 }
 
@@ -255,86 +272,81 @@ fn prices_as<R: Threads + Abort + Sync, G: Gate>(
     same(rt, tally, projects.len() as u64, "the tally");
 }
 
-/// Counts how often each piece came to the gate.
+/// How often each piece came to the gate, in digits: piece 0 has the last, piece 1 the one before it, and so on.
 #[derive(Drop)]
 struct Visits {
-    pieces: [AtomicU32; 4],
+    digits: AtomicU32,
 }
 
 impl Gate for Visits {
     fn at(&self, _worker: u32, piece: u32) {
-        if let Some(visits) = self.pieces.get(piece as usize) {
-            visits.fetch_add(1, SeqCst);
-        }
-    }
-}
-
-impl Visits {
-    /// A gate that has seen nothing.
-    fn none() -> Visits {
-        let pieces = [
-            AtomicU32::new(0),
-            AtomicU32::new(0),
-            AtomicU32::new(0),
-            AtomicU32::new(0),
-        ];
-        Visits { pieces }
-    }
-
-    /// How often it has seen each piece.
-    fn seen(&self) -> [u32; 4] {
-        [
-            self.pieces[0].load(SeqCst),
-            self.pieces[1].load(SeqCst),
-            self.pieces[2].load(SeqCst),
-            self.pieces[3].load(SeqCst),
-        ]
+        let one = match piece {
+            0 => 1,
+            1 => 10,
+            2 => 100,
+            3 => 1_000,
+            _ => 10_000,
+        };
+        self.digits.fetch_add(one, SeqCst);
     }
 }
 
 /// Projects to be priced, their prices, and how often each piece comes to the gate.
-const BATCHES: &[(&[u32], &[u64], &[u32])] = &[
-    (&[], &[], &[0, 0, 0, 0]),
-    (&[1], &[3000], &[1, 0, 0, 0]),
-    (&[0, 1], &[1500, 3000], &[1, 1, 0, 0]),
-    (&[1, 0, 1, 1], &[3000, 1500, 3000, 3000], &[1, 1, 1, 1]),
+const BATCHES: &[(&[u32], &[u64], u32)] = &[
+    (&[], &[], 0),
+    (&[1], &[3000], 1),
+    (&[0, 1], &[1500, 3000], 11),
+    (&[1, 0, 1, 1], &[3000, 1500, 3000, 3000], 1_111),
 ];
 
-/// The answers are those of one worker, for every number of workers.
-#[test]
-fn prices_all_by_any_number_of_workers(rt: HostRuntime) {
-    for workers in [1, 2, 3, 64] {
-        for (projects, prices, visits) in BATCHES {
-            let gate = Visits::none();
-            prices_as(&rt, rt.alloc(), workers, &gate, projects, prices);
-            same(&rt, gate.seen().as_slice(), *visits, "visits");
-        }
+/// This many workers give the answers of one worker, and draw each piece once.
+fn prices_by<R: Threads + Abort + Sync>(rt: &R, alloc: Global, workers: u32) {
+    for (projects, prices, visits) in BATCHES {
+        let gate = Visits {
+            digits: AtomicU32::new(0),
+        };
+        prices_as(rt, alloc, workers, &gate, projects, prices);
+        same(rt, gate.digits.load(SeqCst), *visits, "visits");
     }
 }
 
+/// Some numbers of workers.
+const WORKERS: &[u32] = &[1, 2, 3, 64];
+
+#[test]
+fn prices_all_by_any_number_of_workers(rt: HostRuntime) {
+    for workers in WORKERS {
+        prices_by(&rt, rt.alloc(), *workers);
+    }
+}
+
+/// Numbers of workers that there can't be.
+const NO_WORKERS: &[u32] = &[0, 65, u32::MAX];
+
 #[test]
 fn refuses_a_number_of_workers(rt: HostRuntime) {
-    for workers in [0, 65, u32::MAX] {
-        let (prices, tally) = priced_by(&rt, rt.alloc(), workers, &NoGate, &[0, 1]);
+    for workers in NO_WORKERS {
+        let (prices, tally) = priced_by(&rt, rt.alloc(), *workers, &NoGate, &[0, 1]);
         same(&rt, prices.err(), Some(PriceFault::WorkerCount), "workers");
         same(&rt, tally, 0, "the tally");
     }
 }
 
-/// Each of two pieces waits at the gate until the other has come there too, for a bounded number of turns.
+/// Each of two pieces waits at the gate until both have come there, for a bounded number of turns.
 #[derive(Drop)]
 struct Meeting {
-    came: [AtomicBool; 2],
-    met: [AtomicBool; 2],
+    /// 1 for piece 0, 2 for piece 1, and so 3 for both.
+    came: AtomicU32,
+    /// How many pieces saw both there.
+    met: AtomicU32,
 }
 
 impl Gate for Meeting {
     fn at(&self, _worker: u32, piece: u32) {
-        let (own, other) = if piece == 0 { (0, 1) } else { (1, 0) };
-        self.came[own].store(true, SeqCst);
+        self.came.fetch_add(if piece == 0 { 1 } else { 2 }, SeqCst);
         for _ in 0..10_000_000 {
-            if self.came[other].load(SeqCst) {
-                self.met[own].store(true, SeqCst);
+            if self.came.load(SeqCst) == 3 {
+                self.met.fetch_add(1, SeqCst);
                 return;
             }
             yield_now();
@@ -346,20 +358,11 @@ impl Gate for Meeting {
 #[test]
 fn prices_side_by_side(rt: HostRuntime) {
     let gate = Meeting {
-        came: [AtomicBool::new(false), AtomicBool::new(false)],
-        met: [AtomicBool::new(false), AtomicBool::new(false)],
+        came: AtomicU32::new(0),
+        met: AtomicU32::new(0),
     };
     prices_as(&rt, rt.alloc(), 2, &gate, &[0, 1], &[1500, 3000]);
-    holds(
-        &rt,
-        gate.met[0].load(SeqCst),
-        "the first has met the second",
-    );
-    holds(
-        &rt,
-        gate.met[1].load(SeqCst),
-        "the second has met the first",
-    );
+    same(&rt, gate.met.load(SeqCst), 2, "pieces that met");
 }
 
 const FAULTS: &[(PriceFault, &str)] = &[

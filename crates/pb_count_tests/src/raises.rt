@@ -2,7 +2,7 @@
 //! other.
 
 use crate::checks::same;
-use crate::elections::read;
+use crate::elections::{push_amount, read};
 use crate::outcomes::{counted, run_at};
 use pb_core::election::Election;
 use pb_core::money::Money;
@@ -30,9 +30,9 @@ fn draw_from_one(seed: &mut u64, last: u64) -> u64 {
 
 /// The row of a project that costs less than 1.51.
 fn add_project(rt: &impl Abort, alloc: Global, file: &mut String, seed: &mut u64, place: u64) {
-    let cost = Money(draw_from_one(seed, 150));
-    let cost = cost.text(alloc).expect(rt, "memory");
-    write!(file, "{place};{cost}\n").expect(rt, "memory");
+    write!(file, "{place};").expect(rt, "memory");
+    push_amount(rt, alloc, file, draw_from_one(seed, 150));
+    file.push('\n').expect(rt, "memory");
 }
 
 /// The row of a voter who approves some of these projects.
@@ -49,15 +49,17 @@ fn add_voter(rt: &impl Abort, file: &mut String, seed: &mut u64, voter: u64, pro
     file.push('\n').expect(rt, "memory");
 }
 
+/// The sections of a file up to its budget, and from there to its projects.
+const SECTIONS: (&str, &str) = (
+    "META\nkey;value\nbudget;",
+    "\nvote_type;approval\nPROJECTS\nproject_id;cost\n",
+);
+
 /// A file of 1 to 5 projects and up to 6 voters, with a budget below 4.00.
 fn made_file(rt: &impl Abort, alloc: Global, seed: &mut u64) -> String {
-    let mut file = String::new(alloc);
-    let budget = Money(draw(seed, 400)).text(alloc).expect(rt, "memory");
-    write!(
-        file,
-        "META\nkey;value\nbudget;{budget}\nvote_type;approval\nPROJECTS\nproject_id;cost\n"
-    )
-    .expect(rt, "memory");
+    let mut file = String::from_str(alloc, SECTIONS.0).expect(rt, "memory");
+    push_amount(rt, alloc, &mut file, draw(seed, 400));
+    file.push_str(SECTIONS.1).expect(rt, "memory");
     let projects = draw_from_one(seed, 5);
     for place in 0..projects {
         add_project(rt, alloc, &mut file, seed, place);
@@ -193,6 +195,9 @@ fn counts_by_rule(
     }
 }
 
+/// Some numbers of workers.
+const WORKERS: &[u32] = &[1, 2, 3, 64];
+
 /// Counts the election with several numbers of workers.
 fn counts_alike(
     rt: &(impl Abort + Threads + Sync),
@@ -201,8 +206,11 @@ fn counts_alike(
     one: &CountOptions,
 ) {
     let share = share_by_rule(rt, alloc, election, one);
-    for workers in [1, 2, 3, 64] {
-        let options = CountOptions { workers, ..*one };
+    for workers in WORKERS {
+        let options = CountOptions {
+            workers: *workers,
+            ..*one
+        };
         counts_by_rule(rt, alloc, election, &options, share);
     }
 }

@@ -2,7 +2,7 @@
 //! cases of `crates/pb_app` show.
 
 use crate::checks::{same, tells};
-use crate::elections::{shown, ten_thousand};
+use crate::elections::{read, shown, ten_thousand};
 use pb_core::election::Election;
 use pb_read::{MOST_RECORDS, ReadFault, ReadKind, read_pb};
 use std::alloc::Global;
@@ -30,10 +30,6 @@ fn answers_with(rt: &impl Abort, alloc: Global, file: &str, line: &str, wanted: 
     let whole = and(rt, alloc, file, line);
     answers(rt, alloc, whole.as_str(), wanted);
     drop(whole);
-}
-
-fn read(rt: &impl Abort, alloc: Global, file: &str) -> Election {
-    read_pb(alloc, file.as_bytes()).expect(rt, "accepted")
 }
 
 /// A file as a city publishes it.
@@ -122,24 +118,20 @@ fn and(rt: &impl Abort, alloc: Global, text: &str, line: &str) -> String {
 const BEFORE_PROJECTS: &str =
     "META\nk;v\nbudget;1\nvote_type;approval\nPROJECTS\nproject_id;cost\n";
 
-/// The file has this many projects, and its first ballot these places.
-fn has_ballot(rt: &impl Abort, alloc: Global, file: &str, projects: usize, places: &[u32]) {
-    let election = read(rt, alloc, file);
+/// The election has this many projects, and its first ballot these places.
+fn is_ballot(rt: &impl Abort, election: &Election, projects: usize, places: &[u32]) {
     same(rt, election.projects().len(), projects, "projects");
     let voter = election.voters().first().expect(rt, "a voter");
     same(rt, voter.ballot.places(), places, "places");
-    drop(election);
 }
 
-#[test]
-fn reads_ten_thousand_projects(rt: HostRuntime) {
-    let alloc = rt.alloc();
-    let projects = with_lines(&rt, alloc, BEFORE_PROJECTS, 10_000, ("p", ";1\n"));
-    answers_with(&rt, alloc, projects.as_str(), "q;1\n", "19 10007");
-    answers_with(&rt, alloc, projects.as_str(), "p0;1\n", "16 10007");
-    let vote = "VOTES\nvoter_id;vote\nv;p9999,p7\n";
-    let whole = and(&rt, alloc, projects.as_str(), vote);
-    has_ballot(&rt, alloc, whole.as_str(), 10_000, &[7, 9_999]);
+/// Ten thousand projects with these votes: the first ballot has these places.
+fn has_ballot(rt: &impl Abort, alloc: Global, projects: &str, votes: &str, places: &[u32]) {
+    let whole = and(rt, alloc, projects, votes);
+    let election = read(rt, alloc, whole.as_str());
+    is_ballot(rt, &election, 10_000, places);
+    drop(election);
+    drop(whole);
 }
 
 /// A vote for ten thousand projects, from the last to the first.
@@ -151,14 +143,23 @@ fn vote_for_all(rt: &impl Abort, alloc: Global) -> String {
     vote
 }
 
+/// The ballot for ten thousand projects has each of their places.
+fn has_all(rt: &impl Abort, alloc: Global, projects: &str) {
+    let (vote, places) = (vote_for_all(rt, alloc), ten_thousand(rt, alloc));
+    has_ballot(rt, alloc, projects, vote.as_str(), places.as_slice());
+    drop(places);
+    drop(vote);
+}
+
 #[test]
-fn reads_a_ballot_of_ten_thousand_places(rt: HostRuntime) {
+fn reads_ten_thousand_projects(rt: HostRuntime) {
     let alloc = rt.alloc();
     let projects = with_lines(&rt, alloc, BEFORE_PROJECTS, 10_000, ("p", ";1\n"));
-    let vote = vote_for_all(&rt, alloc);
-    let whole = and(&rt, alloc, projects.as_str(), vote.as_str());
-    let places = ten_thousand(&rt, alloc);
-    has_ballot(&rt, alloc, whole.as_str(), 10_000, places.as_slice());
+    answers_with(&rt, alloc, projects.as_str(), "q;1\n", "19 10007");
+    answers_with(&rt, alloc, projects.as_str(), "p0;1\n", "16 10007");
+    let vote = "VOTES\nvoter_id;vote\nv;p9999,p7\n";
+    has_ballot(&rt, alloc, projects.as_str(), vote, &[7, 9_999]);
+    has_all(&rt, alloc, projects.as_str());
 }
 
 /// The start of a file with two projects, up to its voters.

@@ -1,12 +1,10 @@
-//! Amounts, ids, ballots, elections, requests and devices that fail.
+//! Amounts, ids, ballots, elections and requests.
 
 use crate::checks::{holds, same, shows, tells};
 use crate::elections::{ballot, shown, ten_thousand, voter_id};
-use pb_core::devices::{FailsAfter, FailsAt, TakesNone, TakesOne};
 use pb_core::laws::{money_is_what_its_text_names, money_reads_back};
 use pb_core::{Ballot, Election, Money, MoneyFault, NoMemory, Project, Request, Voter, VoterId};
 use std::alloc::Global;
-use std::io::{Read, Write};
 use std::process::Abort;
 
 /// Texts that are amounts, in hundredths.
@@ -128,6 +126,13 @@ const IDS: &[(&str, &str)] = &[
     ("a;\"b", "a;\"b"),
 ];
 
+/// The text has no id.
+fn is_blank(rt: &impl Abort, alloc: Global, text: &str) {
+    let id = VoterId::new(alloc, text).expect(rt, "memory");
+    holds(rt, id.is_none(), text);
+    drop(id);
+}
+
 /// The text has this id, and so has a copy of it.
 fn is_trimmed(rt: &impl Abort, alloc: Global, text: &str, wanted: &str) {
     let id = voter_id(rt, alloc, text);
@@ -141,8 +146,7 @@ fn is_trimmed(rt: &impl Abort, alloc: Global, text: &str, wanted: &str) {
 #[test]
 fn trims_voter_ids(rt: HostRuntime) {
     for blank in BLANKS {
-        let id = VoterId::new(rt.alloc(), blank).expect(&rt, "memory");
-        holds(&rt, id.is_none(), blank);
+        is_blank(&rt, rt.alloc(), blank);
     }
     for (text, wanted) in IDS {
         is_trimmed(&rt, rt.alloc(), text, wanted);
@@ -322,50 +326,17 @@ fn copies(rt: &impl Abort, alloc: Global, asked: Parts<'static>, ordered: &[u32]
     drop(request);
 }
 
+/// Requests, and the places of each in order.
+const REQUESTS: &[(Parts<'static>, &[u32])] = &[
+    (("cast", "ann", &[1, 0]), &[0, 1]),
+    (("replace", "bob", &[]), &[]),
+    (("withdraw", "c;d", &[]), &[]),
+    (("shut", "", &[]), &[]),
+];
+
 #[test]
 fn copies_requests(rt: HostRuntime) {
-    copies(&rt, rt.alloc(), ("cast", "ann", &[1, 0]), &[0, 1]);
-    copies(&rt, rt.alloc(), ("replace", "bob", &[]), &[]);
-    copies(&rt, rt.alloc(), ("withdraw", "c;d", &[]), &[]);
-    copies(&rt, rt.alloc(), ("shut", "", &[]), &[]);
-}
-
-#[test]
-fn fails_after_its_bytes(rt: HostRuntime) {
-    let mut bytes = Vec::new(rt.alloc());
-    let end = FailsAfter::new(b"abc").read_to_end(&mut bytes);
-    holds(&rt, end.is_err(), "a reader that fails");
-    same(&rt, bytes.as_slice(), b"abc".as_slice(), "what it gave");
-}
-
-/// The writer takes these bytes, or fails.
-fn writes<W: Write>(rt: &impl Abort, writer: &mut W, bytes: &[u8], takes: bool, case: &str) {
-    holds(rt, writer.write_all(bytes).is_ok() == takes, case);
-}
-
-/// The writer can be flushed, or fails.
-fn flushes<W: Write>(rt: &impl Abort, writer: &mut W, can: bool, case: &str) {
-    holds(rt, writer.flush().is_ok() == can, case);
-}
-
-#[test]
-fn fails_at_a_write(rt: HostRuntime) {
-    let mut two = FailsAt::new(Vec::new(rt.alloc()), 2);
-    writes(&rt, &mut two, b"ab", true, "the first write");
-    flushes(&rt, &mut two, true, "a flush after the first");
-    writes(&rt, &mut two, b"cd", true, "the second write");
-    flushes(&rt, &mut two, false, "a flush after the second");
-    writes(&rt, &mut two, b"ef", false, "the third write");
-    let taken = two.into_inner();
-    same(&rt, taken.as_slice(), b"abcd".as_slice(), "what it took");
-}
-
-#[test]
-fn takes_little(rt: HostRuntime) {
-    writes(&rt, &mut TakesNone, b"ab", false, "takes none");
-    let mut one = TakesOne::new(Vec::new(rt.alloc()));
-    writes(&rt, &mut one, b"abc", true, "takes one at a time");
-    flushes(&rt, &mut one, true, "a flush");
-    let taken = one.into_inner();
-    same(&rt, taken.as_slice(), b"abc".as_slice(), "what it took");
+    for (asked, ordered) in REQUESTS {
+        copies(&rt, rt.alloc(), *asked, ordered);
+    }
 }

@@ -182,24 +182,31 @@ fn come_back(rt: &impl Abort, alloc: Global, first: &[&str], second: &[&str]) {
     drop(wanted);
 }
 
-#[test]
-fn rows_come_back_whole(rt: HostRuntime) {
-    rows_come_back();
-    let mut long = String::new(rt.alloc());
-    for _ in 0..10_000 {
-        long.push_str("\";x\r\n").expect(&rt, "memory");
+/// A thousand of these fields.
+fn wide(rt: &impl Abort, alloc: Global) -> Vec<&'static str> {
+    let mut wide = Vec::new(alloc);
+    for place in 0..1_000usize {
+        let field = FIELDS.get(place % 12).expect(rt, "a field");
+        wide.push(*field).expect(rt, "memory");
     }
-    come_back(&rt, rt.alloc(), FIELDS, &[long.as_str(), "end"]);
+    wide
+}
+
+/// A field of ten thousand quotes, separators and line ends.
+fn long(rt: &impl Abort, alloc: Global) -> String {
+    let mut long = String::new(alloc);
+    for _ in 0..10_000 {
+        long.push_str("\";x\r\n").expect(rt, "memory");
+    }
+    long
 }
 
 #[test]
-fn a_thousand_fields_come_back(rt: HostRuntime) {
-    let mut wide = Vec::new(rt.alloc());
-    for place in 0..1_000usize {
-        let field = FIELDS.get(place % 12).expect(&rt, "a field");
-        wide.push(*field).expect(&rt, "memory");
-    }
+fn rows_come_back_whole(rt: HostRuntime) {
+    rows_come_back();
+    let (wide, long) = (wide(&rt, rt.alloc()), long(&rt, rt.alloc()));
     come_back(&rt, rt.alloc(), wide.as_slice(), FIELDS);
+    come_back(&rt, rt.alloc(), FIELDS, &[long.as_str(), "end"]);
 }
 
 /// Texts, and the number that each spells.
