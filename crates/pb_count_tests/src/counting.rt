@@ -1,6 +1,7 @@
 //! Counts worked by hand, with what is left to each voter and how many prices each round computed. What a count's
 //! report shows as well stands in the cases of the program.
 
+use crate::checks;
 use crate::checks::{holds, same};
 use crate::elections::{THREE_VOTERS, amounts, read};
 use crate::outcomes::counted;
@@ -295,18 +296,31 @@ fn orders_keys(rt: HostRuntime) {
     }
 }
 
-/// The faults in the order of their numbers, and their names.
-const FAULTS: &[(CountFault, u32, &str)] = &[
-    (CountFault::WorkerCount, 1, "WorkerCount"),
-    (CountFault::StepRange, 2, "StepRange"),
-    (CountFault::RaisesRange, 3, "RaisesRange"),
-    (CountFault::RaisesSpent, 4, "RaisesSpent"),
-    (CountFault::NoMemory, 5, "NoMemory"),
+/// Faults, and what is said of them.
+const FAULTS: &[(CountFault, &str)] = &[
+    (
+        CountFault::WorkerCount,
+        "1 WorkerCount: the number of workers is not 1 to 64",
+    ),
+    (
+        CountFault::StepRange,
+        "2 StepRange: the step is not 1 to 1,000,000,000 hundredths",
+    ),
+    (
+        CountFault::RaisesRange,
+        "3 RaisesRange: the limit of raises is above 1,000,000",
+    ),
+    (
+        CountFault::RaisesSpent,
+        "4 RaisesSpent: the raises are spent",
+    ),
+    (CountFault::NoMemory, "5 NoMemory: out of memory"),
 ];
 
 #[test]
-fn numbers_faults(rt: HostRuntime) {
-    for (fault, number, name) in FAULTS {
-        same(&rt, (fault.number(), fault.name()), (*number, *name), name);
+fn tells_faults(rt: HostRuntime) {
+    for (fault, wanted) in FAULTS {
+        let named = (fault.number(), fault.name());
+        checks::tells(&rt, rt.alloc(), named, fault, wanted);
     }
 }
