@@ -1,5 +1,5 @@
 -- Runs of `desk` whose bytes may be known.
-use Rattle.std.proofs.Common.{◌≡◌, ◌∙◌, ℕ, ◌+◌, ◌<◌, ◌≤◌, List, [], ◌∷◌, ◌++◌, length, Option, Some, None, Ok, Err, refl, sym, ap, subst, arith, length-append}
+use Rattle.std.proofs.Common.{◌≡◌, ℕ, List, [], ◌∷◌, ◌++◌, length, Option, Some, None, Ok, Err, refl, sym, ap, subst, arith, length-append}
 use Rattle.std.specs.List.{AllZip}
 use Rattle.std.specs.Prelude.{IfErr, IfSome, IsErrAnd, OnOk, Result}
 use Rattle.pb_core.specs.Election.{ElectionView}
@@ -8,7 +8,7 @@ use Rattle.pb_read.specs.FirstFault.{IsFromOutside as IsReadFromOutside}
 use Rattle.pb_read.specs.StandsFor.{StandsFor}
 use Rattle.pb_read.specs.declared.fault.ReadFault.{ReadFault}
 use Rattle.pb_rows.specs.Reading.{Fields, records_of}
-use Rattle.pb_script.specs.Script.{HasScriptForm, IsScript, IsScriptRow, ScriptRowView, most_rows}
+use Rattle.pb_script.specs.Script.{HasScriptForm, IsScript, IsScriptRow, ScriptRowView}
 use Rattle.pb_script.specs.ScriptReading.{IsFaultOfScript, IsNextScriptFault}
 use Rattle.pb_script.specs.Served.{IsServeFault, IsServed}
 use Rattle.pb_script.specs.declared.script_fault.ScriptFault.{ScriptFault}

@@ -1,5 +1,6 @@
 -- Rows written one after the other.
-use Rattle.std.proofs.Common.{◌≡◌, ℕ, List, [], ◌∷◌, ◌++◌, append_assoc, append-nil, sym, ◌∙◌, ap}
+use Rattle.std.proofs.Common.{◌≡◌, ℕ, List, [], ◌∷◌, ◌++◌, Vec, Global, Result, Ok, Err, append_assoc, append-nil, sym, ◌∙◌, ap, subst}
+use Rattle.std.specs.Prelude.{IfOk}
 use Rattle.pb_rows.specs.Reading.{Fields}
 use Rattle.pb_rows.specs.Writing.{text_of_row, text_of_rows}
 use Rattle.pb_rows.proofs.RowsText.{text_of_rows-nil, text_of_rows-cons, text_of_rows-append}
@@ -35,3 +36,9 @@ row_grown rows row old first second e f =
 -- no row more
 pub none_grown : (old : List ℕ) → old ≡ old ++ text_of_rows []
 none_grown old = rw text_of_rows-nil (sym (append-nil old))
+
+-- what was put after no rows is their whole text
+pub whole_text : {E : Type 0} (P : List ℕ → Type 0) (start after : List ℕ) (r : Result (Vec ℕ Global) E) → start ≡ [] → (text : List ℕ) × P text × (after ≡ start ++ text)
+    → IfOk r (λ text. text.items ≡ after) → IfOk r (λ text. P text.items)
+whole_text P start after (Err fault) none put is = tt
+whole_text P start after (Ok text) none put is = subst P (sym (is ∙ put.2 ∙ ap (λ before. before ++ put.0) none)) put.1

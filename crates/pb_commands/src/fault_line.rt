@@ -1,6 +1,6 @@
 // What the program says of a fault: one line, and the status that it ends with.
 
-ghost use Rattle.std.specs.Prelude.{◌≡◌, OnOk, map};
+ghost use Rattle.std.specs.Prelude.{◌≡◌, ◌++◌, OnOk, codes, map};
 ghost use Rattle.std.specs.Io.KnownBytes.{Appends};
 ghost use Rattle.pb_commands.specs.Fault.{fields_of, line, merged, numbered, read_status, status_of};
 
@@ -112,9 +112,16 @@ fn write_fields<W: Write>(writer: &mut W, fields: &[&str]) -> io::Result<()>
 {
     writer.write_all(b"fault")?;
     for field in fields {
-        writer.write_all(b";")?;
-        writer.write_all(field.as_bytes())?;
+        write_field(writer, field)?;
     }
-    writer.write_all(b"\n")?;
-    Ok(())
+    writer.write_all(b"\n")
+}
+
+/// Writes a field of a line, with the `;` before it.
+fn write_field<W: Write>(writer: &mut W, field: &str) -> io::Result<()>
+    ensures { OnOk result (Appends (W.contents writer.old) (W.contents writer.new)
+        (codes ";" ++ field.now)) }
+{
+    writer.write_all(b";")?;
+    writer.write_all(field.as_bytes())
 }

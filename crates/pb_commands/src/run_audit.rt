@@ -1,6 +1,6 @@
 // The command `audit`: what a journal says of a file.
 
-ghost use Rattle.std.specs.Prelude.{◌≡◌, ◌≢◌, ◌++◌, ℕ, List, IfErr, IfSome, OnOk, codes, if◌then◌else◌, true};
+ghost use Rattle.std.specs.Prelude.{◌≡◌, ◌≢◌, ◌++◌, ℕ, List, IfErr, IfOk, IfSome, OnOk, codes, if◌then◌else◌, true};
 ghost use Rattle.pb_desk.specs.Desk.{closed_election, standing_of};
 ghost use Rattle.pb_rows.specs.Writing.{text_of_row};
 ghost use Rattle.pb_commands.specs.Audited.{AuditRefuses, AuditWrites, IsRefusedDesk, IsTextOf, entries_row};
@@ -9,7 +9,7 @@ ghost use Rattle.pb_commands.specs.Ends.{Accepts, FailsBy, HasWritten, IfBothKno
 ghost use Rattle.pb_commands.specs.Fault.{merged};
 
 use crate::fault::AppFault;
-use crate::run_count::{put_count, write_out};
+use crate::run_count::{finished, put_count, write_out};
 use itoa::Buffer;
 use pb_core::no_memory::NoMemory;
 use pb_desk::{Desk, audit};
@@ -60,10 +60,28 @@ pub fn run_audit<T: Threads + Sync, P: Read + Drop, J: Read + Drop, W: Write>(
 {
     let election = read_pb(alloc, file)?;
     let desk = audit(alloc, election, ROOM, journal)?;
-    let mut rows = RowsWriter::start(alloc);
-    put_desk(rt, alloc, &mut rows, desk, options)?;
-    let text = rows.finish()?;
+    let text = desk_text(rt, alloc, desk, options)?;
     write_out(writer, text.as_slice())
+}
+
+/// What is said of a desk.
+fn desk_text<T: Threads + Sync>(
+    rt: &T,
+    alloc: Global,
+    desk: Desk,
+    options: &CountOptions,
+) -> Result<Vec<u8>, CountFault>
+    ensures ok { IfOk result (λ text. IsTextOf desk options.now text.items) }
+    ensures fault { IfErr result (IsRefusedDesk desk options.now) }
+{
+    let mut rows = RowsWriter::start(alloc);
+    match put_desk(rt, alloc, &mut rows, desk, options) {
+        Ok(()) => finished(rows),
+        Err(fault) => {
+            drop(rows);
+            Err(fault)
+        }
+    }
 }
 
 /// Writes what is said of a desk.

@@ -1,8 +1,9 @@
 // The command `count`: a file's report.
 
-ghost use Rattle.std.specs.Prelude.{◌≡◌, ◌≢◌, ◌++◌, ℕ, List, IfErr, IfSome, OnOk};
+ghost use Rattle.std.specs.Prelude.{◌≡◌, ◌≢◌, ◌++◌, ℕ, List, IfErr, IfOk, IfSome, OnOk};
 ghost use Rattle.std.specs.Io.KnownBytes.{Appends};
 ghost use Rattle.pb_rounds.specs.Count.{IsCountFault};
+ghost use Rattle.pb_rounds.specs.declared.count_fault.CountFault.TheVariants as count;
 ghost use Rattle.pb_commands.specs.Counted.{CountRefuses, CountWrites, IsReportOf};
 ghost use Rattle.pb_commands.specs.Ends.{Accepts, FailsBy, HasWritten};
 ghost use Rattle.pb_commands.specs.Fault.{merged};
@@ -49,10 +50,41 @@ pub fn run_count<T: Threads + Sync, R: Read + Drop, W: Write>(
     ensures merged { IfErr result (λ fault. merged fault ≡ fault) }
 {
     let election = read_pb(alloc, reader)?;
-    let mut rows = RowsWriter::start(alloc);
-    put_count(rt, alloc, &mut rows, &election, options)?;
-    let text = rows.finish()?;
+    let report = report_text(rt, alloc, &election, options);
+    drop(election);
+    let text = report?;
     write_out(writer, text.as_slice())
+}
+
+/// The report of an election, counted with these options.
+fn report_text<T: Threads + Sync>(
+    rt: &T,
+    alloc: Global,
+    election: &Election,
+    options: &CountOptions,
+) -> Result<Vec<u8>, CountFault>
+    ensures ok { IfOk result (λ text. IsReportOf election.now options.now text.items) }
+    ensures fault { IfErr result (IsCountFault election.now options.now) }
+{
+    let mut rows = RowsWriter::start(alloc);
+    match put_count(rt, alloc, &mut rows, election, options) {
+        Ok(()) => finished(rows),
+        Err(fault) => {
+            drop(rows);
+            Err(fault)
+        }
+    }
+}
+
+/// The text of these rows.
+pub(crate) fn finished(rows: RowsWriter) -> Result<Vec<u8>, CountFault>
+    ensures text { IfOk result (λ text. text.items ≡ rows.text) }
+    ensures fault { IfErr result (λ fault. fault ≡ count.NoMemory) }
+{
+    match rows.finish() {
+        Ok(text) => Ok(text),
+        Err(_) => Err(CountFault::NoMemory),
+    }
 }
 
 /// Counts an election, and puts the report after the rows that stand there.

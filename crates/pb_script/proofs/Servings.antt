@@ -5,7 +5,7 @@ use Rattle.std.specs.Prelude.{All, ◌==◌, IfErr, IfOk, IsErrAnd, Result, Ok, 
 use Rattle.std.proofs.lemmas.Bool.{cases_eq, eq-eqb, ne_eqb}
 use Rattle.std.proofs.lemmas.List.{append-nil, append_assoc, get_or-map, get_or_default, length-map, map-append, drop-map, take_all, take_more, take-append-drop}
 use Rattle.std.proofs.lemmas.Option.{get_or_from_slice_get}
-use Rattle.std.proofs.lemmas.List.Elements.{All-append, All-head, All-tail, filter-append}
+use Rattle.std.proofs.lemmas.List.Elements.{All-append, All-cons, All-head, All-nil, All-tail, filter-append}
 use Rattle.pb_core.specs.Request.{EntryView, RequestView}
 use Rattle.pb_core.specs.declared.answer.Answer.{Answer}
 use Rattle.pb_desk.specs.Desk.{DeskView}
@@ -92,6 +92,22 @@ ServesUpTo-more i lists served left before after within so_far rest appends = re
         of_both i ∙ ap (λ l. requests_of i before ++ map (λ (y : EntryView). y.request) l) (own_entries i appends.later appends.by_clerk)
         ∙ ap (λ l. requests_of i before ++ l) (appends.asked ∙ rest) ∙ ap (λ l. l ++ drop (get_or served i 0) (list_of lists i)) (so_far.first i (omega arith) within)
         ∙ take-append-drop (get_or served i 0) (list_of lists i)
+
+-- one request more that is served for a clerk
+pub AppendsFor-more : {X : Type 0} (f : X → RequestView) (clerk : ℕ) (items : List X) (i : ℕ) (x : X) (answer : Answer) (before between after : List EntryView) →
+    AppendsFor clerk (map f (take i items)) before between → i < length items → x ≡ get_or items i x →
+    after ≡ between ++ record { clerk = clerk; request = f x; answer = answer } ∷ [] → AppendsFor clerk (map f (take (i + 1) items)) before after
+AppendsFor-more f clerk items i x answer before between after so_far within read is =
+    let entry : EntryView = record { clerk = clerk; request = f x; answer = answer } in
+    let P : EntryView → Type 0 = λ y. y.clerk ≡ clerk in
+    record {
+      later = so_far.later ++ entry ∷ [];
+      journal_is = is ∙ ap (λ l. l ++ entry ∷ []) so_far.journal_is ∙ append_assoc before so_far.later (entry ∷ []);
+      by_clerk = All-append P so_far.later (entry ∷ []) so_far.by_clerk (All-cons P entry [] refl (All-nil P));
+      asked =
+          map-append (λ (y : EntryView). y.request) so_far.later (entry ∷ []) ∙ ap (λ l. l ++ f x ∷ []) so_far.asked ∙ sym (map-append f (take i items) (x ∷ []))
+          ∙ ap (λ y. map f (take i items ++ y ∷ [])) read ∙ ap (map f) (sym (take_more items i x within));
+    }
 
 -- a fact of what two facts are said of
 pub if_both : {X E : Type 0} (r : Result X E) (P Q R : X → Type 0) → IfOk r P → IfOk r Q → ((x : X) → P x → Q x → R x) → IfOk r R

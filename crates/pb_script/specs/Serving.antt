@@ -3,8 +3,7 @@ use Rattle.std.specs.Prelude.{◌≡◌, ℕ, ◌<◌, ◌≤◌, ◌++◌, ⊤,
 use Rattle.pb_core.specs.Election.{ElectionView}
 use Rattle.pb_core.specs.Request.{EntryView, RequestView}
 use Rattle.pb_desk.specs.Opening.{OpeningView}
-use Rattle.pb_desk.specs.Replay.{IsLegal, most_clerks}
-use Rattle.pb_desk.specs.Rows.{journal_text}
+use Rattle.pb_desk.specs.Replay.{most_clerks}
 use Rattle.pb_desk.specs.declared.version.Version.TheVariants.{Two}
 use Rattle.pb_shared.specs.Clerk.{ClerkView, SharedView, entries_of}
 use Rattle.pb_shared.specs.declared.share_fault.ShareFault.{ShareFault}
@@ -93,13 +92,3 @@ IsServingFault clerks (Script fault) = ⊥
 -- what a desk of the program opens with
 abbrev pub opening_of : ElectionView → OpeningView
 opening_of e = record { election = e; version = Two }
-
--- the text is that of a journal that is legal for the election, and has what each of the clerks asked
-pub record IsServedText (e : ElectionView) (clerks : ℕ) (lists : List (List RequestView)) (text : List ℕ)
-    : Type 0 where
-  pub in_range : AreClerks clerks
-  pub journal : List EntryView
-  pub legal : IsLegal (opening_of e) journal
-  pub fits : length journal ≤ program_room
-  pub serves : ServesAll lists journal
-  pub text_is : text ≡ journal_text Two journal

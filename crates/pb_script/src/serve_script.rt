@@ -8,7 +8,7 @@ ghost use Rattle.pb_rows.specs.Reading.{records_of};
 ghost use Rattle.pb_shared.specs.Clerk.{AreNewcomers, desk_with};
 ghost use Rattle.pb_script.specs.Script.{clerks_within, most_rows};
 ghost use Rattle.pb_script.specs.Served.{IsServeFault, IsServed};
-ghost use Rattle.pb_script.specs.Serving.{AppendsFor, AreCounts, HasServed, IsServedText, ServesAll, ServesUpTo, AreBack, AreClerks, IsServingFault, list_of, opening_of, program_room, unshared};
+ghost use Rattle.pb_script.specs.Serving.{AppendsFor, AreCounts, HasServed, ServesAll, ServesUpTo, AreBack, AreClerks, IsServingFault, list_of, opening_of, program_room, unshared};
 
 use crate::requests::Requests;
 use crate::script::read_script;
@@ -159,6 +159,50 @@ fn taken_back(alloc: Global, back: Vec<Returned>) -> Result<(Vec<Clerk>, Vec<u32
     Ok((clerks, served))
 }
 
+/// These clerks serve the requests of a script, and are back. Out of memory, where one of them was.
+fn serve_together<T: Threads + Sync, G: Gate>(
+    rt: &T,
+    alloc: Global,
+    shared: &SharedDesk,
+    clerks: Vec<Clerk>,
+    lists: &[Requests],
+    gate: &G,
+) -> Result<(Vec<Clerk>, Vec<u32>), NoMemory>
+    requires fresh { AreNewcomers shared.now clerks.items }
+    requires one_each { length lists.now ≡ shared.now.clerks }
+    requires few { All (λ list. length list ≤ most_rows) lists.now }
+    ensures { IfOk result (λ both. AreBack shared.now lists.now both.0.items both.1.items) }
+{
+    let back = serve_side_by_side(rt, shared, gate, clerks, lists)?;
+    taken_back(alloc, back)
+}
+
+/// The desk of clerks who are back, after what they left over is served, clerks in rising number.
+fn closed(
+    shared: SharedDesk,
+    clerks: Vec<Clerk>,
+    served: &[u32],
+    lists: &[Requests],
+) -> Result<Desk, NoMemory>
+    requires empty { shared.start.journal ≡ [] }
+    requires room { shared.start.room ≡ program_room }
+    requires range { shared.clerks ≤ most_clerks }
+    requires one_each { length lists.now ≡ shared.clerks }
+    requires few { All (λ list. length list ≤ most_rows) lists.now }
+    requires back { AreBack shared lists.now clerks.items served.now }
+    ensures start { IfOk result (λ desk. desk ≡ desk_with shared.start desk.journal) }
+    ensures serves { IfOk result (λ desk. ServesAll lists.now desk.journal) }
+{
+    let mut desk = shared.finish(clerks).unwrap();
+    match serve_rest(&mut desk, lists, served) {
+        Ok(()) => Ok(desk),
+        Err(refused) => {
+            drop(desk);
+            Err(refused)
+        }
+    }
+}
+
 /// These clerks of a shared desk serve the requests of a script, and it is closed. What they leave over is served
 /// after them, clerks in rising number.
 fn serve_shared<T: Threads + Sync, G: Gate>(
@@ -178,11 +222,17 @@ fn serve_shared<T: Threads + Sync, G: Gate>(
     ensures start { IfOk result (λ desk. desk ≡ desk_with shared.start desk.journal) }
     ensures serves { IfOk result (λ desk. ServesAll lists.now desk.journal) }
 {
-    let back = serve_side_by_side(rt, &shared, gate, clerks, lists)?;
-    let (clerks, served) = taken_back(alloc, back)?;
-    let mut desk = shared.finish(clerks).unwrap();
-    serve_rest(&mut desk, lists, &served)?;
-    Ok(desk)
+    match serve_together(rt, alloc, &shared, clerks, lists, gate) {
+        Ok((clerks, served)) => {
+            let desk = closed(shared, clerks, served.as_slice(), lists);
+            drop(served);
+            desk
+        }
+        Err(refused) => {
+            drop(shared);
+            Err(refused)
+        }
+    }
 }
 
 /// Why no requests are served, where the desk was not shared.
@@ -223,24 +273,6 @@ fn serve_all<T: Threads + Sync, G: Gate>(
     };
     let desk = serve_shared(rt, alloc, shared, fresh, lists, gate)?;
     Ok(desk)
-}
-
-/// Serves the requests of each clerk on a shared desk of this election, and makes the text of its journal.
-fn serve_lists<T: Threads + Sync, G: Gate>(
-    rt: &T,
-    alloc: Global,
-    election: Election,
-    lists: &[Requests],
-    clerks: u32,
-    gate: &G,
-) -> Result<Vec<u8>, ServeFault>
-    requires one_each { length lists.now ≡ clerks_within clerks }
-    requires few { All (λ list. length list ≤ most_rows) lists.now }
-    ensures ok { IfOk result (λ text. IsServedText election clerks lists.now text.items) }
-    ensures err { IfErr result (IsServingFault clerks) }
-{
-    let desk = serve_all(rt, alloc, election, lists, clerks, gate)?;
-    Ok(written(alloc, desk)?)
 }
 
 /// The text of a desk's journal.
@@ -284,7 +316,14 @@ pub fn serve_script<T: Threads + Sync, S: Read + Drop, G: Gate>(
     ensures fault { IfErr result (λ fault. IfSome (S.remaining script) (λ bytes.
         IsServeFault clerks (records_of bytes) fault)) }
 {
-    let lists = read_script(alloc, script, clerks)?;
-    let text = serve_lists(rt, alloc, election, &lists, clerks, gate)?;
-    Ok(text)
+    let lists = match read_script(alloc, script, clerks) {
+        Ok(lists) => lists,
+        Err(fault) => {
+            drop(election);
+            return Err(ServeFault::Script(fault));
+        }
+    };
+    let served = serve_all(rt, alloc, election, lists.as_slice(), clerks, gate);
+    drop(lists);
+    Ok(written(alloc, served?)?)
 }

@@ -1,4 +1,3 @@
-use Rattle.std.proofs.Common.{◌≡◌, ◌∙◌, ◌++◌, ap}
 use Rattle.pb_commands.proofs.Accepted.{refused_of_both, stays_merged}
 use Rattle.pb_commands.proofs.AuditAccepted.{audited_by_desk, audited_by_journal, audited_by_reader}
 use Rattle.pb_commands.proofs.AuditWritten.{audit_written, judged_by_audit, judged_by_count, judged_by_reader, judged_by_writer, refused_by_desk, refused_by_journal, write_fails}
@@ -17,24 +16,21 @@ returns-in_err-election-clause-merged g c = stays_merged (Read c.in_err-election
 pub returns-in_err-desk-clause-merged : goal.returns-in_err-desk-clause-merged
 returns-in_err-desk-clause-merged g c = stays_merged (Audit c.in_err-desk.field-0.0) _ c.from_residual-in_err-desk.ensures.1
 
-pub returns-in_err-put_desk-clause-merged : goal.returns-in_err-put_desk-clause-merged
-returns-in_err-put_desk-clause-merged g c = stays_merged (Count c.in_err-put_desk.field-0.0) _ c.from_residual-in_err-put_desk.ensures.1
+pub returns-in_err-text-clause-merged : goal.returns-in_err-text-clause-merged
+returns-in_err-text-clause-merged g c = stays_merged (Count c.in_err-text.field-0.0) _ c.from_residual-in_err-text.ensures.1
 
 pub returns-clause-ok : goal.returns-clause-ok
 returns-clause-ok g c =
     let desk = c.in_ok-desk.ensures in
-    let text = c.in_ok-put_desk.ensures.ok in
-    let items : c.in_ok-text.text.items ≡ text.0 = c.in_ok-text.ensures.text ∙ text.2 ∙ ap (λ before. before ++ text.0) c.start-rows.ensures.text in
-    audit_written _ _ _ _ _ c.in_ok-election.election c.in_ok-desk.desk text.0 c.write_out.result
-    (rw (c.as_slice.ensures.value ∙ items) at c.write_out.ensures.ok)
-    (record { stands = c.in_ok-election.ensures.ok; election = desk.opening; room = desk.room; sound = desk.sound; rows = desk.rows }) text.1
+    audit_written _ _ _ _ _ c.in_ok-election.election c.in_ok-desk.desk c.in_ok-text.text.items c.write_out.result
+    (rw c.as_slice.ensures.value at c.write_out.ensures.ok)
+    (record { stands = c.in_ok-election.ensures.ok; election = desk.opening; room = desk.room; sound = desk.sound; rows = desk.rows }) c.in_ok-text.ensures.ok
 
 pub returns-clause-fault : goal.returns-clause-fault
 returns-clause-fault g c =
     let desk = c.in_ok-desk.ensures in
-    let text = c.in_ok-put_desk.ensures.ok in
-    write_fails _ _ _ c.in_ok-election.election c.in_ok-desk.desk text.0 _ c.write_out.ensures.fault
-    (record { stands = c.in_ok-election.ensures.ok; election = desk.opening; room = desk.room; sound = desk.sound; rows = desk.rows }) text.1
+    write_fails _ _ _ c.in_ok-election.election c.in_ok-desk.desk c.in_ok-text.text.items _ c.write_out.ensures.fault
+    (record { stands = c.in_ok-election.ensures.ok; election = desk.opening; room = desk.room; sound = desk.sound; rows = desk.rows }) c.in_ok-text.ensures.ok
 
 pub returns-clause-file : goal.returns-clause-file
 returns-clause-file g c = judged_by_writer _ c.in_ok-election.election _ c.write_out.ensures.fault c.in_ok-election.ensures.ok
@@ -60,18 +56,18 @@ pub returns-in_err-desk-clause-file : goal.returns-in_err-desk-clause-file
 returns-in_err-desk-clause-file g c =
     judged_by_audit _ c.in_ok-election.election c.in_err-desk.field-0.0 _ c.from_residual-in_err-desk.ensures.1 c.in_ok-election.ensures.ok
 
-pub returns-in_err-put_desk-clause-fault : goal.returns-in_err-put_desk-clause-fault
-returns-in_err-put_desk-clause-fault g c =
+pub returns-in_err-text-clause-fault : goal.returns-in_err-text-clause-fault
+returns-in_err-text-clause-fault g c =
     let desk = c.in_ok-desk.ensures in
-    refused_by_desk _ _ c.args.options.now c.in_ok-election.election c.in_ok-desk.desk c.in_err-put_desk.field-0.0 _ c.from_residual-in_err-put_desk.ensures.1
-    (record { stands = c.in_ok-election.ensures.ok; election = desk.opening; room = desk.room; sound = desk.sound; rows = desk.rows }) c.in_err-put_desk.ensures.fault
+    refused_by_desk _ _ c.args.options.now c.in_ok-election.election c.in_ok-desk.desk c.in_err-text.field-0.0 _ c.from_residual-in_err-text.ensures.1
+    (record { stands = c.in_ok-election.ensures.ok; election = desk.opening; room = desk.room; sound = desk.sound; rows = desk.rows }) c.in_err-text.ensures.fault
 
-pub returns-in_err-put_desk-clause-accepts : goal.returns-in_err-put_desk-clause-accepts
-returns-in_err-put_desk-clause-accepts g c =
+pub returns-in_err-text-clause-accepts : goal.returns-in_err-text-clause-accepts
+returns-in_err-text-clause-accepts g c =
     let desk = c.in_ok-desk.ensures in
-    audited_by_desk _ _ c.args.options.now c.in_ok-election.election c.in_ok-desk.desk c.in_err-put_desk.field-0.0 _ c.from_residual-in_err-put_desk.ensures.1
-    (record { stands = c.in_ok-election.ensures.ok; election = desk.opening; room = desk.room; sound = desk.sound; rows = desk.rows }) c.in_err-put_desk.ensures.fault
+    audited_by_desk _ _ c.args.options.now c.in_ok-election.election c.in_ok-desk.desk c.in_err-text.field-0.0 _ c.from_residual-in_err-text.ensures.1
+    (record { stands = c.in_ok-election.ensures.ok; election = desk.opening; room = desk.room; sound = desk.sound; rows = desk.rows }) c.in_err-text.ensures.fault
 
-pub returns-in_err-put_desk-clause-file : goal.returns-in_err-put_desk-clause-file
-returns-in_err-put_desk-clause-file g c =
-    judged_by_count _ c.in_ok-election.election c.in_err-put_desk.field-0.0 _ c.from_residual-in_err-put_desk.ensures.1 c.in_ok-election.ensures.ok
+pub returns-in_err-text-clause-file : goal.returns-in_err-text-clause-file
+returns-in_err-text-clause-file g c =
+    judged_by_count _ c.in_ok-election.election c.in_err-text.field-0.0 _ c.from_residual-in_err-text.ensures.1 c.in_ok-election.ensures.ok

@@ -11,19 +11,19 @@ returns-in_err-election-clause-fault g c =
 pub returns-in_err-election-clause-merged : goal.returns-in_err-election-clause-merged
 returns-in_err-election-clause-merged g c = stays_merged (Read c.in_err-election.field-0.0) _ c.from_residual.ensures.1
 
-pub returns-in_err-put_count-clause-merged : goal.returns-in_err-put_count-clause-merged
-returns-in_err-put_count-clause-merged g c = stays_merged (Count c.in_err-put_count.field-0.0) _ c.from_residual-in_err-put_count.ensures.1
+pub returns-in_err-text-clause-merged : goal.returns-in_err-text-clause-merged
+returns-in_err-text-clause-merged g c = stays_merged (Count c.in_err-text.field-0.0) _ c.from_residual-in_err-text.ensures.1
 
 pub returns-in_err-election-clause-accepts : goal.returns-in_err-election-clause-accepts
 returns-in_err-election-clause-accepts g c =
     accepted_by_reader _ c.args.options.now c.in_err-election.field-0.0 _ c.from_residual.ensures.1 c.in_err-election.ensures.accepts
 
-pub returns-in_err-put_count-clause-fault : goal.returns-in_err-put_count-clause-fault
-returns-in_err-put_count-clause-fault g c =
-    refused_by_count _ c.args.options.now c.in_ok-election.election c.in_err-put_count.field-0.0 _ c.from_residual-in_err-put_count.ensures.1
-    c.in_ok-election.ensures.ok c.in_err-put_count.ensures.fault
+pub returns-in_err-text-clause-fault : goal.returns-in_err-text-clause-fault
+returns-in_err-text-clause-fault g c =
+    refused_by_count _ c.args.options.now c.in_ok-election.election c.in_err-text.field-0.0 _ c.from_residual-in_err-text.ensures.1
+    c.in_ok-election.ensures.ok c.in_err-text.ensures.fault
 
-pub returns-in_err-put_count-clause-accepts : goal.returns-in_err-put_count-clause-accepts
-returns-in_err-put_count-clause-accepts g c =
-    accepted_by_count _ c.args.options.now c.in_ok-election.election c.in_err-put_count.field-0.0 _ c.from_residual-in_err-put_count.ensures.1
-    c.in_ok-election.ensures.ok c.in_err-put_count.ensures.fault
+pub returns-in_err-text-clause-accepts : goal.returns-in_err-text-clause-accepts
+returns-in_err-text-clause-accepts g c =
+    accepted_by_count _ c.args.options.now c.in_ok-election.election c.in_err-text.field-0.0 _ c.from_residual-in_err-text.ensures.1
+    c.in_ok-election.ensures.ok c.in_err-text.ensures.fault

@@ -1,4 +1,4 @@
-use Rattle.std.proofs.Common.{◌≡◌, ◌∙◌, ◌<◌, ap, sym, drop, map, get_or, length, [], arith, refl}
+use Rattle.std.proofs.Common.{◌≡◌, ◌∙◌, ◌<◌, get_or, length, [], arith}
 use Rattle.std.proofs.lemmas.List.{get_or_read}
 use Rattle.pb_core.specs.Request.{asked}
 use Rattle.pb_script.specs.Serving.{list_of}

@@ -1,14 +1,14 @@
 use Rattle.std.proofs.Common.{List, subst}
 use Rattle.pb_core.specs.Request.{RequestView}
-use Rattle.pb_script.specs.Serving.{IsServedText}
-use Rattle.pb_script.proofs.Texts.{script_refused, script_text}
+use Rattle.pb_script.specs.Serving.{ServesAll}
+use Rattle.pb_script.proofs.Texts.{script_text}
 use Rattle.pb_script.proofs.serve_script.serve_script.Goals as goal
-
-pub returns-in_err-lists-clause-fault : goal.returns-in_err-lists-clause-fault
-returns-in_err-lists-clause-fault g c = script_refused c.args.clerks _ c.in_err-lists.field-0.0 _ c.from_residual.ensures.1 c.in_err-lists.ensures.fault
 
 pub returns-clause-ok : goal.returns-clause-ok
 returns-clause-ok g c =
-    let P : List (List RequestView) → Type 0 = λ lists. IsServedText c.args.election c.args.clerks lists c.in_ok-text.text.items in
-    script_text c.args.clerks c.in_ok-lists.lists.items c.args.election _ c.in_ok-text.text.items c.in_ok-lists.ensures.script
-    (subst P c.deref.ensures.value c.in_ok-text.ensures.ok)
+    let desk = c.in_ok-served.ensures in
+    let text = c.in_ok-written.ensures in
+    let P : List (List RequestView) → Type 0 = λ lists. ServesAll lists c.in_ok-served.field-0.journal in
+    script_text c.args.clerks c.in-Ok.lists.items c.args.election _ c.in_ok-served.field-0 c.in_ok-written.field-0.items c.in-Ok.ensures.script
+    (record { in_range = desk.clerks; opening = desk.opening; room = desk.room; serves = subst P c.as_slice.ensures.value desk.serves })
+    (record { legal = text.legal; fits = text.fits; text_is = text.text })
