@@ -29,11 +29,13 @@ impl SharedDesk {
             } = clerk;
             table.shared.join_seat::<HandBack>(&mut seat, theirs);
         }
+        drop(clerks);
         let mut closed = table.close_with(seat);
         let word = closed.word(LOCK);
         let slot = closed.take(SLOT);
         closed.free();
         if word != 0 {
+            drop(slot);
             return Err(Unfinished(word));
         }
         Ok(slot.unwrap())
