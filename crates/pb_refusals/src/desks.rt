@@ -21,20 +21,25 @@ impl Call for DeskCall {
     fn run<R: Abort>(&self, rt: &R, heap: Heap<'_>, nth: u64) -> Result<bool, NoMemory> {
         match self {
             DeskCall::Start => started(rt, heap, nth),
-            DeskCall::Cast => served(rt, heap, nth, cast(rt, heap, 0), (Answer::Done, 2)),
-            DeskCall::Replace => served(rt, heap, nth, replace(rt, heap), (Answer::Done, 1)),
-            DeskCall::Withdraw => served(rt, heap, nth, withdraw(rt, heap), (Answer::Done, 0)),
-            DeskCall::Unknown => served(
-                rt,
-                heap,
-                nth,
-                cast(rt, heap, 9),
-                (Answer::UnknownPlace(9), 1),
-            ),
+            DeskCall::Cast => served(rt, heap, nth, cast(rt, heap, 0), CAST),
+            DeskCall::Replace => served(rt, heap, nth, replace(rt, heap), REPLACED),
+            DeskCall::Withdraw => served(rt, heap, nth, withdraw(rt, heap), WITHDRAWN),
+            DeskCall::Unknown => served(rt, heap, nth, cast(rt, heap, 9), UNKNOWN),
             DeskCall::Leave => left(rt, heap, nth),
         }
     }
 }
+
+/// What a request is answered, and how many ballots there are then.
+type Said = (Result<Answer, DeskFault>, u32);
+
+const CAST: Said = (Ok(Answer::Done), 2);
+
+const REPLACED: Said = (Ok(Answer::Done), 1);
+
+const WITHDRAWN: Said = (Ok(Answer::Done), 0);
+
+const UNKNOWN: Said = (Ok(Answer::UnknownPlace(9)), 1);
 
 /// A ballot of ann's for this place.
 fn cast<'a>(rt: &impl Abort, heap: Heap<'a>, place: u32) -> Request<Heap<'a>> {
@@ -98,42 +103,42 @@ fn started_again<'a>(
     refused(opens(starts(heap, election).ok().expect(rt, "a desk")))
 }
 
-/// The request is answered so, and this many ballots are left; or memory is refused, and it is so when it is
-/// made again.
+/// The request is answered so; or memory is refused, and it is so when it is made again.
 fn served<'a>(
     rt: &impl Abort,
     heap: Heap<'a>,
     nth: u64,
     request: Request<Heap<'a>>,
-    wanted: (Answer, u32),
+    wanted: Said,
 ) -> Result<bool, NoMemory> {
     let mut desk = desk(rt, heap);
     heap.refuse(nth);
-    let answer = match serves(&mut desk, &request) {
-        Ok(answer) => Ok((answer, desk.ballots()) == wanted && desk.entries() == 1),
-        Err(DeskFault::JournalFull) => Ok(false),
-        Err(DeskFault::NoMemory) => refused(serves_again(rt, &mut desk, &request, wanted)),
-    };
+    let answer = is_served(&mut desk, &request, wanted);
     drop(desk);
     drop(request);
     answer
 }
 
-/// What clerk 0 is answered.
-fn serves<'a>(desk: &mut Desk<Heap<'a>>, request: &Request<Heap<'a>>) -> Result<Answer, DeskFault> {
-    desk.serve(0, request)
-}
-
-/// Whether the desk is as it was opened, and then answers so.
-fn serves_again<'a>(
-    rt: &impl Abort,
+/// Whether the desk answers so and has an entry; or memory is refused, the desk is as it was opened, and then answers
+/// so.
+fn is_served<'a>(
     desk: &mut Desk<Heap<'a>>,
     request: &Request<Heap<'a>>,
-    wanted: (Answer, u32),
-) -> bool {
-    let was_as_opened = is_as_opened(desk);
-    let answer = serves(desk, request).expect(rt, "an answer");
-    was_as_opened && (answer, desk.ballots()) == wanted
+    wanted: Said,
+) -> Result<bool, NoMemory> {
+    let said = serves(desk, request);
+    if said.0 == Err(DeskFault::NoMemory) {
+        let was_as_opened = is_as_opened(desk);
+        let again = serves(desk, request);
+        return refused(was_as_opened && again == wanted);
+    }
+    Ok(said == wanted && desk.entries() == 1)
+}
+
+/// What clerk 0 is answered.
+fn serves<'a>(desk: &mut Desk<Heap<'a>>, request: &Request<Heap<'a>>) -> Said {
+    let answer = desk.serve(0, request);
+    (answer, desk.ballots())
 }
 
 /// The election of a desk that is shut.
@@ -141,13 +146,24 @@ fn leaves<'a>(desk: Desk<Heap<'a>>) -> Result<Election<Heap<'a>>, IntoFault<Heap
     desk.into_election()
 }
 
-fn left(rt: &impl Abort, heap: Heap<'_>, nth: u64) -> Result<bool, NoMemory> {
+/// A desk with its one ballot, that is shut.
+fn shut_desk<'a>(rt: &impl Abort, heap: Heap<'a>) -> Desk<Heap<'a>> {
     let mut desk = desk(rt, heap);
-    same(rt, serves(&mut desk, &Request::Shut), Ok(Answer::Done), 1);
+    same(
+        rt,
+        serves(&mut desk, &Request::Shut),
+        (Ok(Answer::Done), 1),
+        1,
+    );
+    desk
+}
+
+fn left(rt: &impl Abort, heap: Heap<'_>, nth: u64) -> Result<bool, NoMemory> {
+    let desk = shut_desk(rt, heap);
     heap.refuse(nth);
     match leaves(desk) {
         Ok(election) => Ok(has_one_voter(election)),
-        Err(fault) => left_again(rt, fault),
+        Err(fault) => left_again(fault),
     }
 }
 
@@ -158,17 +174,32 @@ fn has_one_voter(election: Election<Heap<'_>>) -> bool {
     has_one
 }
 
-/// A desk that was handed back, since memory was refused, still has its ballot and its entry, and then leaves its
-/// election.
-fn left_again(rt: &impl Abort, fault: IntoFault<Heap<'_>>) -> Result<bool, NoMemory> {
-    let is_memory = fault.number() == 2;
-    let desk = match fault {
+/// The desk that was handed back.
+fn handed_back<'a>(fault: IntoFault<Heap<'a>>) -> Desk<Heap<'a>> {
+    match fault {
         IntoFault::NotShut(desk) => desk,
         IntoFault::NoMemory(desk) => desk,
-    };
+    }
+}
+
+/// Whether the desk leaves an election of one voter.
+fn leaves_one_voter(desk: Desk<Heap<'_>>) -> bool {
+    match leaves(desk) {
+        Ok(election) => has_one_voter(election),
+        Err(fault) => {
+            drop(fault);
+            false
+        }
+    }
+}
+
+/// A desk that was handed back, since memory was refused, still has its ballot and its entry, and then leaves its
+/// election.
+fn left_again(fault: IntoFault<Heap<'_>>) -> Result<bool, NoMemory> {
+    let is_memory = fault.number() == 2;
+    let desk = handed_back(fault);
     let is_whole = is_memory && desk.ballots() == 1 && desk.entries() == 1;
-    let election = leaves(desk).ok().expect(rt, "an election");
-    let has_one = has_one_voter(election);
+    let has_one = leaves_one_voter(desk);
     refused(is_whole && has_one)
 }
 

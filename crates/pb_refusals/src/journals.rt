@@ -17,21 +17,48 @@ use std::process::Abort;
 const FIVE_ROWS: &str =
     "1;0;cast;ann;0;done\n2;0;cast;ann;1;already-cast\n3;0;replace;ann;0,1;done\n4;0;withdraw;ann;;done\n5;0;replace;ann;0;no-ballot\n";
 
-/// The same rows, the answer of each in turn replaced by `voter-limit`.
-const WRONG_ANSWERS: [&str; 5] = [
-    "1;0;cast;ann;0;voter-limit\n2;0;cast;ann;1;already-cast\n3;0;replace;ann;0,1;done\n4;0;withdraw;ann;;done\n5;0;replace;ann;0;no-ballot\n",
-    "1;0;cast;ann;0;done\n2;0;cast;ann;1;voter-limit\n3;0;replace;ann;0,1;done\n4;0;withdraw;ann;;done\n5;0;replace;ann;0;no-ballot\n",
-    "1;0;cast;ann;0;done\n2;0;cast;ann;1;already-cast\n3;0;replace;ann;0,1;voter-limit\n4;0;withdraw;ann;;done\n5;0;replace;ann;0;no-ballot\n",
-    "1;0;cast;ann;0;done\n2;0;cast;ann;1;already-cast\n3;0;replace;ann;0,1;done\n4;0;withdraw;ann;;voter-limit\n5;0;replace;ann;0;no-ballot\n",
-    "1;0;cast;ann;0;done\n2;0;cast;ann;1;already-cast\n3;0;replace;ann;0,1;done\n4;0;withdraw;ann;;done\n5;0;replace;ann;0;voter-limit\n",
+/// The same rows, the answer of each in turn replaced by `voter-limit`, and that row.
+const WRONG_ANSWERS: &[(&str, u64)] = &[
+    (
+        "1;0;cast;ann;0;voter-limit\n2;0;cast;ann;1;already-cast\n3;0;replace;ann;0,1;done\n4;0;withdraw;ann;;done\n5;0;replace;ann;0;no-ballot\n",
+        1,
+    ),
+    (
+        "1;0;cast;ann;0;done\n2;0;cast;ann;1;voter-limit\n3;0;replace;ann;0,1;done\n4;0;withdraw;ann;;done\n5;0;replace;ann;0;no-ballot\n",
+        2,
+    ),
+    (
+        "1;0;cast;ann;0;done\n2;0;cast;ann;1;already-cast\n3;0;replace;ann;0,1;voter-limit\n4;0;withdraw;ann;;done\n5;0;replace;ann;0;no-ballot\n",
+        3,
+    ),
+    (
+        "1;0;cast;ann;0;done\n2;0;cast;ann;1;already-cast\n3;0;replace;ann;0,1;done\n4;0;withdraw;ann;;voter-limit\n5;0;replace;ann;0;no-ballot\n",
+        4,
+    ),
+    (
+        "1;0;cast;ann;0;done\n2;0;cast;ann;1;already-cast\n3;0;replace;ann;0,1;done\n4;0;withdraw;ann;;done\n5;0;replace;ann;0;voter-limit\n",
+        5,
+    ),
 ];
 
-/// The same rows, each in turn exchanged with the next.
-const EXCHANGED: [&str; 4] = [
-    "2;0;cast;ann;1;already-cast\n1;0;cast;ann;0;done\n3;0;replace;ann;0,1;done\n4;0;withdraw;ann;;done\n5;0;replace;ann;0;no-ballot\n",
-    "1;0;cast;ann;0;done\n3;0;replace;ann;0,1;done\n2;0;cast;ann;1;already-cast\n4;0;withdraw;ann;;done\n5;0;replace;ann;0;no-ballot\n",
-    "1;0;cast;ann;0;done\n2;0;cast;ann;1;already-cast\n4;0;withdraw;ann;;done\n3;0;replace;ann;0,1;done\n5;0;replace;ann;0;no-ballot\n",
-    "1;0;cast;ann;0;done\n2;0;cast;ann;1;already-cast\n3;0;replace;ann;0,1;done\n5;0;replace;ann;0;no-ballot\n4;0;withdraw;ann;;done\n",
+/// The same rows, each in turn exchanged with the next, and the first of the two places.
+const EXCHANGED: &[(&str, u64)] = &[
+    (
+        "2;0;cast;ann;1;already-cast\n1;0;cast;ann;0;done\n3;0;replace;ann;0,1;done\n4;0;withdraw;ann;;done\n5;0;replace;ann;0;no-ballot\n",
+        1,
+    ),
+    (
+        "1;0;cast;ann;0;done\n3;0;replace;ann;0,1;done\n2;0;cast;ann;1;already-cast\n4;0;withdraw;ann;;done\n5;0;replace;ann;0;no-ballot\n",
+        2,
+    ),
+    (
+        "1;0;cast;ann;0;done\n2;0;cast;ann;1;already-cast\n4;0;withdraw;ann;;done\n3;0;replace;ann;0,1;done\n5;0;replace;ann;0;no-ballot\n",
+        3,
+    ),
+    (
+        "1;0;cast;ann;0;done\n2;0;cast;ann;1;already-cast\n3;0;replace;ann;0,1;done\n5;0;replace;ann;0;no-ballot\n4;0;withdraw;ann;;done\n",
+        4,
+    ),
 ];
 
 /// How many entries the journal has that a reader gives, or its fault.
@@ -76,17 +103,20 @@ fn a_reader_that_fails_is_told_at_the_row(rt: HostRuntime) {
     }
 }
 
+/// An audit of these rows names the row with this number so.
+fn is_told(rt: &impl Abort, alloc: Global, text: &str, wanted: AuditFault, row: u64) {
+    let found = audited(rt, alloc, text.as_bytes());
+    same(rt, found, Err(wanted), row as usize);
+}
+
 #[test]
 fn damage_is_told_at_its_row(rt: HostRuntime) {
-    for (i, text) in WRONG_ANSWERS.iter().enumerate() {
-        let row = (i as u64).wrapping_add(1);
-        let found = audited(&rt, rt.alloc(), text.as_bytes());
-        same(&rt, found, Err(AuditFault::WrongAnswer(row)), i);
+    let alloc = rt.alloc();
+    for (text, row) in WRONG_ANSWERS {
+        is_told(&rt, alloc, text, AuditFault::WrongAnswer(*row), *row);
     }
-    for (i, text) in EXCHANGED.iter().enumerate() {
-        let row = (i as u64).wrapping_add(1);
-        let found = audited(&rt, rt.alloc(), text.as_bytes());
-        same(&rt, found, Err(AuditFault::WrongNumber(row)), i);
+    for (text, row) in EXCHANGED {
+        is_told(&rt, alloc, text, AuditFault::WrongNumber(*row), *row);
     }
 }
 
@@ -119,13 +149,23 @@ fn fails_after(rt: &impl Abort, alloc: Global, desk: &Desk, writes: u32) {
     drop(writer);
 }
 
-/// Of two writes the first fails, or the flush after it does.
+/// A writer that takes two writes takes the journal.
+fn takes_two(rt: &impl Abort, alloc: Global, desk: &Desk) {
+    let mut writer = FailsAt::new(Vec::new(alloc), 2);
+    writes_so(rt, alloc, desk, &mut writer, Ok(()));
+    let taken = writer.into_inner();
+    same(rt, taken.as_slice(), SHUT, 2);
+    drop(taken);
+}
+
+/// The journal is one write. It fails, or the flush after it does; and a writer that takes two takes both.
 #[test]
 fn a_writer_that_fails_is_told(rt: HostRuntime) {
     let alloc = rt.alloc();
     let desk = shut_desk(&rt, alloc);
     fails_after(&rt, alloc, &desk, 0);
     fails_after(&rt, alloc, &desk, 1);
+    takes_two(&rt, alloc, &desk);
     let failed = Err(WriteFault::WriteFailed);
     writes_so(&rt, alloc, &desk, &mut TakesNone, failed);
     drop(desk);
