@@ -6,61 +6,35 @@ use pb_read::{ReadFault, ReadKind};
 use pb_rounds::count_fault::CountFault;
 use pb_script::ScriptFault;
 use std::alloc::AllocError;
-use std::error::Error;
-use std::fmt;
+use thiserror::Error;
 
 /// Why a run ends without what it was to write.
-#[derive(Clone, Copy, PartialEq, Eq)]
+#[derive(Clone, Copy, PartialEq, Eq, Debug, Error)]
 pub enum AppFault {
     /// The file is refused, or could not be read.
+    #[error("file: {0}")]
     Read(ReadFault),
     /// The script is refused, or could not be read.
+    #[error("script: {0}")]
     Script(ScriptFault),
     /// The number of clerks is not 1 to 64.
+    #[error("the number of clerks is not 1 to 64")]
     ClerkCount,
     /// The journal is refused, or could not be read.
+    #[error("journal: {0}")]
     Audit(AuditFault),
     /// An option of the count is out of its range, or its raises are spent.
+    #[error("count: {0}")]
     Count(CountFault),
     /// The file with this number on the command line, from 1, could not be opened.
+    #[error("file {0} could not be opened")]
     Open(u32),
     /// The writer failed. Some of the text may have gone out.
+    #[error("the writer failed")]
     Write,
     /// Out of memory.
+    #[error("out of memory")]
     Memory,
-}
-
-impl Error for AppFault {}
-
-impl fmt::Display for AppFault {
-    fn fmt<W: fmt::Write>(&self, f: &mut fmt::Formatter<W>) -> fmt::Result {
-        match self {
-            AppFault::Read(fault) => write_of(f, "file: ", fault),
-            AppFault::Script(fault) => write_of(f, "script: ", fault),
-            AppFault::ClerkCount => f.write_str("the number of clerks is not 1 to 64"),
-            AppFault::Audit(fault) => write_of(f, "journal: ", fault),
-            AppFault::Count(fault) => write_of(f, "count: ", fault),
-            AppFault::Open(number) => write!(f, "file {number} could not be opened"),
-            AppFault::Write => f.write_str("the writer failed"),
-            AppFault::Memory => f.write_str("out of memory"),
-        }
-    }
-}
-
-/// Writes a library's fault after what it is the fault of.
-fn write_of<W: fmt::Write, F: fmt::Display>(
-    f: &mut fmt::Formatter<W>,
-    what: &str,
-    fault: &F,
-) -> fmt::Result {
-    f.write_str(what)?;
-    fault.fmt(f)
-}
-
-impl fmt::Debug for AppFault {
-    fn fmt<W: fmt::Write>(&self, f: &mut fmt::Formatter<W>) -> fmt::Result {
-        fmt::Display::fmt(self, f)
-    }
 }
 
 impl AppFault {
