@@ -22,10 +22,13 @@ fn entries_of<R: Read + Drop>(
     room: u32,
     reader: R,
 ) -> Result<u32, AuditFault> {
-    match audit(alloc, three_voters(rt, alloc), room, reader) {
+    let audited = audit(alloc, three_voters(rt, alloc), room, reader);
+    let answer = match &audited {
         Ok(desk) => Ok(desk.entries()),
-        Err(fault) => Err(fault),
-    }
+        Err(fault) => Err(*fault),
+    };
+    drop(audited);
+    answer
 }
 
 /// Texts, the room, and what an audit answers.

@@ -12,7 +12,8 @@ pub(crate) fn same<T: PartialEq + Debug + Copy>(rt: &impl Abort, found: T, wante
 /// It is shown as this text.
 pub(crate) fn shows<D: Display>(rt: &impl Abort, alloc: Global, found: &D, wanted: &str) {
     let shown = format!(in alloc; "{found}").expect(rt, "memory");
-    assert_eq!(rt; shown.as_str(), wanted);
+    same(rt, shown.as_str(), wanted, "a text");
+    drop(shown);
 }
 
 /// A fault's number, name and text are these.
@@ -25,5 +26,6 @@ pub(crate) fn tells<D: Display>(
 ) {
     let (number, name) = named;
     let shown = format!(in alloc; "{number} {name}: {fault}").expect(rt, "memory");
-    assert_eq!(rt; shown.as_str(), wanted);
+    same(rt, shown.as_str(), wanted, "a fault");
+    drop(shown);
 }

@@ -44,9 +44,9 @@ fn show_projects(rt: &impl Abort, text: &mut String, projects: &[Project]) {
 }
 
 /// A voter's id, and the places of the ballot.
-fn show_voter(rt: &impl Abort, text: &mut String, voter: &Voter) {
-    text.push_str(voter.id.text()).expect(rt, "memory");
-    for place in voter.ballot.places() {
+pub(crate) fn show_ballot(rt: &impl Abort, text: &mut String, voter: &VoterId, ballot: &Ballot) {
+    text.push_str(voter.text()).expect(rt, "memory");
+    for place in ballot.places() {
         write!(text, " {place}").expect(rt, "memory");
     }
     text.push(';').expect(rt, "memory");
@@ -55,7 +55,7 @@ fn show_voter(rt: &impl Abort, text: &mut String, voter: &Voter) {
 /// Each voter.
 fn show_voters(rt: &impl Abort, text: &mut String, voters: &[Voter]) {
     for voter in voters {
-        show_voter(rt, text, voter);
+        show_ballot(rt, text, &voter.id, &voter.ballot);
     }
 }
 

@@ -1,7 +1,7 @@
 //! The one-clerk desk: its answers, its ballots and its journal's text.
 
-use crate::checks::same;
-use crate::elections::{add_limit, ballot, shown, three_voters, voter_id};
+use crate::checks::{same, shows};
+use crate::elections::{add_limit, ballot, show_ballot, shown, three_voters, voter_id};
 use pb_core::answer::Answer;
 use pb_core::election::Election;
 use pb_core::request::Request;
@@ -83,14 +83,10 @@ pub(crate) fn has_text(rt: &impl Abort, alloc: Global, desk: &Desk, wanted: &str
     same(rt, text.as_slice(), wanted.as_bytes(), "a journal");
 }
 
-/// A ballot as text: the voter and the places.
-fn show_ballot(rt: &impl Abort, text: &mut String, desk: &Desk, i: u32) {
+/// Shows the ballot at this place, which is its voter's.
+fn show_ballot_at(rt: &impl Abort, text: &mut String, desk: &Desk, i: u32) {
     let (id, ballot) = desk.ballot_at(i).expect(rt, "a ballot");
-    text.push_str(id.text()).expect(rt, "memory");
-    for place in ballot.places() {
-        write!(text, " {place}").expect(rt, "memory");
-    }
-    text.push(';').expect(rt, "memory");
+    show_ballot(rt, text, id, ballot);
     let found = desk.ballot_of(id).expect(rt, "the same ballot");
     same(rt, found.places(), ballot.places(), "the same ballot");
 }
@@ -99,7 +95,7 @@ fn show_ballot(rt: &impl Abort, text: &mut String, desk: &Desk, i: u32) {
 pub(crate) fn has_ballots(rt: &impl Abort, alloc: Global, desk: &Desk, wanted: &str) {
     let mut text = String::new(alloc);
     for i in 0..desk.ballots() {
-        show_ballot(rt, &mut text, desk, i);
+        show_ballot_at(rt, &mut text, desk, i);
     }
     same(rt, text.as_str(), wanted, "ballots");
 }
@@ -287,6 +283,7 @@ fn is_left(rt: &impl Abort, alloc: Global, election: Election, limit: Option<u32
 /// A desk that is not shut comes back with this journal.
 fn comes_back(rt: &impl Abort, alloc: Global, fault: IntoFault, text: &str) {
     same(rt, fault.number(), 1, "not shut");
+    shows(rt, alloc, &fault, "the desk is not shut");
     let desk = match fault {
         IntoFault::NotShut(desk) => desk,
         IntoFault::NoMemory(desk) => desk,

@@ -55,16 +55,6 @@ fn last_of(rt: &impl Abort, shared: &SharedDesk, clerks: &mut Vec<Clerk>) -> Cle
     clerks.pop().expect(rt, "a clerk")
 }
 
-/// Puts a clerk of this desk onto a list of its clerks.
-fn joins(rt: &impl Abort, shared: &SharedDesk, clerks: &mut Vec<Clerk>, clerk: Clerk)
-    requires own { clerk.desk ≡ shared.now }
-    requires all { All (λ c. c.desk ≡ shared.now) clerks.old.items }
-    ensures { All (λ c. c.desk ≡ shared.now) clerks.new.items }
-{
-    let _ = shared;
-    clerks.push(clerk).expect(rt, "memory");
-}
-
 /// Takes these clerks back, and the desk has this text as its journal.
 fn finishes(
     rt: &impl Abort,
@@ -94,28 +84,48 @@ fn asks(rt: &impl Abort, alloc: Global, shared: &SharedDesk, clerk: &mut Clerk, 
     drop(request);
 }
 
-/// One of two clerks, 0 or 1, and what that clerk asks.
-struct Step(u32, Row);
+/// The clerk with this number asks this.
+fn asks_by(
+    rt: &impl Abort,
+    alloc: Global,
+    shared: &SharedDesk,
+    clerks: &mut Vec<Clerk>,
+    number: usize,
+    row: &Row,
+)
+    requires { All (λ clerk. clerk.desk ≡ shared.now) clerks.old.items }
+    ensures { All (λ clerk. clerk.desk ≡ shared.now) clerks.new.items }
+{
+    assert!(rt; number < clerks.len());
+    asks(rt, alloc, shared, &mut clerks[number], row);
+}
 
-/// Each of the two clerks asks in turn.
+/// The clerk with this number reads this many entries from the front word.
+fn reads(rt: &impl Abort, shared: &SharedDesk, clerks: &mut Vec<Clerk>, number: usize, entries: u32)
+    requires { All (λ clerk. clerk.desk ≡ shared.now) clerks.old.items }
+    ensures { All (λ clerk. clerk.desk ≡ shared.now) clerks.new.items }
+{
+    assert!(rt; number < clerks.len());
+    let front = shared.front(&mut clerks[number]);
+    same(rt, front, entries, "the front word");
+}
+
+/// The number of a clerk, and what that clerk asks.
+struct Step(usize, Row);
+
+/// The clerks ask in turn.
 fn ask_in_turn(
     rt: &impl Abort,
     alloc: Global,
     shared: &SharedDesk,
-    first: &mut Clerk,
-    second: &mut Clerk,
+    clerks: &mut Vec<Clerk>,
     steps: &[Step],
 )
-    requires first { first.old.desk ≡ shared.now }
-    requires second { second.old.desk ≡ shared.now }
-    ensures first { first.new.desk ≡ shared.now }
-    ensures second { second.new.desk ≡ shared.now }
+    requires { All (λ clerk. clerk.desk ≡ shared.now) clerks.old.items }
+    ensures { All (λ clerk. clerk.desk ≡ shared.now) clerks.new.items }
 {
     for step in steps {
-        match step.0 {
-            0 => asks(rt, alloc, shared, first, &step.1),
-            _ => asks(rt, alloc, shared, second, &step.1),
-        }
+        asks_by(rt, alloc, shared, clerks, step.0, &step.1);
     }
 }
 
@@ -214,13 +224,9 @@ const SERVED: &[Served] = &[
 /// Two clerks of a new desk ask in turn, and are then handed back.
 fn serves(rt: &impl Abort, alloc: Global, room: u32, steps: &[Step], entries: u32, text: &str) {
     let (shared, mut clerks) = share(rt, alloc, desk_with_room(rt, alloc, room), 2);
-    let mut second = last_of(rt, &shared, &mut clerks);
-    let mut first = last_of(rt, &shared, &mut clerks);
-    ask_in_turn(rt, alloc, &shared, &mut first, &mut second, steps);
-    let fronts = (shared.front(&mut first), shared.front(&mut second));
-    same(rt, fronts, (entries, entries), "the front word");
-    joins(rt, &shared, &mut clerks, first);
-    joins(rt, &shared, &mut clerks, second);
+    ask_in_turn(rt, alloc, &shared, &mut clerks, steps);
+    reads(rt, &shared, &mut clerks, 0, entries);
+    reads(rt, &shared, &mut clerks, 1, entries);
     drop(finishes(rt, alloc, shared, clerks, text));
 }
 
@@ -269,19 +275,21 @@ fn is_turned_away(
     other
 }
 
-/// The clerk looks, while the other is turned away.
+/// Clerk 0 looks, while the other is turned away.
 fn looks(
     rt: &impl Abort,
     alloc: Global,
     shared: &SharedDesk,
-    clerk: &mut Clerk,
+    clerks: &mut Vec<Clerk>,
     other: Clerk,
 ) -> Clerk
-    requires clerk { clerk.old.desk ≡ shared.now }
+    requires clerks { All (λ clerk. clerk.desk ≡ shared.now) clerks.old.items }
     requires other { other.desk ≡ shared.now }
-    ensures clerk { clerk.new.desk ≡ shared.now }
+    ensures clerks { All (λ clerk. clerk.desk ≡ shared.now) clerks.new.items }
     ensures other { result.desk ≡ shared.now }
 {
+    assert!(rt; 0 < clerks.len());
+    let clerk = &mut clerks[0];
     let looked = shared.look(clerk, |desk| is_turned_away(rt, alloc, shared, desk, other));
     looked.expect(rt, "the lock")
 }
@@ -292,20 +300,20 @@ fn a_clerk_who_looks_turns_others_away(rt: HostRuntime) {
     let alloc = rt.alloc();
     let (shared, mut clerks) = share(&rt, alloc, desk_with_room(&rt, alloc, 10), 2);
     let other = last_of(&rt, &shared, &mut clerks);
-    let mut clerk = last_of(&rt, &shared, &mut clerks);
-    let mut other = looks(&rt, alloc, &shared, &mut clerk, other);
+    let mut other = looks(&rt, alloc, &shared, &mut clerks, other);
     tries(&rt, alloc, &shared, &mut other, &NOT_TURNED_AWAY);
-    joins(&rt, &shared, &mut clerks, clerk);
-    joins(&rt, &shared, &mut clerks, other);
+    drop(other);
     let text = "journal;2\n1;1;cast;ann;0;done\n2;1;cast;bob;1;done\n";
     drop(finishes(&rt, alloc, shared, clerks, text));
 }
 
-/// A look that answers the desk's room as an error.
-fn looks_at_the_room(rt: &impl Abort, shared: &SharedDesk, clerk: &mut Clerk, room: u32)
-    requires { clerk.old.desk ≡ shared.now }
-    ensures { clerk.new.desk ≡ shared.now }
+/// A look of clerk 0 that answers the desk's room as an error.
+fn looks_at_the_room(rt: &impl Abort, shared: &SharedDesk, clerks: &mut Vec<Clerk>, room: u32)
+    requires { All (λ clerk. clerk.desk ≡ shared.now) clerks.old.items }
+    ensures { All (λ clerk. clerk.desk ≡ shared.now) clerks.new.items }
 {
+    assert!(rt; 0 < clerks.len());
+    let clerk = &mut clerks[0];
     let looked: Result<Result<(), u32>, Busy> = shared.look(clerk, |desk| Err(desk.room()));
     same(rt, looked, Ok(Err(room)), "a look");
 }
@@ -318,23 +326,15 @@ const REPLACE_ANN: Row = Row("replace", "ann", &[1], 1, Ok(Answer::Done));
 
 const SHUT: Row = Row("shut", "", &[], 1, Ok(Answer::Done));
 
-/// Once the first has cast, the second meets its note, and reads one entry. Another note is dropped.
-fn a_note_is_met(
-    rt: &impl Abort,
-    alloc: Global,
-    shared: &SharedDesk,
-    first: &mut Clerk,
-    second: &mut Clerk,
-)
-    requires first { first.old.desk ≡ shared.now }
-    requires second { second.old.desk ≡ shared.now }
-    ensures second { second.new.desk ≡ shared.now }
+/// Clerk 0 meets a note of clerk 1. Another note is dropped.
+fn a_note_is_met(rt: &impl Abort, shared: &SharedDesk, clerks: &mut Vec<Clerk>)
+    requires { All (λ clerk. clerk.desk ≡ shared.now) clerks.old.items }
+    ensures { All (λ clerk. clerk.desk ≡ shared.now) clerks.new.items }
 {
-    asks(rt, alloc, shared, first, &CAST_ANN);
-    let note = shared.note(first);
-    shared.meet(second, note);
-    same(rt, shared.front(second), 1, "the front word");
-    drop(shared.note(first));
+    assert!(rt; 1 < clerks.len());
+    let note = shared.note(&mut clerks[1]);
+    shared.meet(&mut clerks[0], note);
+    drop(shared.note(&mut clerks[1]));
 }
 
 /// A note that another clerk meets takes nothing away, and one that nobody met may be dropped. A look that answers an
@@ -343,15 +343,14 @@ fn a_note_is_met(
 fn a_note_may_be_met_or_dropped(rt: HostRuntime) {
     let alloc = rt.alloc();
     let (shared, mut clerks) = share(&rt, alloc, desk_with_room(&rt, alloc, 10), 2);
-    let mut one = last_of(&rt, &shared, &mut clerks);
-    let mut clerk = last_of(&rt, &shared, &mut clerks);
-    looks_at_the_room(&rt, &shared, &mut clerk, 10);
-    a_note_is_met(&rt, alloc, &shared, &mut one, &mut clerk);
-    drop(one);
-    asks(&rt, alloc, &shared, &mut clerk, &CAST_BOB);
-    drop(clerk);
+    looks_at_the_room(&rt, &shared, &mut clerks, 10);
+    asks_by(&rt, alloc, &shared, &mut clerks, 1, &CAST_ANN);
+    a_note_is_met(&rt, &shared, &mut clerks);
+    reads(&rt, &shared, &mut clerks, 0, 1);
+    asks_by(&rt, alloc, &shared, &mut clerks, 0, &CAST_BOB);
+    drop(clerks);
     let text = "journal;2\n1;1;cast;ann;0;done\n2;0;cast;bob;0;done\n";
-    drop(finishes(&rt, alloc, shared, clerks, text));
+    drop(finishes(&rt, alloc, shared, Vec::new(alloc), text));
 }
 
 /// The number of entries, and whether ann's ballot has place 1 alone.
@@ -361,33 +360,21 @@ fn seen_of(rt: &impl Abort, alloc: Global, desk: &Desk) -> (u32, bool) {
     (desk.entries(), ballot.places() == [1].as_slice())
 }
 
-/// The clerk sees two entries, and the ballot with place 1 that ann has.
-fn looks_at_ann(rt: &impl Abort, alloc: Global, shared: &SharedDesk, clerk: &mut Clerk)
-    requires { clerk.old.desk ≡ shared.now }
-    ensures { clerk.new.desk ≡ shared.now }
+/// Clerk 0 sees two entries, and the ballot with place 1 that ann has.
+fn looks_at_ann(rt: &impl Abort, alloc: Global, shared: &SharedDesk, clerks: &mut Vec<Clerk>)
+    requires { All (λ clerk. clerk.desk ≡ shared.now) clerks.old.items }
+    ensures { All (λ clerk. clerk.desk ≡ shared.now) clerks.new.items }
 {
-    let looked = shared.look(clerk, |desk| seen_of(rt, alloc, desk));
+    assert!(rt; 0 < clerks.len());
+    let looked = shared.look(&mut clerks[0], |desk| seen_of(rt, alloc, desk));
     same(rt, looked, Ok((2, true)), "what is seen");
 }
 
-/// The two ask, and the clerk who has made no call before reads as many entries.
-fn read_alike(
-    rt: &impl Abort,
-    alloc: Global,
-    shared: &SharedDesk,
-    first: &mut Clerk,
-    second: &mut Clerk,
-    third: &mut Clerk,
-)
-    requires first { first.old.desk ≡ shared.now }
-    requires second { second.old.desk ≡ shared.now }
-    requires third { third.old.desk ≡ shared.now }
-{
-    asks(rt, alloc, shared, first, &CAST_ANN);
-    asks(rt, alloc, shared, second, &REPLACE_ANN);
-    looks_at_ann(rt, alloc, shared, first);
-    let fronts = (shared.front(first), shared.front(third));
-    same(rt, fronts, (2, 2), "the front word");
+/// The clerks have the numbers from 0.
+fn are_numbered(rt: &impl Abort, clerks: &[Clerk]) {
+    for (i, clerk) in clerks.iter().enumerate() {
+        same(rt, clerk.number() as usize, i, "a number");
+    }
 }
 
 /// What one clerk wrote another reads, by the desk and by the front word, also one that has made no call before.
@@ -395,15 +382,12 @@ fn read_alike(
 fn clerks_read_what_others_wrote(rt: HostRuntime) {
     let alloc = rt.alloc();
     let (shared, mut clerks) = share(&rt, alloc, desk_with_room(&rt, alloc, 10), 3);
-    let mut third = last_of(&rt, &shared, &mut clerks);
-    let mut second = last_of(&rt, &shared, &mut clerks);
-    let mut first = last_of(&rt, &shared, &mut clerks);
-    let numbers = (first.number(), second.number(), third.number());
-    same(&rt, numbers, (0, 1, 2), "numbers");
-    read_alike(&rt, alloc, &shared, &mut first, &mut second, &mut third);
-    drop(first);
-    drop(second);
-    drop(third);
+    are_numbered(&rt, clerks.as_slice());
+    asks_by(&rt, alloc, &shared, &mut clerks, 0, &CAST_ANN);
+    asks_by(&rt, alloc, &shared, &mut clerks, 1, &REPLACE_ANN);
+    looks_at_ann(&rt, alloc, &shared, &mut clerks);
+    reads(&rt, &shared, &mut clerks, 0, 2);
+    reads(&rt, &shared, &mut clerks, 2, 2);
     drop(clerks);
     drop(shared);
 }
@@ -462,9 +446,7 @@ fn leaves_voters(rt: &impl Abort, desk: Desk, voters: usize) {
 fn a_shut_desk_comes_back(rt: HostRuntime) {
     let alloc = rt.alloc();
     let (shared, mut clerks) = share(&rt, alloc, desk_in_use(&rt, alloc), 1);
-    let mut clerk = last_of(&rt, &shared, &mut clerks);
-    asks(&rt, alloc, &shared, &mut clerk, &SHUT);
-    joins(&rt, &shared, &mut clerks, clerk);
+    asks_by(&rt, alloc, &shared, &mut clerks, 0, &SHUT);
     let text = "journal;2\n1;5;cast;ann;0;done\n2;0;shut;;;done\n";
     leaves_voters(&rt, finishes(&rt, alloc, shared, clerks, text), 4);
 }
