@@ -39,17 +39,24 @@ impl Gate for Holding {
     }
 }
 
+/// The journal of the script, which two clerks serve.
+fn journal_of<R: Threads + Sync + Abort>(rt: &R, alloc: Global, gate: &Holding) -> Vec<u8> {
+    let mut journal = Vec::new(alloc);
+    let (file, script) = (THREE_VOTERS.as_bytes(), SCRIPT.as_bytes());
+    let ran = run_desk(rt, alloc, file, script, 2, gate, &mut journal);
+    same(rt, ran, Ok(()), "a desk");
+    journal
+}
+
 /// While this clerk is held at its first row, the other is served its own.
 fn serves_the_other<R: Threads + Sync + Abort>(rt: &R, alloc: Global, held: u32, first: &str) {
     let gate = Holding {
         held,
         came: AtomicBool::new(false),
     };
-    let mut journal = Vec::new(alloc);
-    let (file, script) = (THREE_VOTERS.as_bytes(), SCRIPT.as_bytes());
-    let ran = run_desk(rt, alloc, file, script, 2, &gate, &mut journal);
-    same(rt, ran, Ok(()), first);
+    let journal = journal_of(rt, alloc, &gate);
     same(rt, journal.starts_with(first.as_bytes()), true, first);
+    drop(journal);
 }
 
 #[test]

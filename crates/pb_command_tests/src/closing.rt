@@ -9,6 +9,7 @@ use pb_core::{Request, VoterId};
 use pb_desk::Desk;
 use pb_read::read_pb;
 use pb_rounds::options::CountOptions;
+use pb_rounds::outcome::Elected;
 use pb_shared::clerk::Clerk;
 use pb_shared::shared_desk::SharedDesk;
 use std::alloc::Global;
@@ -43,8 +44,20 @@ fn asks_by(
     same(rt, served.is_ok(), true, "a request");
 }
 
-/// What the desk of three voters, shared by two clerks, comes to, where the second lets v3 withdraw, and the first
-/// then shuts the desk, or does not.
+/// The second clerk lets v3 withdraw, and the first then shuts the desk, or does not.
+fn ask(rt: &impl Abort, alloc: Global, shared: &SharedDesk, clerks: &mut Vec<Clerk>, shuts: bool)
+    requires { All (λ clerk. clerk.desk ≡ shared.now) clerks.old.items }
+    ensures { All (λ clerk. clerk.desk ≡ shared.now) clerks.new.items }
+{
+    let withdrawal = withdrawal(rt, alloc);
+    asks_by(rt, shared, clerks, 1, &withdrawal);
+    drop(withdrawal);
+    if shuts {
+        asks_by(rt, shared, clerks, 0, &Request::Shut);
+    }
+}
+
+/// What the desk of three voters comes to, that two clerks shared and asked.
 fn close<R: Threads + Sync + Abort>(
     rt: &R,
     alloc: Global,
@@ -52,10 +65,7 @@ fn close<R: Threads + Sync + Abort>(
     workers: u32,
 ) -> Result<Closing, CloseFault> {
     let (shared, mut clerks) = SharedDesk::share(alloc, desk(rt, alloc), 2).expect(rt, "shared");
-    asks_by(rt, &shared, &mut clerks, 1, &withdrawal(rt, alloc));
-    if shuts {
-        asks_by(rt, &shared, &mut clerks, 0, &Request::Shut);
-    }
+    ask(rt, alloc, &shared, &mut clerks, shuts);
     let options = CountOptions {
         workers,
         ..CountOptions::standard()
@@ -63,15 +73,20 @@ fn close<R: Threads + Sync + Abort>(
     close_and_count(rt, alloc, shared, clerks, &options)
 }
 
-/// A count as text: entries, voters and raises, and of each winner the place, the price and what was collected.
+/// Of each winner the place, the price and what was collected.
+fn show_winners(rt: &impl Abort, text: &mut String, winners: &[Elected]) {
+    for winner in winners {
+        let (place, price, collected) = (winner.place, winner.price.0, winner.collected.0);
+        write!(text, "; {place}, {price}, {collected}").expect(rt, "memory");
+    }
+}
+
+/// A count as text: entries, voters and raises, and the winners.
 fn counted(rt: &impl Abort, alloc: Global, count: &DeskCount) -> String {
     let voters = count.election.voters().len();
     let (entries, raised) = (count.entries, count.outcome.raised);
     let mut text = format!(in alloc; "counted: {entries}, {voters}, {raised}").expect(rt, "memory");
-    for winner in &count.outcome.elected {
-        let (place, price, collected) = (winner.place, winner.price.0, winner.collected.0);
-        write!(text, "; {place}, {price}, {collected}").expect(rt, "memory");
-    }
+    show_winners(rt, &mut text, count.outcome.elected.as_slice());
     text
 }
 
@@ -102,11 +117,24 @@ const CLOSINGS: &[(bool, u32, &str)] = &[
     (true, 0, "WorkerCount: 2"),
 ];
 
+/// The closing of such a desk says this.
+fn closes<R: Threads + Sync + Abort>(
+    rt: &R,
+    alloc: Global,
+    shuts: bool,
+    workers: u32,
+    wanted: &str,
+) {
+    let closed = close(rt, alloc, shuts, workers);
+    let text = said(rt, alloc, &closed);
+    same(rt, text.as_str(), wanted, wanted);
+    drop(text);
+    drop(closed);
+}
+
 #[test]
 fn a_shut_desk_is_counted(rt: HostRuntime) {
     for (shuts, workers, wanted) in CLOSINGS {
-        let closed = close(&rt, rt.alloc(), *shuts, *workers);
-        let text = said(&rt, rt.alloc(), &closed);
-        same(&rt, text.as_str(), *wanted, wanted);
+        closes(&rt, rt.alloc(), *shuts, *workers, wanted);
     }
 }

@@ -1,15 +1,22 @@
-// A writer that can't be flushed, and what the faults of a script say of themselves: number, name and text.
+// A writer that can't be flushed, and what the faults of a script and of a run say of themselves.
 
 use crate::checks::{THREE_VOTERS, same};
 use pb_commands::AppFault;
 use pb_commands::run_audit::run_audit;
 use pb_commands::run_count::run_count;
 use pb_commands::run_desk::run_desk;
+use pb_desk::AuditFault;
 use pb_price::gate::NoGate;
+use pb_read::{ReadFault, ReadKind};
+use pb_rounds::count_fault::CountFault;
 use pb_rounds::options::CountOptions;
-use pb_script::ScriptFault;
+use pb_script::{ScriptFault, ServeFault};
+use std::alloc::Global;
+use std::fmt::Display;
 use std::io;
 use std::io::Write;
+use std::process::Abort;
+use std::thread::Threads;
 
 /// A writer that takes each text, and then can't hand it on.
 #[derive(Drop)]
@@ -25,16 +32,33 @@ impl Write for Stuck {
     }
 }
 
+/// A journal or a script of no row.
+const NOTHING: &[u8] = b"";
+
+/// What a count that writes to it ends with.
+fn counted(rt: &(impl Threads + Sync), alloc: Global) -> Result<(), AppFault> {
+    let file = THREE_VOTERS.as_bytes();
+    run_count(rt, alloc, file, &mut Stuck, &CountOptions::standard())
+}
+
+/// What an audit ends with.
+fn audited(rt: &(impl Threads + Sync), alloc: Global) -> Result<(), AppFault> {
+    let (file, options) = (THREE_VOTERS.as_bytes(), CountOptions::standard());
+    run_audit(rt, alloc, file, NOTHING, &mut Stuck, &options)
+}
+
+/// What a desk ends with.
+fn served(rt: &(impl Threads + Sync), alloc: Global) -> Result<(), AppFault> {
+    let file = THREE_VOTERS.as_bytes();
+    run_desk(rt, alloc, file, NOTHING, 1, &NoGate, &mut Stuck)
+}
+
 #[test]
 fn a_writer_that_cannot_be_flushed_has_failed(rt: HostRuntime) {
-    let (file, nothing) = (THREE_VOTERS.as_bytes(), "".as_bytes());
-    let options = CountOptions::standard();
-    let counted = run_count(&rt, rt.alloc(), file, &mut Stuck, &options);
-    same(&rt, counted, Err(AppFault::Write), "a count");
-    let audited = run_audit(&rt, rt.alloc(), file, nothing, &mut Stuck, &options);
-    same(&rt, audited, Err(AppFault::Write), "an audit");
-    let served = run_desk(&rt, rt.alloc(), file, nothing, 1, &NoGate, &mut Stuck);
-    same(&rt, served, Err(AppFault::Write), "a desk");
+    let failed = Err(AppFault::Write);
+    same(&rt, counted(&rt, rt.alloc()), failed, "a count");
+    same(&rt, audited(&rt, rt.alloc()), failed, "an audit");
+    same(&rt, served(&rt, rt.alloc()), failed, "a desk");
 }
 
 const FAULTS: &[(ScriptFault, &str)] = &[
@@ -53,11 +77,73 @@ const FAULTS: &[(ScriptFault, &str)] = &[
     (ScriptFault::NoMemory, "4 NoMemory: out of memory"),
 ];
 
+/// The fault's number, name and text are these.
+fn tells(rt: &impl Abort, alloc: Global, fault: &ScriptFault, wanted: &str) {
+    let (number, name) = (fault.number(), fault.name());
+    let shown = format!(in alloc; "{number} {name}: {fault}").expect(rt, "memory");
+    same(rt, shown.as_str(), wanted, wanted);
+    drop(shown);
+}
+
+/// Why a run ends without what it was to write, and what is said of it.
+const RUN_FAULTS: &[(AppFault, &str)] = &[
+    (
+        AppFault::Read(ReadFault {
+            kind: ReadKind::EmptyId,
+            at: 7,
+        }),
+        "file: record 7: an id is empty",
+    ),
+    (
+        AppFault::Script(ScriptFault::TooManyRows),
+        "script: there are too many rows",
+    ),
+    (AppFault::ClerkCount, "the number of clerks is not 1 to 64"),
+    (
+        AppFault::Audit(AuditFault::WrongNumber(7)),
+        "journal: row 7 has another number",
+    ),
+    (
+        AppFault::Count(CountFault::RaisesSpent),
+        "count: the raises are spent",
+    ),
+    (AppFault::Open(2), "file 2 could not be opened"),
+    (AppFault::Write, "the writer failed"),
+    (AppFault::Memory, "out of memory"),
+];
+
+/// Why there is no journal of a script, and what is said of it.
+const SERVE_FAULTS: &[(ServeFault, &str)] = &[
+    (
+        ServeFault::Script(ScriptFault::TooManyRows),
+        "there are too many rows",
+    ),
+    (
+        ServeFault::ClerkCount,
+        "the number of clerks is not 1 to 64",
+    ),
+];
+
+/// It is shown as this text.
+fn shows<D: Display>(rt: &impl Abort, alloc: Global, fault: &D, wanted: &str) {
+    let shown = format!(in alloc; "{fault}").expect(rt, "memory");
+    same(rt, shown.as_str(), wanted, wanted);
+    drop(shown);
+}
+
+#[test]
+fn a_run_tells_its_faults(rt: HostRuntime) {
+    for (fault, wanted) in RUN_FAULTS {
+        shows(&rt, rt.alloc(), fault, wanted);
+    }
+    for (fault, wanted) in SERVE_FAULTS {
+        shows(&rt, rt.alloc(), fault, wanted);
+    }
+}
+
 #[test]
 fn a_script_tells_its_faults(rt: HostRuntime) {
     for (fault, wanted) in FAULTS {
-        let (number, name) = (fault.number(), fault.name());
-        let shown = format!(in rt.alloc(); "{number} {name}: {fault}").expect(&rt, "memory");
-        same(&rt, shown.as_str(), *wanted, wanted);
+        tells(&rt, rt.alloc(), fault, wanted);
     }
 }
