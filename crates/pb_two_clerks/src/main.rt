@@ -146,6 +146,11 @@ fn both_ask(
     said
 }
 
+/// Whether this many ballots were cast on the desk, each by an entry.
+fn has_served(desk: &Desk, entries: u32) -> bool {
+    desk.entries() == entries && desk.ballots().checked_sub(3) == Some(entries)
+}
+
 /// A clerk to whom memory was refused sees the desk with this many entries, as it was; another clerk is served,
 /// and then the clerk itself.
 fn after_refusal(
@@ -158,9 +163,7 @@ fn after_refusal(
     requires clerk { clerk.old.desk ≡ shared.now }
     requires other { other.old.desk ≡ shared.now }
 {
-    let seen = shared.look(clerk, |desk| {
-        desk.entries() == entries && desk.ballots().checked_sub(3) == Some(entries)
-    });
+    let seen = shared.look(clerk, |desk| has_served(desk, entries));
     if seen == Ok(true)
         && shared.serve(other, &Request::Shut) == Ok(Answer::Done)
         && shared.serve(clerk, asked) == Ok(Answer::DeskShut)
