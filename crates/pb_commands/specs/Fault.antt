@@ -1,11 +1,11 @@
 -- What the program says of a fault: one line, and the status that it then ends with.
 use Rattle.std.specs.Prelude.{ℕ, List, [], ◌∷◌, ◌++◌, ◌==◌, codes, decimal, flat_map, if◌then◌else◌, unwrap_or}
-use Rattle.pb_desk.specs.AuditFault.{at_of as row_of, name_of as audit_name, number_of as audit_number}
+use Rattle.pb_desk.specs.AuditFault.{numbered_name as of_audit}
 use Rattle.pb_desk.specs.declared.audit_fault.AuditFault.TheVariants as audit
-use Rattle.pb_read.specs.Kinds.{name_of as read_name, number_of as read_number}
+use Rattle.pb_read.specs.Kinds.{numbered_name as of_read}
 use Rattle.pb_read.specs.declared.fault.ReadKind.{ReadKind}
 use Rattle.pb_read.specs.declared.fault.ReadKind.TheVariants as read
-use Rattle.pb_rounds.specs.CountFault.{name_of as count_name, number_of as count_number}
+use Rattle.pb_rounds.specs.CountFault.{numbered_name as of_count}
 use Rattle.pb_rounds.specs.declared.count_fault.CountFault.TheVariants as count
 use Rattle.pb_script.specs.ScriptFault.{numbered_name as of_script}
 use Rattle.pb_script.specs.declared.script_fault.ScriptFault.TheVariants as script
@@ -30,12 +30,12 @@ numbered what said = what ∷ decimal said.0 ∷ said.1 ∷ decimal said.2 ∷ [
 
 -- the fields of a merged fault's line
 abbrev pub fields_of : AppFault → List (List ℕ)
-fields_of (Read fault) = numbered (codes "read") (read_number fault.kind, read_name fault.kind, fault.at)
+fields_of (Read fault) = numbered (codes "read") ((of_read fault.kind).0, (of_read fault.kind).1, fault.at)
 fields_of (Script fault) = numbered (codes "script") (of_script fault)
 fields_of ClerkCount = codes "clerks" ∷ codes "1" ∷ codes "ClerkCount" ∷ []
 fields_of (Audit fault) =
-    numbered (codes "audit") (audit_number fault, audit_name fault, unwrap_or (row_of fault) 0)
-fields_of (Count fault) = codes "count" ∷ decimal (count_number fault) ∷ count_name fault ∷ []
+    numbered (codes "audit") ((of_audit fault).0, (of_audit fault).1, unwrap_or (of_audit fault).2 0)
+fields_of (Count fault) = codes "count" ∷ decimal (of_count fault).0 ∷ (of_count fault).1 ∷ []
 fields_of (Open number) = codes "open" ∷ decimal number ∷ []
 fields_of Write = codes "write" ∷ []
 fields_of Memory = codes "memory" ∷ []
@@ -52,9 +52,9 @@ read_status number = if number == 1 then 3 else 1
 -- where the arguments are refused, the options of a count among them; 1 where what was read is, or its count.
 -- Options in range can still be too few raises for a file.
 abbrev pub status_of : AppFault → ℕ
-status_of (Read fault) = read_status (read_number fault.kind)
+status_of (Read fault) = read_status (of_read fault.kind).0
 status_of (Script fault) = read_status (of_script fault).0
-status_of (Audit fault) = read_status (audit_number fault)
+status_of (Audit fault) = read_status (of_audit fault).0
 status_of (Count count.RaisesSpent) = 1
 status_of (Count fault) = 2
 status_of ClerkCount = 2

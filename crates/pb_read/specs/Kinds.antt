@@ -29,6 +29,3 @@ numbered_name BadLength = (22, codes "BadLength")
 
 abbrev pub number_of : ReadKind → ℕ
 number_of kind = (numbered_name kind).0
-
-abbrev pub name_of : ReadKind → List ℕ
-name_of kind = (numbered_name kind).1

@@ -1,7 +1,7 @@
 // Why a file is refused, and where.
 
 ghost use Rattle.std.specs.Prelude.{◌≡◌};
-ghost use Rattle.pb_read.specs.Kinds.{name_of, number_of};
+ghost use Rattle.pb_read.specs.Kinds.{number_of, numbered_name};
 
 use pb_core::money_fault::MoneyFault;
 use pb_core::no_memory::NoMemory;
@@ -126,7 +126,7 @@ impl ReadKind {
 
     /// The kind's name, as fault lines print it.
     pub fn name(&self) -> &'static str
-        ensures { result.now ≡ name_of self.now }
+        ensures { result.now ≡ (numbered_name self.now).1 }
     {
         match self {
             ReadKind::ReadFailed => "ReadFailed",
@@ -196,7 +196,7 @@ impl ReadFault {
 
     /// The name of its kind, as fault lines print it.
     pub fn name(&self) -> &'static str
-        ensures { result.now ≡ name_of self.now.kind }
+        ensures { result.now ≡ (numbered_name self.now.kind).1 }
     {
         self.kind.name()
     }

@@ -12,12 +12,6 @@ numbered_name RaisesRange = (3, codes "RaisesRange")
 numbered_name RaisesSpent = (4, codes "RaisesSpent")
 numbered_name NoMemory = (5, codes "NoMemory")
 
-abbrev pub number_of : CountFault → ℕ
-number_of fault = (numbered_name fault).0
-
-abbrev pub name_of : CountFault → List ℕ
-name_of fault = (numbered_name fault).1
-
 -- the most that a raise can lift everyone's share by, in hundredths
 abbrev pub largest_step : ℕ
 largest_step = 1000000000

@@ -1,5 +1,5 @@
 ghost use Rattle.std.specs.Prelude.{◌≡◌};
-ghost use Rattle.pb_rounds.specs.CountFault.{number_of, name_of};
+ghost use Rattle.pb_rounds.specs.CountFault.{numbered_name};
 ghost use Rattle.pb_rounds.specs.declared.count_fault.CountFault.TheVariants as fault;
 
 use pb_core::no_memory::NoMemory;
@@ -28,7 +28,7 @@ pub enum CountFault {
 impl CountFault {
     /// The fault's number, from 1.
     pub fn number(&self) -> u32
-        ensures { result ≡ number_of self.now }
+        ensures { result ≡ (numbered_name self.now).0 }
     {
         match self {
             CountFault::WorkerCount => 1,
@@ -41,7 +41,7 @@ impl CountFault {
 
     /// The fault's name.
     pub fn name(&self) -> &'static str
-        ensures { result.now ≡ name_of self.now }
+        ensures { result.now ≡ (numbered_name self.now).1 }
     {
         match self {
             CountFault::WorkerCount => "WorkerCount",
