@@ -96,7 +96,7 @@ fn main() {
     let is_long = length == "long";
     let size = if is_long { 32 } else { 8 };
     let chosen = |count: usize| {
-        // A table for so many keys has the next power of two of groups, each for nine keys.
+        // A table for this many keys has the next power of two of groups, each for nine keys.
         let groups = (count.div_ceil(9) as u32).next_power_of_two();
         if is_long { long_ids(count) } else { short_ids(count, groups) }
     };

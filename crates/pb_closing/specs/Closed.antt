@@ -20,7 +20,7 @@ pub record IsCountOfDesk (d : DeskView) (options : CountOptions) (count : DeskCo
   pub outcome : IsCountOf count.election options count.outcome
 
 -- What a desk comes to. Where it is open it is handed on. Where it is shut it is counted; or it is handed back
--- for want of memory; or its election is, whose count is refused.
+-- where memory is refused; or its election is, where its count is refused.
 abbrev pub ComesTo : DeskView → CountOptions → Result Closing CloseFault → Type 0
 ComesTo d options (Ok (Open desk)) = ((standing_of d).is_shut ≡ false) × (desk ≡ d)
 ComesTo d options (Ok (Counted count)) = IsCountOfDesk d options count

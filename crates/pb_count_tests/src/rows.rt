@@ -34,7 +34,7 @@ fn show_read(
     }
 }
 
-/// What so many reads give, one after the other: each record's fields in brackets, and a bar; a point at the end, where
+/// What this many reads give, one after the other: each record's fields in brackets, and a bar; a point at the end, where
 /// the record is empty; and the fault of a read that fails.
 fn shown<R: Read + Drop>(rt: &impl Abort, alloc: Global, reader: R, reads: u32) -> String {
     let mut records = Records::new(alloc, reader);

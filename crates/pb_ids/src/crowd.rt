@@ -9,10 +9,10 @@ use std::alloc::{AllocError, Allocator};
 /// more than nine entries for each.
 const LOAD: usize = 9;
 
-/// So many groups are counted together, a region.
+/// How many groups are counted together: a region.
 const REGION: usize = 32;
 
-/// In a region so many searches may start: eleven for each of its groups.
+/// How many searches may start in a region: eleven for each of its groups.
 const ROOM: u32 = 352;
 
 /// The binary logarithm of the fewest groups of a table that is counted.

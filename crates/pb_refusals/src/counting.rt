@@ -166,7 +166,7 @@ fn all_priced<R: Threads + Sync + Abort>(
     answer
 }
 
-/// Whether these are both prices, and so many were counted.
+/// Whether these are both prices, and this many were counted.
 fn are_the_prices(
     prices: &Result<Vec<Option<Money>, Heap<'_>>, PriceFault>,
     counted: u64,

@@ -122,7 +122,7 @@ settled_priced m e h step raises o is =
     rw (ap (λ (x : Settled). x.share) is, ap (λ (x : Settled). x.elected) is, ap (λ (x : Settled). x.rests) is)
     (run_has_price_system m (support_of e) h (share_after e step raises))
 
--- want of memory may come of any completion
+-- out of memory may come of any completion
 pub no_memory_faults : {T : Type 0} (m : Measure) (e : ElectionView) (step limit : ℕ) (r : Result T CountFault)
     → IsErrAnd r (λ fault. fault ≡ NoMemory) → IfErr r (IsCompletionFault m e step limit)
 no_memory_faults m e step limit (Ok x) h = tt

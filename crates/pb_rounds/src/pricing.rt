@@ -5,7 +5,7 @@ use crate::measure::Measure;
 use pb_price::supporters::Supporters;
 use std::alloc::Allocator;
 
-/// So many approvals are worth a thread.
+/// How many approvals are worth a thread.
 const APPROVALS_A_THREAD: u64 = 100_000;
 
 /// What all rounds of a count price by.

@@ -38,7 +38,7 @@ impl<A: Allocator> Trial<A> {
         }
     }
 
-    /// How the raise to this share ends, which is so many raises from the opening share.
+    /// How the raise to this share ends, which is this many raises from the opening share.
     pub(crate) fn end_of<R: Threads + Sync, G: Gate>(
         &mut self,
         pricing: &Pricing<R, G, A>,
