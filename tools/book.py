@@ -5,13 +5,14 @@
                              definitions that public contracts reach, and the public contracts
     tools/book.py --count    print the lines of each crate's definitions, and of all
     tools/book.py --check    fail where docs/what-to-believe.md lacks a word that a public contract reaches,
-                             names one that none reaches, or states another number of lines
+                             names one that none reaches, or states another number of lines, and where a
+                             contract names a word or a type of this repository that is not found
 
 A public contract is that of a function that another crate (or `main`, in the program's crate) can call. A word
 is reached when such a contract, the model of a public type, or a reached definition names it; and so are the rules
-that hold between any two atomic steps of threads. Words of std and of
-the toolchain's crates are not followed, nor are words that only private contracts name. A crate of tests alone has
-no contracts.
+that hold between any two atomic steps of threads. A type that is declared in code is reached in the same way; one
+that has a model is seen by it, any other by its fields and variants. Words of std and of the toolchain's crates are
+not followed, nor are words that only private contracts name. A crate of tests alone has no contracts.
 """
 import re
 import sys
@@ -25,6 +26,9 @@ DEFINITION = re.compile(r"^(?:abbrev |unfoldable |opaque )?pub (?:record |data )
 CONSTRUCTOR = re.compile(r"^  (?:pub )?([^\s:]+) :")
 IMPORT = re.compile(r"use Rattle\.(\w+)\.specs\.([\w.]+)\.\{([^}]*)\}")
 MODULE_IMPORT = re.compile(r"use Rattle\.(\w+)\.specs\.([\w.]+?) as (\w+)")
+# A type that is declared in code: specs name it by its module, and its variants by `TheVariants`.
+DECLARED = re.compile(r"^declared\.(?:[a-z]\w*\.)*(\w+)(?:\.TheVariants)?$")
+TYPE = re.compile(r"(?:pub(?:\(\w+\))? )?(?:struct|enum|trait) (\w+)")
 # What holds between any two atomic steps of threads: no single contract names it.
 RULES = (("pb_shared", "Rule", "DeskRule"), ("pb_price", "Claims", "AreClaims"))
 # What an impl has to say besides its meaning: proofs that a law holds.
@@ -52,6 +56,20 @@ class Contract:
     names: set
     imports: dict
     is_model: bool = False
+
+
+@dataclass
+class DeclaredType:
+    """A struct or an enum as the code declares it."""
+
+    crate: str
+    name: str
+    text: list
+    imports: dict
+    has_model: bool
+
+    def key(self):
+        return (self.crate, self.name)
 
 
 def crates_in_order():
@@ -127,6 +145,33 @@ def definitions_of(crate):
     return found
 
 
+def types_named(path, crate):
+    """The words of a source file that can be types of this repository, as imports of specs are given."""
+    text = path.read_text()
+    found = {name: crate for name in re.findall(rf"^{TYPE.pattern}", text, re.M)}
+    for root, names in re.findall(r"^\s*(?:pub )?use (crate|super|pb_\w+)::([^;]+);", text, re.M):
+        for name in re.findall(r"\b[A-Z]\w*[a-z]\w*", names):
+            found[name] = root if root.startswith("pb_") else crate
+    return {name: (home, f"declared.{name}", name) for name, home in found.items()}
+
+
+def declared_in(crate):
+    """The structs and enums of a crate by name, and which of them have a model."""
+    found = {}
+    source = TOP / "crates" / crate / "src"
+    text = "".join(path.read_text() for path in source.glob("**/*.rt"))
+    models = set(re.findall(r"\bModel for (\w+)", text))
+    for path in sorted(source.glob("**/*.rt")):
+        for comment, lines in items_of(path.read_text()):
+            match = TYPE.match(lines[0])
+            if match:
+                comment = [line for line in comment if not line.startswith("#[")]
+                found[match.group(1)] = DeclaredType(
+                    crate, match.group(1), comment + lines, types_named(path, crate), match.group(1) in models
+                )
+    return found
+
+
 def public_names(root):
     """The public modules of a crate's root, and what it re-exports; a program's modules all count."""
     text = root.read_text()
@@ -159,20 +204,32 @@ def items_of(text):
 
 
 def head_and_clauses(lines):
-    """A function's lines up to its body."""
+    """A function's lines up to its body, which begins at the function's own margin where it has clauses."""
+    margin = len(lines[0]) - len(lines[0].lstrip())
     head = []
     for line in lines:
-        if line.strip() in ("{", "{}"):
+        if line.strip() in ("{", "{}") and len(line) - len(line.lstrip()) == margin:
             return head
         head.append(line)
-        if line.rstrip().endswith((";", "{}", "{")) and not re.match(r"\s*(requires|ensures)\b", line):
-            break
-    head[-1] = re.sub(r"\s*\{\}?$", "", head[-1])
-    return head
+        if is_balanced(head) and line.rstrip().endswith(";"):
+            return head
+    if not has_clause(lines):
+        return [re.sub(r"\s*\{\}?$", "", lines[0])]
+    raise ValueError(f"no end of the contract that begins with {lines[0].strip()}")
+
+
+def is_balanced(lines):
+    text = "\n".join(lines)
+    return text.count("{") == text.count("}")
 
 
 def has_clause(lines):
     return any(re.match(r"\s*(requires|ensures)\b", line) for line in lines)
+
+
+def ends_member(lines, margin):
+    """Whether a function ends here: its body closes, or it has none."""
+    return re.match(r" {%d}(\}|\{\})$" % margin, lines[-1]) or is_balanced(lines) and lines[-1].endswith(";")
 
 
 def members_of(lines):
@@ -186,7 +243,7 @@ def members_of(lines):
             indent = len(lines[i]) - len(lines[i].lstrip())
             start = i
             if not line.endswith((";", "{}")) or has_clause([line]):
-                while i + 1 < len(lines) and not re.match(r" {%d}(\}|\{\})|.*;$" % indent, lines[i]):
+                while i + 1 < len(lines) and not ends_member(lines[start : i + 1], indent):
                     i += 1
             members.append(("fn", comment, lines[start : i + 1]))
             comment = []
@@ -228,7 +285,7 @@ def contracts_of(crate):
                 types.add(match.group(1))
     found = []
     for path, items in parsed.items():
-        imports = imports_of(path.read_text())
+        imports = types_named(path, crate) | imports_of(path.read_text())
 
         def put(title, comment, lines, is_model=False):
             names = set(WORD.findall("\n".join(lines)))
@@ -257,32 +314,59 @@ def contracts_of(crate):
     return found
 
 
-def reach(contracts, definitions):
-    """The definitions that the contracts reach, and those that these reach."""
-    reached, waiting = {}, []
+def words_of(text, imports):
+    """The words of a text, and those that it names behind the name of a file of specs."""
+    text = "\n".join(line.split(" -- ")[0] for line in text)
+    words = {(name, name) for name in WORD.findall(text)}
+    for alias in imports:
+        if alias.endswith("."):
+            words |= {(alias, name) for name in re.findall(rf"\b{re.escape(alias)}([\w'-]+)", text)}
+    return words
 
-    def lead(names, crate, file, imports):
-        for name in names:
-            target = imports.get(name)
-            if target is None and file is not None:
+
+class Reach:
+    """The definitions and the types that the contracts reach, and those that these reach."""
+
+    def __init__(self, contracts, definitions, types):
+        self.definitions, self.types = definitions, types
+        self.reached, self.reached_types, self.lost, self.waiting = {}, {}, [], []
+        for crate, file, rule in RULES:
+            self.lead_to((crate, file, rule), "the rules")
+        for contract in contracts:
+            self.lead(contract.text, contract.crate, None, contract.imports)
+        while self.waiting:
+            one = self.waiting.pop()
+            if isinstance(one, Definition):
+                self.lead(one.lines, one.crate, one.file, one.uses)
+            elif not one.has_model:
+                self.lead([x for x in one.text if not x.lstrip().startswith("///")], one.crate, None, one.imports)
+
+    def lead(self, text, crate, file, imports):
+        for alias, name in words_of(text, imports):
+            target = imports.get(alias)
+            if alias.endswith("."):
+                target = (target[0], target[1], name)
+            if target is None and file is not None and (file, name) in self.definitions[crate]:
                 target = (crate, file, name)
-            if target is None or target[0] not in definitions:
-                continue
-            definition = definitions[target[0]].get((target[1], target[2]))
-            if definition is not None and definition.key() not in reached:
-                reached[definition.key()] = definition
-                waiting.append(definition)
+            if target is not None:
+                self.lead_to(target, crate)
 
-    for crate, file, rule in RULES:
-        if crate in definitions:
-            lead([rule], crate, file, {})
-    for contract in contracts:
-        lead(contract.names, contract.crate, None, contract.imports)
-    while waiting:
-        definition = waiting.pop()
-        text = "\n".join(line.split(" -- ")[0] for line in definition.lines)
-        lead(set(WORD.findall(text)), definition.crate, definition.file, definition.uses)
-    return reached
+    def lead_to(self, target, whose):
+        crate, file, name = target
+        if crate not in self.definitions:
+            return
+        declared = DECLARED.match(file)
+        if declared:
+            self.put(self.types[crate].get(declared.group(1)), self.reached_types, target, whose)
+        else:
+            self.put(self.definitions[crate].get((file, name)), self.reached, target, whose)
+
+    def put(self, one, reached, target, whose):
+        if one is None:
+            self.lost.append(f"{whose}: no definition and no type {target} is found")
+        elif one.key() not in reached:
+            reached[one.key()] = one
+            self.waiting.append(one)
 
 
 def files_in_order(crate, reached):
@@ -307,7 +391,7 @@ def files_in_order(crate, reached):
     return order
 
 
-def print_book(crates, contracts, definitions, reached):
+def print_book(crates, contracts, definitions, reached, types):
     for crate in crates:
         own = [c for c in contracts if c.crate == crate]
         if not own:
@@ -318,6 +402,11 @@ def print_book(crates, contracts, definitions, reached):
             if contract.is_model:
                 print("\n" + contract.title)
                 print("\n".join(contract.text))
+        seen_by_fields = [one for one in types.values() if one.crate == crate and not one.has_model]
+        if seen_by_fields:
+            print("\n-- types that the code declares, seen by their fields and variants")
+        for declared in seen_by_fields:
+            print("\n" + "\n".join(line for line in declared.text if not line.lstrip().startswith("#[")))
         print("\n-- definitions")
         for file in files_in_order(crate, reached.values()):
             print(f"\n-- {file}")
@@ -338,9 +427,9 @@ def lines_of(reached, crate):
     return sum(len(d.lines) for d in reached.values() if d.crate == crate)
 
 
-def check(crates, reached):
-    """What is wrong with the page: a line each."""
-    wrong = []
+def check(crates, reached, lost):
+    """What is wrong with the page or with the book: a line each."""
+    wrong = sorted(set(lost))
     text = PAGE.read_text()
     sections = re.split(r"^## ", text, flags=re.M)
     for crate in crates:
@@ -362,17 +451,19 @@ def main():
     crates = crates_in_order()
     definitions = {crate: definitions_of(crate) for crate in crates}
     contracts = [contract for crate in crates for contract in contracts_of(crate)]
-    reached = reach(contracts, definitions)
+    types = {crate: declared_in(crate) for crate in crates}
+    book = Reach(contracts, definitions, types)
+    reached = book.reached
     if "--count" in sys.argv:
         for crate in crates:
             print(f"{crate:12} {lines_of(reached, crate):5}")
         print(f"{'all':12} {sum(lines_of(reached, crate) for crate in crates):5}")
     elif "--check" in sys.argv:
-        wrong = check(crates, reached)
+        wrong = check(crates, reached, book.lost)
         print("\n".join(wrong))
         sys.exit(1 if wrong else 0)
     else:
-        print_book(crates, contracts, definitions, reached)
+        print_book(crates, contracts, definitions, reached, book.reached_types)
 
 
 if __name__ == "__main__":
