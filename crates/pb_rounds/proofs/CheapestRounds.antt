@@ -10,7 +10,7 @@ use Rattle.std.specs.declared.cmp.Ordering.TheVariants.{Less, Equal, Greater}
 use Rattle.std.proofs.lemmas.Bool.{true≢false}
 use Rattle.std.proofs.lemmas.List.Elements.{All-nil, All-cons, All-head, All-tail}
 use Rattle.pb_core.specs.Election.{ElectionView}
-use Rattle.pb_price.specs.Price.{price_at}
+use Rattle.pb_price.specs.Price.{paid_at, price_at}
 use Rattle.pb_price.specs.Supporters.{SupportView, IsSupport, cost_at, support_of, supporters_at}
 use Rattle.pb_rounds.specs.declared.measure.Measure.{Measure}
 use Rattle.pb_rounds.specs.declared.measure.Measure.TheVariants.{Votes, Cost}
@@ -48,15 +48,16 @@ compared Cost s place price other q some more apart h =
     ]
 
 -- w, elected after those before it, was the cheapest of its round; these are left at first
-record WasFirst (m : Measure) (s : SupportView) (rests left : List ℕ) (before : List ElectedView) (w : ElectedView) : Type 0 where
+pub record WasFirst (m : Measure) (s : SupportView) (rests left : List ℕ) (before : List ElectedView) (w : ElectedView) : Type 0 where
   pub listed : is_listed left w.place ≡ true
   pub was_left : All (λ v. v.place ≢ w.place) before
   pub priced : price_at s (rests_after s rests before) w.place ≡ Some w.price
+  pub collected : w.collected ≡ paid_at (supporters_at s w.place) (rests_after s rests before) w.price
   pub cheapest : (other price : ℕ) → is_listed left other ≡ true → other ≢ w.place → All (λ v. v.place ≢ other) before
       → price_at s (rests_after s rests before) other ≡ Some price
       → IsCheaper m s w.place w.price other price
 
-abbrev EachWasFirst : Measure → SupportView → List ℕ → List ℕ → List ElectedView → Type 0
+abbrev pub EachWasFirst : Measure → SupportView → List ℕ → List ℕ → List ElectedView → Type 0
 EachWasFirst m s rests left elected = (before : List ElectedView) (w : ElectedView) (later : List ElectedView)
     → elected ≡ before ++ w ∷ later → WasFirst m s rests left before w
 
@@ -70,7 +71,7 @@ none_was_first : (m : Measure) (s : SupportView) (rests left : List ℕ) → Eac
 none_was_first m s rests left [] w later e = cc
 none_was_first m s rests left (x ∷ before) w later e = cc
 
-abbrev ArePositive : SupportView → List ℕ → Type 0
+abbrev pub ArePositive : SupportView → List ℕ → Type 0
 ArePositive s left = (place : ℕ) → is_listed left place ≡ true → 0 < cost_at s place
 
 best_was_first : (m : Measure) (s : SupportView) (rests left : List ℕ) → ArePositive s left → (b : Bid) → best_of m s rests left ≡ Some b
@@ -81,6 +82,7 @@ best_was_first m s rests left positive b e =
       listed = found.is_left;
       was_left = All-nil (λ v. v.place ≢ b.place);
       priced = found.is_price;
+      collected = refl;
       cheapest = λ other price listed apart _ priced.
           compared m s b.place b.price other price (positive b.place found.is_left) (positive other listed) apart
           (ap (is_before (bid m s other price)) (sym found.is_bid) ∙ none_before_best m s rests left b e other price listed priced);
@@ -98,6 +100,7 @@ later_was_first m s rests left positive b best run others (x ∷ before) w later
       was_left = All-cons (λ v. v.place ≢ w.place) (elected_by s rests b) before
           (λ same. true≢false (sym found.listed ∙ ap (is_listed (without b.place left)) (sym same) ∙ is_listed-without_same left b.place)) found.was_left;
       priced = found.priced;
+      collected = found.collected;
       cheapest = λ other price listed apart earlier priced.
           found.cheapest other price
           (is_listed-without left b.place other (λ same. All-head (λ v. v.place ≢ other) (elected_by s rests b) before earlier (sym same)) ∙ listed)
@@ -121,7 +124,7 @@ unfolding run_from
 run_was_first m s zero rests left positive = none_was_first m s rests left
 run_was_first m s (suc n) rests left positive = run_step m s rests left positive n (run_was_first m s n) (best_of m s rests left) refl
 
-known_place : (s : SupportView) (place : ℕ) → is_listed (range_with_len 0 (length s.costs)) place ≡ true → place < length s.costs
+pub known_place : (s : SupportView) (place : ℕ) → is_listed (range_with_len 0 (length s.costs)) place ≡ true → place < length s.costs
 known_place s place listed = listed-below (range_with_len 0 (length s.costs)) (length s.costs) place
     (RisesWithin-below _ 0 (length s.costs) (range_rises 0 (length s.costs) (length s.costs) (omega arith))) listed
 
@@ -139,6 +142,7 @@ run_was_cheapest m s h share before w later e =
       known = known_place s w.place found.listed;
       was_left = found.was_left;
       priced = found.priced;
+      collected = found.collected;
       cheapest = λ other price known apart earlier priced.
           found.cheapest other price (is_listed-range 0 (length s.costs) other (omega arith) (omega arith)) apart earlier priced;
     }

@@ -1,6 +1,7 @@
 -- How many raises the completion decides on.
 use Rattle.std.proofs.Common.{◌≡◌, ℕ, ◌+◌, ◌-◌, ◌*◌, ◌/◌, ◌<◌, ◌≤◌, length, Option, Some, None, Bool, true, false, refl, sym, subst, ◌∙◌, ap, inl, inr, arith}
 use Rattle.std.specs.Prelude.{IfErr, IsErrAnd, List, Ok, Err, Result, option_map, if◌then◌else◌, MatchOption, ◌==◌}
+use Rattle.std.proofs.Math.Nat.{lt-mul-div-succ}
 use Rattle.std.proofs.lemmas.Option.{none-some, same_Some}
 use Rattle.std.proofs.lemmas.Bool.{cases_Bool, true≢false, or_left, or_right, or_parts, cond-true, cond-false, cases_eq, eq-eqb, ne_eqb, ltb-false}
 use Rattle.pb_core.specs.Election.{ElectionView}
@@ -23,6 +24,22 @@ shares_within voters budget = elim (cases_eq voters 0) [
   | inl none ↦ rw (eq-eqb voters 0 none) (omega arith)
   | inr some ↦ let positive : 0 < voters = omega arith in rw (ne_eqb voters 0 some) (omega arith)
 ]
+
+shares_above : (voters budget : ℕ) → 0 < voters → budget < voters * ((if voters == 0 then 0 else budget / voters) + 1)
+shares_above voters budget some = rw (ne_eqb voters 0 (λ none. omega (arith, some, none))) (lt-mul-div-succ budget some)
+
+no_share : (voters budget : ℕ) → voters ≡ 0 → (if voters == 0 then 0 else budget / voters) ≡ 0
+no_share voters budget none = rw (eq-eqb voters 0 none) refl
+
+-- the opening share is the largest that all voters can get
+pub opening_within : (e : ElectionView) → length e.voters * opening_share e ≤ e.budget
+opening_within e = shares_within (length e.voters) e.budget
+
+pub opening_largest : (e : ElectionView) → 0 < length e.voters → e.budget < length e.voters * (opening_share e + 1)
+opening_largest e some = shares_above (length e.voters) e.budget some
+
+pub opening_of_nobody : (e : ElectionView) → length e.voters ≡ 0 → opening_share e ≡ 0
+opening_of_nobody e none = no_share (length e.voters) e.budget none
 
 -- the outcome at the opening share is never over
 pub opening_not_over : (m : Measure) (e : ElectionView) → IsSupport (support_of e) → (step : ℕ) → is_over_after m e step 0 ≡ false

@@ -1,12 +1,14 @@
 -- What a count promises of its outcome, from the outcome of a whole run.
-use Rattle.std.proofs.Common.{◌≡◌, ℕ, ◌≤◌, Bool, true, false, Some, None, sym, subst, ◌∙◌, ap, refl, arith}
+use Rattle.std.proofs.Common.{◌≡◌, ℕ, ◌+◌, ◌*◌, ◌≤◌, Option, Bool, true, false, Some, None, sym, subst, ◌∙◌, ap, refl, length, arith}
 use Rattle.std.specs.Prelude.{IfOk, IfErr, Result, Ok, Err, option_map, not, nat_le, ◌&&◌, if◌then◌else◌}
 use Rattle.std.proofs.lemmas.Bool.{and_parts, leb-true}
+use Rattle.std.proofs.lemmas.Option.{none-some}
 use Rattle.pb_core.specs.Election.{ElectionView}
 use Rattle.pb_price.specs.PriceFault.{is_worker_count}
 use Rattle.pb_price.specs.Supporters.{SupportView, support_of}
 use Rattle.pb_rounds.specs.Cheapest.{EachWasCheapest}
-use Rattle.pb_rounds.specs.Count.{raises_of, settled_after, share_after, IsCompletionFault, IsCountFault}
+use Rattle.pb_rounds.specs.Completed.{AreSpent}
+use Rattle.pb_rounds.specs.Count.{count_of, opening_share, raises_of, settled_after, share_after, IsCompletionFault, IsCountFault}
 use Rattle.pb_rounds.specs.Counted.{IsCountOf}
 use Rattle.pb_rounds.specs.CountFault.{largest_step, most_raises, refusal_of}
 use Rattle.pb_rounds.specs.Outcome.{OutcomeView, Settled, settled, settled_by}
@@ -22,7 +24,8 @@ use Rattle.pb_rounds.specs.declared.options.Completion.TheVariants.{Plain, Add1}
 use Rattle.pb_rounds.specs.declared.options.CountOptions.{CountOptions}
 use Rattle.pb_rounds.proofs.CheapestRounds.{settled_was_cheapest}
 use Rattle.pb_rounds.proofs.Completing.{add1_not_over, opening_not_over, settled_priced, settled_within}
-use Rattle.pb_rounds.proofs.RaisesEnd.{add1_completed}
+use Rattle.pb_rounds.proofs.PricedRounds.{one_more_priced}
+use Rattle.pb_rounds.proofs.RaisesEnd.{add1_completed, spent_is_undecided, undecided_is_spent}
 use Rattle.pb_rounds.proofs.Settled.{settled_has_price_system}
 
 -- what follows of an answer follows of a result
@@ -79,6 +82,9 @@ module _ (e : ElectionView) (options : CountOptions) (o : OutcomeView) where
         ∙ ap (λ x. Some x) (sym h.settled_is);
     priced = priced_at_share 0 h;
     within_budget = settled_within options.measure e options.step 0 (opening_not_over options.measure e h.is_support options.step) o h.settled_is;
+    share_is = ap (λ (x : Settled). x.share) h.settled_is
+        ∙ ap (λ n. opening_share e + n * options.step) (sym (ap (λ (x : Settled). x.raised) h.settled_is));
+    plain = λ _. ap (λ (x : Settled). x.raised) h.settled_is;
     completed = λ completed. not_both options.completion plain completed;
     cheapest = cheapest_at 0 h;
     price_system = settled_priced options.measure e h.is_support options.step 0 o h.settled_is;
@@ -94,6 +100,8 @@ module _ (e : ElectionView) (options : CountOptions) (o : OutcomeView) where
     priced = priced_at_share o.raised h.ended;
     within_budget = settled_within options.measure e options.step o.raised
         (add1_not_over options.measure e h.ended.is_support options.step options.max_raises o.raised h.decided) o h.ended.settled_is;
+    share_is = ap (λ (x : Settled). x.share) h.ended.settled_is;
+    plain = λ plain. not_both options.completion plain add1;
     completed = λ _. add1_completed options.measure e h.ended.is_support options.step options.max_raises o.raised h.decided;
     cheapest = cheapest_at o.raised h.ended;
     price_system = settled_priced options.measure e h.ended.is_support options.step o.raised o h.ended.settled_is;
@@ -112,10 +120,31 @@ add1_fault e options in_range add1 RaisesSpent h = (
 )
 add1_fault e options in_range add1 NoMemory h = in_range
 
+settled_none : {X Y : Type 0} (f : X → Y) (o : Option X) → option_map f o ≡ None → o ≡ None
+settled_none f None e = refl
+settled_none f (Some x) e = absurd (none-some _ (sym e))
+
+-- a count has no outcome where no raise up to the limit completes it
+none_of : (e : ElectionView) (options : CountOptions) (c : Completion) → raises_of c options.measure e options.step options.max_raises ≡ None
+    → (c ≡ Add1) × AreSpent options.measure e options.step options.max_raises
+none_of e options Plain none = absurd (none-some _ (sym none))
+none_of e options Add1 none = (refl, undecided_is_spent options.measure e options.step options.max_raises none)
+
+pub spent_from_fault : (e : ElectionView) (options : CountOptions) → IsCountFault e options RaisesSpent
+    → (options.completion ≡ Add1) × AreSpent options.measure e options.step options.max_raises
+spent_from_fault e options h =
+    none_of e options options.completion (settled_none (settled_after options.measure e options.step) _ h.1)
+
+pub fault_from_spent : (e : ElectionView) (options : CountOptions) → refusal_of options ≡ None
+    → (options.completion ≡ Add1) × AreSpent options.measure e options.step options.max_raises → IsCountFault e options RaisesSpent
+fault_from_spent e options in_range h =
+    add1_fault e options in_range h.0 RaisesSpent (spent_is_undecided options.measure e options.step options.max_raises h.1)
+
 -- what a run at a share promises of its outcome
 pub record IsShared (m : Measure) (e : ElectionView) (workers share : ℕ) (o : OutcomeView) : Type 0 where
   pub outcome : settled o ≡ settled_by share 0 (outcome_of m e share)
   pub priced : HasPricing m (support_of e) workers share o.priced
+  pub one_more : length o.priced ≡ length o.elected + 1
   pub cheapest : EachWasCheapest m (support_of e) share o.elected
   pub price_system : HasPriceSystem (support_of e) share o.elected o.rests
 
@@ -124,6 +153,7 @@ pub shared_from_run : (m : Measure) (e : ElectionView) (s : SupportView) → s �
 shared_from_run m e s same workers share o h = record {
   outcome = h.settled_is ∙ ap (λ (t : SupportView). settled_by share 0 (run_of m t share)) same;
   priced = subst (λ (t : SupportView). HasPricing m t workers share o.priced) same h.priced;
+  one_more = one_more_priced m s workers share 0 o h.settled_is h.priced;
   cheapest = subst (λ n. EachWasCheapest m (support_of e) n o.elected) (ap (λ (x : Settled). x.share) h.settled_is)
       (settled_was_cheapest m e s same h.is_support share 0 o h.settled_is);
   price_system = settled_has_price_system m e s same h.is_support share 0 o h.settled_is;

@@ -20,3 +20,5 @@ pub mod BestBid
 pub mod BestIs
 pub mod CheapestRounds
 pub mod Room
+pub mod RunIs
+pub mod PricedRounds

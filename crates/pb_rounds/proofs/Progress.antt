@@ -27,14 +27,14 @@ pub record Progress (m : Measure) (s : SupportView) (share raised : ℕ) (left :
   pub counted : length o.elected + length left ≡ length s.costs
 
 -- a round that elects, and a round that does not
-run_from-some : (m : Measure) (s : SupportView) (rests left : List ℕ) (b : Bid) → best_of m s rests left ≡ Some b → (n : ℕ)
+pub run_from-some : (m : Measure) (s : SupportView) (rests left : List ℕ) (b : Bid) → best_of m s rests left ≡ Some b → (n : ℕ)
     → run_from m s (suc n) rests left ≡ then_run (elected_by s rests b) (run_from m s n (charged (supporters_at s b.place) b.price rests) (without b.place left))
 unfolding run_from
 run_from-some m s rests left b e n =
     ap (λ best. option_map_or (λ b. then_run (elected_by s rests b) (run_from m s n (charged (supporters_at s b.place) b.price rests) (without b.place left)))
     best (record { elected = []; rests = rests })) e
 
-run_from-none : (m : Measure) (s : SupportView) (rests left : List ℕ) → best_of m s rests left ≡ None → (n : ℕ) → run_from m s n rests left ≡ record { elected = []; rests = rests }
+pub run_from-none : (m : Measure) (s : SupportView) (rests left : List ℕ) → best_of m s rests left ≡ None → (n : ℕ) → run_from m s n rests left ≡ record { elected = []; rests = rests }
 unfolding run_from
 run_from-none m s rests left e zero = refl
 run_from-none m s rests left e (suc n) =

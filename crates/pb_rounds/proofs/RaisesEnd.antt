@@ -2,7 +2,7 @@
 use Rattle.std.proofs.Common.{◌≡◌, ◌≢◌, ℕ, ◌+◌, ◌-◌, ◌<◌, List, length, get_or, Option, Some, None, true, false, sym, ◌∙◌, ap, inl, inr, arith}
 use Rattle.std.specs.Prelude.{All, ◌==◌, MatchOption, option_map, if◌then◌else◌}
 use Rattle.std.specs.List.{range_with_len}
-use Rattle.std.proofs.lemmas.Bool.{true≢false, not-true, not_from_false, and_parts, and_from, and_cases, or_parts, or_cases, cases_Bool, cases_eq, cond-true, cond-false, false_from_ne_true, lt-ltb, ltb-true, leb-true, leb-false, eq-eqb, ne_eqb}
+use Rattle.std.proofs.lemmas.Bool.{true≢false, not-true, not_from_false, and_parts, and_from, and_cases, or_parts, or_cases, or_from, cases_Bool, cases_eq, cond-true, cond-false, false_from_ne_true, lt-ltb, ltb-true, leb-true, leb-false, eq-eqb, ne_eqb}
 use Rattle.std.proofs.lemmas.List.Folds.{list_any_at, list_any_none}
 use Rattle.std.proofs.lemmas.List.FromFn.{get_or-range_with_len, length-range_with_len}
 use Rattle.std.proofs.lemmas.Option.{none-some, same_Some}
@@ -10,10 +10,10 @@ use Rattle.pb_core.specs.Election.{ElectionView}
 use Rattle.pb_price.proofs.FirstInRange.{IsFirstInRange, NoneInRange, find-range_with_len}
 use Rattle.pb_price.specs.Supporters.{SupportView, IsSupport, support_of, supporters_at, cost_at}
 use Rattle.pb_rounds.specs.declared.measure.Measure.{Measure}
-use Rattle.pb_rounds.specs.Completed.{IsOver, IsExhausted, IsCompleted}
+use Rattle.pb_rounds.specs.Completed.{IsOver, IsExhausted, IsCompleted, GoesOn, AreSpent}
 use Rattle.pb_rounds.specs.Count.{spent_on, is_over, is_exhausted, could_be_added, is_over_after, is_exhausted_after, is_decisive, first_decisive, add1_of, elected_after}
 use Rattle.pb_rounds.specs.Run.{ElectedView, is_elected}
-use Rattle.pb_rounds.proofs.Completing.{opening_not_over, within_from_not_over}
+use Rattle.pb_rounds.proofs.Completing.{decided_before, decided_here, opening_not_over, raises_spent, within_from_not_over}
 use Rattle.pb_rounds.proofs.Exhausted.{over_from_more, over_from_within}
 
 not_elected_from : (elected : List ElectedView) (place : ℕ) → All (λ w. w.place ≢ place) elected → is_elected elected place ≡ false
@@ -66,7 +66,7 @@ module _ (s : SupportView) (budget : ℕ) (elected : List ElectedView) where
       ap (could_be_added s budget elected) at ∙ false_from_ne_true _ (could_none h k within))))
 
 no_end : (m : Measure) (e : ElectionView) (step raises : ℕ) → is_decisive m e step raises ≡ false
-    → (¬ IsOver (support_of e) e.budget (elected_after m e step raises)) × (¬ IsExhausted (support_of e) e.budget (elected_after m e step raises))
+    → GoesOn m e step raises
 no_end m e step raises h =
     let parts = or_parts _ _ h in (
       (λ over. true≢false (sym (over_from_more (support_of e) e.budget (elected_after m e step raises) over) ∙ parts.0)),
@@ -77,26 +77,34 @@ more_from_over : (s : SupportView) (budget : ℕ) (elected : List ElectedView) �
 unfolding is_over
 more_from_over s budget elected e = ltb-true budget (spent_on s elected) e
 
-decided_completed : (m : Measure) (e : ElectionView) → IsSupport (support_of e) → (step high : ℕ) → (o : Option ℕ)
-    → MatchOption o (NoneInRange (is_decisive m e step) 0 high) (IsFirstInRange (is_decisive m e step) 0 high) → (raises : ℕ)
-    → option_map (λ n. if is_over_after m e step n then n - 1 else n) o ≡ Some raises → IsCompleted m e step raises
-decided_completed m e h step high None found raises is = absurd (none-some raises is)
-decided_completed m e h step high (Some n) found raises is = elim (cases_Bool (is_over_after m e step n)) [
+decided_completed : (m : Measure) (e : ElectionView) → IsSupport (support_of e) → (step limit : ℕ) → (o : Option ℕ)
+    → MatchOption o (NoneInRange (is_decisive m e step) 0 (limit + 1)) (IsFirstInRange (is_decisive m e step) 0 (limit + 1)) → (raises : ℕ)
+    → option_map (λ n. if is_over_after m e step n then n - 1 else n) o ≡ Some raises → IsCompleted m e step limit raises
+decided_completed m e h step limit None found raises is = absurd (none-some raises is)
+decided_completed m e h step limit (Some n) found raises is = elim (cases_Bool (is_over_after m e step n)) [
   | inl over ↦
       let before : raises ≡ n - 1 = same_Some _ _ (sym is ∙ ap (λ k. Some k) (cond-true _ _ _ over)) in
       elim (cases_eq n 0) [
         | inl none ↦ absurd (true≢false (sym over ∙ rw none (opening_not_over m e h step)))
         | inr some ↦
             let next : raises + 1 ≡ n = omega arith in
+            let below = found.below in
             record {
-              fewer_go_on = λ fewer below. no_end m e step fewer (found.first fewer (omega arith) (omega arith));
-              ends = inr (more_from_over (support_of e) e.budget (elected_after m e step (raises + 1)) (ap (is_over_after m e step) next ∙ over));
+              within_limit = omega arith;
+              fewer_go_on = λ fewer few. no_end m e step fewer (found.first fewer (omega arith) (omega arith));
+              ends = inr (
+                no_end m e step raises (found.first raises (omega arith) (omega arith)),
+                omega arith,
+                more_from_over (support_of e) e.budget (elected_after m e step (raises + 1)) (ap (is_over_after m e step) next ∙ over),
+              );
             }
       ]
   | inr not_over ↦
       let here : raises ≡ n = same_Some _ _ (sym is ∙ ap (λ k. Some k) (cond-false _ _ _ not_over)) in
+      let below = found.below in
       record {
-        fewer_go_on = λ fewer below. no_end m e step fewer (found.first fewer (omega arith) (omega arith));
+        within_limit = omega arith;
+        fewer_go_on = λ fewer few. no_end m e step fewer (found.first fewer (omega arith) (omega arith));
         ends = inl (exhausted_from_test (support_of e) e.budget (elected_after m e step raises)
             (ap (is_exhausted_after m e step) here ∙ exhausted_at m e step n not_over found.passes));
       }
@@ -109,7 +117,47 @@ decided_completed m e h step high (Some n) found raises is = elim (cases_Bool (i
     ]
 
 -- what the completion decides on
-pub add1_completed : (m : Measure) (e : ElectionView) → IsSupport (support_of e) → (step limit raises : ℕ) → add1_of m e step limit ≡ Some raises → IsCompleted m e step raises
+pub add1_completed : (m : Measure) (e : ElectionView) → IsSupport (support_of e) → (step limit raises : ℕ) → add1_of m e step limit ≡ Some raises → IsCompleted m e step limit raises
 unfolding first_decisive
 add1_completed m e h step limit raises is =
-    decided_completed m e h step (limit + 1) _ (find-range_with_len (is_decisive m e step) (limit + 1) 0 (limit + 1) (omega arith)) raises is
+    decided_completed m e h step limit _ (find-range_with_len (is_decisive m e step) (limit + 1) 0 (limit + 1) (omega arith)) raises is
+
+-- raises that go on do not decide
+goes_on_test : (m : Measure) (e : ElectionView) (step raises : ℕ) → GoesOn m e step raises → is_decisive m e step raises ≡ false
+goes_on_test m e step raises h =
+    or_from _ _ (false_from_ne_true _ (λ over. h.0 (more_from_over (support_of e) e.budget (elected_after m e step raises) over)))
+    (false_from_ne_true _ (λ exhausted. h.1 (exhausted_from_test (support_of e) e.budget (elected_after m e step raises) exhausted)))
+
+module _ (m : Measure) (e : ElectionView) (step limit : ℕ) where
+  -- a number of raises of which the rule's words hold is what the completion decides on
+  pub completed_is_decided : (raises : ℕ) → IsCompleted m e step limit raises → add1_of m e step limit ≡ Some raises
+  completed_is_decided raises h = elim h.ends [
+    | inl exhausted ↦
+        decided_here m e step limit raises h.within_limit (λ j below. goes_on_test m e step j (h.fewer_go_on j below))
+        (over_from_within (support_of e) e.budget (elected_after m e step raises) exhausted.within)
+        (test_from_exhausted (support_of e) e.budget (elected_after m e step raises) exhausted)
+    | inr over ↦
+        let less = over.1 in
+        let more : (j : ℕ) → j < raises + 1 → is_decisive m e step j ≡ false =
+        λ j below. elim (cases_eq j raises) [
+          | inl same ↦ ap (is_decisive m e step) same ∙ goes_on_test m e step raises over.0
+          | inr other ↦ goes_on_test m e step j (h.fewer_go_on j (omega arith))
+        ] in
+        let back : raises + 1 - 1 ≡ raises = omega arith in
+        decided_before m e step limit (raises + 1) (omega arith) more (over_from_more (support_of e) e.budget (elected_after m e step (raises + 1)) over.2)
+        ∙ ap (λ n. Some n) back
+  ]
+
+  -- the completion decides on none where none up to the limit decides
+  pub spent_is_undecided : AreSpent m e step limit → add1_of m e step limit ≡ None
+  spent_is_undecided h =
+      raises_spent m e step limit (limit + 1) (omega arith) (λ j below. goes_on_test m e step j (h j (omega arith)))
+
+  undecided : (o : Option ℕ) → MatchOption o (NoneInRange (is_decisive m e step) 0 (limit + 1)) (IsFirstInRange (is_decisive m e step) 0 (limit + 1))
+      → option_map (λ n. if is_over_after m e step n then n - 1 else n) o ≡ None → AreSpent m e step limit
+  undecided None found is raises within = no_end m e step raises (found raises (omega arith) (omega arith))
+  undecided (Some n) found is raises within = absurd (none-some _ (sym is))
+
+  pub undecided_is_spent : add1_of m e step limit ≡ None → AreSpent m e step limit
+  unfolding first_decisive
+  undecided_is_spent is = undecided _ (find-range_with_len (is_decisive m e step) (limit + 1) 0 (limit + 1) (omega arith)) is

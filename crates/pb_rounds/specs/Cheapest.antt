@@ -1,29 +1,36 @@
 -- That each elected project was the cheapest of its round.
-use Rattle.std.specs.Prelude.{◌≡◌, ◌≢◌, ℕ, ◌*◌, ◌<◌, ◌⊎◌, List, [], ◌∷◌, ◌++◌, All, Some, length, replicate}
-use Rattle.pb_price.specs.Supporters.{SupportView, supporters_at}
-use Rattle.pb_price.specs.Price.{price_at}
-use Rattle.pb_rounds.specs.Run.{ElectedView, charged, weight_of}
+use Rattle.std.specs.Prelude.{◌≡◌, ◌≢◌, ℕ, ◌*◌, ◌<◌, ◌⊎◌, List, [], ◌∷◌, ◌++◌, All, Some, None, length, replicate}
+use Rattle.pb_price.specs.Supporters.{SupportView, supporters_at, cost_at}
+use Rattle.pb_price.specs.Price.{paid_at, price_at}
+use Rattle.pb_rounds.specs.Run.{ElectedView, RunView, charged}
 use Rattle.pb_rounds.specs.declared.measure.Measure.{Measure}
+use Rattle.pb_rounds.specs.declared.measure.Measure.TheVariants.{Votes, Cost}
 
--- A project is cheaper than another, each at its price: by the price over the weight, so by the price under measure votes,
--- and by the price over the cost under measure cost. Or it is as cheap, and earlier in the file.
+-- the first number is less, or they are equal and the first place is earlier in the file
+abbrev pub ComesFirst : (number other place other_place : ℕ) → Type 0
+ComesFirst number other place other_place = (number < other) ⊎ ((number ≡ other) × place < other_place)
+
+-- A project is cheaper than another, each at its price, where its price is less for each unit of utility that a supporter has
+-- of it, or as much, and it is earlier in the file. An approval is worth 1 under measure votes, and under measure cost the
+-- project's cost: price over cost, compared by cross products.
 abbrev pub IsCheaper : Measure → SupportView → (place price other other_price : ℕ) → Type 0
-IsCheaper m s place price other other_price =
-    (price * weight_of m s other < other_price * weight_of m s place)
-    ⊎ ((price * weight_of m s other ≡ other_price * weight_of m s place) × place < other)
+IsCheaper Votes s place price other other_price = ComesFirst price other_price place other
+IsCheaper Cost s place price other other_price =
+    ComesFirst (price * cost_at s other) (other_price * cost_at s place) place other
 
 -- what is left to each voter once these elected are paid for, one after the other
 abbrev pub rests_after : SupportView → List ℕ → List ElectedView → List ℕ
 rests_after s rests [] = rests
 rests_after s rests (w ∷ elected) = rests_after s (charged (supporters_at s w.place) w.price rests) elected
 
--- w was elected at these rests, after those before it, at its price; it was cheaper than each other project that was left and
--- could be paid, or as cheap and earlier in the file
+-- w was elected at these rests, after those before it, at its price, and collected what its supporters could pay of it; it was
+-- cheaper than each other project that was left and could be paid
 pub record WasCheapest (m : Measure) (s : SupportView) (rests : List ℕ) (before : List ElectedView)
     (w : ElectedView) : Type 0 where
   pub known : w.place < length s.costs
   pub was_left : All (λ v. v.place ≢ w.place) before
   pub priced : price_at s rests w.place ≡ Some w.price
+  pub collected : w.collected ≡ paid_at (supporters_at s w.place) rests w.price
   pub cheapest : (other price : ℕ) → other < length s.costs → other ≢ w.place
       → All (λ v. v.place ≢ other) before
       → price_at s rests other ≡ Some price
@@ -34,3 +41,11 @@ abbrev pub EachWasCheapest : Measure → SupportView → ℕ → List ElectedVie
 EachWasCheapest m s share elected = (before : List ElectedView) (w : ElectedView) (later : List ElectedView)
     → elected ≡ before ++ w ∷ later
     → WasCheapest m s (rests_after s (replicate s.voters share) before) before w
+
+-- the run at this share, in the words of its rule: each of the elected was the cheapest of its round, the rests are what all
+-- their payments left, and no project that is left has a price
+pub record IsRun (m : Measure) (s : SupportView) (share : ℕ) (run : RunView) : Type 0 where
+  pub cheapest : EachWasCheapest m s share run.elected
+  pub rests_are : run.rests ≡ rests_after s (replicate s.voters share) run.elected
+  pub none_left : (place : ℕ) → place < length s.costs → All (λ w. w.place ≢ place) run.elected
+      → price_at s run.rests place ≡ None

@@ -16,11 +16,21 @@ pub record IsExhausted (s : SupportView) (budget : ℕ) (elected : List ElectedV
       → 0 < length (supporters_at s place)
       → budget < spent_on s elected + cost_at s place
 
--- Completion by raises: fewer raises give an outcome that is neither over nor exhausted, and after these the outcome is
--- exhausted, or one raise more would make it over.
-pub record IsCompleted (m : Measure) (e : ElectionView) (step raises : ℕ) : Type 0 where
-  pub fewer_go_on : (fewer : ℕ) → fewer < raises
-      → (¬ IsOver (support_of e) e.budget (elected_after m e step fewer))
-      × (¬ IsExhausted (support_of e) e.budget (elected_after m e step fewer))
+-- the outcome after this many raises is neither over nor exhausted
+abbrev pub GoesOn : Measure → ElectionView → (step raises : ℕ) → Type 0
+GoesOn m e step raises =
+    (¬ IsOver (support_of e) e.budget (elected_after m e step raises))
+    × (¬ IsExhausted (support_of e) e.budget (elected_after m e step raises))
+
+-- Completion by raises, up to a limit of them: fewer raises go on, and after these the outcome is exhausted, or it goes on and
+-- one raise more, which the limit allows, makes it over.
+pub record IsCompleted (m : Measure) (e : ElectionView) (step limit raises : ℕ) : Type 0 where
+  pub within_limit : raises ≤ limit
+  pub fewer_go_on : (fewer : ℕ) → fewer < raises → GoesOn m e step fewer
   pub ends : IsExhausted (support_of e) e.budget (elected_after m e step raises)
-      ⊎ IsOver (support_of e) e.budget (elected_after m e step (raises + 1))
+      ⊎ (GoesOn m e step raises × (raises < limit)
+      × IsOver (support_of e) e.budget (elected_after m e step (raises + 1)))
+
+-- the raises are spent: after none, one, two and so on up to the limit the outcome goes on
+abbrev pub AreSpent : Measure → ElectionView → (step limit : ℕ) → Type 0
+AreSpent m e step limit = (raises : ℕ) → raises ≤ limit → GoesOn m e step raises

@@ -1,4 +1,4 @@
-ghost use Rattle.std.specs.Prelude.{◌≡◌, ◌≤◌, None, IfOk, IfErr, MatchBool, MatchOption, IsOkUnless, ⊤};
+ghost use Rattle.std.specs.Prelude.{◌≡◌, ◌+◌, ◌≤◌, None, IfOk, IfErr, MatchBool, MatchOption, IsOkUnless, length, ⊤};
 ghost use Rattle.pb_core.specs.Money.{largest_money};
 ghost use Rattle.pb_price.specs.Price.{largest_share};
 ghost use Rattle.pb_price.specs.PriceFault.{is_worker_count};
@@ -88,6 +88,7 @@ where
     ensures outcome { IfOk result (λ o.
         settled o ≡ settled_by share 0 (outcome_of measure election.now share)) }
     ensures priced { IfOk result (λ o. HasPricing measure (support_of election.now) workers share o.priced) }
+    ensures one_more { IfOk result (λ o. length o.priced ≡ length o.elected + 1) }
     ensures cheapest { IfOk result (λ o. EachWasCheapest measure (support_of election.now) share o.elected) }
     ensures price_system { IfOk result (λ o.
         HasPriceSystem (support_of election.now) share o.elected o.rests) }

@@ -1,12 +1,50 @@
 //! Laws over counts, each as the contract of a function that does nothing.
 
-ghost use Rattle.std.specs.Prelude.{ℕ};
-ghost use Rattle.pb_core.specs.Election.{ElectionView};
+ghost use Rattle.std.specs.Prelude.{◌≡◌, ◌↔◌, ◌+◌, ◌*◌, ◌<◌, ◌≤◌, ℕ, None, Some, length};
+ghost use Rattle.pb_core.specs.Election.{ElectionView, IsElection};
 ghost use Rattle.pb_price.specs.Supporters.{support_of};
-ghost use Rattle.pb_rounds.specs.Completed.{IsExhausted, IsOver};
+ghost use Rattle.pb_rounds.specs.Cheapest.{IsRun};
+ghost use Rattle.pb_rounds.specs.Completed.{AreSpent, IsCompleted, IsExhausted, IsOver};
+ghost use Rattle.pb_rounds.specs.Count.{add1_of, opening_share, IsCountFault};
+ghost use Rattle.pb_rounds.specs.CountFault.{refusal_of};
 ghost use Rattle.pb_rounds.specs.Reach.{LeavesRoom};
-ghost use Rattle.pb_rounds.specs.Run.{outcome_of};
+ghost use Rattle.pb_rounds.specs.Run.{RunView, outcome_of};
+ghost use Rattle.pb_rounds.specs.declared.count_fault.CountFault.TheVariants.{RaisesSpent};
 ghost use Rattle.pb_rounds.specs.declared.measure.Measure.{Measure};
+ghost use Rattle.pb_rounds.specs.declared.options.Completion.TheVariants.{Add1};
+ghost use Rattle.pb_rounds.specs.declared.options.CountOptions.{CountOptions};
+
+/// The opening share is the largest that all voters can get of the budget. Where nobody votes it is 0.
+pub fn opening_share_is_largest()
+    ensures within { (e : ElectionView) → length e.voters * opening_share e ≤ e.budget }
+    ensures largest { (e : ElectionView) → 0 < length e.voters
+        → e.budget < length e.voters * (opening_share e + 1) }
+    ensures nobody { (e : ElectionView) → length e.voters ≡ 0 → opening_share e ≡ 0 }
+{}
+
+/// Completion by raises decides on a number of raises exactly where the words of its rule hold of that number, and on none
+/// exactly where no number of raises up to the limit ends it.
+pub fn completion_is_its_rule()
+    ensures decided { (m : Measure) (e : ElectionView) (step limit raises : ℕ) → IsElection e
+        → (add1_of m e step limit ≡ Some raises) ↔ IsCompleted m e step limit raises }
+    ensures spent { (m : Measure) (e : ElectionView) (step limit : ℕ)
+        → (add1_of m e step limit ≡ None) ↔ AreSpent m e step limit }
+{}
+
+/// With options in their ranges, a count is refused since its raises are spent exactly where it is completed by raises, and no
+/// number of them up to the options' limit gives an outcome that is over the budget or exhausted.
+pub fn refused_raises_are_spent()
+    ensures { (e : ElectionView) (options : CountOptions) → refusal_of options ≡ None
+        → IsCountFault e options RaisesSpent
+        ↔ ((options.completion ≡ Add1) × AreSpent options.measure e options.step options.max_raises) }
+{}
+
+/// The run at a share is the one of which the words of its rule hold: each of the elected was the cheapest of its round and
+/// collected what its supporters could pay of its price, the rests are what is left then, and nothing that is left has a price.
+pub fn run_is_its_rule()
+    ensures { (m : Measure) (e : ElectionView) (share : ℕ) (run : RunView) → IsElection e
+        → (run ≡ outcome_of m e share) ↔ IsRun m (support_of e) share run }
+{}
 
 /// Where the projects within reach of a share leave of the budget what some other project with supporters costs, the
 /// outcome at that share is neither over the budget nor exhausted.

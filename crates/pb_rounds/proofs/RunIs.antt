@@ -1,0 +1,177 @@
+-- A run is what the words of its rule say, and nothing else is.
+use Rattle.std.proofs.Common.{◌≡◌, ◌≢◌, ℕ, zero, suc, ◌<◌, ◌≤◌, List, [], ◌∷◌, length, Option, Some, None, true, false, refl, sym, subst, ◌∙◌, ap, inl, inr, arith}
+use Rattle.std.specs.Prelude.{All, ◌⊎◌, ◌*◌, max, replicate}
+use Rattle.std.specs.Cmp.{nat_cmp_total, tied_itself}
+use Rattle.std.specs.List.{range_with_len}
+use Rattle.std.specs.Option.{option_map_or}
+use Rattle.std.specs.Ordering.{is_lt, nat_cmp, ordering_then}
+use Rattle.std.specs.declared.cmp.Ordering.{Ordering}
+use Rattle.std.proofs.lemmas.Bool.{true≢false, cases_eq}
+use Rattle.std.proofs.lemmas.List.Elements.{All-nil, All-cons, All-head, All-tail}
+use Rattle.std.proofs.lemmas.List.FromFn.{length-range_with_len}
+use Rattle.std.proofs.lemmas.Option.{same_Some}
+use Rattle.pb_price.proofs.Payments.{least_from_price, total_rest_covers}
+use Rattle.pb_price.specs.Price.{price_at, total_rest}
+use Rattle.pb_price.specs.Supporters.{SupportView, IsSupport, cost_at, supporters_at}
+use Rattle.pb_rounds.specs.declared.measure.Measure.{Measure}
+use Rattle.pb_rounds.specs.declared.measure.Measure.TheVariants.{Votes, Cost}
+use Rattle.pb_rounds.specs.Bid.{Bid, is_before}
+use Rattle.pb_rounds.specs.BidOrder.{bid_cmp-total, greater_from}
+use Rattle.pb_rounds.specs.Cheapest.{IsCheaper, IsRun, rests_after}
+use Rattle.pb_rounds.specs.Run.{ElectedView, RunView, best_of, bid, charged, elected_by, is_listed, run_from, run_of, then_run, without}
+use Rattle.pb_rounds.proofs.BestIs.{is_best, no_best}
+use Rattle.pb_rounds.proofs.CheapestRounds.{ArePositive, EachWasFirst, WasFirst, known_place, run_was_cheapest}
+use Rattle.pb_rounds.proofs.Explained.{run_has_price_system}
+use Rattle.pb_rounds.proofs.Listed.{is_listed-range, is_listed-without, is_listed-without_same, length-without, listed_from_without}
+use Rattle.pb_rounds.proofs.Progress.{run_from-none, run_from-some}
+
+-- what is less, or as much and later, does not come before
+later_by : (x y i j : ℕ) (o : Ordering) → (y < x) ⊎ ((y ≡ x) × (j < i)) → is_lt (ordering_then (nat_cmp x y) (ordering_then (nat_cmp i j) o)) ≡ false
+later_by x y i j o (inl less) = rw (greater_from x y less) refl
+later_by x y i j o (inr same) =
+    let tied = ap (nat_cmp x) same.0 ∙ tied_itself nat_cmp_total x in
+    rw (tied, greater_from i j same.1) refl
+
+cheaper_is_not_after : (m : Measure) (s : SupportView) (place price other q : ℕ) → 0 < cost_at s place → 0 < cost_at s other
+    → IsCheaper m s place price other q → is_before (bid m s other q) (bid m s place price) ≡ false
+cheaper_is_not_after Votes s place price other q some more h =
+    later_by (q * max 1 1) (price * max 1 1) other place _ (elim h [
+      | inl less ↦ inl (omega arith)
+      | inr same ↦ inr (omega (arith, same.0), same.1)
+    ])
+cheaper_is_not_after Cost s place price other q some more h =
+    let one : cost_at s place ≡ max 1 (cost_at s place) = omega arith in
+    let two : cost_at s other ≡ max 1 (cost_at s other) = omega arith in
+    later_by (q * max 1 (cost_at s place)) (price * max 1 (cost_at s other)) other place _ (elim h [
+      | inl less ↦ inl (subst (λ n. price * max 1 (cost_at s other) < q * n) one (subst (λ n. price * n < q * cost_at s place) two less))
+      | inr same ↦ inr (ap (λ n. price * n) (sym two) ∙ same.0 ∙ ap (λ n. q * n) one, same.1)
+    ])
+
+-- from these rests on, with these projects left, these are elected, each the cheapest of its round, and no project is left that has a price
+record IsRunFrom (m : Measure) (s : SupportView) (rests left : List ℕ) (elected : List ElectedView) (after : List ℕ) : Type 0 where
+  pub first : EachWasFirst m s rests left elected
+  pub rests_are : after ≡ rests_after s rests elected
+  pub none_left : (place : ℕ) → is_listed left place ≡ true → All (λ w. w.place ≢ place) elected → price_at s after place ≡ None
+
+first_is_best : (m : Measure) (s : SupportView) (rests left : List ℕ) → ArePositive s left → (w : ElectedView) → WasFirst m s rests left [] w
+    → best_of m s rests left ≡ Some (bid m s w.place w.price)
+first_is_best m s rests left positive w h =
+    is_best m s rests left w.place w.price h.listed h.priced (λ other p listed priced. elim (cases_eq other w.place) [
+      | inl same ↦
+          let price : p ≡ w.price = same_Some _ _ (sym priced ∙ ap (price_at s rests) same ∙ h.priced) in
+          ap (λ b. is_before b (bid m s w.place w.price)) (ap (λ n. bid m s n p) same ∙ ap (bid m s w.place) price)
+          ∙ ap is_lt (tied_itself bid_cmp-total (bid m s w.place w.price))
+      | inr apart ↦
+          cheaper_is_not_after m s w.place w.price other p (positive w.place h.listed) (positive other listed)
+          (h.cheapest other p listed apart (All-nil (λ v. v.place ≢ other)) priced)
+    ])
+
+later_words : (m : Measure) (s : SupportView) (rests left : List ℕ) (w : ElectedView) (elected : List ElectedView) (after : List ℕ)
+    → IsRunFrom m s rests left (w ∷ elected) after
+    → IsRunFrom m s (charged (supporters_at s w.place) w.price rests) (without w.place left) elected after
+later_words m s rests left w elected after h =
+    let other_than : (place : ℕ) → is_listed (without w.place left) place ≡ true → w.place ≢ place =
+    λ place listed same. true≢false (sym listed ∙ ap (is_listed (without w.place left)) (sym same) ∙ is_listed-without_same left w.place) in
+    record {
+      first = λ before v later e.
+          let found = h.first (w ∷ before) v later (ap (λ xs. w ∷ xs) e) in
+          record {
+            listed = is_listed-without left w.place v.place (λ same. All-head (λ x. x.place ≢ v.place) w before found.was_left (sym same)) ∙ found.listed;
+            was_left = All-tail (λ x. x.place ≢ v.place) w before found.was_left;
+            priced = found.priced;
+            collected = found.collected;
+            cheapest = λ other price listed apart earlier priced.
+                found.cheapest other price (listed_from_without left w.place other listed) apart
+                (All-cons (λ x. x.place ≢ other) w before (other_than other listed) earlier) priced;
+          };
+      rests_are = h.rests_are;
+      none_left = λ place listed others.
+          h.none_left place (listed_from_without left w.place place listed)
+          (All-cons (λ x. x.place ≢ place) w elected (other_than place listed) others);
+    }
+
+words_are_run : (m : Measure) (s : SupportView) (elected : List ElectedView) (n : ℕ) (rests left after : List ℕ) → ArePositive s left → length left ≤ n
+    → IsRunFrom m s rests left elected after → record { elected = elected; rests = after } ≡ run_from m s n rests left
+words_are_run m s [] n rests left after positive short h =
+    ap (λ r. record { elected = []; rests = r }) h.rests_are
+    ∙ sym (run_from-none m s rests left (no_best m s rests left (λ place listed.
+    ap (λ r. price_at s r place) (sym h.rests_are) ∙ h.none_left place listed (All-nil (λ w. w.place ≢ place)))) n)
+words_are_run m s (w ∷ elected) zero rests left after positive short h =
+    let found = h.first [] w elected refl in
+    let less = length-without left w.place found.listed in
+    absurd (omega (arith, less, short))
+words_are_run m s (w ∷ elected) (suc n) rests left after positive short h =
+    let found = h.first [] w elected refl in
+    let less = length-without left w.place found.listed in
+    let later = words_are_run m s elected n (charged (supporters_at s w.place) w.price rests) (without w.place left) after
+    (λ place listed. positive place (listed_from_without left w.place place listed)) (omega (arith, less, short))
+    (later_words m s rests left w elected after h) in
+    ap (then_run w) later
+    ∙ ap (λ c. then_run (record { place = w.place; price = w.price; collected = c }) (run_from m s n (charged (supporters_at s w.place) w.price rests) (without w.place left))) found.collected
+    ∙ sym (run_from-some m s rests left (bid m s w.place w.price) (first_is_best m s rests left positive w found) n)
+
+-- what the rests are
+rests_step : (m : Measure) (s : SupportView) (n : ℕ) (rests left : List ℕ)
+    → ((rests left : List ℕ) → (run_from m s n rests left).rests ≡ rests_after s rests (run_from m s n rests left).elected)
+    → (o : Option Bid)
+    → (option_map_or (λ b. then_run (elected_by s rests b) (run_from m s n (charged (supporters_at s b.place) b.price rests) (without b.place left)))
+    o (record { elected = []; rests = rests })).rests
+    ≡ rests_after s rests
+    (option_map_or (λ b. then_run (elected_by s rests b) (run_from m s n (charged (supporters_at s b.place) b.price rests) (without b.place left)))
+    o (record { elected = []; rests = rests })).elected
+rests_step m s n rests left others None = refl
+rests_step m s n rests left others (Some b) = others (charged (supporters_at s b.place) b.price rests) (without b.place left)
+
+run_rests : (m : Measure) (s : SupportView) (n : ℕ) (rests left : List ℕ) → (run_from m s n rests left).rests ≡ rests_after s rests (run_from m s n rests left).elected
+unfolding run_from
+run_rests m s zero rests left = refl
+run_rests m s (suc n) rests left = rests_step m s n rests left (run_rests m s n) (best_of m s rests left)
+
+all_rests : (m : Measure) (s : SupportView) (share : ℕ) → (run_of m s share).rests ≡ rests_after s (replicate s.voters share) (run_of m s share).elected
+unfolding run_of
+all_rests m s share = run_rests m s (length s.costs) (replicate s.voters share) (range_with_len 0 (length s.costs))
+
+-- what costs more than the supporters have left has no price
+no_price_by : (s : SupportView) (rests : List ℕ) (place : ℕ) → total_rest (supporters_at s place) rests < cost_at s place
+    → (o : Option ℕ) → price_at s rests place ≡ o → price_at s rests place ≡ None
+no_price_by s rests place short None e = e
+no_price_by s rests place short (Some p) e =
+    let covers = total_rest_covers (supporters_at s place) rests (cost_at s place) p (least_from_price (supporters_at s place) rests (cost_at s place) p e) in
+    absurd (omega (arith, short, covers))
+
+module _ (m : Measure) (s : SupportView) (h : IsSupport s) (share : ℕ) where
+  run_is : IsRun m s share (run_of m s share)
+  run_is = record {
+    cheapest = run_was_cheapest m s h share;
+    rests_are = all_rests m s share;
+    none_left = λ place known others.
+        no_price_by s (run_of m s share).rests place ((run_has_price_system m s h share).too_expensive place known others) _ refl;
+  }
+
+  words_from : (run : RunView) → IsRun m s share run → IsRunFrom m s (replicate s.voters share) (range_with_len 0 (length s.costs)) run.elected run.rests
+  words_from run words = record {
+    first = λ before w later e.
+        let found = words.cheapest before w later e in
+        let known = found.known in
+        record {
+          listed = is_listed-range 0 (length s.costs) w.place (omega arith) (omega arith);
+          was_left = found.was_left;
+          priced = found.priced;
+          collected = found.collected;
+          cheapest = λ other price listed apart earlier priced. found.cheapest other price (known_place s other listed) apart earlier priced;
+        };
+    rests_are = words.rests_are;
+    none_left = λ place listed others. words.none_left place (known_place s place listed) others;
+  }
+
+  only_run : (run : RunView) → IsRun m s share run → run ≡ run_of m s share
+  unfolding run_of
+  only_run run words =
+      words_are_run m s run.elected (length s.costs) (replicate s.voters share) (range_with_len 0 (length s.costs)) run.rests
+      (λ place listed. h.costs_positive place 0 (known_place s place listed))
+      (let long = length-range_with_len 0 (length s.costs) in omega (arith, long))
+      (words_from run words)
+
+  -- the law
+  pub run_is_its_rule : (run : RunView) → (run ≡ run_of m s share → IsRun m s share run) × (IsRun m s share run → run ≡ run_of m s share)
+  run_is_its_rule run = ((λ same. subst (IsRun m s share) (sym same) run_is), only_run run)
