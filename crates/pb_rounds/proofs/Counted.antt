@@ -2,20 +2,20 @@
 use Rattle.std.proofs.Common.{◌≡◌, ℕ, ◌+◌, ◌*◌, ◌≤◌, Option, Bool, true, false, Some, None, sym, subst, ◌∙◌, ap, refl, length, arith}
 use Rattle.std.specs.Prelude.{IfOk, IfErr, Result, Ok, Err, option_map, not, nat_le, ◌&&◌, if◌then◌else◌}
 use Rattle.std.proofs.lemmas.Bool.{and_parts, leb-true}
-use Rattle.std.proofs.lemmas.Option.{none-some}
+use Rattle.std.proofs.lemmas.Option.{none-some, same_Some}
 use Rattle.pb_core.specs.Election.{ElectionView}
 use Rattle.pb_price.specs.PriceFault.{is_worker_count}
 use Rattle.pb_price.specs.Supporters.{SupportView, support_of}
 use Rattle.pb_rounds.specs.Cheapest.{EachWasCheapest}
 use Rattle.pb_rounds.specs.Completed.{AreSpent}
-use Rattle.pb_rounds.specs.Count.{count_of, opening_share, raises_of, settled_after, share_after, IsCompletionFault, IsCountFault}
-use Rattle.pb_rounds.specs.Counted.{IsCountOf}
+use Rattle.pb_rounds.specs.Count.{count_of, opening_share, raises_of, settled_after, share_after, IsCompletionFault}
+use Rattle.pb_rounds.specs.Counted.{IsCountFault, IsCountOf}
 use Rattle.pb_rounds.specs.CountFault.{largest_step, most_raises, refusal_of}
 use Rattle.pb_rounds.specs.Outcome.{OutcomeView, Settled, settled, settled_by}
 use Rattle.pb_rounds.specs.PriceSystem.{HasPriceSystem}
 use Rattle.pb_rounds.specs.PricingRecord.{HasPricing}
 use Rattle.pb_rounds.specs.RaiseEnds.{CanComplete, IsCompletion, IsOutcomeAt}
-use Rattle.pb_rounds.specs.Run.{outcome_of, run_of}
+use Rattle.pb_rounds.specs.Run.{RunView, outcome_of, run_of}
 use Rattle.pb_rounds.specs.declared.count_fault.CountFault.{CountFault}
 use Rattle.pb_rounds.specs.declared.count_fault.CountFault.TheVariants.{WorkerCount, StepRange, RaisesRange, RaisesSpent, NoMemory}
 use Rattle.pb_rounds.specs.declared.measure.Measure.{Measure}
@@ -25,7 +25,7 @@ use Rattle.pb_rounds.specs.declared.options.CountOptions.{CountOptions}
 use Rattle.pb_rounds.proofs.CheapestRounds.{settled_was_cheapest}
 use Rattle.pb_rounds.proofs.Completing.{add1_not_over, opening_not_over, settled_priced, settled_within}
 use Rattle.pb_rounds.proofs.PricedRounds.{one_more_priced}
-use Rattle.pb_rounds.proofs.RaisesEnd.{add1_completed, spent_is_undecided, undecided_is_spent}
+use Rattle.pb_rounds.proofs.RaisesEnd.{add1_completed, completed_is_decided, spent_is_undecided, undecided_is_spent}
 use Rattle.pb_rounds.proofs.Settled.{settled_has_price_system}
 
 -- what follows of an answer follows of a result
@@ -68,6 +68,12 @@ module _ (e : ElectionView) (options : CountOptions) (o : OutcomeView) where
   priced_at_share raised h =
       subst (λ n. HasPricing options.measure (support_of e) options.workers n o.priced) (sym (ap (λ (x : Settled). x.share) h.settled_is)) h.priced
 
+  run_at : (raised : ℕ) → IsOutcomeAt options.measure (support_of e) options.workers (share_after e options.step raised) raised o
+      → record { elected = o.elected; rests = o.rests } ≡ outcome_of options.measure e o.share
+  run_at raised h =
+      let run : Settled → RunView = λ x. record { elected = x.elected; rests = x.rests } in
+      ap run h.settled_is ∙ ap (outcome_of options.measure e) (sym (ap (λ (x : Settled). x.share) h.settled_is))
+
   cheapest_at : (raised : ℕ) → IsOutcomeAt options.measure (support_of e) options.workers (share_after e options.step raised) raised o
       → EachWasCheapest options.measure (support_of e) o.share o.elected
   cheapest_at raised h =
@@ -78,8 +84,7 @@ module _ (e : ElectionView) (options : CountOptions) (o : OutcomeView) where
       → IsOutcomeAt options.measure (support_of e) options.workers (share_after e options.step 0) 0 o → IsCountOf e options o
   plain_counted in_range plain h = record {
     in_range = in_range;
-    counted = ap (λ c. option_map (settled_after options.measure e options.step) (raises_of c options.measure e options.step options.max_raises)) plain
-        ∙ ap (λ x. Some x) (sym h.settled_is);
+    run_is = run_at 0 h;
     priced = priced_at_share 0 h;
     within_budget = settled_within options.measure e options.step 0 (opening_not_over options.measure e h.is_support options.step) o h.settled_is;
     share_is = ap (λ (x : Settled). x.share) h.settled_is
@@ -95,8 +100,7 @@ module _ (e : ElectionView) (options : CountOptions) (o : OutcomeView) where
       → IsCompletion options.measure e options.workers options.step options.max_raises o → IsCountOf e options o
   add1_counted in_range add1 h = record {
     in_range = in_range;
-    counted = ap (λ c. option_map (settled_after options.measure e options.step) (raises_of c options.measure e options.step options.max_raises)) add1
-        ∙ ap (option_map (settled_after options.measure e options.step)) h.decided ∙ ap (λ x. Some x) (sym h.ended.settled_is);
+    run_is = run_at o.raised h.ended;
     priced = priced_at_share o.raised h.ended;
     within_budget = settled_within options.measure e options.step o.raised
         (add1_not_over options.measure e h.ended.is_support options.step options.max_raises o.raised h.decided) o h.ended.settled_is;
@@ -113,32 +117,53 @@ pub add1_fault : (e : ElectionView) (options : CountOptions) → refusal_of opti
 add1_fault e options in_range add1 WorkerCount h = absurd h
 add1_fault e options in_range add1 StepRange h = absurd h
 add1_fault e options in_range add1 RaisesRange h = absurd h
-add1_fault e options in_range add1 RaisesSpent h = (
-  in_range,
-  ap (λ c. option_map (settled_after options.measure e options.step) (raises_of c options.measure e options.step options.max_raises)) add1
-      ∙ ap (option_map (settled_after options.measure e options.step)) h,
-)
+add1_fault e options in_range add1 RaisesSpent h = (in_range, add1, undecided_is_spent options.measure e options.step options.max_raises h)
 add1_fault e options in_range add1 NoMemory h = in_range
 
-settled_none : {X Y : Type 0} (f : X → Y) (o : Option X) → option_map f o ≡ None → o ≡ None
-settled_none f None e = refl
-settled_none f (Some x) e = absurd (none-some _ (sym e))
+-- the count as it is computed
+count_by : (e : ElectionView) (options : CountOptions) (c : Completion) → options.completion ≡ c → (raises : Option ℕ)
+    → raises_of c options.measure e options.step options.max_raises ≡ raises
+    → count_of e options ≡ option_map (settled_after options.measure e options.step) raises
+count_by e options c is raises raises_are =
+    ap (λ k. option_map (settled_after options.measure e options.step) (raises_of k options.measure e options.step options.max_raises)) is
+    ∙ ap (option_map (settled_after options.measure e options.step)) raises_are
 
--- a count has no outcome where no raise up to the limit completes it
-none_of : (e : ElectionView) (options : CountOptions) (c : Completion) → raises_of c options.measure e options.step options.max_raises ≡ None
-    → (c ≡ Add1) × AreSpent options.measure e options.step options.max_raises
-none_of e options Plain none = absurd (none-some _ (sym none))
-none_of e options Add1 none = (refl, undecided_is_spent options.measure e options.step options.max_raises none)
+-- an outcome that is promised is the computed one
+raised_as : (e : ElectionView) (options : CountOptions) (o : OutcomeView) → IsCountOf e options o → (c : Completion) → options.completion ≡ c
+    → raises_of c options.measure e options.step options.max_raises ≡ Some o.raised
+raised_as e options o h Plain is = ap (λ n. Some n) (sym (h.plain is))
+raised_as e options o h Add1 is = completed_is_decided options.measure e options.step options.max_raises o.raised (h.completed is)
 
-pub spent_from_fault : (e : ElectionView) (options : CountOptions) → IsCountFault e options RaisesSpent
+pub is_computed : (e : ElectionView) (options : CountOptions) (o : OutcomeView) → IsCountOf e options o → count_of e options ≡ Some (settled o)
+is_computed e options o h =
+    count_by e options options.completion refl (Some o.raised) (raised_as e options o h options.completion refl)
+    ∙ ap (λ n. Some (settled_by n o.raised (outcome_of options.measure e n))) (sym h.share_is)
+    ∙ ap (λ run. Some (settled_by o.share o.raised run)) (sym h.run_is)
+
+pub one_outcome : (e : ElectionView) (options : CountOptions) (first second : OutcomeView) → IsCountOf e options first → IsCountOf e options second
+    → settled first ≡ settled second
+one_outcome e options first second of_first of_second =
+    same_Some _ _ (sym (is_computed e options first of_first) ∙ is_computed e options second of_second)
+
+-- where the raises are spent no outcome is computed, and the other way round
+pub spent_is_none : (e : ElectionView) (options : CountOptions) → IsCountFault e options RaisesSpent → count_of e options ≡ None
+spent_is_none e options h =
+    count_by e options Add1 h.1 None (spent_is_undecided options.measure e options.step options.max_raises h.2)
+
+none_is_settled : {X Y : Type 0} (f : X → Y) (o : Option X) → option_map f o ≡ None → o ≡ None
+none_is_settled f None e = refl
+none_is_settled f (Some x) e = absurd (none-some _ (sym e))
+
+none_raised : (e : ElectionView) (options : CountOptions) (c : Completion) → options.completion ≡ c
+    → raises_of c options.measure e options.step options.max_raises ≡ None
     → (options.completion ≡ Add1) × AreSpent options.measure e options.step options.max_raises
-spent_from_fault e options h =
-    none_of e options options.completion (settled_none (settled_after options.measure e options.step) _ h.1)
+none_raised e options Plain is none = absurd (none-some _ (sym none))
+none_raised e options Add1 is none = (is, undecided_is_spent options.measure e options.step options.max_raises none)
 
-pub fault_from_spent : (e : ElectionView) (options : CountOptions) → refusal_of options ≡ None
-    → (options.completion ≡ Add1) × AreSpent options.measure e options.step options.max_raises → IsCountFault e options RaisesSpent
-fault_from_spent e options in_range h =
-    add1_fault e options in_range h.0 RaisesSpent (spent_is_undecided options.measure e options.step options.max_raises h.1)
+pub none_is_spent : (e : ElectionView) (options : CountOptions) → refusal_of options ≡ None → count_of e options ≡ None → IsCountFault e options RaisesSpent
+none_is_spent e options in_range none =
+    let spent = none_raised e options options.completion refl (none_is_settled (settled_after options.measure e options.step) _ none) in
+    (in_range, spent.0, spent.1)
 
 -- what a run at a share promises of its outcome
 pub record IsShared (m : Measure) (e : ElectionView) (workers share : ℕ) (o : OutcomeView) : Type 0 where

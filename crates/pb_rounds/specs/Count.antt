@@ -2,7 +2,6 @@ use Rattle.std.specs.Prelude.{◌≡◌, None, ℕ, Bool, Option, Some, List, �
 use Rattle.std.specs.List.{list_any, range_with_len}
 use Rattle.pb_core.specs.Election.{ElectionView}
 use Rattle.pb_price.specs.Supporters.{SupportView, support_of, supporters_at, cost_at}
-use Rattle.pb_rounds.specs.CountFault.{refusal_of}
 use Rattle.pb_rounds.specs.declared.count_fault.CountFault.{CountFault}
 use Rattle.pb_rounds.specs.declared.count_fault.CountFault.TheVariants.{WorkerCount, StepRange, RaisesRange, RaisesSpent, NoMemory}
 use Rattle.pb_rounds.specs.Outcome.{Settled, settled_by}
@@ -78,13 +77,6 @@ abbrev pub count_of : ElectionView → CountOptions → Option Settled
 count_of e options =
     option_map (settled_after options.measure e options.step)
     (raises_of options.completion options.measure e options.step options.max_raises)
-
--- When each fault of a count comes. Out of memory aside, a count that is not refused ends in its outcome or, where there
--- is none, in spent raises.
-abbrev pub IsCountFault : ElectionView → CountOptions → CountFault → Type 0
-IsCountFault e options RaisesSpent = (refusal_of options ≡ None) × (count_of e options ≡ None)
-IsCountFault e options NoMemory = refusal_of options ≡ None
-IsCountFault e options fault = refusal_of options ≡ Some fault
 
 -- when each fault of a completion by raises comes
 abbrev pub IsCompletionFault : Measure → ElectionView → ℕ → ℕ → CountFault → Type 0

@@ -5,13 +5,14 @@ ghost use Rattle.pb_core.specs.Election.{ElectionView, IsElection};
 ghost use Rattle.pb_price.specs.Supporters.{support_of};
 ghost use Rattle.pb_rounds.specs.Cheapest.{IsRun};
 ghost use Rattle.pb_rounds.specs.Completed.{AreSpent, IsCompleted, IsExhausted, IsOver};
-ghost use Rattle.pb_rounds.specs.Count.{add1_of, opening_share, IsCountFault};
+ghost use Rattle.pb_rounds.specs.Count.{add1_of, count_of, opening_share};
 ghost use Rattle.pb_rounds.specs.CountFault.{refusal_of};
+ghost use Rattle.pb_rounds.specs.Counted.{IsCountFault, IsCountOf};
+ghost use Rattle.pb_rounds.specs.Outcome.{OutcomeView, settled};
 ghost use Rattle.pb_rounds.specs.Reach.{LeavesRoom};
 ghost use Rattle.pb_rounds.specs.Run.{RunView, outcome_of};
 ghost use Rattle.pb_rounds.specs.declared.count_fault.CountFault.TheVariants.{RaisesSpent};
 ghost use Rattle.pb_rounds.specs.declared.measure.Measure.{Measure};
-ghost use Rattle.pb_rounds.specs.declared.options.Completion.TheVariants.{Add1};
 ghost use Rattle.pb_rounds.specs.declared.options.CountOptions.{CountOptions};
 
 /// The opening share is the largest that all voters can get of the budget. Where nobody votes it is 0.
@@ -31,12 +32,14 @@ pub fn completion_is_its_rule()
         → (add1_of m e step limit ≡ None) ↔ AreSpent m e step limit }
 {}
 
-/// With options in their ranges, a count is refused since its raises are spent exactly where it is completed by raises, and no
-/// number of them up to the options' limit gives an outcome that is over the budget or exhausted.
-pub fn refused_raises_are_spent()
-    ensures { (e : ElectionView) (options : CountOptions) → refusal_of options ≡ None
-        → IsCountFault e options RaisesSpent
-        ↔ ((options.completion ≡ Add1) × AreSpent options.measure e options.step options.max_raises) }
+/// A count has one outcome, which `count_of` computes; it computes none exactly where the raises are spent.
+pub fn count_is_computed()
+    ensures one { (e : ElectionView) (options : CountOptions) (first second : OutcomeView)
+        → IsCountOf e options first → IsCountOf e options second → settled first ≡ settled second }
+    ensures computed { (e : ElectionView) (options : CountOptions) (o : OutcomeView) → IsCountOf e options o
+        → count_of e options ≡ Some (settled o) }
+    ensures spent { (e : ElectionView) (options : CountOptions) → refusal_of options ≡ None
+        → (count_of e options ≡ None) ↔ IsCountFault e options RaisesSpent }
 {}
 
 /// The run at a share is the one of which the words of its rule hold: each of the elected was the cheapest of its round and
