@@ -2,8 +2,7 @@
 use Rattle.std.specs.Prelude.{◌≡◌, true, false, List, length, Result, Ok, Err}
 use Rattle.pb_core.specs.Request.{EntryView}
 use Rattle.pb_desk.specs.Desk.{DeskView, closed_election, standing_of}
-use Rattle.pb_rounds.specs.Count.{IsCountFault}
-use Rattle.pb_rounds.specs.Counted.{IsCountOf}
+use Rattle.pb_rounds.specs.Counted.{IsCountFault, IsCountOf}
 use Rattle.pb_rounds.specs.declared.options.CountOptions.{CountOptions}
 use Rattle.pb_shared.specs.Clerk.{ClerkView, IsHeldByAnother, IsMergeOf, SharedView, desk_with}
 use Rattle.pb_closing.specs.declared.close_fault.CloseFault.{CloseFault}

@@ -2,7 +2,7 @@
 -- refused.
 use Rattle.std.proofs.Common.{◌≡◌, ℕ, List, Option, Some, None, Ok, Err, refl, sym, ◌∙◌, ap, subst}
 use Rattle.std.specs.Prelude.{IfErr, IfSome, IsErrAnd, Result}
-use Rattle.std.proofs.lemmas.Option.{none-some, same_Some}
+use Rattle.std.proofs.lemmas.Option.{none-some}
 use Rattle.pb_core.specs.Election.{ElectionView}
 use Rattle.pb_read.proofs.Uniqueness.{one_election}
 use Rattle.pb_read.specs.FirstFault.{IsFaultAt, IsFromOutside as IsReadFromOutside}
@@ -12,7 +12,8 @@ use Rattle.pb_desk.specs.declared.audit_fault.AuditFault.TheVariants as audit
 use Rattle.pb_read.specs.declared.fault.ReadFault.{ReadFault}
 use Rattle.pb_read.specs.declared.fault.ReadKind.{ReadKind}
 use Rattle.pb_read.specs.declared.fault.ReadKind.TheVariants.{ReadFailed, NoMemory}
-use Rattle.pb_rounds.specs.Count.{IsCountFault}
+use Rattle.pb_rounds.proofs.Counted.{is_computed, one_outcome, spent_is_none}
+use Rattle.pb_rounds.specs.Counted.{IsCountFault}
 use Rattle.pb_rounds.specs.declared.count_fault.CountFault.{CountFault}
 use Rattle.pb_rounds.specs.declared.count_fault.CountFault.TheVariants as count
 use Rattle.pb_rounds.specs.declared.options.CountOptions.{CountOptions}
@@ -101,7 +102,7 @@ pub count_from_outside : (e : ElectionView) (options : CountOptions) (text : Lis
 count_from_outside e options text report count.WorkerCount refused = absurd (none-some _ (sym report.1.in_range ∙ refused))
 count_from_outside e options text report count.StepRange refused = absurd (none-some _ (sym report.1.in_range ∙ refused))
 count_from_outside e options text report count.RaisesRange refused = absurd (none-some _ (sym report.1.in_range ∙ refused))
-count_from_outside e options text report count.RaisesSpent refused = absurd (none-some _ (sym refused.1 ∙ report.1.counted))
+count_from_outside e options text report count.RaisesSpent refused = absurd (none-some _ (sym (spent_is_none e options refused) ∙ is_computed e options report.0 report.1))
 count_from_outside e options text report count.NoMemory refused = refl
 
 pub accepted_by_count : (files : Option (List ℕ)) (options : CountOptions) (e : ElectionView) (fault : CountFault) (r : Result (Unit {0}) AppFault)
@@ -127,7 +128,7 @@ refused_by_count (Some bytes) options e fault r is stands refused =
 -- an election and options have one report
 pub one_report : (e : ElectionView) (options : CountOptions) (a b : List ℕ) → IsReportOf e options a → IsReportOf e options b → a ≡ b
 one_report e options a b first second =
-    let outcome = same_Some _ _ (sym first.1.counted ∙ second.1.counted) in
+    let outcome = one_outcome e options first.0 second.0 first.1 second.1 in
     first.2 ∙ ap (report_of e) outcome ∙ sym second.2
 
 pub one_text : (bytes : List ℕ) (options : CountOptions) (a b : List ℕ) → CountWrites bytes options a → CountWrites bytes options b → a ≡ b

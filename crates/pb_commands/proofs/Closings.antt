@@ -3,8 +3,7 @@ use Rattle.std.proofs.Common.{◌≡◌, ◌∙◌, ◌++◌, List, ℕ, Bool, t
 use Rattle.std.specs.Prelude.{IfErr, MatchBool, OnOk, Result, Ok, Err}
 use Rattle.pb_core.specs.Election.{ElectionView}
 use Rattle.pb_desk.specs.Desk.{DeskView, closed_election, standing_of}
-use Rattle.pb_rounds.specs.Count.{IsCountFault}
-use Rattle.pb_rounds.specs.Counted.{IsCountOf}
+use Rattle.pb_rounds.specs.Counted.{IsCountFault, IsCountOf}
 use Rattle.pb_rounds.specs.Outcome.{OutcomeView, settled}
 use Rattle.pb_rounds.specs.declared.count_fault.CountFault.{CountFault}
 use Rattle.pb_rounds.specs.declared.count_fault.CountFault.TheVariants.{NoMemory}

@@ -5,7 +5,7 @@ use Rattle.pb_desk.specs.Audit.{IsFaultOfJournal, IsSound}
 use Rattle.pb_desk.specs.Desk.{DeskView, closed_election, standing_of}
 use Rattle.pb_desk.specs.Rows.{rows_of}
 use Rattle.pb_read.specs.StandsFor.{StandsFor}
-use Rattle.pb_rounds.specs.Count.{IsCountFault}
+use Rattle.pb_rounds.specs.Counted.{IsCountFault}
 use Rattle.pb_rounds.specs.declared.count_fault.CountFault.{CountFault}
 use Rattle.pb_rounds.specs.declared.count_fault.CountFault.TheVariants.{NoMemory}
 use Rattle.pb_rounds.specs.declared.options.CountOptions.{CountOptions}

@@ -2,7 +2,7 @@
 
 ghost use Rattle.std.specs.Prelude.{◌≡◌, ◌≢◌, ◌++◌, ℕ, List, IfErr, IfOk, IfSome, OnOk};
 ghost use Rattle.std.specs.Io.KnownBytes.{Appends};
-ghost use Rattle.pb_rounds.specs.Count.{IsCountFault};
+ghost use Rattle.pb_rounds.specs.Counted.{IsCountFault};
 ghost use Rattle.pb_rounds.specs.declared.count_fault.CountFault.TheVariants as count;
 ghost use Rattle.pb_commands.specs.Counted.{CountRefuses, CountWrites, IsReportOf};
 ghost use Rattle.pb_commands.specs.Ends.{Accepts, FailsBy, HasWritten};
