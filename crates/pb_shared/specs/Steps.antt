@@ -1,4 +1,4 @@
--- What a step may let its clerk know, whichever step it is: the words found and read come by two operations alone.
+-- The rule of the steps: what a step may let its clerk know, whichever step it is.
 use Rattle.std.specs.Prelude.{◌≡◌, ℕ, ◌+◌, ◌==◌, ◌&&◌, Bool, List, [], ◌∷◌, ◌++◌, Option, if◌then◌else◌}
 use Rattle.atomic_table.specs.Table.{Step}
 use Rattle.pb_desk.specs.Desk.{DeskView}
@@ -17,14 +17,14 @@ is_front_load s = (s.word == 1) && ((s.first == 0) && (s.second == 0))
 abbrev pub word_if : Bool → ℕ → List ℕ
 word_if told word = if told then word ∷ [] else []
 
--- A step on this word, by a clerk with the first sheet, leaves the second: nothing that was seen is forgotten, and
--- the word goes to those found where the step tries the lock, and to those read where it loads the front word
+-- A step that finds this word leaves a clerk with the second sheet who had the first: nothing seen is forgotten,
+-- and the word goes to those found where the step tries the lock, and to those read where it loads the front word
 pub record StepRule (s : Step (Option DeskView)) (x : Sheet) (word : ℕ) (x' : Sheet) : Type 0 where
   pub seen : Begins x.seen x'.seen
   pub found : x'.found ≡ x.found ++ word_if (is_try s x) word
   pub read : x'.read ≡ x.read ++ word_if (is_front_load s) word
 
--- where seats are split and joined: the second view, but seen, found and read is what the first has
+-- where seats are split or joined: the second view, but with what the first has seen, found and read
 abbrev pub knowing : SeatView → SeatView → SeatView
 knowing v w = record w {
   sheet = record w.sheet { seen = v.sheet.seen; found = v.sheet.found; read = v.sheet.read };
