@@ -23,9 +23,12 @@ FORMS = {
     ("Join", "both"): r"λ v w\. knowing v \(\w+ v w\)",
     ("Join", "spent"): r"nobody",
 }
+# The crates with tables: the shared desk, whose steps are looked up here, and the workers' claims.
+RULED = {"pb_shared", "pb_price"}
 # Where the words of these forms come from.
 WORDS = {"DeskRule": "Rule", "StepRule": "Steps", "knowing": "Steps"}
 TRAIT = re.compile(r"\b(TableRule|Play|Split|Join)\b")
+USE = re.compile(r"^use atomic_table::\{\w+(?:, \w+)*\};$", re.M)
 IMPL = re.compile(r"^impl (\w+)<([^{}]*)> for (\w+) \{\n(.*?)^\}", re.M | re.S)
 ITEM = re.compile(r"^    ghost (\w+) =\s*\{(.*?)\};$", re.M | re.S)
 # A call that makes a step, and one whose kind and word can be read.
@@ -55,36 +58,41 @@ def listed():
     return {(step[0], *(operation + [""])[:2]) for step, operation in names}
 
 
-def faults():
-    """What is wrong with the steps of the shared desk, a line each."""
-    text = code_of(STEPS)
-    wrong = [f"{path.relative_to(TOP)}: a word of steps outside {STEPS.name}"
-             for path in sorted(SOURCE.glob("**/*.rt")) if path != STEPS and TRAIT.search(code_of(path))]
+def form_faults(text):
+    """What is wrong with the impls of the steps, a line each."""
+    wrong = []
     for word, file in WORDS.items():
-        uses = [line for line in text.splitlines() if re.search(rf"\buse\b.*\b{word}\b", line)]
+        uses = [use for use in re.findall(r"\buse\b[^;]*;", text) if re.search(rf"\b{word}\b", use)]
         if len(uses) != 1 or " as " in uses[0] or f"use Rattle.pb_shared.specs.{file}.{{" not in uses[0]:
             wrong.append(f"{STEPS.name}: `{word}` is not the one of pb_shared's {file}")
-    kinds = []
     for trait, kind, items in steps_of(text):
         for name in sorted({item for of, item in FORMS if of == trait} | set(items)):
             form = FORMS.get((trait, name))
             if form is None or not re.fullmatch(form, items.get(name, "")):
                 wrong.append(f"{STEPS.name}: the step {kind} has {name} = {items.get(name)}, which is not of its form")
-        kinds.append((trait, kind))
-    others = IMPL.sub("", re.sub(r"^use atomic_table::\{[\w, ]+\};$", "", text, flags=re.M))
-    if TRAIT.search(others) or re.search(r"\buse atomic_table\b.*(\bas\b|\*)", text):
+    if TRAIT.search(IMPL.sub("", USE.sub("", text))) or "/*" in text:
         wrong.append(f"{STEPS.name}: a trait of steps is named outside an impl that can be read here")
-    if sum(trait == "TableRule" for trait, _ in kinds) != 1:
+    if sum(trait == "TableRule" for trait, _, _ in steps_of(text)) != 1:
         wrong.append(f"{STEPS.name}: a table has one rule")
-    steps = set()
+    return wrong
+
+
+def faults():
+    """What is wrong with the steps of the shared desk, a line each."""
+    wrong, steps = form_faults(code_of(STEPS)), set()
+    users = re.findall(r"^(\w+).*:.*\batomic_table\b", (TOP / "crates.txt").read_text(), re.M)
+    wrong += [f"{crate} has steps on a table, and no rule for them is known" for crate in sorted(set(users) - RULED)]
     for path in sorted(SOURCE.glob("**/*.rt")):
-        code = code_of(path)
+        code, name = code_of(path), path.relative_to(TOP)
+        if path != STEPS and TRAIT.search(code):
+            wrong.append(f"{name}: a trait of steps is named outside {STEPS.name}")
         if len(CALL.findall(code)) != len(re.findall(OPERATION, code)):
-            wrong.append(f"{path.relative_to(TOP)}: a step whose kind or word can't be read")
+            wrong.append(f"{name}: a step whose kind or word can't be read")
         steps |= made(code)
-    known = {kind for trait, kind in kinds if trait != "TableRule"}
-    wrong += [f"{STEPS.name} has no step {kind}" for kind in sorted({kind for kind, *_ in steps} - known)]
-    wrong += [f"no call makes the step {kind}" for kind in sorted(known - {kind for kind, *_ in steps})]
+    known = {kind for trait, kind, _ in steps_of(code_of(STEPS)) if trait != "TableRule"}
+    kinds = {kind for kind, _, _ in steps}
+    wrong += [f"{STEPS.name} has no step {kind}" for kind in sorted(kinds - known)]
+    wrong += [f"no call makes the step {kind}" for kind in sorted(known - kinds)]
     wrong += [f"docs/{PAGE.name} doesn't list the step {' '.join(step)}" for step in sorted(steps - listed())]
     wrong += [f"docs/{PAGE.name} lists a step {' '.join(step)}: no call makes it" for step in sorted(listed() - steps)]
     return wrong
