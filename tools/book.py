@@ -6,7 +6,8 @@
     tools/book.py --count    print the lines of each crate's definitions, and of all
     tools/book.py --check    fail where docs/what-to-believe.md lacks a word that a public contract reaches,
                              names one that none reaches, or states another number of lines, and where a
-                             contract names a word or a type of this repository that is not found
+                             contract names a word or a type of this repository that is not found, and where
+                             a step of the shared desk is not of its form (tools/steps.py)
 
 A public contract is that of a function that another crate (or `main`, in the program's crate) can call. A word
 is reached when such a contract, the model of a public type, or a reached definition names it; and so are the rules
@@ -19,6 +20,8 @@ import sys
 from dataclasses import dataclass, field
 from pathlib import Path
 
+import steps
+
 TOP = Path(__file__).resolve().parent.parent
 PAGE = TOP / "docs" / "what-to-believe.md"
 WORD = re.compile(r"[^\W\d][\w'-]*")
@@ -29,8 +32,13 @@ MODULE_IMPORT = re.compile(r"use Rattle\.(\w+)\.specs\.([\w.]+?) as (\w+)")
 # A type that is declared in code: specs name it by its module, and its variants by `TheVariants`.
 DECLARED = re.compile(r"^declared\.(?:[a-z]\w*\.)*(\w+)(?:\.TheVariants)?$")
 TYPE = re.compile(r"(?:pub(?:\(\w+\))? )?(?:struct|enum|trait) (\w+)")
-# What holds between any two atomic steps of threads: no single contract names it.
-RULES = (("pb_shared", "Rule", "DeskRule"), ("pb_price", "Claims", "AreClaims"))
+# What holds between any two atomic steps of threads, and what a step may tell: no single contract names it.
+RULES = (
+    ("pb_shared", "Rule", "DeskRule"),
+    ("pb_shared", "Steps", "StepRule"),
+    ("pb_shared", "Steps", "knowing"),
+    ("pb_price", "Claims", "AreClaims"),
+)
 # What an impl has to say besides its meaning: proofs that a law holds.
 PROOFS = {"laws", "total", "matches_partial_cmp", "matches_eq", "respects_eq"}
 
@@ -415,6 +423,8 @@ def print_book(crates, contracts, definitions, reached, types):
                 if definition.file == file and definition.key() in reached and definition.key() not in seen:
                     seen.add(definition.key())
                     print("\n" + "\n".join(definition.comment + definition.lines))
+        if crate == steps.SOURCE.parent.name:
+            print(f"\n-- its steps\n\n{steps.text_of_steps()}")
         print("\n-- what its public functions promise")
         for contract in own:
             if not contract.is_model:
@@ -429,7 +439,7 @@ def lines_of(reached, crate):
 
 def check(crates, reached, lost):
     """What is wrong with the page or with the book: a line each."""
-    wrong = sorted(set(lost))
+    wrong = sorted(set(lost)) + steps.faults()
     text = PAGE.read_text()
     sections = re.split(r"^## ", text, flags=re.M)
     for crate in crates:

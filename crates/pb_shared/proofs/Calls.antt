@@ -1,5 +1,5 @@
 -- What the steps of a call come to for its clerk.
-use Rattle.std.proofs.Common.{◌≡◌, ℕ, zero, suc, ◌+◌, ◌<◌, ◌≤◌, List, [], ◌∷◌, ◌++◌, length, drop, All, Result, Ok, Err, IfOk, IfErr, Option, Some, sym, unwrap_or, slice_get, slice_index_or, refl, ap, ◌∙◌, subst, arith, append_assoc, length-append}
+use Rattle.std.proofs.Common.{◌≡◌, ℕ, zero, suc, ◌+◌, ◌<◌, ◌≤◌, List, [], ◌∷◌, ◌++◌, length, drop, All, Result, Ok, Err, IfOk, IfErr, Some, sym, unwrap_or, slice_get, slice_index_or, refl, ap, ◌∙◌, subst, arith, append_assoc, length-append}
 use Rattle.std.proofs.Math.Seq.{drop-append_seam}
 use Rattle.std.specs.Prelude.{IsErrAnd}
 use Rattle.std.proofs.lemmas.Option.{none-some}

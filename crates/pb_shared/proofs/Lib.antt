@@ -1,3 +1,4 @@
+pub mod Told
 pub mod Moves
 pub mod LockSteps
 pub mod SeatSteps

@@ -1,22 +1,24 @@
 -- Making the table keeps the rule, and so do the splits and joins of seats.
-use Rattle.std.proofs.Common.{◌≡◌, ◌≢◌, ℕ, ◌+◌, ◌<◌, ◌≤◌, ◌==◌, Bool, true, false, List, [], ◌∷◌, ◌++◌, length, set, Some, sym, refl, ap, ◌∙◌, subst, arith, eq-eqb, ne_eqb, true≢false, if◌then◌else◌, slice_index_or}
-use mathlib.Core.Option.{some, some-injective, some-ne-none}
+use Rattle.std.proofs.Common.{◌≡◌, ◌≢◌, ℕ, ◌+◌, ◌<◌, ◌≤◌, ◌==◌, Bool, true, false, List, [], ◌∷◌, ◌++◌, length, set, Some, sym, refl, ap, ◌∙◌, subst, arith, eq-eqb, ne_eqb, true≢false, if◌then◌else◌, slice_index_or, slice_index}
+use mathlib.Core.Option.{none, some, some-injective, some-ne-none}
 use mathlib.Core.Logic.{dite}
 use mathlib.Core.List.{append-nil}
 use native.Mathlib.Decide.{ℕ_discrete}
 use lib.ListN.{get_elem?}
 use Rattle.std.proofs.lemmas.List.Elements.{All-cons, All-nil}
-use Rattle.atomic_table.specs.Table.{opening, Enters, Splits, Joins}
+use Rattle.atomic_table.specs.Table.{opening, step, Enters, Splits, Joins}
 use Rattle.atomic_table.proofs.Lists.{set_again, set_else, at_longer}
 use Rattle.pb_core.specs.Request.{EntryView}
 use Rattle.pb_desk.specs.Replay.{IsLegal}
 use Rattle.pb_shared.specs.Clerk.{CanHave, blank, desk_with}
 use Rattle.pb_shared.specs.Rule.{history, seated, stock, SheetFits, RoleFits, Runs, DeskRule}
+use Rattle.pb_shared.specs.Steps.{StepRule}
 use Rattle.pb_shared.specs.Plays.{visits, dealt_left, dealt_right, note_of, informed, handed, nobody}
 use Rattle.pb_shared.specs.declared.seat_view.About.{About}
 use Rattle.pb_shared.specs.declared.seat_view.Role.{Role}
 use Rattle.pb_shared.specs.declared.seat_view.Role.TheVariants.{Stock, Clerk, Guest, Spent}
 use Rattle.pb_shared.specs.declared.seat_view.SeatView.{SeatView}
+use Rattle.pb_shared.proofs.Told.{told_visit}
 use Rattle.pb_shared.proofs.Moves.{Holds, not_its, sheet_stays, seat_stays, each_of, each_and, stays_there}
 use Rattle.pb_shared.proofs.LockSteps.{Slot, fits}
 
@@ -87,7 +89,7 @@ starts a legal room =
     )
 
 -- a seat to hand the clerks back to
-pub comes_to_finish : (a : About) (slots : ℕ) → Enters (DeskRule a) slots 0 (λ n w. visits (stock a, []) n (w, []))
+pub comes_to_finish : (a : About) (slots : ℕ) → Enters (DeskRule a) slots 0 (λ n w. StepRule (step slots 0 0 0 none) (stock a).sheet n w.sheet × visits (stock a, []) n (w, []))
 comes_to_finish a slots s r count small =
     let w : SeatView = seated Guest a (blank a.desk.value.journal 0) in
     let lock : ℕ = r.0 in let home : Slot = r.1 in let later : List EntryView = r.2 in let seat_of : ℕ → ℕ = r.3 in (
@@ -101,7 +103,7 @@ comes_to_finish a slots s r count small =
         r.5,
         comes a lock home later seat_of s.views w r.6 (refl, (later, refl), All-nil (SheetFits a lock home later seat_of (length s.views) false)),
       ),
-      refl,
+      (told_visit a slots (slice_index s.words 0) (w, []) refl, refl),
     )
 
 -- a clerk writes a note

@@ -5,3 +5,4 @@ pub mod Rule
 pub mod Seats
 pub mod ShareFault
 pub mod SharedFault
+pub mod Steps

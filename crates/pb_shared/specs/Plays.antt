@@ -1,4 +1,4 @@
--- What each step on the table tells the seat that makes it.
+-- What each step on the table tells the seat that makes it, within the rule of the steps. Proofs alone need it.
 use Rattle.std.specs.Prelude.{◌≡◌, ◌≢◌, ℕ, suc, ◌+◌, ◌≤◌, true, false, List, [], ◌∷◌, ◌++◌, length, drop, Option, Some, None}
 use Rattle.pb_core.specs.Request.{EntryView}
 use Rattle.pb_desk.specs.Desk.{DeskView}

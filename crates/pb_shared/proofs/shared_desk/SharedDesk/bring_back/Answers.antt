@@ -14,4 +14,4 @@ store-requires c = let words = c.self.invariant.words in let out = c.requires.ou
 )
 
 pub returns-clause-freed : goal.returns-clause-freed
-returns-clause-freed c = c.store.ensures.2 ∙ (λ i. (freed (c.exchange.ensures.3 i).0, []))
+returns-clause-freed c = c.store.ensures.2.1 ∙ (λ i. (freed (c.exchange.ensures.3 i).0, []))

@@ -59,7 +59,7 @@ returns-clause-ok c =
 
 pub loop-clerk-init : goal.loop-clerk-init
 loop-clerk-init c =
-    let guest = c.load_new_seat-word.ensures.2 in
+    let guest = c.load_new_seat-word.ensures.2.1 in
     ([], append-nil c.args.clerks.items, ap (λ (v : SeatView). v.returned) guest, ap (λ (v : SeatView). v.role) guest, refl)
 
 pub loop-clerk-preserved : goal.loop-clerk-preserved

@@ -1,4 +1,4 @@
-use Rattle.std.proofs.Common.{◌≡◌, ap, subst, sym, ◌∙◌}
+use Rattle.std.proofs.Common.{ap, subst, sym, ◌∙◌}
 use Rattle.pb_shared.specs.Clerk.{SharedView, desk_with}
 use Rattle.pb_shared.specs.Refusal.{Refuses}
 use Rattle.pb_shared.specs.Seats.{clerk_view}

@@ -2,9 +2,8 @@ use Rattle.std.proofs.Common.{ap, subst, ◌∙◌, arith}
 use Rattle.pb_shared.specs.Clerk.{Reads}
 use Rattle.pb_shared.specs.Seats.{clerk_view}
 use Rattle.pb_shared.proofs.Calls.{reads_front}
-use Rattle.pb_shared.proofs.LockSteps.{loads}
 use Rattle.pb_shared.proofs.SeatSteps.{tells}
-use Rattle.pb_shared.proofs.Offers.{clerk_sits}
+use Rattle.pb_shared.proofs.Offers.{clerk_sits, loads_at}
 use Rattle.pb_shared.proofs.shared_desk.SharedDesk.meet.Goals as goal
 
 pub join_seat-requires : goal.join_seat-requires
@@ -20,7 +19,7 @@ pub load-requires : goal.load-requires
 load-requires c = let words = c.self.invariant.words in (
   c.join_seat.ensures.0 ∙ clerk_sits _ _ _ c.clerk.inside.seat.me _ _ c.clerk.view_is c.requires.own c.self.view_is,
   omega arith,
-  loads c.self.inside.table.shared.key _ _ _ (ap (λ m. m.0.role) c.join_seat.ensures.2 ∙ c.clerk.invariant.role),
+  loads_at c.self.inside.table.shared.key _ _ _ (ap (λ m. m.0.role) c.join_seat.ensures.2 ∙ c.clerk.invariant.role),
 )
 
 pub returns-clause-clerk : goal.returns-clause-clerk
@@ -28,5 +27,5 @@ returns-clause-clerk c =
     let told = c.join_seat.ensures in
     let after = clerk_view c.load.new.seat.table_id c.load.new.seat.me in
     let front =
-    reads_front c.join_seat.new.seat.table_id c.load.new.seat.table_id c.join_seat.new.seat.me c.load.new.seat.me c.args.clerk.now c.load.result ((λ i. clerk_view (told.0 i) (told.2 i)) ∙ c.clerk.view_is) c.load.ensures.0 c.load.ensures.2 in
+    reads_front c.join_seat.new.seat.table_id c.load.new.seat.table_id c.join_seat.new.seat.me c.load.new.seat.me c.args.clerk.now c.load.result ((λ i. clerk_view (told.0 i) (told.2 i)) ∙ c.clerk.view_is) c.load.ensures.0 c.load.ensures.2.1 in
     subst (λ n. Reads c.args.clerk.now n after) front.1 front

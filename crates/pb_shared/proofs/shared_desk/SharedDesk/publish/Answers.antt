@@ -18,9 +18,9 @@ pub store-requires-2 : goal.store-requires-2
 store-requires-2 c = let words = c.self.invariant.words in let out = c.requires.out in (
   c.store.ensures.0 ∙ (c.exchange.ensures.0 ∙ (c.requires.own ∙ sym (ap (λ v. v.id) c.self.view_is))),
   omega arith,
-  frees_again c.self.inside.table.shared.key _ _ _ _ (ap (λ m. m.0.role) c.exchange.ensures.3 ∙ out.role) refl c.store.ensures.2,
+  frees_again c.self.inside.table.shared.key _ _ _ _ (ap (λ m. m.0.role) c.exchange.ensures.3 ∙ out.role) refl c.store.ensures.2.1,
 )
 
 pub returns-clause-freed : goal.returns-clause-freed
 returns-clause-freed c =
-    c.store-2.ensures.2 ∙ ((λ i. (freed (c.store.ensures.2 i).0, [])) ∙ (λ i. (freed (published (c.exchange.ensures.3 i).0 (journal_out (c.exchange.ensures.3 i).1)), [])))
+    c.store-2.ensures.2.1 ∙ ((λ i. (freed (c.store.ensures.2.1 i).0, [])) ∙ (λ i. (freed (published (c.exchange.ensures.3 i).0 (journal_out (c.exchange.ensures.3 i).1)), [])))
