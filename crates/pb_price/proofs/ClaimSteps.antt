@@ -9,7 +9,7 @@ use Rattle.std.proofs.lemmas.List.Sums.{sum_by-cons, sum_by-append, sum_by_push}
 use mathlib.Core.Option.{none, some, some-injective, some-ne-none}
 use lib.ListN.{get_elem?}
 use Rattle.atomic_table.proofs.Lists.{at_set, at_snoc}
-use Rattle.atomic_table.specs.Table.{State, Me, step, keeps, Allows, Final, Joins, Seen, Splits}
+use Rattle.atomic_table.specs.Table.{State, Me, step, stepped, keeps, Allows, Final, Joins, Seen, Splits}
 use Rattle.pb_price.specs.Claims.{drawn, draws, joined, one_seat, past_end, rest_of_seats, spent, AreBelowOnce, AreClaims, IsView}
 use Rattle.pb_price.specs.declared.claims.drawn.Drawn.{Drawn}
 use Rattle.pb_price.proofs.BuiltLists.{range_with_len_more}
@@ -156,6 +156,17 @@ module _ {S : Type 0} (pieces workers : ℕ) where
               omega (arith, more, one_le (weigh weight) s.views id v at, h.each_once weight, weight_more weight n),
         ),
       )
+
+  -- a step that changes one view and the word: the view's numbers grow by those that the word passed
+  pub passed : (s : State S Drawn) (id next : ℕ) (v w : Drawn) → AreClaims pieces workers s → get_elem? s.views id ≡ some v
+      → AreClaims pieces workers (stepped s 0 next id [] w keeps) → (weight : ℕ → ℕ)
+      → sum_by weight w.numbers + sum_by weight (range_with_len 0 (slice_index s.words 0))
+      ≡ sum_by weight v.numbers + sum_by weight (range_with_len 0 next)
+  passed s id next v w h at after weight =
+      let views = sum_set (weigh weight) s.views id v w at in
+      let word : slice_index (set s.words 0 next) 0 ≡ next = get_or-set_same s.words 0 next 0 (omega (arith, h.one_word)) in
+      let now : sum_by (weigh weight) (set s.views id w) ≡ sum_by weight (range_with_len 0 next) = after.each_once weight ∙ ap (λ k. sum_by weight (range_with_len 0 k)) word in
+      omega (arith, views, h.each_once weight, now)
 
   -- splitting off a worker's seat
   pub splits_keep : (id : ℕ) (v : Drawn) → 0 < v.seats → v.numbers ≡ []

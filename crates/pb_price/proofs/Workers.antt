@@ -1,16 +1,16 @@
 -- What a worker draws and answers, and how the answers come together.
-use Rattle.std.proofs.Common.{◌≡◌, ℕ, zero, suc, ◌+◌, ◌<◌, ◌≤◌, min, cond, List, [], ◌∷◌, ◌++◌, length, map, Option, None, Result, Ok, get_or, set, refl, sym, ap, subst, ◌∙◌, inl, inr, arith, append_assoc, append-nil}
-use Rattle.std.specs.Prelude.{All, IfOk, nat_eq, nat_le, nat_lt, sum_by, slice_index}
+use Rattle.std.proofs.Common.{◌≡◌, ℕ, zero, suc, ◌+◌, ◌<◌, ◌≤◌, min, cond, List, [], ◌∷◌, ◌++◌, length, map, replicate, Option, None, Result, Ok, Err, get_or, set, refl, sym, ap, subst, ◌∙◌, inl, inr, arith, append_assoc, append-nil}
+use Rattle.std.specs.Prelude.{All, IfOk, OnOk, nat_eq, nat_le, nat_lt, sum_by, slice_index}
 use Rattle.std.specs.List.{range_with_len}
 use Rattle.std.proofs.lemmas.Bool.{cases_eq, cases_lt, eq-eqb, ne_eqb, le-ltb, lt-leb, lt-ltb, le-leb}
-use Rattle.std.proofs.lemmas.List.{ext_get_or, get_or-map, get_or-set_other, get_or-set_same, length-append, length-map, length-set, map-append}
+use Rattle.std.proofs.lemmas.List.{ext_get_or, get_or-map, get_or-set_other, get_or-set_same, length-append, length-map, length-replicate, length-set, map-append}
 use Rattle.std.proofs.lemmas.List.Elements.{All-append, All-tail}
 use Rattle.std.proofs.lemmas.List.Sums.{sum_by-cons, sum_by-append, sum_by_push}
 use Rattle.pb_core.specs.Election.{most_projects}
-use Rattle.pb_price.specs.Claims.{drawn, joined, past_end, AreBelowOnce}
+use Rattle.pb_price.specs.Claims.{all_joined, drawn, joined, past_end, AreBelowOnce}
 use Rattle.pb_price.specs.Price.{price_at}
 use Rattle.pb_price.specs.Supporters.{SupportView}
-use Rattle.pb_price.specs.Working.{drawn_pieces, placed, times, AreGathered, IsAnswer, IsDone, IsWorking}
+use Rattle.pb_price.specs.Working.{drawn_pieces, gathered, placed, times, AreGathered, IsAnswer, IsDone, IsWorking}
 use Rattle.pb_price.specs.declared.answer.Answer.{Answer}
 use Rattle.pb_price.specs.declared.claims.drawn.Drawn.{Drawn}
 use Rattle.pb_price.proofs.ClaimSteps.{past_range, weight_more}
@@ -48,7 +48,7 @@ all_popped P (y ∷ ys) x h =
     let others = all_popped P ys x (All-tail P y (ys ++ x ∷ []) h) in
     (all_cons P y ys (h 0 y (omega arith)) others.0, others.1)
 
-popped : {X : Type 0} (P : X → Type 0) (old new : List X) (x : X) → old ≡ new ++ x ∷ [] → All P old → All P new × P x
+pub popped : {X : Type 0} (P : X → Type 0) (old new : List X) (x : X) → old ≡ new ++ x ∷ [] → All P old → All P new × P x
 popped P old new x e h = all_popped P new x (subst (All P) e h)
 
 -- the last of some results, where it is none of a refusal
@@ -56,6 +56,21 @@ pub popped_done : {X E : Type 0} (P : X → Type 0) (old new : List (Result X E)
 popped_done P old new r x e is h =
     let both = popped (λ r. IfOk r P) old new r e h in
     (both.0, subst (λ r. IfOk r P) is both.1)
+
+-- the last worker is the first whose answers are read, and whose claim is joined
+pub gathered_popped : {W : Type 0} (answers : W → List Answer) (prices : List (Option ℕ)) (ws : List W) (w : W)
+    → gathered answers prices (ws ++ w ∷ []) ≡ gathered answers (placed prices (answers w)) ws
+gathered_popped answers prices [] w = refl
+gathered_popped answers prices (v ∷ ws) w = ap (λ ps. placed ps (answers v)) (gathered_popped answers prices ws w)
+
+pub joined_popped : {W : Type 0} (claim : W → Drawn) (stock : Drawn) (ws : List W) (w : W)
+    → all_joined claim stock (ws ++ w ∷ []) ≡ all_joined claim (joined stock (claim w)) ws
+joined_popped claim stock [] w = refl
+joined_popped claim stock (v ∷ ws) w = ap (λ all. joined all (claim v)) (joined_popped claim stock ws w)
+
+pub length_placed : (prices : List (Option ℕ)) (answers : List Answer) → length (placed prices answers) ≡ length prices
+length_placed prices [] = refl
+length_placed prices (a ∷ answers) = length_placed (set prices a.piece a.price) answers ∙ length-set prices a.piece a.price
 
 module _ (s : SupportView) (rests projects : List ℕ) where
   -- answers are of pieces
@@ -188,6 +203,31 @@ module _ (s : SupportView) (rests projects : List ℕ) where
             omega (arith, first, second, last_out, done.one_seat, h.past_end_each);
         fits = omega (arith, h.fits, done.few, done.one_seat, most);
       }
+
+  -- the answers of all these workers
+  pub gathers_these : {W : Type 0} (claim : W → Drawn) (answers : W → List Answer) (ws : List W)
+      → length projects ≤ most_projects → All (λ w. IsDone s rests projects (claim w) (answers w)) ws
+      → AreGathered s rests projects (all_joined claim (drawn 0 []) ws)
+      (gathered answers (replicate (length projects) None) ws) (sum_by (λ w. length (answers w)) ws)
+      × ((all_joined claim (drawn 0 []) ws).seats ≡ length ws)
+  gathers_these claim answers [] most done =
+      (gathers_none (drawn 0 []) (replicate (length projects) None) refl (length-replicate (length projects) None), refl)
+  gathers_these claim answers (w ∷ ws) most done =
+      let others = gathers_these claim answers ws most (All-tail (λ w. IsDone s rests projects (claim w) (answers w)) w ws done) in
+      let here = done 0 w (omega arith) in
+      let sum : sum_by (λ w. length (answers w)) ws + length (answers w) ≡ sum_by (λ w. length (answers w)) (w ∷ ws) = omega (arith, sum_by-cons (λ w. length (answers w)) w ws) in (
+        subst (AreGathered s rests projects (all_joined claim (drawn 0 []) (w ∷ ws)) (gathered answers (replicate (length projects) None) (w ∷ ws))) sum
+            (gathers_more (all_joined claim (drawn 0 []) ws) (claim w) (gathered answers (replicate (length projects) None) ws) (answers w)
+            (sum_by (λ w. length (answers w)) ws) most others.0 here),
+        omega (arith, others.1, here.one_seat),
+      )
+
+  -- a result that has them
+  pub gathers_result : {G E : Type 0} (r : Result G E) (prices : G → List (Option ℕ)) (priced : G → ℕ) (v w : Drawn)
+      (all : List (Option ℕ)) (n : ℕ) → OnOk r (w ≡ v) → IfOk r (λ g. prices g ≡ all) → IfOk r (λ g. priced g ≡ n)
+      → AreGathered s rests projects v all n → IfOk r (λ g. AreGathered s rests projects w (prices g) (priced g))
+  gathers_result (Ok g) prices priced v w all n joined read counted h = rw (joined, read, counted) h
+  gathers_result (Err e) prices priced v w all n joined read counted h = tt
 
   times_below : (piece n : ℕ) → piece < n → 0 < times piece (range_with_len 0 n)
   times_below piece zero less = absurd (omega arith)

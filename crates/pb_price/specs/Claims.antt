@@ -54,3 +54,8 @@ joined v w = drawn (v.seats + w.seats) (v.numbers ++ w.numbers)
 
 abbrev pub spent : Drawn
 spent = drawn 0 []
+
+-- a claim after those of some workers were joined to it, the last one first
+abbrev pub all_joined : {W : Type 0} → (W → Drawn) → Drawn → List W → Drawn
+all_joined claim stock [] = stock
+all_joined claim stock (w ∷ workers) = joined (all_joined claim stock workers) (claim w)

@@ -46,3 +46,8 @@ NoRestRises before after = (voter : ℕ) → slice_index after voter ≤ slice_i
 -- the largest number that a tally shows; it stays there
 abbrev pub largest_count : ℕ
 largest_count = 2 ^ 64 - 1
+
+-- what a tally shows: how many prices were computed, and how many workers computed them, list by list
+pub record TallyView : Type 0 where
+  pub prices : ℕ
+  pub workers : ℕ

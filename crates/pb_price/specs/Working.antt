@@ -41,6 +41,11 @@ pub record IsDone (s : SupportView) (rests projects : List ℕ) (v : Drawn)
 abbrev pub placed : List (Option ℕ) → List Answer → List (Option ℕ)
 placed prices answers = fold (λ before answer. slice_set before answer.piece answer.price) prices answers
 
+-- the prices after the answers of some workers were put in their places, the last one's first
+abbrev pub gathered : {W : Type 0} → (W → List Answer) → List (Option ℕ) → List W → List (Option ℕ)
+gathered answers prices [] = prices
+gathered answers prices (w ∷ workers) = placed (gathered answers prices workers) (answers w)
+
 -- how often a number was drawn, and how many pieces were
 abbrev pub times : ℕ → List ℕ → ℕ
 times number numbers = count_by (λ n. nat_eq n number) numbers

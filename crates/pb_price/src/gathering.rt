@@ -1,24 +1,111 @@
-//! How a worker's answers come to their places, after all workers have stopped.
+//! How the workers' answers become the prices, after all workers have stopped.
 
-ghost use Rattle.std.specs.Prelude.{◌≡◌, ◌<◌, All, length};
-ghost use Rattle.pb_price.specs.Claims.{joined};
-ghost use Rattle.pb_price.specs.Working.{placed};
+ghost use Rattle.std.specs.Prelude.{◌≡◌, ◌+◌, ◌<◌, ◌≤◌, None, All, length, map, min, replicate, IfOk, OnOk, sum_by};
+ghost use Rattle.pb_core.specs.Election.{most_projects};
+ghost use Rattle.pb_price.specs.Claims.{all_joined, joined};
+ghost use Rattle.pb_price.specs.Price.{price_at, largest_count};
+ghost use Rattle.pb_price.specs.Working.{gathered, placed, IsBatch};
 
 use crate::answer::Answer;
 use crate::claims::{Claim, Claims};
+use crate::common_rest::{common_rest, price_by};
+use crate::gate::Gate;
+use crate::pieces::Pieces;
+use crate::tally::Tally;
 use crate::worker::Worker;
 use pb_core::money::Money;
+use pb_core::no_memory::NoMemory;
 use std::alloc::Allocator;
 
-/// The price of each piece, and how many prices the workers computed.
+/// The price of each piece, how many prices were computed, and by how many workers. It is made in this file alone.
 #[derive(Drop)]
 pub(crate) struct Gathered<A: Allocator> {
-    pub(crate) prices: Vec<Option<Money>, A>,
-    pub(crate) priced: u64,
+    prices: Vec<Option<Money>, A>,
+    priced: u64,
+    workers: u32,
+}
+
+impl<A: Allocator> Gathered<A> {
+    /// The prices by one worker, which is the caller.
+    pub(crate) fn in_turn<B: Allocator, G: Gate>(
+        alloc: A,
+        pieces: &Pieces<G, B>,
+    ) -> Result<Gathered<A>, NoMemory>
+        requires batch { IsBatch pieces.now.supporters.now pieces.now.rests.now pieces.now.projects.now
+            (length pieces.now.projects.now) }
+        ensures prices { IfOk result (λ g. g.prices.items
+            ≡ map (price_at pieces.now.supporters.now pieces.now.rests.now) pieces.now.projects.now) }
+        ensures priced { IfOk result (λ g. g.priced ≡ length pieces.now.projects.now) }
+        ensures workers { IfOk result (λ g. g.workers ≡ 1) }
+    {
+        let common = common_rest(pieces.supporters, pieces.rests, pieces.projects.len());
+        let mut prices = Vec::with_capacity(alloc, pieces.projects.len())?;
+        for (piece, place) in pieces.projects.iter().enumerate() {
+            pieces.gate.at(0, piece as u32);
+            prices.push(price_by(pieces.supporters, pieces.rests, &common, *place))?;
+        }
+        Ok(Gathered {
+            prices,
+            priced: pieces.projects.len() as u64,
+            workers: 1,
+        })
+    }
+
+    /// The prices. The tally grows by how many were computed, and by the workers.
+    pub(crate) fn into_prices(self, tally: &mut Tally) -> Vec<Option<Money>, A>
+        ensures prices { result.items ≡ self.prices.items }
+        ensures counted { tally.new ≡ record {
+          prices = min (tally.old.prices + self.priced) largest_count;
+          workers = min (tally.old.workers + self.workers) largest_count;
+        } }
+    {
+        let Gathered {
+            prices,
+            priced,
+            workers,
+        } = self;
+        tally.add(priced, workers);
+        prices
+    }
+}
+
+/// Reads the prices of this many pieces off what these workers answered, and joins their claims to `stock`.
+pub(crate) fn gather<A: Allocator>(
+    alloc: A,
+    claims: &Claims<A>,
+    stock: &mut Claim,
+    pieces: usize,
+    mut done: Vec<Worker<A>, A>,
+) -> Result<Gathered<A>, NoMemory>
+    requires stock { stock.old.seat.table_id ≡ claims.now.table.shared.table_id }
+    requires same { All (λ w. w.claim.seat.table_id ≡ claims.now.table.shared.table_id) done.items }
+    requires known { All (λ w. All (λ answer. answer.piece < pieces) w.answers.items) done.items }
+    requires few { All (λ w. length w.answers.items ≤ most_projects) done.items }
+    requires workers { length done.items ≤ 64 }
+    ensures same { stock.new.seat.table_id ≡ claims.now.table.shared.table_id }
+    ensures joined { OnOk result (stock.new.seat.me.0
+        ≡ all_joined (λ w. w.claim.seat.me.0) stock.old.seat.me.0 done.items) }
+    ensures prices { IfOk result (λ g.
+        g.prices.items ≡ gathered (λ w. w.answers.items) (replicate pieces None) done.items) }
+    ensures priced { IfOk result (λ g. g.priced ≡ sum_by (λ w. length w.answers.items) done.items) }
+    ensures workers { IfOk result (λ g. g.workers ≡ length done.items) }
+{
+    let mut prices = vec![in alloc; None; pieces]?;
+    let mut priced = 0;
+    let mut workers = 0;
+    while let Some(worker) = done.pop() {
+        priced += take_in(claims, stock, &mut prices, worker);
+        workers += 1;
+    }
+    Ok(Gathered {
+        prices,
+        priced,
+        workers,
+    })
 }
 
 /// Joins the claim of a worker that is done, puts its answers in the places of their pieces, and says how many they are.
-pub(crate) fn take_in<A: Allocator>(
+fn take_in<A: Allocator>(
     claims: &Claims<A>,
     stock: &mut Claim,
     prices: &mut Vec<Option<Money>, A>,

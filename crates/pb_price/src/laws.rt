@@ -1,7 +1,13 @@
 //! Laws over prices, each as the contract of a function that does nothing.
 
-ghost use Rattle.std.specs.Prelude.{◌≡◌, ℕ, ◌≤◌, List, Some, None};
+ghost use Rattle.std.specs.Prelude.{◌≡◌, ℕ, ◌+◌, ◌≤◌, List, [], Some, None, slice_index, sum_by};
+ghost use Rattle.std.specs.List.{range_with_len};
+ghost use mathlib.Core.Option.{some};
+ghost use lib.ListN.{get_elem?};
+ghost use Rattle.atomic_table.specs.Table.{State, keeps, stepped};
+ghost use Rattle.pb_price.specs.Claims.{AreClaims};
 ghost use Rattle.pb_price.specs.Price.{price_of, IsPrice, NoRestRises};
+ghost use Rattle.pb_price.specs.declared.claims.drawn.Drawn.{Drawn};
 
 /// A price is the least payment by which the supporters cover the cost, and there is none just where all that is left to
 /// them together is below the cost.
@@ -16,4 +22,15 @@ pub fn no_price_falls()
         → price_of supporters before cost ≡ Some p → price_of supporters after cost ≡ Some q → p ≤ q }
     ensures stays_none { (supporters before after : List ℕ) (cost : ℕ) → NoRestRises before after
         → price_of supporters before cost ≡ None → price_of supporters after cost ≡ None }
+{}
+
+/// What the rule of the claims says of an atomic step, of whatever kind it is: the numbers in the view of the worker who makes
+/// it grow by those that the word passes, each once, and by no others. So a worker has drawn a number only where its own step
+/// took the word past it.
+pub fn a_step_draws_what_the_word_passes()
+    ensures { (pieces workers id next : ℕ) (s : State (Unit {0}) Drawn) (old new : Drawn)
+        → AreClaims pieces workers s → get_elem? s.views id ≡ some old
+        → AreClaims pieces workers (stepped s 0 next id [] new keeps) → (weight : ℕ → ℕ)
+        → sum_by weight new.numbers + sum_by weight (range_with_len 0 (slice_index s.words 0))
+        ≡ sum_by weight old.numbers + sum_by weight (range_with_len 0 next) }
 {}

@@ -9,6 +9,7 @@ pub mod gate;
 mod gathering;
 pub mod laws;
 mod least_payment;
+mod pieces;
 pub mod price;
 mod price_fault;
 mod steps;

@@ -27,7 +27,8 @@ pub fn price<A: Allocator, B: Allocator>(
     ensures price { IfOk result (λ answer. answer ≡ price_at supporters.now rests.now place) }
     ensures least { IfOk result (IsPrice (supporters_at supporters.now place) rests.now
         (cost_at supporters.now place)) }
-    ensures counted { OnOk result (tally.new ≡ min (tally.old + 1) largest_count) }
+    ensures counted { OnOk result (tally.new
+        ≡ record tally.old { prices = min (tally.old.prices + 1) largest_count }) }
     ensures err { OnErr result (tally.new ≡ tally.old) }
 {
     let mut buffer = Vec::new(alloc);
@@ -48,7 +49,8 @@ pub fn price_with<A: Allocator, B: Allocator>(
     ensures price { IfOk result (λ answer. answer ≡ price_at supporters.now rests.now place) }
     ensures least { IfOk result (IsPrice (supporters_at supporters.now place) rests.now
         (cost_at supporters.now place)) }
-    ensures counted { OnOk result (tally.new ≡ min (tally.old + 1) largest_count) }
+    ensures counted { OnOk result (tally.new
+        ≡ record tally.old { prices = min (tally.old.prices + 1) largest_count }) }
     ensures err { OnErr result (tally.new ≡ tally.old) }
 {
     let total = gather(buffer, supporters.of(place), rests)?;

@@ -1,46 +1,63 @@
-ghost use Rattle.std.specs.Prelude.{◌≡◌, ℕ, ◌+◌, min};
+ghost use Rattle.std.specs.Prelude.{◌≡◌, ◌+◌, min};
 ghost use Rattle.pb_price.specs.Price.{largest_count};
 
 use std::marker::Model;
 
-/// How many prices were computed. At the largest `u64` it stays there.
+/// How many prices were computed, and how many workers computed them, list by list. At the largest `u64` either stays there.
 #[derive(Debug, Drop)]
 pub struct Tally {
-    count: u64,
+    prices: u64,
+    workers: u64,
 }
 
 impl Model for Tally {
-    ghost Value = { ℕ };
+    ghost use Rattle.pb_price.specs.Price.{TallyView};
 
-    ghost view = { λ t. t.count };
+    ghost Value = { TallyView };
+
+    ghost view = { λ t. record { prices = t.prices; workers = t.workers } };
 }
 
 impl Tally {
     /// A tally of no price.
     pub fn new() -> Tally
-        ensures { result ≡ 0 }
+        ensures { result ≡ record { prices = 0; workers = 0 } }
     {
-        Tally { count: 0 }
+        Tally {
+            prices: 0,
+            workers: 0,
+        }
     }
 
     /// The number of prices that were computed.
     pub fn count(&self) -> u64
-        ensures { result ≡ self.now }
+        ensures { result ≡ self.now.prices }
     {
-        self.count
+        self.prices
     }
 
-    /// One more price was computed.
+    /// The number of workers who priced a list, added up over the lists.
+    pub fn workers(&self) -> u64
+        ensures { result ≡ self.now.workers }
+    {
+        self.workers
+    }
+
+    /// One more price was computed, without a worker.
     pub(crate) fn add_one(&mut self)
-        ensures { self.new ≡ min (self.old + 1) largest_count }
+        ensures { self.new ≡ record self.old { prices = min (self.old.prices + 1) largest_count } }
     {
-        self.count = self.count.saturating_add(1);
+        self.prices = self.prices.saturating_add(1);
     }
 
-    /// This many more prices were computed.
-    pub(crate) fn add(&mut self, prices: u64)
-        ensures { self.new ≡ min (self.old + prices) largest_count }
+    /// This many more prices were computed, by this many workers.
+    pub(crate) fn add(&mut self, prices: u64, workers: u32)
+        ensures { self.new ≡ record {
+          prices = min (self.old.prices + prices) largest_count;
+          workers = min (self.old.workers + workers) largest_count;
+        } }
     {
-        self.count = self.count.saturating_add(prices);
+        self.prices = self.prices.saturating_add(prices);
+        self.workers = self.workers.saturating_add(u64::from(workers));
     }
 }

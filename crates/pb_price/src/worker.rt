@@ -6,8 +6,7 @@ use crate::answer::Answer;
 use crate::claims::{Claim, Claims};
 use crate::common_rest::{common_rest, price_by};
 use crate::gate::Gate;
-use crate::supporters::Supporters;
-use pb_core::money::Money;
+use crate::pieces::Pieces;
 use pb_core::no_memory::NoMemory;
 use std::alloc::Allocator;
 
@@ -24,26 +23,25 @@ impl<A: Allocator> Worker<A> {
     pub(crate) fn work<B: Allocator, C: Allocator, G: Gate>(
         mut self,
         claims: &Claims<C>,
-        gate: &G,
-        projects: &[u32],
-        supporters: &Supporters<B>,
-        rests: &[Money],
+        pieces: &Pieces<G, B>,
     ) -> Result<Worker<A>, NoMemory>
         requires same { self.claim.seat.table_id ≡ claims.now.table.shared.table_id }
         requires fresh { (self.claim.seat.me.0 ≡ drawn 1 []) × (self.answers.items ≡ []) }
-        requires batch { IsBatch supporters.now rests.now projects.now claims.now.table.shared.key.pieces }
+        requires batch { IsBatch pieces.now.supporters.now pieces.now.rests.now pieces.now.projects.now
+            claims.now.table.shared.key.pieces }
         ensures { IfOk result (λ w. (w.claim.seat.table_id ≡ claims.now.table.shared.table_id)
-            × IsDone supporters.now rests.now projects.now w.claim.seat.me.0 w.answers.items) }
+            × IsDone pieces.now.supporters.now pieces.now.rests.now pieces.now.projects.now
+            w.claim.seat.me.0 w.answers.items) }
     {
-        let common = common_rest(supporters, rests, projects.len());
+        let common = common_rest(pieces.supporters, pieces.rests, pieces.projects.len());
         loop {
             let number = claims.draw(&mut self.claim);
-            let Some(place) = projects.get(number as usize) else {
+            let Some(place) = pieces.projects.get(number as usize) else {
                 return Ok(self);
             };
             let piece = number as u32;
-            gate.at(self.number, piece);
-            let price = price_by(supporters, rests, &common, *place);
+            pieces.gate.at(self.number, piece);
+            let price = price_by(pieces.supporters, pieces.rests, &common, *place);
             self.answers.push(Answer { piece, price })?;
         }
     }

@@ -12,3 +12,4 @@ pub mod Queue
 pub mod RaiseEnds
 pub mod Reach
 pub mod Run
+pub mod Threads

@@ -1,5 +1,6 @@
 ghost use Rattle.std.specs.Prelude.{◌≡◌, ◌<◌, All, length, true};
 ghost use Rattle.pb_price.specs.PriceFault.{is_worker_count};
+ghost use Rattle.pb_rounds.specs.Threads.{workers_for};
 
 use crate::measure::Measure;
 use pb_price::supporters::Supporters;
@@ -20,7 +21,8 @@ pub(crate) struct Pricing<'a, R, G, A: Allocator> {
     pub(crate) supporters: &'a Supporters<A>,
 }
 
-/// How many of the workers price these projects: one for each share of the approvals that is worth a thread.
+/// How many of the workers price these projects: one, and one more for each share of the approvals that is worth a thread, as
+/// far as there are workers.
 pub(crate) fn workers_for<A: Allocator>(
     workers: u32,
     supporters: &Supporters<A>,
@@ -28,7 +30,7 @@ pub(crate) fn workers_for<A: Allocator>(
 ) -> u32
     requires known { All (λ place. place < length supporters.now.costs) places.now }
     requires workers { is_worker_count workers ≡ true }
-    ensures { is_worker_count result ≡ true }
+    ensures { result ≡ workers_for workers supporters.now places.now }
 {
     let mut approvals: u64 = 0;
     for place in places {

@@ -1,4 +1,4 @@
-ghost use Rattle.std.specs.Prelude.{◌≡◌, ◌+◌, ◌∷◌, ◌++◌, [], ◌<◌, ◌≤◌, ◌^◌, All, length, min, true, IfOk, OnOk, Some};
+ghost use Rattle.std.specs.Prelude.{◌≡◌, ◌+◌, ◌∷◌, ◌++◌, [], ◌<◌, ◌≤◌, ◌^◌, All, length, max, min, true, IfOk, OnOk, Some};
 ghost use Rattle.std.specs.List.Sorted.{IsStrictlyIncreasing};
 ghost use Rattle.pb_core.specs.Election.{most_projects};
 ghost use Rattle.pb_price.specs.Price.{paid_at, price_at, AreRests, largest_count};
@@ -7,6 +7,7 @@ ghost use Rattle.pb_price.specs.Supporters.{supporters_at};
 ghost use Rattle.pb_rounds.specs.Bid.{Bid, better_of, first_least, is_before};
 ghost use Rattle.pb_rounds.specs.Queue.{IsDone, IsIn, PricesHeads};
 ghost use Rattle.pb_rounds.specs.Run.{bids_at, charged, elected_by};
+ghost use Rattle.pb_rounds.specs.Threads.{workers_for};
 
 use crate::key::Key;
 use crate::outcome::{Elected, Outcome};
@@ -49,7 +50,9 @@ fn price_heads<R: Threads + Sync, G: Gate, A: Allocator + Copy + Send + Sync>(
     ensures fresh { OnOk result (fresh.new.items
         ≡ fresh.old.items ++ bids_at pricing.now.measure pricing.now.supporters.now rests.now heads.now) }
     ensures best { OnOk result (best.new ≡ first_least is_before fresh.new.items) }
-    ensures counted { OnOk result (tally.new ≡ min (tally.old + length heads.now) largest_count) }
+    ensures counted { OnOk result (tally.new.prices ≡ min (tally.old.prices + length heads.now) largest_count) }
+    ensures workers { OnOk result (tally.new.workers ≡ min (tally.old.workers + max 1 (min (length heads.now)
+        (workers_for pricing.now.workers pricing.now.supporters.now heads.now))) largest_count) }
 {
     let workers = workers_for(pricing.workers, pricing.supporters, heads);
     let priced = price_all(
@@ -94,12 +97,12 @@ fn price_batches<R: Threads + Sync, G: Gate, A: Allocator + Copy + Send + Sync>(
     requires few { length queue.old.keys ≤ most_projects }
     requires places { places.old.items ≡ [] }
     requires fresh { fresh.old.items ≡ [] }
-    requires tally { tally.old ≡ 0 }
+    requires tally { tally.old.prices ≡ 0 }
     ensures priced { IfOk result
         (PricesHeads pricing.now.measure pricing.now.supporters.now rests.now most
         queue.old.keys queue.new.keys places.new.items fresh.new.items) }
     ensures done { IfOk result (λ best. IsDone best queue.new.keys) }
-    ensures counted { IfOk result (λ best. tally.new ≡ length places.new.items) }
+    ensures counted { IfOk result (λ best. tally.new.prices ≡ length places.new.items) }
 {
     let mut best = None;
     loop {

@@ -5,6 +5,7 @@ ghost use Rattle.pb_core.specs.Money.{largest_money};
 ghost use Rattle.pb_rounds.specs.Count.{add1_of, is_decisive, IsCompletionFault};
 ghost use Rattle.pb_rounds.specs.CountFault.{largest_step, most_raises};
 ghost use Rattle.pb_rounds.specs.RaiseEnds.{CanComplete, IsCompletion, IsFound};
+ghost use Rattle.pb_rounds.specs.Threads.{group_size};
 
 use crate::count::{opening_share, outcome_after};
 use crate::count_fault::CountFault;
@@ -53,30 +54,27 @@ impl<'a, R: Threads + Sync, G: Gate, A: Allocator + Copy + Send + Sync> Group<'a
     }
 }
 
-/// Tries the raises of a group, one for each trial.
+/// Tries the raises of a group, one for each trial, each in a thread of its own where one can be made.
 fn try_group<R: Threads + Sync, G: Gate, A: Allocator + Copy + Send + Sync>(
     group: &Group<R, G, A>,
     trials: &mut Vec<Trial<A>, A>,
 )
     requires opening { group.now.opening ≤ largest_money }
     requires step { group.now.step ≤ largest_step }
-    requires some { 0 < length trials.old.items }
     requires few { group.now.next + length trials.old.items ≤ most_raises + 1 }
     ensures len { length trials.new.items ≡ length trials.old.items }
     ensures ends { (i : ℕ) (d : _) → i < length trials.old.items
         → IsFound group.now.pricing.now.measure group.now.pricing.now.supporters.now group.now.budget
         (group.now.opening + (group.now.next + i) * group.now.step) (slice_index_or trials.new.items i d).end }
 {
-    let try_one = |i: usize, trial: &mut Trial<A>|
-        requires opening { group.now.opening ≤ largest_money }
-        requires raised { group.now.next + i ≤ most_raises }
-        requires step { group.now.step ≤ largest_step }
-        ensures { IsFound group.entry.now.pricing.now.measure group.entry.now.pricing.now.supporters.now
-            group.entry.now.budget
-            (group.entry.now.opening + (group.entry.now.next + i) * group.entry.now.step) trial.new.end }
-    { group.try_raise(i, trial) };
-    let count = trials.len();
-    thread::for_each_mut(group.pricing.rt, trials.as_mut_slice(), count, &try_one);
+    let try_one = |i: usize, trial: &mut [Trial<A>]|
+        requires { (length trial.now ≡ 1) × (group.now.opening ≤ largest_money)
+            × (group.now.step ≤ largest_step) × (group.now.next + i ≤ most_raises) }
+        ensures { (d : _) → IsFound group.entry.now.pricing.now.measure group.entry.now.pricing.now.supporters.now
+            group.entry.now.budget (group.entry.now.opening + (group.entry.now.next + i) * group.entry.now.step)
+            (slice_index_or trial.exit.now 0 d).end }
+    { group.try_raise(i, &mut trial[0]) };
+    thread::for_each_chunk_mut(group.pricing.rt, trials.as_mut_slice(), 1, &try_one);
 }
 
 /// Tries raises side by side, one for each trial, from this number of raises on, none before which decides: how many raises
@@ -122,40 +120,32 @@ fn try_raises<R: Threads + Sync, G: Gate, A: Allocator + Copy + Send + Sync, B: 
     Ok(None)
 }
 
-/// How many raises are tried side by side at most: one for each worker, and for each processor where their number is known,
-/// since what runs beside others on one processor only delays them.
-fn most_trials(rt: &impl Threads, workers: u32) -> u32
-    requires { 0 < workers }
-    ensures some { 0 < result }
-    ensures few { result ≤ workers }
+/// How many processors there are, or as many as a number can say where that is not known.
+fn processors(rt: &impl Threads) -> u32
+    ensures { 0 < result }
 {
     match thread::available_parallelism(rt) {
-        Ok(processors) => match u32::try_from(processors.get()) {
-            Ok(processors) => workers.min(processors),
-            Err(_) => workers,
-        },
-        Err(_) => workers,
+        Ok(processors) => u32::try_from(processors.get()).unwrap_or(u32::MAX),
+        Err(_) => u32::MAX,
     }
 }
 
-/// How many raises the next group tries, of this many that are left: twice as many as the last one, and at least 2.
-fn group_size(last: usize, side_by_side: u32, left: u32) -> usize
-    requires last { last ≤ 64 }
-    requires some { (0 < side_by_side) × (0 < left) }
-    ensures some { 0 < result }
-    ensures few { (result ≤ side_by_side) × (result ≤ left) }
-{
-    (2 * last).max(2).min(side_by_side.min(left) as usize)
-}
-
-/// Makes the trials this many.
+/// Makes the trials as many as the next group has, of the raises that are left: twice as many as the last one had, and at
+/// least 2, but at most one for each worker and for each processor, since what runs beside others on one processor only
+/// delays them.
 fn resize<A: Allocator + Copy>(
     alloc: A,
     trials: &mut Vec<Trial<A>, A>,
-    count: usize,
+    workers: u32,
+    processors: u32,
+    left: u32,
 ) -> Result<(), NoMemory>
-    ensures { OnOk result (length trials.new.items ≡ count) }
+    requires last { length trials.old.items ≤ 64 }
+    ensures { OnOk result (length trials.new.items
+        ≡ group_size (length trials.old.items) workers processors left) }
 {
+    let most = workers.min(processors).min(left) as usize;
+    let count = (2 * trials.len()).max(2).min(most);
     trials.truncate(count);
     while trials.len() < count {
         trials.push(Trial::new(alloc))?;
@@ -182,16 +172,16 @@ fn decide_side_by_side<R: Threads + Sync, G: Gate, A: Allocator + Copy + Send + 
         (add1_of pricing.now.measure election.now step max_raises ≡ found)
         × MatchOption found ⊤ (λ raises. raises ≤ max_raises)) }
 {
-    let side_by_side = most_trials(pricing.rt, pricing.workers);
+    let processors = processors(pricing.rt);
     let mut next = from;
     while next <= max_raises {
-        let count = group_size(trials.len(), side_by_side, max_raises + 1 - next);
-        resize(pricing.alloc, trials, count)?;
+        let left = max_raises + 1 - next;
+        resize(pricing.alloc, trials, pricing.workers, processors, left)?;
         let found = try_raises(pricing, election, trials, step, max_raises, next)?;
         if let Some(raises) = found {
             return Ok(Some(raises));
         }
-        next += count as u32;
+        next += trials.len() as u32;
     }
     Ok(None)
 }

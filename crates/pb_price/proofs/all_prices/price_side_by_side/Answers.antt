@@ -7,12 +7,12 @@ close-requires-clause-all g c = c.in-Ok.ensures.all ∙ ap (λ b. b.workers) (sy
 
 pub returns-in-Ok-clause-prices : goal.returns-in-Ok-clause-prices
 returns-in-Ok-clause-prices g c =
-    let some = subst (λ n. 0 < n) (sym c.in-Ok.ensures.all) c.requires.some in
-    (gathers_all c.args.supporters.now c.args.rests.now c.args.projects.now c.gather_answers.new.stock.seat.me.0 c.in-Ok.gathered.prices.items c.in-Ok.gathered.priced
+    let some = subst (λ n. 0 < n) (sym c.in-Ok.ensures.all) c.requires.workers.0 in
+    (gathers_all c.args.pieces.now.supporters.now c.args.pieces.now.rests.now c.args.pieces.now.projects.now c.draw_and_gather.new.stock.seat.me.0 c.in-Ok.gathered.prices.items c.in-Ok.gathered.priced
     c.close.ensures.0 c.in-Ok.ensures.gathered c.close.ensures.1 some).0
 
 pub returns-in-Ok-clause-priced : goal.returns-in-Ok-clause-priced
 returns-in-Ok-clause-priced g c =
-    let some = subst (λ n. 0 < n) (sym c.in-Ok.ensures.all) c.requires.some in
-    (gathers_all c.args.supporters.now c.args.rests.now c.args.projects.now c.gather_answers.new.stock.seat.me.0 c.in-Ok.gathered.prices.items c.in-Ok.gathered.priced
+    let some = subst (λ n. 0 < n) (sym c.in-Ok.ensures.all) c.requires.workers.0 in
+    (gathers_all c.args.pieces.now.supporters.now c.args.pieces.now.rests.now c.args.pieces.now.projects.now c.draw_and_gather.new.stock.seat.me.0 c.in-Ok.gathered.prices.items c.in-Ok.gathered.priced
     c.close.ensures.0 c.in-Ok.ensures.gathered c.close.ensures.1 some).1

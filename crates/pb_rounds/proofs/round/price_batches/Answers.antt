@@ -43,7 +43,7 @@ loop-places-preserved g c =
           c.price_heads.new.best c.in_ok-price_heads.ensures.best;
       counted = counted_more c.args.pricing.now.measure c.args.pricing.now.supporters.now c.args.rests.now c.args.most c.args.queue.now.keys c.loop-places.queue.keys
           c.loop-places.places.items c.loop-places.fresh.items c.loop-places.best c.loop-places.invariant.heads c.take_heads.new.queue.keys c.take_heads.new.places.items
-          c.in_ok-take_heads.ensures c.loop-places.tally c.price_heads.new.tally _ c.loop-places.invariant.counted cut c.in_ok-price_heads.ensures.counted c.requires.few;
+          c.in_ok-take_heads.ensures c.loop-places.tally.prices c.price_heads.new.tally.prices _ c.loop-places.invariant.counted cut c.in_ok-price_heads.ensures.counted c.requires.few;
     }
 
 pub returns-then-len-before-clause-priced : goal.returns-then-len-before-clause-priced
