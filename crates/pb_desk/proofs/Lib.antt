@@ -3,6 +3,7 @@ pub mod Places
 pub mod Slots
 pub mod Sources
 pub mod NothingDone
+pub mod RowsRead
 pub mod Openings
 pub mod Replays
 pub mod Steps
