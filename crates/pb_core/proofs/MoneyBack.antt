@@ -1,17 +1,18 @@
 -- What is written of an amount is read as that amount.
-use Rattle.std.proofs.Common.{◌≡◌, nat_le, subst, ℕ, ◌+◌, ◌*◌, ◌/◌, ◌%◌, ◌^◌, ◌<◌, ◌≤◌, Bool, true, ◌&&◌, Ok, List, [], ◌∷◌, ◌++◌, length, decimal, refl, sym, ◌∙◌, ap, arith, rules}
+use Rattle.std.proofs.Common.{◌≡◌, nat_le, subst, inl, inr, suc, zero, get_or, codes, ℕ, ◌+◌, ◌*◌, ◌/◌, ◌%◌, ◌^◌, ◌<◌, ◌≤◌, Bool, true, ◌&&◌, Ok, List, [], ◌∷◌, ◌++◌, length, decimal, refl, sym, ◌∙◌, ap, arith, rules}
 use Rattle.std.proofs.Math.Nat.{div-add-mod}
 use Rattle.std.proofs.Math.Seq.{take-append_seam, drop-append-add}
-use Rattle.std.proofs.lemmas.Fmt.{decimal_by_steps, decimal_is_IsNumeral}
+use Rattle.std.proofs.lemmas.Fmt.{decimal_by_steps, decimal_digit, decimal_is_IsNumeral, first_decimal}
 use Rattle.std.proofs.lemmas.List.{append_assoc}
 use Rattle.std.specs.Char.{is_ascii_digit, digit_value}
 use Rattle.std.specs.List.{list_all, position_or_len}
-use Rattle.std.specs.Str.Parse.{digits_value}
+use Rattle.std.specs.Str.Parse.{IsNumeral, digits_value}
 use Rattle.pb_core.proofs.Conditions.{both, left_of, or_right, right_of}
 use Rattle.pb_core.proofs.MoneyParts.{first_mark, is_number-of}
 use Rattle.pb_core.proofs.MoneyTexts.{digit_value-digit}
+use Rattle.pb_core.proofs.MoneyWorth.{digits_value-append}
 use Rattle.pb_core.specs.Money.{money_of, largest_money}
-use Rattle.pb_core.specs.MoneyText.{is_number, is_mark, whole_part, fraction, has_money_form, is_in_hundredths, hundredths, money_text}
+use Rattle.pb_core.specs.MoneyText.{is_number, is_mark, whole_part, fraction, has_money_form, is_in_hundredths, hundredths, money_text, IsMoneyText, IsWorth}
 
 nat_le-within : (a b : ℕ) → a ≤ b → nat_le a b ≡ true
 nat_le-within a b within = search rules
@@ -71,3 +72,36 @@ reads_back h within =
     append_assoc (decimal (h / 100)) (46 ∷ []) ((48 + h / 10 % 10) ∷ (48 + h % 10) ∷ []) in
     rw text_is
     (shown (decimal (h / 100)) (h / 10 % 10) (h % 10) numeral.0.0 (decimal-digits (h / 100) small) (omega arith) (omega arith) (rw is within) ∙ ap Ok is)
+
+-- a number is written without a zero before it
+no_zero_first : (n : ℕ) → n < 2 ^ 64 → (rest : List ℕ) → decimal n ≡ 48 ∷ rest → rest ≡ []
+no_zero_first zero small rest is = cc (is, decimal_digit 0 (omega arith))
+no_zero_first (suc n) small rest is =
+    let first : 48 < get_or (decimal (suc n)) 0 0 = first_decimal (suc n) (omega arith) small in
+    let other : 48 < 48 = subst (λ (ds : List ℕ). 48 < get_or ds 0 0) is first in
+    absurd (omega (arith, other))
+
+-- what is written of an amount: a number, a point and two digits, which are worth it
+pub spelled : (h : ℕ) → h < 2 ^ 64 → (whole : List ℕ) × (decimals : List ℕ) × (money_text h ≡ whole ++ (codes "." ++ decimals)) × (length decimals ≡ 2)
+    × IsMoneyText (money_text h) whole decimals × IsWorth whole decimals h × ((rest : List ℕ) → whole ≡ codes "0" ++ rest → rest ≡ [])
+spelled h small =
+    let within : h / 100 < 2 ^ 64 = omega arith in
+    let a = h / 10 % 10 in
+    let b = h % 10 in
+    let whole = decimal (h / 100) in
+    let decimals : List ℕ = (48 + a) ∷ (48 + b) ∷ [] in
+    let numeral = decimal_is_IsNumeral (h / 100) within in
+    let small_a : a < 10 = omega arith in
+    let small_b : b < 10 = omega arith in
+    let text_is : money_text h ≡ whole ++ (codes "." ++ decimals) = append_assoc whole (codes ".") decimals in
+    let digits : IsNumeral 10 decimals = (omega arith, (digit_value-small a small_a, (digit_value-small b small_b, tt))) in
+    let shows_a : digit_value (48 + a) ≡ a = digit-shown a small_a in
+    let shows_b : digit_value (48 + b) ≡ b = digit-shown b small_b in
+    let value : digits_value 10 decimals ≡ 10 * a + b = rw (shows_a, shows_b) (omega arith) in
+    let parts : 100 * (h / 100) + (10 * a + b) ≡ h = omega (arith, div-add-mod (h / 10) 10, div-add-mod h 10, div-add-mod h 100) in
+    let worth : digits_value 10 (whole ++ decimals) ≡ h =
+    digits_value-append whole decimals ∙ rw (numeral.1, value) (omega (arith, parts)) in
+    (whole, decimals, text_is, refl, (numeral.0, inr (digits, inl text_is)), ap (λ n. 100 * n) (sym worth), no_zero_first (h / 100) within)
+  where
+    digit_value-small : (d : ℕ) → d < 10 → digit_value (48 + d) < 10
+    digit_value-small d below = let shows = digit-shown d below in omega (arith, shows)

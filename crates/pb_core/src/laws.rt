@@ -1,19 +1,20 @@
 //! Laws over the definitions alone. The functions do nothing; their contracts are the laws.
 
-ghost use Rattle.std.specs.Prelude.{◌≡◌, ◌↔◌, ◌<◌, ◌≤◌, ℕ, List, Ok, Err};
+ghost use Rattle.std.specs.Prelude.{◌≡◌, ◌↔◌, ◌<◌, ◌≤◌, ◌^◌, ◌++◌, ℕ, List, [], length, codes, Ok, Err};
 ghost use Rattle.pb_core.specs.Money.{money_of, largest_money};
 ghost use Rattle.pb_core.specs.MoneyText.{IsMoneyText, IsWorth, money_text};
 
-use crate::money::Money;
 use crate::money_fault::MoneyFault;
 
-/// What is written of an amount reads back as the same amount.
-pub fn money_reads_back(amount: Money)
-    requires { amount ≤ largest_money }
-    ensures { money_of (money_text amount) ≡ Ok amount }
-{
-    let _ = amount;
-}
+/// What is written of an amount of 64 bits is a number, a point and two digits, worth just this amount; a zero
+/// begins the number only where it is the whole of it. An amount that can be read reads back as the same amount.
+pub fn money_reads_back()
+    ensures back { (h : ℕ) → h ≤ largest_money → money_of (money_text h) ≡ Ok h }
+    ensures spelled { (h : ℕ) → h < 2 ^ 64 → (whole : List ℕ) × (decimals : List ℕ)
+        × (money_text h ≡ whole ++ (codes "." ++ decimals)) × (length decimals ≡ 2)
+        × IsMoneyText (money_text h) whole decimals × IsWorth whole decimals h
+        × ((rest : List ℕ) → whole ≡ codes "0" ++ rest → rest ≡ []) }
+{}
 
 /// An amount that is read is the number that the digits of its text name. A text that has no such
 /// digits is bad; one whose number is no whole number of hundredths is too fine; and one whose number

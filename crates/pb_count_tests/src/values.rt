@@ -67,7 +67,7 @@ const NO_AMOUNTS: &[(&str, MoneyFault)] = &[
 #[test]
 fn reads_money(rt: HostRuntime) {
     money_is_what_its_text_names();
-    money_reads_back(Money(120_050));
+    money_reads_back();
     for (text, hundredths) in AMOUNTS {
         same(&rt, Money::read(text), Ok(Money(*hundredths)), text);
     }

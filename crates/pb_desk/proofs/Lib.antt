@@ -2,6 +2,8 @@ pub mod Ballots
 pub mod Places
 pub mod Slots
 pub mod Sources
+pub mod NothingDone
+pub mod RowsRead
 pub mod Openings
 pub mod Replays
 pub mod Steps

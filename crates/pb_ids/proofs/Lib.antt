@@ -1,2 +1,3 @@
+pub mod CrowdFacts
 pub mod KeptFacts
 pub mod TableFacts

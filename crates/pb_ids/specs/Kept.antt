@@ -1,9 +1,9 @@
 -- How ids are found; private contracts speak of it.
-use Rattle.std.specs.Prelude.{ℕ, ◌+◌, ◌*◌, Bool, ◌&&◌, nat_eq, nat_le, nat_lt, List, [], ◌∷◌, length, reverse, Option, if◌then◌else◌}
+use Rattle.std.specs.Prelude.{ℕ, ◌+◌, ◌*◌, ◌^◌, ◌≤◌, Bool, ◌&&◌, nat_eq, nat_le, nat_lt, List, [], ◌∷◌, length, reverse, Option, if◌then◌else◌}
 use Rattle.std.specs.List.{list_all}
 use Rattle.std.specs.BTreeMap as tree
 use Rattle.std.specs.Option.{option_or}
-use Rattle.indexmap.specs.IndexMap.{get, get_by_text}
+use Rattle.indexmap.specs.IndexMap.{get, get_by_text, index_map_len}
 use Rattle.pb_ids.specs.declared.kept_ids.KeptIds.{KeptIds}
 
 -- bytes, the lowest first, as digits from 1 to 255 of a number in base 256
@@ -17,6 +17,14 @@ code_of text = digits (reverse text)
 
 abbrev pub has_code : List ℕ → Bool
 has_code text = nat_le (length text) 8 && list_all (λ b. nat_lt b 255) text
+
+-- a hash table gets this many ids at most
+abbrev pub most_hashed : ℕ
+most_hashed = 9 * 2 ^ 17
+
+-- neither hash table has more ids
+abbrev pub IsFew : {Y : Type 0} → KeptIds Y → Type 0
+IsFew ids = (index_map_len ids.short ≤ most_hashed) × (index_map_len ids.long ≤ most_hashed)
 
 -- the place of a text that is kept by hash: by its number, or by its bytes where it has none
 abbrev pub hashed : {Y : Type 0} → KeptIds Y → List ℕ → Option ℕ

@@ -1,2 +1,3 @@
+pub mod Crowd
 pub mod Kept
 pub mod Places

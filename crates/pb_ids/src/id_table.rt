@@ -2,7 +2,7 @@
 
 ghost use Rattle.std.specs.Prelude.{◌≡◌, IfOk, OnErr, OnOk};
 ghost use Rattle.std.specs.FinMap as map;
-ghost use Rattle.pb_ids.specs.Kept.{found};
+ghost use Rattle.pb_ids.specs.Kept.{IsFew, found};
 ghost use Rattle.pb_ids.specs.Places.{Shows, Shows-prop};
 
 use crate::kept_ids::KeptIds;
@@ -16,6 +16,7 @@ use std::marker::Model;
 pub struct IdTable<A: Allocator = Global> {
     kept: KeptIds<A>,
     ghost shown: { Shows (found kept) } by { Shows-prop (found kept) },
+    ghost few: { IsFew kept },
 }
 
 impl<A: Allocator> Model for IdTable<A> {

@@ -2,9 +2,9 @@
 
 ghost use Rattle.std.specs.Prelude.{◌≡◌, List, ℕ, None, Some, IfOk, OnErr, OnOk, if◌then◌else◌};
 ghost use Rattle.std.specs.Str.{bytes_eq};
-ghost use Rattle.pb_ids.specs.Kept.{code_of, found, has_code, hashed};
+ghost use Rattle.pb_ids.specs.Kept.{IsFew, code_of, found, has_code, hashed};
 
-use crate::crowd::Crowd;
+use crate::crowd::{Crowd, start_of};
 use indexmap::IndexMap;
 use std::alloc::{AllocError, Allocator};
 use std::collections::BTreeMap;
@@ -30,7 +30,8 @@ impl<A: Allocator> KeptIds<A> {
     pub(crate) fn new(alloc: A) -> KeptIds<A>
     where
         A: Copy,
-        ensures { (text : List ℕ) → found result text ≡ None }
+        ensures none { (text : List ℕ) → found result text ≡ None }
+        ensures few { IsFew result }
     {
         KeptIds {
             short: IndexMap::new(alloc),
@@ -79,29 +80,30 @@ impl<A: Allocator> KeptIds<A> {
         ensures places { OnOk result ((text : List ℕ) →
             found self.new text ≡ (if bytes_eq id.now text then Some place else found self.old text)) }
         ensures err { OnErr result ((text : List ℕ) → found self.new text ≡ found self.old text) }
+        ensures few { IsFew self.old → IsFew self.new }
     {
         if self.crowded.get(id).is_some() {
             return self.insert_crowded(alloc, id, place);
         }
         let hasher = Hasher::new();
         if let Some(code) = code_of(id) {
-            let hash = hasher.hash_one(code);
+            let start = start_of(hasher.hash_one(code));
             let len = self.short.len();
-            if !self.short_crowd.has_room(hash, len)? {
+            if !self.short_crowd.has_room(start, len)? {
                 return self.insert_crowded(alloc, id, place);
             }
             let before = self.short.insert(code, place)?;
-            self.short_crowd.count(hash, len, before);
+            self.short_crowd.count(start, len, before);
             return Ok(before);
         }
-        let hash = hasher.hash_one(id);
+        let start = start_of(hasher.hash_one(id));
         let len = self.long.len();
-        if !self.long_crowd.has_room(hash, len)? {
+        if !self.long_crowd.has_room(start, len)? {
             return self.insert_crowded(alloc, id, place);
         }
         let text = String::from_str(alloc, id)?;
         let before = self.long.insert(text, place)?;
-        self.long_crowd.count(hash, len, before);
+        self.long_crowd.count(start, len, before);
         Ok(before)
     }
 
@@ -113,6 +115,7 @@ impl<A: Allocator> KeptIds<A> {
         ensures places { OnOk result ((text : List ℕ) →
             found self.new text ≡ (if bytes_eq id.now text then Some place else found self.old text)) }
         ensures err { OnErr result ((text : List ℕ) → found self.new text ≡ found self.old text) }
+        ensures few { IsFew self.old → IsFew self.new }
     {
         let before = self.get(id);
         let text = String::from_str(alloc, id)?;

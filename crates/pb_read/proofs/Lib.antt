@@ -12,3 +12,4 @@ pub mod Ballots
 pub mod DraftFacts
 pub mod ProgressFacts
 pub mod Tracking
+pub mod Blames

@@ -144,6 +144,11 @@ pub answers : (bytes : Option (List ℕ)) (left : Option (List Fields)) (r : Res
 answers None left r e said = tt
 answers (Some b) left r e said = subst (λ l. IfSome l (λ all. IfErr r (λ fault. IsFaultAt all fault.kind fault.at))) e said
 
+pub answers_ok : (bytes : Option (List ℕ)) (left : Option (List Fields)) (r : Result ElectionView ReadFault) → left ≡ option_map records_of bytes → IfSome left (λ all. IfOk r (λ e. StandsFor all e)) →
+    IfSome bytes (λ b. IfOk r (λ e. StandsFor (records_of b) e))
+answers_ok None left r e said = tt
+answers_ok (Some b) left r e said = subst (λ l. IfSome l (λ all. IfOk r (λ e. StandsFor all e))) e said
+
 pub accepts : (bytes : Option (List ℕ)) (left : Option (List Fields)) (r : Result ElectionView ReadFault) → left ≡ option_map records_of bytes → IfSome left (λ all. IfOk r (λ e. StandsFor all e)) → IfSome left (λ all. IfErr r (λ fault. IsFaultAt all fault.kind fault.at)) →
     IfSome bytes (λ b. (e : ElectionView) → StandsFor (records_of b) e → MatchResult r (λ read. read ≡ e) (λ fault. IsFromOutside fault.kind))
 accepts None left r is ok err = tt

@@ -4,6 +4,8 @@ use Rattle.pb_core.specs.Election.{ElectionView}
 use Rattle.pb_core.specs.Money.{largest_money}
 use Rattle.pb_read.specs.declared.meta.Meta.{Meta}
 use Rattle.pb_rows.specs.Reading.{Fields, NextIsNoText}
+use Rattle.pb_rows.specs.declared.fault.RecordsFault.{RecordsFault}
+use Rattle.pb_rows.specs.declared.fault.RecordsFault.TheVariants as stop
 use Rattle.pb_read.specs.declared.fault.ReadKind.{ReadKind}
 use Rattle.pb_read.specs.declared.fault.ReadKind.TheVariants.{ReadFailed, NotText, NoMemory}
 use Rattle.pb_read.specs.Drafts.{IsTied}
@@ -50,3 +52,8 @@ StopsReading ReadFailed left = Unit {0}
 StopsReading NoMemory left = Unit {0}
 StopsReading NotText left = NextIsNoText left
 StopsReading kind left = ⊥
+
+-- the reader is at fault only where it failed
+abbrev pub BlamesReader : ReadKind → Option RecordsFault → Type 0
+BlamesReader ReadFailed stopped = stopped ≡ Some stop.ReadFailed
+BlamesReader kind stopped = Unit {0}

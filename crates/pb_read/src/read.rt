@@ -1,11 +1,11 @@
 // The reader of a whole file.
 
-ghost use Rattle.std.specs.Prelude.{◌≡◌, None, IfOk, IfErr, IfSome, OnOk, MatchResult};
+ghost use Rattle.std.specs.Prelude.{◌≡◌, None, IfOk, IfErr, IfSome, OnErr, OnOk, MatchResult};
 ghost use Rattle.pb_core.specs.Election.{ElectionView};
-ghost use Rattle.pb_rows.specs.Reading.{records_of};
+ghost use Rattle.pb_rows.specs.Reading.{HasReadAtMost, records_of};
 ghost use Rattle.pb_read.specs.Stages.{next_row, the_end};
 ghost use Rattle.pb_read.specs.FirstFault.{IsFaultAt, IsFromOutside};
-ghost use Rattle.pb_read.specs.Progresses.{Advances, EndsWith, IsReady, Refuses, StopsReading, place_of};
+ghost use Rattle.pb_read.specs.Progresses.{Advances, BlamesReader, EndsWith, IsReady, Refuses, StopsReading, place_of};
 ghost use Rattle.pb_read.specs.StandsFor.{StandsFor, opening};
 ghost use Rattle.pb_read.specs.Tracking.{HasEnded, IsNextRow};
 ghost use Rattle.pb_read.specs.declared.progress.Stage.TheVariants.{Start};
@@ -50,6 +50,8 @@ fn read_records<R: Read>(alloc: Global, records: &mut Records<R>) -> Result<Elec
     ensures ok { IfSome records.old.left (λ all. IfOk result (λ e. StandsFor all e)) }
     ensures fault { IfSome records.old.left (λ all.
         IfErr result (λ fault. IsFaultAt all fault.kind fault.at)) }
+    ensures blame { IfErr result (λ fault. BlamesReader fault.kind records.new.fault) }
+    ensures read { HasReadAtMost 2000001 records.old.left records.new.left }
 {
     let mut row = Row::new(alloc);
     let mut progress = Progress::new(alloc);
@@ -71,6 +73,8 @@ fn read_election<R: Read>(
     ensures ok { IfSome records.old.left (λ all. IfOk result (λ e. StandsFor all e)) }
     ensures fault { IfSome records.old.left (λ all.
         IfErr result (λ fault. IsFaultAt all fault.kind fault.at)) }
+    ensures blame { IfErr result (λ fault. BlamesReader fault.kind records.new.fault) }
+    ensures read { HasReadAtMost 2000001 records.old.left records.new.left }
 {
     match read_rows(records, row, progress) {
         Ok(end) => finish(progress, end),
@@ -89,6 +93,8 @@ fn read_rows<R: Read>(
     ensures ok { IfOk result (λ end. HasEnded records.old.left end (place_of progress.new)) }
     ensures fault { IfSome records.old.left (λ all.
         IfErr result (λ fault. IsFaultAt all fault.kind fault.at)) }
+    ensures blame { IfErr result (λ fault. BlamesReader fault.kind records.new.fault) }
+    ensures read { HasReadAtMost 2000001 records.old.left records.new.left }
 {
     for done in 0..MOST_RECORDS {
         let at = done + 1;
@@ -109,6 +115,8 @@ fn read_rows<R: Read>(
 fn read_row<R: Read>(records: &mut Records<R>, row: &mut Row, at: u32) -> Result<bool, ReadFault>
     ensures next { IfOk result (λ found. IsNextRow records.old.left records.new.left found row.new) }
     ensures fault { IfErr result (λ fault. (fault.at ≡ at) × StopsReading fault.kind records.old.left) }
+    ensures blame { IfErr result (λ fault. BlamesReader fault.kind records.new.fault) }
+    ensures unknown { OnErr result (records.new.left ≡ None) }
 {
     match row.read(records) {
         Ok(found) => Ok(found),
@@ -129,6 +137,7 @@ fn take_row(progress: &mut Progress, row: &Row, at: u32) -> Result<(), ReadFault
     ensures ok { OnOk result (Advances progress.old (next_row row.now) progress.new) }
     ensures fault { IfErr result (λ fault.
         (fault.at ≡ at) × Refuses progress.old (next_row row.now) fault.kind) }
+    ensures blame { IfErr result (λ fault. BlamesReader fault.kind None) }
 {
     match progress.read(row) {
         Ok(()) => Ok(()),
@@ -138,8 +147,9 @@ fn take_row(progress: &mut Progress, row: &Row, at: u32) -> Result<(), ReadFault
 
 /// Ends the reading, where record `at` would stand.
 fn finish(progress: &mut Progress, at: u32) -> Result<Election, ReadFault>
-    ensures { MatchResult result (EndsWith (place_of progress.old))
+    ensures end { MatchResult result (EndsWith (place_of progress.old))
         (λ fault. (fault.at ≡ at) × Refuses progress.old the_end fault.kind) }
+    ensures blame { IfErr result (λ fault. BlamesReader fault.kind None) }
 {
     match progress.finish() {
         Ok(election) => Ok(election),

@@ -1,6 +1,6 @@
 // A record of the file as its trimmed fields.
 
-ghost use Rattle.std.specs.Prelude.{◌≡◌, IfOk};
+ghost use Rattle.std.specs.Prelude.{◌≡◌, None, Some, IfErr, IfOk, OnErr};
 ghost use Rattle.std.specs.Str.{trim};
 ghost use Rattle.csv.specs.Records.{fields_of};
 ghost use Rattle.pb_rows.specs.Reading.{NextIsNoText};
@@ -42,6 +42,8 @@ impl Row {
     pub(crate) fn read<R: Read>(&mut self, records: &mut Records<R>) -> Result<bool, RecordsFault>
         ensures next { IfOk result (λ found. IsNextRow records.old.left records.new.left found self.new) }
         ensures not_text { result ≡ Err RecordsFault.NotText → NextIsNoText records.old.left }
+        ensures stops { IfErr result (λ fault. records.new.fault ≡ Some fault) }
+        ensures unknown { OnErr result (records.new.left ≡ None) }
     {
         records.read(&mut self.untrimmed)
     }

@@ -1,9 +1,9 @@
 -- How the records that were read so far follow each read: for the invariant of a loop over `Records::read`.
-use Rattle.std.proofs.Common.{◌≡◌, ◌∙◌, ◌++◌, ℕ, List, [], ◌∷◌, Option, Some, None, IfSome, Bool, true, false, refl, sym, append_assoc}
+use Rattle.std.proofs.Common.{◌≡◌, ◌∙◌, ◌++◌, ℕ, List, [], ◌∷◌, Option, Some, None, IfSome, Bool, true, false, refl, sym, ap, append_assoc, ◌<◌, length, length-append, arith}
 use Rattle.std.specs.Prelude.{option_map}
 use Rattle.std.proofs.lemmas.List.{append-nil}
 use Rattle.csv.specs.Records.{AllText}
-use Rattle.pb_rows.specs.Reading.{Fields, HasRead, IsNext, NextIsNoText, records_of}
+use Rattle.pb_rows.specs.Reading.{Fields, HasRead, HasReadAtMost, IsNext, NextIsNoText, records_of}
 
 -- at first none was read
 pub HasRead-start : (known : Option (List ℕ)) → HasRead known [] (option_map records_of known)
@@ -35,3 +35,21 @@ HasRead-no_text None done left so_far next = tt
 HasRead-no_text (Some bytes) done None so_far next = absurd so_far
 HasRead-no_text (Some bytes) done (Some []) so_far next = absurd next
 HasRead-no_text (Some bytes) done (Some (first ∷ rest)) so_far next = (first, rest, so_far, next)
+
+-- where nothing is known of what is left, nothing is said of how many were read
+pub HasReadAtMost-unknown : (most : ℕ) (before after : Option (List Fields)) → after ≡ None → HasReadAtMost most before after
+HasReadAtMost-unknown most None after is = tt
+HasReadAtMost-unknown most (Some all) None is = tt
+HasReadAtMost-unknown most (Some all) (Some rest) is = cc is
+
+-- a read of the next record reads at most one more than those that are gone
+pub HasReadAtMost-more : (most : ℕ) (all gone left : List Fields) (after : Option (List Fields)) (found : Bool) (fields : Fields)
+    → all ≡ gone ++ left → length gone < most → IsNext (Some left) after found fields → HasReadAtMost most (Some all) after
+HasReadAtMost-more most all gone left None found fields cut few next = tt
+HasReadAtMost-more most all gone [] (Some after) found fields cut few next =
+    let none : List Fields = [] in
+    omega (arith, few, ap length cut, length-append gone none)
+HasReadAtMost-more most all gone (first ∷ rest) (Some after) found fields cut few next =
+    let same : after ≡ rest = cc next.2 in
+    let size = ap length same in
+    omega (arith, few, ap length cut, length-append gone (first ∷ rest), size)

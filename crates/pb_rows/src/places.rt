@@ -1,7 +1,7 @@
 // Lists of places as text.
 
 ghost use Rattle.std.specs.Prelude.{◌≡◌, ◌≢◌, ◌++◌, ◌↔◌, ℕ, List, true, false, string_bytes};
-ghost use Rattle.std.specs.Prelude.{IsTrue, IfOk, OnOk};
+ghost use Rattle.std.specs.Prelude.{IsTrue, IfOk, OnErr, OnOk};
 ghost use Rattle.std.specs.List.Sorted.{IsStrictlyIncreasing};
 ghost use Rattle.pb_rows.specs.Numbers.{AreNumbers, places_text};
 
@@ -62,9 +62,10 @@ fn is_rising(places: &[u32]) -> bool
 
 /// Writes the places at the end of `text`, in decimal with `,` between two.
 ///
-/// It fails only where memory is refused, and then some of them may stand there.
+/// It fails only where memory is refused, and then some of them may stand there, after what stood there before.
 pub fn write_places<A: Allocator>(places: &[u32], text: &mut String<A>) -> Result<(), AllocError>
-    ensures { OnOk result (string_bytes text.new ≡ string_bytes text.old ++ places_text places.now) }
+    ensures ok { OnOk result (string_bytes text.new ≡ string_bytes text.old ++ places_text places.now) }
+    ensures err { OnErr result ((part : List ℕ) × (string_bytes text.new ≡ string_bytes text.old ++ part)) }
 {
     let mut digits = Buffer::new();
     for (i, place) in places.iter().enumerate() {

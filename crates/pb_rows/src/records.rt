@@ -1,6 +1,6 @@
 // The records of a text, one at a time.
 
-ghost use Rattle.std.specs.Prelude.{◌≡◌, [], false, Some, None, IfOk, IfErr, IfSome, OnOk, option_map};
+ghost use Rattle.std.specs.Prelude.{◌≡◌, [], false, Some, None, IfOk, IfErr, IfSome, OnErr, OnOk, option_map};
 ghost use Rattle.csv.specs.Records.{AllText, fields_of};
 ghost use Rattle.pb_rows.specs.Reading.{IsNext, NextIsNoText, records_of};
 
@@ -13,7 +13,8 @@ use std::marker::Model;
 /// The records of a text, with `;` between fields and of any lengths, read one at a time.
 ///
 /// A contract sees `left`, the records that are still to come (`None` where the bytes of the reader
-/// underneath are not known, and after a fault), and `fault`, what stopped the reading.
+/// underneath are not known, and after a fault), and `fault`, what stopped the reading. It is ReadFailed only
+/// where csv's reader has failed.
 #[derive(Drop)]
 pub struct Records<R: Read> {
     reader: Reader<R>,
@@ -22,8 +23,10 @@ pub struct Records<R: Read> {
 }
 
 impl<R: Read> Model for Records<R> {
-    ghost use Rattle.std.specs.Prelude.{◌≡◌, None};
+    ghost use Rattle.std.specs.Prelude.{◌≡◌, None, Some, true};
+    ghost use Rattle.csv.specs.Reading.{has_failed};
     ghost use Rattle.pb_rows.specs.Reading.{IsSetUp, Left, left_of, left_until};
+    ghost use Rattle.pb_rows.specs.declared.fault.RecordsFault.TheVariants.{ReadFailed};
 
     ghost Value = { Left };
 
@@ -32,7 +35,8 @@ impl<R: Read> Model for Records<R> {
       fault = s.fault;
     } };
 
-    ghost invariant = { λ s. s.fault ≡ None → IsSetUp s.reader };
+    ghost invariant = { λ s. (s.fault ≡ None → IsSetUp s.reader)
+        × (s.fault ≡ Some ReadFailed → has_failed s.reader ≡ true) };
 }
 
 impl<R: Read> Records<R> {
@@ -66,6 +70,7 @@ impl<R: Read> Records<R> {
         ensures text { OnOk result (AllText (fields_of row.new)) }
         ensures goes_on { OnOk result (self.new.fault ≡ None) }
         ensures stops { IfErr result (λ fault. self.new.fault ≡ Some fault) }
+        ensures unknown { OnErr result (self.new.left ≡ None) }
         ensures again { IfSome self.old.fault (λ fault. result ≡ Err fault) }
         ensures not_text { result ≡ Err RecordsFault.NotText → NextIsNoText self.old.left }
     {
@@ -97,6 +102,7 @@ impl<R: Read> Records<R> {
         ensures end { IfOk result (λ found. found ≡ false → self.new.left ≡ Some []) }
         ensures goes_on { OnOk result (self.new.fault ≡ None) }
         ensures stops { IfErr result (λ fault. self.new.fault ≡ Some fault) }
+        ensures unknown { OnErr result (self.new.left ≡ None) }
         ensures again { IfSome self.old.fault (λ fault. result ≡ Err fault) }
     {
         if let Some(earlier) = self.fault {

@@ -1,5 +1,7 @@
 use Rattle.std.proofs.Common.{◌≡◌, ◌≤◌, ◌+◌, arith, subst}
 use Rattle.std.proofs.lemmas.Result.{err_from_is_err_and}
+use Rattle.pb_rows.proofs.RecordsRead.{HasReadAtMost-unknown}
+use Rattle.pb_read.proofs.Blames.{blames_none, few_read}
 use Rattle.pb_read.proofs.Tracking.{refused, stopped, too_many, tracks_more}
 use Rattle.pb_read.specs.Progresses.{place_of}
 use Rattle.pb_read.specs.StandsFor.{most_records}
@@ -49,3 +51,32 @@ returns-then-branch-clause-fault g c =
     let all : c.loop-done.done ≡ most_records = omega arith in
     let tracks = subst (λ n. Tracks c.args.records.now.left c.loop-done.records.left n at) all c.loop-done.invariant.tracks in
     too_many c.args.records.now.left c.loop-done.records.left c.read_row-2.new.records.left at row tracks next
+
+pub returns-in_err-read_row-clause-blame : goal.returns-in_err-read_row-clause-blame
+returns-in_err-read_row-clause-blame g c =
+    let p = err_from_is_err_and c.from_residual.result c.from_residual.ensures.1 in
+    rw (p.1, p.2) c.in_err-read_row.ensures.blame
+
+pub returns-in_err-read_row-clause-read : goal.returns-in_err-read_row-clause-read
+returns-in_err-read_row-clause-read g c = HasReadAtMost-unknown 2000001 c.args.records.now.left c.read_row.new.records.left c.in_err-read_row.ensures.unknown
+
+pub returns-in_err-take_row-clause-blame : goal.returns-in_err-take_row-clause-blame
+returns-in_err-take_row-clause-blame g c =
+    let p = err_from_is_err_and c.from_residual-in_err-take_row.result c.from_residual-in_err-take_row.ensures.1 in
+    rw (p.1, p.2) (blames_none _ _ c.in_err-take_row.ensures.blame)
+
+pub returns-in_err-take_row-clause-read : goal.returns-in_err-take_row-clause-read
+returns-in_err-take_row-clause-read g c =
+    few_read c.args.records.now.left c.loop-done.records.left c.read_row.new.records.left c.loop-done.done _ _ _ c.loop-done.invariant.tracks c.in_ok-read_row.ensures.next (omega arith)
+
+pub returns-in_err-read_row-2-clause-blame : goal.returns-in_err-read_row-2-clause-blame
+returns-in_err-read_row-2-clause-blame g c =
+    let p = err_from_is_err_and c.from_residual-in_err-read_row-2.result c.from_residual-in_err-read_row-2.ensures.1 in
+    rw (p.1, p.2) c.in_err-read_row-2.ensures.blame
+
+pub returns-in_err-read_row-2-clause-read : goal.returns-in_err-read_row-2-clause-read
+returns-in_err-read_row-2-clause-read g c = HasReadAtMost-unknown 2000001 c.args.records.now.left c.read_row-2.new.records.left c.in_err-read_row-2.ensures.unknown
+
+pub returns-then-branch-clause-read : goal.returns-then-branch-clause-read
+returns-then-branch-clause-read g c =
+    few_read c.args.records.now.left c.loop-done.records.left c.read_row-2.new.records.left c.loop-done.done _ _ _ c.loop-done.invariant.tracks c.in_ok-read_row-2.ensures.next (omega arith)

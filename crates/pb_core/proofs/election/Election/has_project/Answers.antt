@@ -1,4 +1,4 @@
-use Rattle.std.proofs.Common.{arith, ◌≡◌, ◌∙◌, ℕ, List, IsTrue, ◌↔◌, Contains, true, false, true≢false, map, refl, ap, subst, sym}
+use Rattle.std.proofs.Common.{arith, ◌∙◌, ℕ, List, IsTrue, ◌↔◌, Contains, true, false, true≢false, map, refl, ap, subst, sym}
 use Rattle.std.proofs.lemmas.Slice.Eq.{bytes_eq-Decides}
 use Rattle.pb_core.specs.Election.{ProjectView, project_ids}
 use Rattle.pb_core.proofs.Elections.{Contains-ids, not-Contains-ids, others_more}
