@@ -1,5 +1,5 @@
 -- What each step tells its clerk is what the rule of the steps allows.
-use Rattle.std.proofs.Common.{◌≡◌, ℕ, ◌+◌, ◌==◌, Bool, true, false, [], ◌∷◌, ◌++◌, length, length-append, Option, Some, ◌&&◌, sym, refl, ap, ◌∙◌, subst, arith, eq-eqb, ne_eqb}
+use Rattle.std.proofs.Common.{◌≡◌, ℕ, ◌+◌, ◌==◌, Bool, true, false, [], ◌∷◌, ◌++◌, length, length-append, Option, Some, ◌&&◌, sym, refl, ap, ◌∙◌, subst, arith, eq-eqb, ne_eqb, if◌then◌else◌, List}
 use mathlib.Core.Option.{none}
 use mathlib.Core.Logic.{dite}
 use mathlib.Core.List.{append-nil}
@@ -9,17 +9,21 @@ use Rattle.pb_core.specs.Request.{EntryView}
 use Rattle.pb_desk.specs.Desk.{DeskView}
 use Rattle.pb_shared.specs.Clerk.{Begins, blank}
 use Rattle.pb_shared.specs.Rule.{Sitter, stock}
-use Rattle.pb_shared.specs.Steps.{StepRule, is_front_load, is_try, word_if}
+use Rattle.pb_shared.specs.Steps.{StepRule, is_front_load, is_try}
 use Rattle.pb_shared.specs.Plays.{has_read, lost, published, tries_lock, publishes, frees, reads, visits, won}
 use Rattle.pb_shared.specs.declared.seat_view.About.{About}
 use Rattle.pb_shared.specs.declared.seat_view.SeatView.{SeatView}
 use Rattle.pb_shared.specs.declared.seat_view.Sheet.{Sheet}
 
 -- a step that tells this tells also what follows from it
-pub also : (holds : State (Option DeskView) SeatView → Type 0) (slots id : ℕ) (me : Sitter) (i : ℕ) (f : ℕ → ℕ) (then more : ℕ → Sitter → Type 0)
-    → ((n : ℕ) (m' : Sitter) → then n m' → more n m') → Allows holds slots id me i f then → Allows holds slots id me i f (λ n m'. more n m' × then n m')
-also holds slots id me i f then more follows go s r count at small =
+pub also : (holds : State (Option DeskView) SeatView → Type 0) (slots id : ℕ) (me : Sitter) (i : ℕ) (f : ℕ → ℕ) (says more : ℕ → Sitter → Type 0)
+    → ((n : ℕ) (m' : Sitter) → says n m' → more n m') → Allows holds slots id me i f says → Allows holds slots id me i f (λ n m'. more n m' × says n m')
+also holds slots id me i f says more follows go s r count at small =
     let x = go s r count at small in (x.0, x.1, x.2, x.3, (follows _ _ x.4, x.4))
+
+-- the word, where it is told
+abbrev word_if : Bool → ℕ → List ℕ
+word_if told word = if told then word ∷ [] else []
 
 -- the rule of a step whose operation is known
 told : (s : Step (Option DeskView)) (x x' : Sheet) (word : ℕ) (tries loads : Bool) → is_try s x ≡ tries → is_front_load s ≡ loads

@@ -1,5 +1,5 @@
 -- The rule of the steps: what a step may let its clerk know, whichever step it is.
-use Rattle.std.specs.Prelude.{◌≡◌, ℕ, ◌+◌, ◌==◌, ◌&&◌, Bool, List, [], ◌∷◌, ◌++◌, Option, if◌then◌else◌}
+use Rattle.std.specs.Prelude.{◌≡◌, ℕ, ◌+◌, ◌==◌, ◌&&◌, Bool, [], ◌∷◌, ◌++◌, Option, if◌then◌else◌}
 use Rattle.atomic_table.specs.Table.{Step}
 use Rattle.pb_desk.specs.Desk.{DeskView}
 use Rattle.pb_shared.specs.Clerk.{Begins}
@@ -14,15 +14,12 @@ is_try s x = (s.word == 0) && ((s.first == 0) && (s.second == x.number + 1))
 abbrev pub is_front_load : Step (Option DeskView) → Bool
 is_front_load s = (s.word == 1) && ((s.first == 0) && (s.second == 0))
 
-abbrev pub word_if : Bool → ℕ → List ℕ
-word_if told word = if told then word ∷ [] else []
-
--- A step that finds this word leaves a clerk with the second sheet who had the first: nothing seen is forgotten,
--- and the word goes to those found where the step tries the lock, and to those read where it loads the front word
+-- A step that finds this word leaves a clerk with the second sheet who had the first: nothing seen is forgotten;
+-- the word goes to those found where the step tries the lock, to those read where it loads the front word
 pub record StepRule (s : Step (Option DeskView)) (x : Sheet) (word : ℕ) (x' : Sheet) : Type 0 where
   pub seen : Begins x.seen x'.seen
-  pub found : x'.found ≡ x.found ++ word_if (is_try s x) word
-  pub read : x'.read ≡ x.read ++ word_if (is_front_load s) word
+  pub found : x'.found ≡ x.found ++ (if is_try s x then word ∷ [] else [])
+  pub read : x'.read ≡ x.read ++ (if is_front_load s then word ∷ [] else [])
 
 -- where seats are split or joined: the second view, but with what the first has seen, found and read
 abbrev pub knowing : SeatView → SeatView → SeatView
