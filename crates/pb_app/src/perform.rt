@@ -20,7 +20,7 @@ where
 {
     match task {
         Task::Count(source, options) => count(rt, source, options),
-        Task::Desk(source, script, clerks) => serve(rt, source, script, *clerks),
+        Task::Desk(source, script, clerks, shuts) => serve(rt, source, script, *clerks, *shuts),
         Task::Audit(source, journal, options) => audit(rt, source, journal, options),
     }
 }
@@ -44,26 +44,47 @@ where
     run_count(rt, rt.alloc(), file, &mut io::writer(rt), options)
 }
 
-/// Lets this many clerks serve a script on the desk of a .pb file.
-fn serve<R>(rt: &R, source: &Source<'_>, script: &str, clerks: u32) -> Result<(), AppFault>
+/// Lets this many clerks serve a script on the desk of a .pb file, which is then shut, or not.
+fn serve<R>(
+    rt: &R,
+    source: &Source<'_>,
+    script: &str,
+    clerks: u32,
+    shuts: bool,
+) -> Result<(), AppFault>
 where
     R: Files + Input + Print + AllocGlobal + Threads + Sync,
 {
     match source {
-        Source::Input => serve_from(rt, rt.reader(), script, clerks),
-        Source::File(path) => serve_from(rt, open(rt, path, 1)?, script, clerks),
+        Source::Input => serve_from(rt, rt.reader(), script, clerks, shuts),
+        Source::File(path) => serve_from(rt, open(rt, path, 1)?, script, clerks, shuts),
     }
 }
 
-/// Lets this many clerks serve a script on the desk of the .pb file that a reader gives.
-fn serve_from<R, P: Read + Drop>(rt: &R, file: P, script: &str, clerks: u32) -> Result<(), AppFault>
+/// The same on the desk of the .pb file that a reader gives.
+fn serve_from<R, P: Read + Drop>(
+    rt: &R,
+    file: P,
+    script: &str,
+    clerks: u32,
+    shuts: bool,
+) -> Result<(), AppFault>
 where
     R: Files + Print + AllocGlobal + Threads + Sync,
 {
     match open(rt, script, 2) {
         Ok(script) => {
             let mut out = io::writer(rt);
-            run_desk(rt, rt.alloc(), file, script, clerks, &NoGate, &mut out)
+            run_desk(
+                rt,
+                rt.alloc(),
+                file,
+                script,
+                clerks,
+                shuts,
+                &NoGate,
+                &mut out,
+            )
         }
         Err(fault) => {
             drop(file);

@@ -67,7 +67,14 @@ const JOURNAL: Argument = Argument {
 const CLERKS: Argument = Argument {
     name: "clerks",
     takes: Takes::Number("N"),
-    help: "How many clerks serve side by side, 1 to 64 [default: 1]",
+    help: "How many clerks serve side by side, 1 to 64; rows of different clerks have no order [default: 1]",
+};
+
+/// Whether the desk is shut at the end of a run.
+const SHUT: Argument = Argument {
+    name: "shut",
+    takes: Takes::Nothing,
+    help: "Shuts the desk by a last entry of clerk 0, after all rows; a shut row cuts off other clerks' rows",
 };
 
 /// How many workers a count has.
@@ -115,7 +122,7 @@ const COMMANDS: &[CommandForm] = &[
     CommandForm {
         name: "desk",
         about: "Serves a script's requests on the desk of a .pb file, and prints the journal",
-        arguments: &[ELECTION, SCRIPT, CLERKS],
+        arguments: &[ELECTION, SCRIPT, CLERKS, SHUT],
     },
     CommandForm {
         name: "audit",
@@ -199,6 +206,7 @@ pub(crate) fn task_of<'a>(matches: &ArgMatches<'a>) -> Task<'a> {
             source_of(given),
             path_of(given, "SCRIPT"),
             given.get_one("clerks").unwrap_or(1),
+            given.get_flag("shut"),
         ),
         Some((_, given)) => Task::Audit(
             source_of(given),

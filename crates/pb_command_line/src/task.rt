@@ -16,8 +16,9 @@ pub enum Source<'a> {
 pub enum Task<'a> {
     /// A count of a .pb file.
     Count(Source<'a>, CountOptions),
-    /// A run of the desk of a .pb file: this many clerks serve the script with this path.
-    Desk(Source<'a>, &'a str, u32),
+    /// A run of the desk of a .pb file: this many clerks serve the script with this path, and then the desk is shut,
+    /// or not.
+    Desk(Source<'a>, &'a str, u32, bool),
     /// An audit of the journal with this path on a .pb file.
     Audit(Source<'a>, &'a str, CountOptions),
 }

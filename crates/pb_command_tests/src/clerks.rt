@@ -43,7 +43,7 @@ impl Gate for Holding {
 fn journal_of<R: Threads + Sync + Abort>(rt: &R, alloc: Global, gate: &Holding) -> Vec<u8> {
     let mut journal = Vec::new(alloc);
     let (file, script) = (THREE_VOTERS.as_bytes(), SCRIPT.as_bytes());
-    let ran = run_desk(rt, alloc, file, script, 2, gate, &mut journal);
+    let ran = run_desk(rt, alloc, file, script, 2, false, gate, &mut journal);
     same(rt, ran, Ok(()), "a desk");
     journal
 }

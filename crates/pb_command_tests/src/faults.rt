@@ -50,7 +50,7 @@ fn audited(rt: &(impl Threads + Sync), alloc: Global) -> Result<(), AppFault> {
 /// What a desk ends with.
 fn served(rt: &(impl Threads + Sync), alloc: Global) -> Result<(), AppFault> {
     let file = THREE_VOTERS.as_bytes();
-    run_desk(rt, alloc, file, NOTHING, 1, &NoGate, &mut Stuck)
+    run_desk(rt, alloc, file, NOTHING, 1, false, &NoGate, &mut Stuck)
 }
 
 #[test]

@@ -1,5 +1,5 @@
 -- Runs of `desk` whose bytes may be known.
-use Rattle.std.proofs.Common.{◌≡◌, ℕ, List, [], ◌∷◌, ◌++◌, length, Option, Some, None, Ok, Err, refl, sym, ap, subst, arith, length-append}
+use Rattle.std.proofs.Common.{◌≡◌, ℕ, Bool, List, [], ◌∷◌, ◌++◌, length, Option, Some, None, Ok, Err, refl, sym, ap, subst, arith, length-append}
 use Rattle.std.specs.List.{AllZip}
 use Rattle.std.specs.Prelude.{IfErr, IfSome, IsErrAnd, OnOk, Result}
 use Rattle.pb_core.specs.Election.{ElectionView}
@@ -22,8 +22,8 @@ use Rattle.pb_commands.specs.declared.fault.AppFault.{AppFault}
 use Rattle.pb_commands.specs.declared.fault.AppFault.TheVariants.{Read, Script, Write}
 use Rattle.pb_commands.proofs.Accepted.{given_fault, merged_again, read_from_outside}
 
-abbrev DeskFails : List ℕ → List ℕ → ℕ → AppFault → Type 0
-DeskFails bytes rows clerks fault = FailsBy (DeskRefuses rows clerks) (DeskWrites bytes rows clerks) bytes fault
+abbrev DeskFails : List ℕ → List ℕ → ℕ → Bool → AppFault → Type 0
+DeskFails bytes rows clerks shuts fault = FailsBy (DeskRefuses rows clerks) (DeskWrites bytes rows clerks shuts) bytes fault
 
 -- a row of a script that comes after others
 row_after : (clerks : ℕ) (before : List Fields) (row : Fields) (rest : List Fields) (said : List ScriptRowView) → AllZip (IsScriptRow clerks) (before ++ row ∷ rest) said → HasScriptForm clerks row
@@ -48,47 +48,47 @@ script_from_outside clerks records said fault is fails = by fault fails.left fai
     by script.NoMemory left are next = refl
 
 -- the script is not served
-not_served : (bytes rows : List ℕ) (clerks : ℕ) (e : ElectionView) (fault : ServeFault) → StandsFor (records_of bytes) e → IsServeFault clerks (records_of rows) fault
-    → DeskFails bytes rows clerks (unserved fault)
-not_served bytes rows clerks e (serve.Script script.NoMemory) stands fails = tt
-not_served bytes rows clerks e (serve.Script fault) stands fails = (e, stands, fails)
-not_served bytes rows clerks e serve.ClerkCount stands fails = (e, stands, fails)
+not_served : (bytes rows : List ℕ) (clerks : ℕ) (shuts : Bool) (e : ElectionView) (fault : ServeFault) → StandsFor (records_of bytes) e → IsServeFault clerks (records_of rows) fault
+    → DeskFails bytes rows clerks shuts (unserved fault)
+not_served bytes rows clerks shuts e (serve.Script script.NoMemory) stands fails = tt
+not_served bytes rows clerks shuts e (serve.Script fault) stands fails = (e, stands, fails)
+not_served bytes rows clerks shuts e serve.ClerkCount stands fails = (e, stands, fails)
 
 file_judged : (bytes : List ℕ) (fault : ServeFault) → (e : ElectionView) × StandsFor (records_of bytes) e → JudgesFile bytes (Err (unserved fault))
 file_judged bytes (serve.Script script.NoMemory) is = tt
 file_judged bytes (serve.Script fault) is = is
 file_judged bytes serve.ClerkCount is = is
 
-from_outside : (bytes rows : List ℕ) (clerks : ℕ) (fault : ServeFault) (text : List ℕ) → IsServeFault clerks (records_of rows) fault → DeskWrites bytes rows clerks text
+from_outside : (bytes rows : List ℕ) (clerks : ℕ) (shuts : Bool) (fault : ServeFault) (text : List ℕ) → IsServeFault clerks (records_of rows) fault → DeskWrites bytes rows clerks shuts text
     → IsFromOutside (unserved fault)
-from_outside bytes rows clerks (serve.Script fault) text fails writes =
+from_outside bytes rows clerks shuts (serve.Script fault) text fails writes =
     let served = writes.2 in script_from_outside clerks (records_of rows) served.script fault served.is_script fails
-from_outside bytes rows clerks serve.ClerkCount text fails writes = let served = writes.2 in absurd (fails.2 served.in_range)
+from_outside bytes rows clerks shuts serve.ClerkCount text fails writes = let served = writes.2 in absurd (fails.2 served.in_range)
 
 unserved_again : (fault : ServeFault) → merged (unserved fault) ≡ unserved fault
 unserved_again (serve.Script fault) = merged_again (Script fault)
 unserved_again serve.ClerkCount = refl
 
-pub accepted_by_reader : (clerks : ℕ) (r : Result (Unit {0}) AppFault) (files scripts : Option (List ℕ)) (fault : ReadFault) → IsErrAnd r (λ app. app ≡ merged (Read fault))
-    → IfSome files (λ bytes. (e : ElectionView) → StandsFor (records_of bytes) e → IsReadFromOutside fault.kind) → IfBothKnown files scripts (λ bytes rows. Accepts (DeskWrites bytes rows clerks) r)
-accepted_by_reader clerks r None scripts fault is accepts = tt
-accepted_by_reader clerks r (Some bytes) None fault is accepts = tt
-accepted_by_reader clerks r (Some bytes) (Some rows) fault is accepts = λ text writes.
+pub accepted_by_reader : (clerks : ℕ) (shuts : Bool) (r : Result (Unit {0}) AppFault) (files scripts : Option (List ℕ)) (fault : ReadFault) → IsErrAnd r (λ app. app ≡ merged (Read fault))
+    → IfSome files (λ bytes. (e : ElectionView) → StandsFor (records_of bytes) e → IsReadFromOutside fault.kind) → IfBothKnown files scripts (λ bytes rows. Accepts (DeskWrites bytes rows clerks shuts) r)
+accepted_by_reader clerks shuts r None scripts fault is accepts = tt
+accepted_by_reader clerks shuts r (Some bytes) None fault is accepts = tt
+accepted_by_reader clerks shuts r (Some bytes) (Some rows) fault is accepts = λ text writes.
     given_fault IsFromOutside r (merged (Read fault)) is (read_from_outside fault.kind fault.at (accepts writes.0 writes.1))
 
 -- the answer where the script is not served
-module _ (clerks : ℕ) (fault : ServeFault) (app : AppFault) (is : app ≡ unserved fault) where
+module _ (clerks : ℕ) (shuts : Bool) (fault : ServeFault) (app : AppFault) (is : app ≡ unserved fault) where
   pub refused_by_script : (e : ElectionView) (files scripts : Option (List ℕ)) → IfSome files (λ bytes. StandsFor (records_of bytes) e)
-      → IfSome scripts (λ rows. IsServeFault clerks (records_of rows) fault) → IfBothKnown files scripts (λ bytes rows. DeskFails bytes rows clerks app)
+      → IfSome scripts (λ rows. IsServeFault clerks (records_of rows) fault) → IfBothKnown files scripts (λ bytes rows. DeskFails bytes rows clerks shuts app)
   refused_by_script e None scripts stands fails = tt
   refused_by_script e (Some bytes) None stands fails = tt
-  refused_by_script e (Some bytes) (Some rows) stands fails = subst (DeskFails bytes rows clerks) (sym is) (not_served bytes rows clerks e fault stands fails)
+  refused_by_script e (Some bytes) (Some rows) stands fails = subst (DeskFails bytes rows clerks shuts) (sym is) (not_served bytes rows clerks shuts e fault stands fails)
 
   pub accepted_by_script : (files scripts : Option (List ℕ)) → IfSome scripts (λ rows. IsServeFault clerks (records_of rows) fault)
-      → IfBothKnown files scripts (λ bytes rows. Accepts (DeskWrites bytes rows clerks) (Err app))
+      → IfBothKnown files scripts (λ bytes rows. Accepts (DeskWrites bytes rows clerks shuts) (Err app))
   accepted_by_script None scripts fails = tt
   accepted_by_script (Some bytes) None fails = tt
-  accepted_by_script (Some bytes) (Some rows) fails = λ text writes. subst IsFromOutside (sym is) (from_outside bytes rows clerks fault text fails writes)
+  accepted_by_script (Some bytes) (Some rows) fails = λ text writes. subst IsFromOutside (sym is) (from_outside bytes rows clerks shuts fault text fails writes)
 
   pub judged_by_script : (e : ElectionView) (files : Option (List ℕ)) → IfSome files (λ bytes. StandsFor (records_of bytes) e) → IfSome files (λ bytes. JudgesFile bytes (Err app))
   judged_by_script e None stands = tt
@@ -98,19 +98,19 @@ module _ (clerks : ℕ) (fault : ServeFault) (app : AppFault) (is : app ≡ unse
   script_merged = subst (λ app. merged app ≡ app) (sym is) (unserved_again fault)
 
 -- the writer's turn
-module _ (clerks : ℕ) (e : ElectionView) where
+module _ (clerks : ℕ) (shuts : Bool) (e : ElectionView) where
   pub desk_written : (r : Result (Unit {0}) AppFault) (files scripts before after : Option (List ℕ)) (text : List ℕ) → OnOk r (Appends before after text)
-      → IfSome files (λ bytes. StandsFor (records_of bytes) e) → IfSome scripts (λ rows. IsServed e clerks (records_of rows) text)
-      → OnOk r (IfBothKnown files scripts (λ bytes rows. HasWritten (DeskWrites bytes rows clerks) before after))
+      → IfSome files (λ bytes. StandsFor (records_of bytes) e) → IfSome scripts (λ rows. IsServed e clerks shuts (records_of rows) text)
+      → OnOk r (IfBothKnown files scripts (λ bytes rows. HasWritten (DeskWrites bytes rows clerks shuts) before after))
   desk_written (Err fault) files scripts before after text appends stands served = tt
   desk_written (Ok done) None scripts before after text appends stands served = tt
   desk_written (Ok done) (Some bytes) None before after text appends stands served = tt
   desk_written (Ok done) (Some bytes) (Some rows) before after text appends stands served = (text, (e, stands, served), appends)
 
   pub desk_unwritten : (r : Result (Unit {0}) AppFault) (files scripts : Option (List ℕ)) (text : List ℕ) → IfErr r (λ fault. fault ≡ Write)
-      → IfSome files (λ bytes. StandsFor (records_of bytes) e) → IfSome scripts (λ rows. IsServed e clerks (records_of rows) text)
-      → IfErr r (λ fault. IfBothKnown files scripts (λ bytes rows. DeskFails bytes rows clerks fault))
+      → IfSome files (λ bytes. StandsFor (records_of bytes) e) → IfSome scripts (λ rows. IsServed e clerks shuts (records_of rows) text)
+      → IfErr r (λ fault. IfBothKnown files scripts (λ bytes rows. DeskFails bytes rows clerks shuts fault))
   desk_unwritten (Ok done) files scripts text is stands served = tt
   desk_unwritten (Err fault) None scripts text is stands served = tt
   desk_unwritten (Err fault) (Some bytes) None text is stands served = tt
-  desk_unwritten (Err fault) (Some bytes) (Some rows) text is stands served = subst (DeskFails bytes rows clerks) (sym is) (text, (e, stands, served))
+  desk_unwritten (Err fault) (Some bytes) (Some rows) text is stands served = subst (DeskFails bytes rows clerks shuts) (sym is) (text, (e, stands, served))

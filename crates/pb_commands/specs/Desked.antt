@@ -1,5 +1,5 @@
 -- What a run of `desk` writes, and what it refuses.
-use Rattle.std.specs.Prelude.{ℕ, List}
+use Rattle.std.specs.Prelude.{ℕ, Bool, List}
 use Rattle.pb_core.specs.Election.{ElectionView}
 use Rattle.pb_read.specs.StandsFor.{StandsFor}
 use Rattle.pb_rows.specs.Reading.{records_of}
@@ -10,10 +10,11 @@ use Rattle.pb_commands.specs.Fault.{merged}
 use Rattle.pb_commands.specs.declared.fault.AppFault.{AppFault}
 use Rattle.pb_commands.specs.declared.fault.AppFault.TheVariants.{Script, ClerkCount}
 
--- what these bytes, as a file and as a script for this many clerks, make a run of `desk` write
-abbrev pub DeskWrites : List ℕ → List ℕ → ℕ → List ℕ → Type 0
-DeskWrites bytes rows clerks text =
-    (e : ElectionView) × StandsFor (records_of bytes) e × IsServed e clerks (records_of rows) text
+-- what these bytes, as a file and as a script for this many clerks, make a run of `desk` write that shuts the desk
+-- at its end, or does not
+abbrev pub DeskWrites : List ℕ → List ℕ → ℕ → Bool → List ℕ → Type 0
+DeskWrites bytes rows clerks shuts text =
+    (e : ElectionView) × StandsFor (records_of bytes) e × IsServed e clerks shuts (records_of rows) text
 
 -- what refuses an election in a run of `desk`: the script's first fault; or the number of clerks
 abbrev pub DeskRefuses : List ℕ → ℕ → ElectionView → AppFault → Type 0

@@ -1,6 +1,8 @@
 // Laws of the definitions.
 
-ghost use Rattle.std.specs.Prelude.{◌≡◌, ◌↔◌, ◌++◌, ℕ, List, true};
+ghost use Rattle.std.specs.Prelude.{◌≡◌, ◌↔◌, ◌<◌, ◌==◌, ◌++◌, ℕ, All, Bool, List, [], ◌∷◌, filter, map, true};
+ghost use Rattle.std.specs.Bool.{MatchBool};
+ghost use Rattle.pb_core.specs.Request.{EntryView, Shut};
 ghost use Rattle.pb_desk.specs.Audit.{IsSound};
 ghost use Rattle.pb_desk.specs.Desk.{DeskView, closed_election, standing_of};
 ghost use Rattle.pb_desk.specs.Rows.{journal_text};
@@ -10,11 +12,14 @@ ghost use Rattle.pb_rows.specs.Writing.{text_of_row};
 ghost use Rattle.pb_rounds.specs.Counted.{IsCountOf};
 ghost use Rattle.pb_rounds.specs.Outcome.{OutcomeView, settled};
 ghost use Rattle.pb_rounds.specs.declared.options.CountOptions.{CountOptions};
+ghost use Rattle.pb_script.specs.Script.{IsScript, ScriptRowView};
 ghost use Rattle.pb_script.specs.Serving.{program_room};
 ghost use Rattle.pb_commands.specs.Audited.{AuditWrites, IsDeskOf, IsTextOf, entries_row};
 ghost use Rattle.pb_commands.specs.Counted.{CountWrites};
 ghost use Rattle.pb_commands.specs.Desked.{DeskWrites};
 ghost use Rattle.pb_commands.specs.Report.{report_of};
+
+use pb_core::answer::Answer;
 
 /// What is written is a function of the bytes that are read and of the options: a file has one report at
 /// most, and a file and a journal have one text at most.
@@ -37,8 +42,20 @@ pub fn journals_recount()
         → IsDeskOf bytes (journal_text d.opening.version d.journal) d }
     ensures recounted { (bytes journal : List ℕ) (d : DeskView) (options : CountOptions) (text : List ℕ)
         → IsDeskOf bytes journal d → AuditWrites bytes journal options text ↔ IsTextOf d options text }
-    ensures written { (bytes rows : List ℕ) (clerks : ℕ) (journal : List ℕ)
-        → DeskWrites bytes rows clerks journal → (d : DeskView) × IsDeskOf bytes journal d }
+
+    // What `desk` wrote is a desk's: each clerk's entries ask what its rows in the script do, in their order, and no
+    // other entries stand there, but where the run shuts the desk one last entry by clerk 0, which shuts it.
+    ensures written { (bytes rows : List ℕ) (clerks : ℕ) (shuts : Bool) (journal : List ℕ)
+        → DeskWrites bytes rows clerks shuts journal
+        → (d : DeskView) × (script : List ScriptRowView) × (served : List EntryView)
+        × IsDeskOf bytes journal d × IsScript clerks (records_of rows) script
+        × ((clerk : ℕ) → clerk < clerks → map (λ x. x.request) (filter (λ x. x.clerk == clerk) served)
+        ≡ map (λ x. x.request) (filter (λ x. x.clerk == clerk) script))
+        × All (λ x. x.clerk < clerks) served
+        × MatchBool shuts
+        (((standing_of d).is_shut ≡ true) × (answer : Answer)
+        × (d.journal ≡ served ++ record { clerk = 0; request = Shut; answer = answer } ∷ []))
+        (d.journal ≡ served) }
     ensures winners { (d : DeskView) (options : CountOptions) (o : OutcomeView)
         → (standing_of d).is_shut ≡ true → IsCountOf (closed_election d) options o
         → IsTextOf d options (text_of_row (entries_row d) ++ report_of (closed_election d) (settled o)) }

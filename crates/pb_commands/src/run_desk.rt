@@ -20,8 +20,9 @@ use std::thread::Threads;
 ///
 /// Each clerk serves its own rows in their order, by at most 100,000 tries of the lock for each. One who finds
 /// the desk busy all that time stops; what the clerks leave over is served after all of them have stopped,
-/// clerks in rising number. Before the first try of a row the gate is called with the clerk's number and the
-/// row's place among the clerk's own rows, from 0.
+/// clerks in rising number. Where the run `shuts` the desk, clerk 0 asks for that in one last entry, after all of
+/// these, so that nobody's ballot comes after it. Before the first try of a row the gate is called with the clerk's
+/// number and the row's place among the clerk's own rows, from 0.
 ///
 /// The file is refused before the script, and the script before the number of clerks, 1 to 64. Nothing is
 /// written but the whole journal. Where the fault is `Write` some of it may have gone out; on any other fault the
@@ -32,6 +33,7 @@ pub fn run_desk<T: Threads + Sync, P: Read + Drop, S: Read + Drop, G: Gate, W: W
     file: P,
     script: S,
     clerks: u32,
+    shuts: bool,
     gate: &G,
     writer: &mut W,
 ) -> Result<(), AppFault>
@@ -39,15 +41,15 @@ pub fn run_desk<T: Threads + Sync, P: Read + Drop, S: Read + Drop, G: Gate, W: W
     // clerks allow,
     ensures ok { OnOk result (IfBothKnown (P.remaining file) (S.remaining script)
         (λ bytes rows.
-        HasWritten (DeskWrites bytes rows clerks) (W.contents writer.old) (W.contents writer.new))) }
+        HasWritten (DeskWrites bytes rows clerks shuts) (W.contents writer.old) (W.contents writer.new))) }
 
     // and they decide which fault comes.
     ensures fault { IfErr result (λ fault. IfBothKnown (P.remaining file) (S.remaining script)
-        (λ bytes rows. FailsBy (DeskRefuses rows clerks) (DeskWrites bytes rows clerks) bytes fault)) }
+        (λ bytes rows. FailsBy (DeskRefuses rows clerks) (DeskWrites bytes rows clerks shuts) bytes fault)) }
 
     // A file and a script that have a journal get one, unless a device fails or memory is refused.
     ensures accepts { IfBothKnown (P.remaining file) (S.remaining script)
-        (λ bytes rows. Accepts (DeskWrites bytes rows clerks) result) }
+        (λ bytes rows. Accepts (DeskWrites bytes rows clerks shuts) result) }
 
     // The file is judged first, whatever is known of the script.
     ensures file { IfSome (P.remaining file) (λ bytes. JudgesFile bytes result) }
@@ -59,7 +61,7 @@ pub fn run_desk<T: Threads + Sync, P: Read + Drop, S: Read + Drop, G: Gate, W: W
     ensures merged { IfErr result (λ fault. merged fault ≡ fault) }
 {
     let election = read_pb(alloc, file)?;
-    let text = match serve_script(rt, alloc, election, script, clerks, gate) {
+    let text = match serve_script(rt, alloc, election, script, clerks, shuts, gate) {
         Ok(text) => text,
         Err(fault) => return Err(unserved(fault)),
     };

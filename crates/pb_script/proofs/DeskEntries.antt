@@ -1,10 +1,10 @@
 -- The journal of a script's requests can be written: each entry has the form of a journal's.
-use Rattle.std.proofs.Common.{◌≡◌, ◌∙◌, ℕ, ◌<◌, ◌≤◌, ◌^◌, List, [], ◌∷◌, length, get_or, map, Bool, true, false, cond, Option, Some, None, refl, sym, ap, subst, arith, min}
+use Rattle.std.proofs.Common.{◌≡◌, ◌∙◌, ℕ, ◌<◌, ◌≤◌, ◌^◌, List, [], ◌∷◌, ◌++◌, length, get_or, map, Bool, true, false, cond, Option, Some, None, refl, sym, ap, subst, arith, min}
 use Rattle.std.specs.List.{AllZip, filter, find}
 use Rattle.std.specs.Option.{option_map_or}
 use Rattle.std.specs.Prelude.{All, ◌==◌, nat_le}
 use Rattle.std.proofs.lemmas.Bool.{eq-eqb}
-use Rattle.std.proofs.lemmas.List.Elements.{All-cons, All-filter, All-head, All-map, All-nil, All-tail}
+use Rattle.std.proofs.lemmas.List.Elements.{All-append, All-cons, All-filter, All-head, All-map, All-nil, All-tail}
 use Rattle.pb_core.specs.Election.{most_voters}
 use Rattle.pb_core.specs.Request.{EntryView, RequestView, Cast, Replace, Withdraw, Shut}
 use Rattle.pb_core.specs.declared.answer.Answer.{Answer}
@@ -18,7 +18,7 @@ use Rattle.pb_rows.specs.Numbers.{AreNumbers}
 use Rattle.pb_rows.specs.Reading.{Fields}
 use Rattle.pb_shared.specs.Clerk.{entries_of}
 use Rattle.pb_script.specs.Script.{AreAsked, IsScript, IsScriptRow, ScriptRowView, asked_by, clerks_within}
-use Rattle.pb_script.specs.Serving.{AreClerks, ServesAll, ServesScript, requests_of}
+use Rattle.pb_script.specs.Serving.{AreClerks, ServesAll, ServesScript, ShutAtEnd, requests_of}
 
 cond_answer : (test : Bool) (a b : Answer) → IsAnswer a → IsAnswer b → IsAnswer (cond test a b)
 cond_answer true a b is other = is
@@ -80,18 +80,32 @@ entries_by_clerk P clerks (x ∷ xs) by each =
     later true rest all = All-tail P x.request (map (λ (y : EntryView). y.request) rest) all
     later false rest all = all
 
--- the journal that serves a script can be written
-pub served_entries : (o : OpeningView) (clerks : ℕ) (records : List Fields) (script : List ScriptRowView) (journal : List EntryView) → IsScript clerks records script →
-    ServesScript clerks script journal → IsLegal o journal → All IsEntry journal
-served_entries o clerks records script journal is serves legal =
+-- what stands in a journal that serves a script can be asked
+served_requests : (clerks : ℕ) (records : List Fields) (script : List ScriptRowView) (journal : List EntryView) → IsScript clerks records script →
+    ServesScript clerks script journal → All (λ x. IsRequest x.request) journal
+served_requests clerks records script journal is serves =
     let can = requests_can_be clerks records script is.rows in
     let asked = λ (k : ℕ). All-map IsRequest (λ (x : ScriptRowView). x.request) (filter (λ (x : ScriptRowView). x.clerk == k) script)
     (All-filter (λ (x : ScriptRowView). x.clerk == k) (λ (x : ScriptRowView). IsRequest x.request) script can) in
-    legal_entries o (opened o.election) journal legal
-    (entries_by_clerk IsRequest clerks journal serves.by_clerks (λ k below. let P : List RequestView → Type 0 = All IsRequest in subst P (sym (serves.in_order k below)) (asked k)))
+    entries_by_clerk IsRequest clerks journal serves.by_clerks (λ k below. let P : List RequestView → Type 0 = All IsRequest in subst P (sym (serves.in_order k below)) (asked k))
+
+ended_requests : (shuts : Bool) (clerks : ℕ) (records : List Fields) (script : List ScriptRowView) (journal : List EntryView) → IsScript clerks records script →
+    ShutAtEnd shuts (ServesScript clerks script) journal → All (λ x. IsRequest x.request) journal
+ended_requests false clerks records script journal is serves = served_requests clerks records script journal is serves
+ended_requests true clerks records script journal is serves =
+    let P : EntryView → Type 0 = λ x. IsRequest x.request in
+    let last : EntryView = record { clerk = 0; request = Shut; answer = serves.1 } in
+    let Q : List EntryView → Type 0 = All P in
+    subst Q (sym serves.3) (All-append P serves.0 (last ∷ []) (served_requests clerks records script serves.0 is serves.2) (All-cons P last [] tt (All-nil P)))
+
+-- the journal of a run that serves a script can be written
+pub served_entries : (shuts : Bool) (o : OpeningView) (clerks : ℕ) (records : List Fields) (script : List ScriptRowView) (journal : List EntryView) → IsScript clerks records script →
+    ShutAtEnd shuts (ServesScript clerks script) journal → IsLegal o journal → All IsEntry journal
+served_entries shuts o clerks records script journal is serves legal =
+    legal_entries o (opened o.election) journal legal (ended_requests shuts clerks records script journal is serves)
 
 -- lists that are the rows of a script, served, are the script, served
-pub script_served : (clerks : ℕ) (script : List ScriptRowView) (lists : List (List RequestView)) (journal : List EntryView) → AreClerks clerks → AreAsked clerks script lists →
+script_served : (clerks : ℕ) (script : List ScriptRowView) (lists : List (List RequestView)) (journal : List EntryView) → AreClerks clerks → AreAsked clerks script lists →
     ServesAll lists journal → ServesScript clerks script journal
 script_served clerks script lists journal range are serves =
     let size = are.one_each in
@@ -100,3 +114,17 @@ script_served clerks script lists journal range are serves =
       in_order = λ k below. serves.in_order k (omega arith) ∙ are.asked k (omega arith);
       by_clerks = let P : ℕ → Type 0 = λ n. All (λ x. x.clerk < n) journal in subst P count serves.by_clerks;
     }
+
+-- the same of a run that may shut the desk
+pub script_ended : (shuts : Bool) (clerks : ℕ) (script : List ScriptRowView) (lists : List (List RequestView)) (journal : List EntryView) → AreClerks clerks → AreAsked clerks script lists →
+    ShutAtEnd shuts (ServesAll lists) journal → ShutAtEnd shuts (ServesScript clerks script) journal
+script_ended false clerks script lists journal range are serves = script_served clerks script lists journal range are serves
+script_ended true clerks script lists journal range are serves =
+    (serves.0, serves.1, script_served clerks script lists serves.0 range are serves.2, serves.3)
+
+-- a run that is ended after all was served
+pub ended_serves : (shuts : Bool) (lists : List (List RequestView)) (served journal : List EntryView) → ServesAll lists served → ShutAtEnd shuts (λ journal. journal ≡ served) journal →
+    ShutAtEnd shuts (ServesAll lists) journal
+ended_serves false lists served journal serves is = let P : List EntryView → Type 0 = ServesAll lists in subst P (sym is) serves
+ended_serves true lists served journal serves is =
+    let P : List EntryView → Type 0 = ServesAll lists in (is.0, is.1, subst P (sym is.2) serves, is.3)

@@ -5,9 +5,10 @@ use Rattle.std.proofs.lemmas.Bool.{cases_eq, cases_lt, eq-eqb, ne_eqb}
 use Rattle.std.proofs.lemmas.List.{length-map, length-take}
 use Rattle.std.proofs.lemmas.List.Elements.{All-head, All-tail}
 use Rattle.pb_core.specs.Request.{EntryView, RequestView}
+use Rattle.pb_desk.specs.Replay.{most_clerks}
 use Rattle.pb_shared.specs.Clerk.{entries_of}
 use Rattle.pb_script.specs.Script.{most_rows}
-use Rattle.pb_script.specs.Serving.{ServesUpTo, list_of, requests_of}
+use Rattle.pb_script.specs.Serving.{ServesAll, ServesUpTo, list_of, program_room, requests_of}
 
 -- how many entries of a journal are this clerk's
 abbrev count_of : ℕ → List EntryView → ℕ
@@ -87,6 +88,17 @@ few_served done lists served journal serves few =
               let short = length-take (get_or served k 0) (list_of lists k) in
               omega arith
         ]
+
+-- so a journal of all that they ask leaves room for one entry more
+pub room_for_last : (lists : List (List RequestView)) (journal : List EntryView) (room : ℕ) → ServesAll lists journal →
+    All (λ list. length list ≤ most_rows) lists → length lists ≤ most_clerks → room ≡ program_room → length journal < room
+room_for_last lists journal room serves few clerks is =
+    let all = few_served (length lists) lists [] journal (record {
+      whole = λ k before below. serves.in_order k below;
+      first = λ k after below. absurd (omega arith);
+      by_clerks = serves.by_clerks;
+    }) few in
+    omega arith
 
 -- there is room for what is left of a clerk's requests
 pub room_for_rest : {X : Type 0} (f : X → RequestView) (n : ℕ) (items : List X) (list : List RequestView) (before room : ℕ) → map f items ≡ list → length list ≤ most_rows →

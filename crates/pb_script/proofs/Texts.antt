@@ -1,5 +1,5 @@
 -- What is answered about the bytes of a script, where they may be known.
-use Rattle.std.proofs.Common.{◌≡◌, ◌∙◌, ℕ, ◌≤◌, List, length, Option, Some, None, sym, ap, subst}
+use Rattle.std.proofs.Common.{◌≡◌, ◌∙◌, ℕ, ◌≤◌, List, Bool, length, Option, Some, None, sym, ap, subst}
 use Rattle.std.specs.Prelude.{IfSome}
 use Rattle.pb_core.specs.Election.{ElectionView}
 use Rattle.pb_core.specs.Request.{RequestView}
@@ -10,20 +10,20 @@ use Rattle.pb_desk.specs.Rows.{journal_text}
 use Rattle.pb_rows.specs.Reading.{Fields, records_of}
 use Rattle.pb_script.specs.ScriptReading.{IsFaultOfScript, SplitsScript}
 use Rattle.pb_script.specs.Served.{IsServeFault, IsServed}
-use Rattle.pb_script.specs.Serving.{AreClerks, IsServingFault, ServesAll, opening_of, program_room}
+use Rattle.pb_script.specs.Serving.{AreClerks, IsServingFault, ServesAll, ShutAtEnd, opening_of, program_room}
 use Rattle.pb_script.specs.declared.script_fault.ScriptFault.{ScriptFault}
 use Rattle.pb_script.specs.declared.script_fault.ScriptFault.TheVariants as script
 use Rattle.pb_script.specs.declared.serve_fault.ServeFault.{ServeFault}
 use Rattle.pb_script.specs.declared.serve_fault.ServeFault.TheVariants.{Script, ClerkCount}
-use Rattle.pb_script.proofs.DeskEntries.{script_served, served_entries}
+use Rattle.pb_script.proofs.DeskEntries.{script_ended, served_entries}
 use Rattle.pb_script.proofs.Scripts.{memory_fault}
 
--- the desk opened with this election, and its journal has what each of these clerks asked
-pub record IsServedBy (e : ElectionView) (clerks : ℕ) (lists : List (List RequestView)) (d : DeskView) : Type 0 where
+-- the desk opened with this election, and its journal has what each of these clerks asked, and its end
+pub record IsServedBy (e : ElectionView) (clerks : ℕ) (shuts : Bool) (lists : List (List RequestView)) (d : DeskView) : Type 0 where
   pub in_range : AreClerks clerks
   pub opening : d.opening ≡ opening_of e
   pub room : d.room ≡ program_room
-  pub serves : ServesAll lists d.journal
+  pub serves : ShutAtEnd shuts (ServesAll lists) d.journal
 
 -- the text is that of the desk's journal
 pub record IsWritten (d : DeskView) (text : List ℕ) : Type 0 where
@@ -32,10 +32,10 @@ pub record IsWritten (d : DeskView) (text : List ℕ) : Type 0 where
   pub text_is : text ≡ journal_text d.opening.version d.journal
 
 -- the text of a desk's journal that has what each clerk asked serves the script
-text_served : (e : ElectionView) (clerks : ℕ) (records : List Fields) (lists : List (List RequestView)) (d : DeskView) (text : List ℕ) → SplitsScript clerks records lists
-    → IsServedBy e clerks lists d → IsWritten d text → IsServed e clerks records text
-text_served e clerks records lists d text split served written =
-    let serves = script_served clerks split.0 lists d.journal served.in_range split.2 served.serves in
+text_served : (e : ElectionView) (clerks : ℕ) (shuts : Bool) (records : List Fields) (lists : List (List RequestView)) (d : DeskView) (text : List ℕ) → SplitsScript clerks records lists
+    → IsServedBy e clerks shuts lists d → IsWritten d text → IsServed e clerks shuts records text
+text_served e clerks shuts records lists d text split served written =
+    let serves = script_ended shuts clerks split.0 lists d.journal served.in_range split.2 served.serves in
     let o = opening_of e in
     let P : OpeningView → Type 0 = λ o. IsLegal o d.journal in
     let legal = subst P served.opening written.legal in
@@ -44,7 +44,7 @@ text_served e clerks records lists d text split served written =
       is_script = split.1;
       in_range = served.in_range;
       journal = d.journal;
-      sound = record { legal = legal; fits = rw served.room at written.fits; entries = served_entries o clerks records split.0 d.journal split.1 serves legal };
+      sound = record { legal = legal; fits = rw served.room at written.fits; entries = served_entries shuts o clerks records split.0 d.journal split.1 serves legal };
       serves = serves;
       text_is = written.text_is ∙ ap (λ (o : OpeningView). journal_text o.version d.journal) served.opening;
     }
@@ -56,10 +56,10 @@ fault_of_serving clerks records lists (Script script.NoMemory) split fails = mem
 fault_of_serving clerks records lists (Script fault) split fails = absurd fails
 
 module _ (clerks : ℕ) (lists : List (List RequestView)) where
-  pub script_text : (e : ElectionView) (scripts : Option (List ℕ)) (d : DeskView) (text : List ℕ) → IfSome scripts (λ bytes. SplitsScript clerks (records_of bytes) lists)
-      → IsServedBy e clerks lists d → IsWritten d text → IfSome scripts (λ bytes. IsServed e clerks (records_of bytes) text)
-  script_text e None d text splits served written = tt
-  script_text e (Some bytes) d text splits served written = text_served e clerks (records_of bytes) lists d text splits served written
+  pub script_text : (shuts : Bool) (e : ElectionView) (scripts : Option (List ℕ)) (d : DeskView) (text : List ℕ) → IfSome scripts (λ bytes. SplitsScript clerks (records_of bytes) lists)
+      → IsServedBy e clerks shuts lists d → IsWritten d text → IfSome scripts (λ bytes. IsServed e clerks shuts (records_of bytes) text)
+  script_text shuts e None d text splits served written = tt
+  script_text shuts e (Some bytes) d text splits served written = text_served e clerks shuts (records_of bytes) lists d text splits served written
 
   pub script_unserved : (scripts : Option (List ℕ)) (fault : ServeFault) → IfSome scripts (λ bytes. SplitsScript clerks (records_of bytes) lists)
       → IsServingFault clerks fault → IfSome scripts (λ bytes. IsServeFault clerks (records_of bytes) fault)

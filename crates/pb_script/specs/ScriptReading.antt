@@ -4,6 +4,8 @@ use Rattle.std.specs.List.{AllZip}
 use Rattle.pb_core.specs.Request.{RequestView}
 use Rattle.pb_desk.specs.Audit.{NextIs}
 use Rattle.pb_rows.specs.Reading.{Fields, IsNext}
+use Rattle.pb_rows.specs.declared.fault.RecordsFault.{RecordsFault}
+use Rattle.pb_rows.specs.declared.fault.RecordsFault.TheVariants as stop
 use Rattle.pb_script.specs.Script.{AreAsked, HasScriptForm, IsScript, IsScriptRow, ScriptRowView, most_rows}
 use Rattle.pb_script.specs.declared.script_fault.ScriptFault.{ScriptFault}
 use Rattle.pb_script.specs.declared.script_fault.ScriptFault.TheVariants.{ReadFailed, BadRow, TooManyRows, NoMemory}
@@ -58,3 +60,8 @@ pub record HaveAsked (clerks : ℕ) (all left : Option (List Fields)) (count : �
   pub rows : AllZip (IsScriptRow clerks) gone script
   pub count_is : length gone ≡ count
   pub lists_are : AreAsked clerks script lists
+
+-- the reader is at fault only where it failed
+abbrev pub BlamesReader : ScriptFault → Option RecordsFault → Type 0
+BlamesReader (ReadFailed row) stopped = stopped ≡ Some stop.ReadFailed
+BlamesReader fault stopped = ⊤

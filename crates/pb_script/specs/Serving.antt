@@ -1,7 +1,8 @@
 -- How the requests of a run's clerks come into one journal.
-use Rattle.std.specs.Prelude.{◌≡◌, ℕ, ◌<◌, ◌≤◌, ◌++◌, ⊤, List, [], All, length, map, slice_index, slice_index_or, take}
+use Rattle.std.specs.Prelude.{◌≡◌, ℕ, ◌<◌, ◌≤◌, ◌++◌, ⊤, Bool, true, false, List, [], ◌∷◌, All, length, map, slice_index, slice_index_or, take}
 use Rattle.pb_core.specs.Election.{ElectionView}
-use Rattle.pb_core.specs.Request.{EntryView, RequestView}
+use Rattle.pb_core.specs.Request.{EntryView, RequestView, Shut}
+use Rattle.pb_core.specs.declared.answer.Answer.{Answer}
 use Rattle.pb_desk.specs.Opening.{OpeningView}
 use Rattle.pb_desk.specs.Replay.{most_clerks}
 use Rattle.pb_desk.specs.declared.version.Version.TheVariants.{Two}
@@ -26,6 +27,14 @@ requests_of clerk journal = map (λ x. x.request) (entries_of clerk journal)
 pub record ServesScript (clerks : ℕ) (script : List ScriptRowView) (journal : List EntryView) : Type 0 where
   pub in_order : (clerk : ℕ) → clerk < clerks → requests_of clerk journal ≡ asked_by clerk script
   pub by_clerks : All (λ x. x.clerk < clerks) journal
+
+-- a run's journal is such a one; where the run shuts the desk at its end, one last entry, by clerk 0, asks for
+-- that after such a one
+abbrev pub ShutAtEnd : Bool → (List EntryView → Type 0) → List EntryView → Type 0
+ShutAtEnd false IsJournal journal = IsJournal journal
+ShutAtEnd true IsJournal journal =
+    (before : List EntryView) × (answer : Answer) × IsJournal before
+    × (journal ≡ before ++ record { clerk = 0; request = Shut; answer = answer } ∷ [])
 
 -- the requests of each clerk, by its number
 abbrev pub list_of : List (List RequestView) → ℕ → List RequestView

@@ -8,7 +8,7 @@ ghost use Rattle.pb_rows.specs.Reading.{records_of};
 ghost use Rattle.pb_shared.specs.Clerk.{AreNewcomers, desk_with};
 ghost use Rattle.pb_script.specs.Script.{clerks_within, most_rows};
 ghost use Rattle.pb_script.specs.Served.{IsServeFault, IsServed};
-ghost use Rattle.pb_script.specs.Serving.{AppendsFor, AreCounts, HasServed, ServesAll, ServesUpTo, AreBack, AreClerks, IsServingFault, list_of, opening_of, program_room, unshared};
+ghost use Rattle.pb_script.specs.Serving.{AppendsFor, AreCounts, HasServed, ServesAll, ServesUpTo, ShutAtEnd, AreBack, AreClerks, IsServingFault, list_of, opening_of, program_room, unshared};
 
 use crate::requests::Requests;
 use crate::script::read_script;
@@ -235,6 +235,28 @@ fn serve_shared<T: Threads + Sync, G: Gate>(
     }
 }
 
+/// A desk after its run, which shuts it or not: clerk 0 asks for that.
+fn ended(desk: Desk, shuts: bool) -> Result<Desk, NoMemory>
+    requires { length desk.journal < desk.room }
+    ensures opening { IfOk result (λ end. end.opening ≡ desk.opening) }
+    ensures room { IfOk result (λ end. end.room ≡ desk.room) }
+    ensures journal { IfOk result (λ end.
+        ShutAtEnd shuts (λ journal. journal ≡ desk.journal) end.journal) }
+{
+    let mut desk = desk;
+    if !shuts {
+        return Ok(desk);
+    }
+    match desk.serve(0, &Request::Shut) {
+        Ok(_) => Ok(desk),
+        Err(DeskFault::NoMemory) => {
+            drop(desk);
+            Err(NoMemory)
+        }
+        Err(DeskFault::JournalFull) => unreachable!(),
+    }
+}
+
 /// Why no requests are served, where the desk was not shared.
 fn unshared(fault: ShareFault) -> ServeFault
     ensures { result ≡ unshared fault }
@@ -247,20 +269,21 @@ fn unshared(fault: ShareFault) -> ServeFault
     answer
 }
 
-/// This many clerks serve the requests of a script on a shared desk of this election.
+/// This many clerks serve the requests of a script on a shared desk of this election, which is then shut or not.
 fn serve_all<T: Threads + Sync, G: Gate>(
     rt: &T,
     alloc: Global,
     election: Election,
     lists: &[Requests],
     clerks: u32,
+    shuts: bool,
     gate: &G,
 ) -> Result<Desk, ServeFault>
     requires one_each { length lists.now ≡ clerks_within clerks }
     requires few { All (λ list. length list ≤ most_rows) lists.now }
     ensures opening { IfOk result (λ desk. desk.opening ≡ opening_of election) }
     ensures room { IfOk result (λ desk. desk.room ≡ program_room) }
-    ensures serves { IfOk result (λ desk. ServesAll lists.now desk.journal) }
+    ensures serves { IfOk result (λ desk. ShutAtEnd shuts (ServesAll lists.now) desk.journal) }
     ensures clerks { OnOk result (AreClerks clerks) }
     ensures err { IfErr result (IsServingFault clerks) }
 {
@@ -272,7 +295,7 @@ fn serve_all<T: Threads + Sync, G: Gate>(
         Err(fault) => return Err(unshared(fault)),
     };
     let desk = serve_shared(rt, alloc, shared, fresh, lists, gate)?;
-    Ok(desk)
+    Ok(ended(desk, shuts)?)
 }
 
 /// The text of a desk's journal.
@@ -296,8 +319,9 @@ fn written(alloc: Global, desk: Desk) -> Result<Vec<u8>, NoMemory>
 ///
 /// Each clerk serves its own rows in their order, by at most 100,000 tries of the lock for each. One who finds
 /// the desk busy all that time stops; what the clerks leave over is served after all of them have stopped,
-/// clerks in rising number. Before the first try of a row the gate is called with the clerk's number and the
-/// row's place among the clerk's own rows, from 0.
+/// clerks in rising number. Where the run `shuts` the desk, clerk 0 asks for that in one last entry, after all of
+/// these. Before the first try of a row the gate is called with the clerk's number and the row's place among the
+/// clerk's own rows, from 0.
 ///
 /// The script is refused before the number of clerks, 1 to 64.
 pub fn serve_script<T: Threads + Sync, S: Read + Drop, G: Gate>(
@@ -306,11 +330,12 @@ pub fn serve_script<T: Threads + Sync, S: Read + Drop, G: Gate>(
     election: Election,
     script: S,
     clerks: u32,
+    shuts: bool,
     gate: &G,
 ) -> Result<Vec<u8>, ServeFault>
     // Where the script's bytes are known, the text is that of a journal that they and the number of clerks allow,
     ensures ok { IfOk result (λ text. IfSome (S.remaining script) (λ bytes.
-        IsServed election clerks (records_of bytes) text.items)) }
+        IsServed election clerks shuts (records_of bytes) text.items)) }
 
     // and they decide which fault comes.
     ensures fault { IfErr result (λ fault. IfSome (S.remaining script) (λ bytes.
@@ -323,7 +348,7 @@ pub fn serve_script<T: Threads + Sync, S: Read + Drop, G: Gate>(
             return Err(ServeFault::Script(fault));
         }
     };
-    let served = serve_all(rt, alloc, election, lists.as_slice(), clerks, gate);
+    let served = serve_all(rt, alloc, election, lists.as_slice(), clerks, shuts, gate);
     drop(lists);
     Ok(written(alloc, served?)?)
 }
