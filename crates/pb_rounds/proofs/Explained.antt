@@ -199,3 +199,7 @@ pub run_within_shares : (m : Measure) (s : SupportView) → IsSupport s → (sha
 run_within_shares m s h share =
     let found = opening_explained m s h share in
     omega (arith, found.1.within, sum_by-replicate (λ x. x) s.voters share)
+
+-- what is left after a run is one rest for each voter
+pub run_has_rests : (m : Measure) (s : SupportView) → IsSupport s → (share : ℕ) → length (run_of m s share).rests ≡ s.voters
+run_has_rests m s h share = (opening_explained m s h share).1.one_each

@@ -8,7 +8,7 @@ use Rattle.pb_rounds.specs.Outcome.{OutcomeView, Settled, settled, settled_by}
 use Rattle.pb_rounds.specs.Payments.{paid_in_turn}
 use Rattle.pb_rounds.specs.PriceSystem.{HasPriceSystem, IsPriceSystem}
 use Rattle.pb_rounds.specs.Run.{outcome_of, run_of}
-use Rattle.pb_rounds.proofs.Explained.{run_has_price_system, run_is_paid_in_turn}
+use Rattle.pb_rounds.proofs.Explained.{run_has_price_system, run_has_rests, run_is_paid_in_turn}
 
 pub settled_has_price_system : (m : Measure) (e : ElectionView) (s : SupportView) → s ≡ support_of e → IsSupport s → (share raised : ℕ) (o : OutcomeView)
     → settled o ≡ settled_by share raised (run_of m s share) → HasPriceSystem (support_of e) share o.elected o.rests
@@ -24,3 +24,8 @@ pub settled_is_paid_in_turn : (m : Measure) (e : ElectionView) → IsSupport (su
 settled_is_paid_in_turn m e h share raised o is =
     rw (ap (λ (x : Settled). x.share) is, ap (λ (x : Settled). x.elected) is, ap (λ (x : Settled). x.rests) is)
     (run_is_paid_in_turn m (support_of e) h share)
+
+-- and it leaves one rest for each voter
+pub settled_has_rests : (m : Measure) (e : ElectionView) → IsSupport (support_of e) → (share raised : ℕ) (o : OutcomeView)
+    → settled o ≡ settled_by share raised (outcome_of m e share) → length o.rests ≡ length e.voters
+settled_has_rests m e h share raised o is = rw (ap (λ (x : Settled). x.rests) is) (run_has_rests m (support_of e) h share)
