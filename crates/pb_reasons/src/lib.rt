@@ -2,6 +2,7 @@
 //! who paid what.
 #![tactic(auto)]
 
+mod ending;
 mod paid_row;
 pub mod payment;
 pub mod project_reason;

@@ -1,8 +1,7 @@
 // The rounds of an outcome, replayed: who paid what.
 
-ghost use Rattle.std.specs.Prelude.{◌≡◌, ◌<◌, ◌≤◌, ◌∷◌, All, IfOk, OnOk, length, map, min, replicate, slice_index};
+ghost use Rattle.std.specs.Prelude.{◌≡◌, ◌<◌, All, IfOk, OnOk, length, map, min, replicate, slice_index};
 ghost use Rattle.std.specs.List.Sorted.{IsStrictlyIncreasing};
-ghost use Rattle.pb_price.specs.Supporters.{IsSupport, supporters_at};
 ghost use Rattle.pb_rounds.specs.Run.{charged};
 ghost use Rattle.pb_reasons.specs.Replay.{paid_by_supporters};
 

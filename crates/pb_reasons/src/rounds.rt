@@ -1,7 +1,6 @@
 // Which round elected which project.
 
-ghost use Rattle.std.specs.Prelude.{◌≡◌, ◌<◌, ℕ, All, IfOk, length, slice_index};
-ghost use Rattle.pb_core.specs.Election.{most_projects};
+ghost use Rattle.std.specs.Prelude.{◌<◌, ◌^◌, All, IfOk, length};
 ghost use Rattle.pb_reasons.specs.Reasons.{AreRounds};
 
 use pb_core::no_memory::NoMemory;
@@ -22,7 +21,8 @@ pub(crate) fn rounds_of(
     let mut round = elected.len();
     while round > 0 {
         round -= 1;
-        rounds[elected[round].place as usize] = round as u32;
+        let winner = &elected[round];
+        rounds[winner.place as usize] = round as u32;
     }
     Ok(rounds)
 }
