@@ -9,3 +9,6 @@ pub mod AuditAccepted
 mod ThreeVoters
 pub mod DeskRuns
 pub mod Recounts
+pub mod TableAccepted
+pub mod Tellable
+pub mod TableRows
