@@ -12,3 +12,4 @@ pub mod Recounts
 pub mod TableAccepted
 pub mod Tellable
 pub mod TableRows
+pub mod PaymentsText
