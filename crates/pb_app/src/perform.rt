@@ -1,10 +1,11 @@
 // What the command line asks for, done on real files.
 
 use pb_command_line::{Source, Task};
-use pb_commands::AppFault;
 use pb_commands::run_audit::run_audit;
 use pb_commands::run_count::run_count;
 use pb_commands::run_desk::run_desk;
+use pb_commands::run_table::run_table;
+use pb_commands::{AppFault, Table};
 use pb_price::gate::NoGate;
 use pb_rounds::options::CountOptions;
 use std::io::Read;
@@ -20,6 +21,8 @@ where
 {
     match task {
         Task::Count(source, options) => count(rt, source, options),
+        Task::Projects(source, options) => tell(rt, source, options, Table::Projects),
+        Task::Voters(source, options) => tell(rt, source, options, Table::Voters),
         Task::Desk(source, script, clerks, shuts) => serve(rt, source, script, *clerks, *shuts),
         Task::Audit(source, journal, options) => audit(rt, source, journal, options),
     }
@@ -42,6 +45,35 @@ where
     R: Print + AllocGlobal + Threads + Sync,
 {
     run_count(rt, rt.alloc(), file, &mut io::writer(rt), options)
+}
+
+/// Counts a .pb file, and writes this table of the outcome.
+fn tell<R>(
+    rt: &R,
+    source: &Source<'_>,
+    options: &CountOptions,
+    table: Table,
+) -> Result<(), AppFault>
+where
+    R: Files + Input + Print + AllocGlobal + Threads + Sync,
+{
+    match source {
+        Source::Input => tell_from(rt, rt.reader(), options, table),
+        Source::File(path) => tell_from(rt, open(rt, path, 1)?, options, table),
+    }
+}
+
+/// Counts the .pb file that a reader gives, and writes this table of the outcome.
+fn tell_from<R, P: Read + Drop>(
+    rt: &R,
+    file: P,
+    options: &CountOptions,
+    table: Table,
+) -> Result<(), AppFault>
+where
+    R: Print + AllocGlobal + Threads + Sync,
+{
+    run_table(rt, rt.alloc(), file, &mut io::writer(rt), options, table)
 }
 
 /// Lets this many clerks serve a script on the desk of a .pb file, which is then shut, or not.

@@ -120,6 +120,16 @@ const COMMANDS: &[CommandForm] = &[
         arguments: &[ELECTION, WORKERS, STEP, RAISES, PLAIN, MEASURE],
     },
     CommandForm {
+        name: "projects",
+        about: "Counts a .pb file, and prints who won and why, and who lost and by how much",
+        arguments: &[ELECTION, WORKERS, STEP, RAISES, PLAIN, MEASURE],
+    },
+    CommandForm {
+        name: "voters",
+        about: "Counts a .pb file, and prints what each voter paid, and for what",
+        arguments: &[ELECTION, WORKERS, STEP, RAISES, PLAIN, MEASURE],
+    },
+    CommandForm {
         name: "desk",
         about: "Serves a script's requests on the desk of a .pb file, and prints the journal",
         arguments: &[ELECTION, SCRIPT, CLERKS, SHUT],
@@ -202,6 +212,8 @@ fn made<'a>(alloc: Global, argument: &Argument) -> Arg<'a> {
 pub(crate) fn task_of<'a>(matches: &ArgMatches<'a>) -> Task<'a> {
     match matches.subcommand() {
         Some(("count", given)) => Task::Count(source_of(given), options_of(given)),
+        Some(("projects", given)) => Task::Projects(source_of(given), options_of(given)),
+        Some(("voters", given)) => Task::Voters(source_of(given), options_of(given)),
         Some(("desk", given)) => Task::Desk(
             source_of(given),
             path_of(given, "SCRIPT"),

@@ -16,6 +16,10 @@ pub enum Source<'a> {
 pub enum Task<'a> {
     /// A count of a .pb file.
     Count(Source<'a>, CountOptions),
+    /// The projects of a count of a .pb file: who won and why, who lost and by how much.
+    Projects(Source<'a>, CountOptions),
+    /// The voters of a count of a .pb file: who paid.
+    Voters(Source<'a>, CountOptions),
     /// A run of the desk of a .pb file: this many clerks serve the script with this path, and then the desk is shut,
     /// or not.
     Desk(Source<'a>, &'a str, u32, bool),

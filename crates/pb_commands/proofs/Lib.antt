@@ -9,3 +9,7 @@ pub mod AuditAccepted
 mod ThreeVoters
 pub mod DeskRuns
 pub mod Recounts
+pub mod TableAccepted
+pub mod Tellable
+pub mod TableRows
+pub mod PaymentsText

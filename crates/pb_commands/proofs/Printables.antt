@@ -47,7 +47,7 @@ pub count_is_printable : (e : ElectionView) (options : CountOptions) (o : Outcom
     → IsPrintable e o.elected
 count_is_printable e options o is_election counted within prices =
     let places = count_elects_projects e options (settled o) counted in
-    let more = collected_is_little_more (support_of e) o.rests (length e.projects) (length e.voters) (few_supporters e) o.elected prices.payments places.known prices.paid in
+    let more = collected_is_little_more (support_of e) o.rests (length e.projects) (length e.voters) (few_supporters e) o.elected prices.payments places.known prices.explain.paid in
     let slack = sum_by-le (λ (w : ElectedView). length e.voters) (length e.voters) o.elected (λ k d below. omega arith) in
     let product = mul-le-mul places.few is_election.few_voters in
     record {

@@ -1,5 +1,7 @@
 pub mod Report
 pub mod Printable
+pub mod Tables
+pub mod Tabled
 pub mod Fault
 pub mod Ends
 pub mod Counted

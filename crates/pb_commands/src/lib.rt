@@ -7,10 +7,15 @@
 pub mod fault;
 mod fault_line;
 pub mod laws;
+mod projects_table;
 mod report;
 pub mod run_audit;
 pub mod run_count;
 pub mod run_desk;
+pub mod run_table;
+pub mod table;
+mod voters_table;
 
 pub use fault::AppFault;
 pub use fault_line::BAD_ARGUMENTS;
+pub use table::Table;

@@ -9,7 +9,8 @@ use Rattle.std.proofs.lemmas.List.Kept.{AllPairs-from_increasing}
 use Rattle.std.proofs.lemmas.List.Sums.{sum_by_push, sum_by_more_le}
 use Rattle.pb_price.specs.Price.{paid_at}
 use Rattle.pb_rounds.specs.Run.{is_listed, charged}
-use Rattle.pb_rounds.proofs.Charged.{payment_of, charged_at, length-charged}
+use Rattle.pb_rounds.specs.Payments.{payment_of}
+use Rattle.pb_rounds.proofs.Charged.{charged_at, length-charged}
 
 -- nobody has paid yet
 pub charged-none : (price : ℕ) (rests : List ℕ) → charged [] price rests ≡ rests

@@ -7,16 +7,9 @@ use Rattle.std.proofs.lemmas.List.{get_or_past}
 use Rattle.std.proofs.lemmas.List.FromFn.{length-map-range_with_len, get_or-map-range_with_len, fill_by_all}
 use Rattle.std.proofs.lemmas.List.Sums.{sum-map, sum_by-cons}
 use Rattle.pb_price.specs.Price.{paid_at}
+use Rattle.pb_rounds.specs.Payments.{payment_of, payments_of}
 use Rattle.pb_rounds.specs.Run.{is_listed, charged}
 use Rattle.pb_rounds.proofs.Listed.{RisesWithin, sum_by-listed}
-
--- what a voter pays
-abbrev pub payment_of : List ℕ → ℕ → List ℕ → ℕ → ℕ
-payment_of supporters price rests v = if is_listed supporters v then min (slice_index rests v) price else 0
-
--- what each voter pays
-pub payments_of : List ℕ → ℕ → List ℕ → List ℕ
-payments_of supporters price rests = map (payment_of supporters price rests) (range_with_len 0 (length rests))
 
 paid-within_price : (b : Bool) (rest price : ℕ) → cond b (min rest price) 0 ≤ price
 paid-within_price true rest price = omega arith

@@ -1,5 +1,5 @@
 -- Every run has a price system.
-use Rattle.std.proofs.Common.{◌≡◌, ◌≢◌, ℕ, zero, suc, ◌+◌, ◌<◌, ◌≤◌, min, List, [], ◌∷◌, length, Option, Some, None, true, refl, sym, ◌∙◌, arith}
+use Rattle.std.proofs.Common.{◌≡◌, ◌≢◌, ℕ, zero, suc, ◌+◌, ◌<◌, ◌≤◌, min, List, [], ◌∷◌, length, Option, Some, None, true, refl, sym, subst, ap, ◌∙◌, arith}
 use Rattle.std.specs.Prelude.{All, sum, sum_by, ◌*◌, replicate, slice_index}
 use Rattle.std.specs.List.{AllZip, range_with_len}
 use Rattle.std.proofs.lemmas.List.{length-replicate, get_or-replicate}
@@ -14,16 +14,28 @@ use Rattle.pb_price.specs.Price.{total_rest, price_at}
 use Rattle.pb_price.proofs.Payments.{least_from_price, short_from_no_price, collected_below}
 use Rattle.pb_rounds.specs.declared.measure.Measure.{Measure}
 use Rattle.pb_rounds.specs.Bid.{Bid}
-use Rattle.pb_rounds.specs.Run.{run_of, RunView, best_of, charged, elected_by, then_run, run_from, without, is_listed}
+use Rattle.pb_rounds.specs.Run.{run_of, ElectedView, RunView, best_of, charged, elected_by, then_run, run_from, without, is_listed}
 use Rattle.pb_rounds.specs.Count.{spent_on}
-use Rattle.pb_rounds.specs.PriceSystem.{PaysFor, HasPriceSystem}
-use Rattle.pb_rounds.proofs.Charged.{payments_of, payment_of, payment_at, charged_at, length-payments_of, length-charged, payment-within_price, payment-within_rest, sum-payments_of, sum-charged}
+use Rattle.pb_rounds.specs.Payments.{paid_in_turn, payment_of, payments_of}
+use Rattle.pb_rounds.specs.PriceSystem.{PaysFor, IsPriceSystem, HasPriceSystem}
+use Rattle.pb_rounds.proofs.Charged.{payment_at, charged_at, length-payments_of, length-charged, payment-within_price, payment-within_rest, sum-payments_of, sum-charged}
 use Rattle.pb_rounds.proofs.Listed.{RisesWithin, rises_within, contains_from_listed, listed_from_contains, is_listed-without, length-without, listed_from_without, listed-below, RisesWithin-below, range_rises, is_listed-range}
 use Rattle.pb_rounds.proofs.BestBid.{IsBid, best_is_bid, no_price_without_best}
+
+pub paid_in_turn-nil : (s : SupportView) (rests : List ℕ) → [] ≡ paid_in_turn s rests []
+unfolding paid_in_turn
+paid_in_turn-nil s rests = refl
+
+pub paid_in_turn-cons : (s : SupportView) (rests : List ℕ) (w : ElectedView) (elected : List ElectedView)
+    → paid_in_turn s rests (w ∷ elected) ≡ payments_of (supporters_at s w.place) w.price rests
+    ∷ paid_in_turn s (charged (supporters_at s w.place) w.price rests) elected
+unfolding paid_in_turn
+paid_in_turn-cons s rests w elected = refl
 
 -- payments that explain the election of these from these rests to those, with these projects left at first
 pub record Explains (s : SupportView) (before left : List ℕ) (run : RunView) (payments : List (List ℕ)) : Type 0 where
   pub one_each : length run.rests ≡ s.voters
+  pub in_turn : payments ≡ paid_in_turn s before run.elected
   pub paid : AllZip (PaysFor s run.rests) run.elected payments
   pub endowed : (v : ℕ) → sum_by (λ row. slice_index row v) payments + slice_index run.rests v ≡ slice_index before v
   pub too_expensive : (place : ℕ) → is_listed left place ≡ true → All (λ w. w.place ≢ place) run.elected
@@ -73,6 +85,7 @@ explained_none s rests left round none = (
   [],
   record {
     one_each = round.one_each;
+    in_turn = paid_in_turn-nil s rests;
     paid = tt;
     endowed = λ v. omega arith;
     too_expensive = λ place among _. short_from_no_price (supporters_at s place) rests (cost_at s place) (none place among);
@@ -91,6 +104,8 @@ explained_some m s h rests left round b bid run (payments, later) =
       row ∷ payments,
       record {
         one_each = later.one_each;
+        in_turn = ap (λ rows. row ∷ rows) later.in_turn
+            ∙ sym (paid_in_turn-cons s rests (elected_by s rests b) run.elected);
         paid = (winner, later.paid);
         endowed = λ v.
             omega (
@@ -160,19 +175,31 @@ opening_explained m s h share =
     run_is_explained m s h (length s.costs) (replicate s.voters share) (range_with_len 0 (length s.costs)) (opening_round s share)
     (rw (length-range_with_len 0 (length s.costs)) (omega arith))
 
--- every run has a price system
-pub run_has_price_system : (m : Measure) (s : SupportView) → IsSupport s → (share : ℕ) → HasPriceSystem s share (run_of m s share).elected (run_of m s share).rests
-run_has_price_system m s h share =
+-- what each voter pays in turn is a price system of a run
+pub run_is_paid_in_turn : (m : Measure) (s : SupportView) → IsSupport s → (share : ℕ)
+    → IsPriceSystem s share (run_of m s share).elected (run_of m s share).rests (paid_in_turn s (replicate s.voters share) (run_of m s share).elected)
+run_is_paid_in_turn m s h share =
     let found = opening_explained m s h share in
-    record {
-      payments = found.0;
+    subst (IsPriceSystem s share (run_of m s share).elected (run_of m s share).rests) found.1.in_turn
+    (record {
       paid = found.1.paid;
       endowed = λ v below. found.1.endowed v ∙ get_or-replicate s.voters v share 0 below;
       too_expensive = λ place below others. found.1.too_expensive place (is_listed-range 0 (length s.costs) place (omega arith) (omega arith)) others;
-    }
+    })
+
+-- every run has a price system
+pub run_has_price_system : (m : Measure) (s : SupportView) → IsSupport s → (share : ℕ) → HasPriceSystem s share (run_of m s share).elected (run_of m s share).rests
+run_has_price_system m s h share = record {
+  payments = paid_in_turn s (replicate s.voters share) (run_of m s share).elected;
+  explain = run_is_paid_in_turn m s h share;
+}
 
 -- no run spends more than everybody's share
 pub run_within_shares : (m : Measure) (s : SupportView) → IsSupport s → (share : ℕ) → spent_on s (run_of m s share).elected ≤ s.voters * share
 run_within_shares m s h share =
     let found = opening_explained m s h share in
     omega (arith, found.1.within, sum_by-replicate (λ x. x) s.voters share)
+
+-- what is left after a run is one rest for each voter
+pub run_has_rests : (m : Measure) (s : SupportView) → IsSupport s → (share : ℕ) → length (run_of m s share).rests ≡ s.voters
+run_has_rests m s h share = (opening_explained m s h share).1.one_each

@@ -145,7 +145,7 @@ module _ (m : Measure) (s : SupportView) (h : IsSupport s) (share : ℕ) where
     cheapest = run_was_cheapest m s h share;
     rests_are = all_rests m s share;
     none_left = λ place known others.
-        no_price_by s (run_of m s share).rests place ((run_has_price_system m s h share).too_expensive place known others) _ refl;
+        no_price_by s (run_of m s share).rests place ((run_has_price_system m s h share).explain.too_expensive place known others) _ refl;
   }
 
   words_from : (run : RunView) → IsRun m s share run → IsRunFrom m s (replicate s.voters share) (range_with_len 0 (length s.costs)) run.elected run.rests

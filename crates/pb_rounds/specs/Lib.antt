@@ -6,6 +6,7 @@ pub mod Count
 pub mod CountFault
 pub mod Counted
 pub mod Outcome
+pub mod Payments
 pub mod PriceSystem
 pub mod PricingRecord
 pub mod Queue

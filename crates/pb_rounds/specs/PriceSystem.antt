@@ -20,9 +20,8 @@ pub record PaysFor (s : SupportView) (rests : List ℕ) (w : ElectedView) (payme
 
 -- Priceability (Peters and Skowron 2020; Peters, Pierczynski and Skowron 2021), in whole payments: a list for each elected
 -- project, with a payment of each voter, that explain whom an election at this share elected. No round is named.
-pub record HasPriceSystem (s : SupportView) (share : ℕ) (elected : List ElectedView) (rests : List ℕ)
-    : Type 0 where
-  pub payments : List (List ℕ)
+pub record IsPriceSystem (s : SupportView) (share : ℕ) (elected : List ElectedView) (rests : List ℕ)
+    (payments : List (List ℕ)) : Type 0 where
   pub paid : AllZip (PaysFor s rests) elected payments
   -- a voter's payments and rest are the share
   pub endowed : (v : ℕ) → v < s.voters → sum_by (λ row. slice_index row v) payments + slice_index rests v
@@ -30,3 +29,9 @@ pub record HasPriceSystem (s : SupportView) (share : ℕ) (elected : List Electe
   -- a project that is not elected costs more than its supporters have left together
   pub too_expensive : (place : ℕ) → place < length s.costs → All (λ w. w.place ≢ place) elected
       → total_rest (supporters_at s place) rests < cost_at s place
+
+-- there are payments that are a price system of it
+pub record HasPriceSystem (s : SupportView) (share : ℕ) (elected : List ElectedView) (rests : List ℕ)
+    : Type 0 where
+  pub payments : List (List ℕ)
+  pub explain : IsPriceSystem s share elected rests payments

@@ -1,0 +1,50 @@
+-- The rows of a table, one after the other.
+use Rattle.std.proofs.Common.{◌≡◌, ℕ, ◌+◌, ◌<◌, List, [], ◌∷◌, ◌++◌, decimal, get_or, length, map, sym, ◌∙◌, ap, arith}
+use Rattle.std.specs.List.{range_with_len}
+use Rattle.std.proofs.lemmas.List.FromFn.{map-range_with_len_more}
+use Rattle.std.proofs.lemmas.List.{get_or-map}
+use Rattle.pb_core.specs.Election.{ElectionView, ProjectView, VoterView}
+use Rattle.pb_core.specs.MoneyText.{money_text}
+use Rattle.pb_reasons.specs.Reasons.{VoterReasonView, project_reason, voter_reason}
+use Rattle.pb_reasons.specs.declared.project_reason.ProjectReason.{ProjectReason}
+use Rattle.pb_rounds.specs.Outcome.{Settled}
+use Rattle.pb_rows.specs.Reading.{Fields}
+use Rattle.pb_rows.specs.Writing.{text_of_row, text_of_rows}
+use Rattle.pb_commands.proofs.ReportSums.{cost_at-known, id_at-known}
+use Rattle.pb_commands.proofs.RowsGrown.{none_grown, row_grown}
+use Rattle.pb_commands.specs.Report.{id_at}
+use Rattle.pb_commands.specs.Tables.{ending_fields, name_at, project_row, reason_fields, voter_row}
+
+-- the columns, and this many rows
+abbrev pub TableSoFar : Fields → (ℕ → Fields) → ℕ → (old new : List ℕ) → Type 0
+TableSoFar columns row n old new = new ≡ old ++ text_of_rows (columns ∷ map row (range_with_len 0 n))
+
+pub columns_put : (columns : Fields) (row : ℕ → Fields) (old new : List ℕ) → new ≡ old ++ text_of_row columns → TableSoFar columns row 0 old new
+columns_put columns row old new put = row_grown [] columns old old new (none_grown old) put
+
+pub row_put : (columns : Fields) (row : ℕ → Fields) (n : ℕ) (old before after : List ℕ) → TableSoFar columns row n old before
+    → after ≡ before ++ text_of_row (row n) → TableSoFar columns row (n + 1) old after
+row_put columns row n old before after so_far put =
+    row_grown (columns ∷ map row (range_with_len 0 n)) (row n) old before after so_far put
+    ∙ ap (λ (rows : List Fields). old ++ text_of_rows (columns ∷ rows)) (sym (map-range_with_len_more row 0 n n (omega arith)))
+
+name_at-known : (e : ElectionView) (place : ℕ) (p : ProjectView) → place < length e.projects → p ≡ get_or e.projects place p → name_at e place ≡ p.name
+name_at-known e place p known is = get_or-map (λ (q : ProjectView). q.name) e.projects place p [] known ∙ ap (λ (q : ProjectView). q.name) (sym is)
+
+-- the row of a project, as it is written
+pub project_row_read : (e : ElectionView) (o : Settled) (place : ℕ) (p : ProjectView) → place < length e.projects → p ≡ get_or e.projects place p
+    → (reason : ProjectReason) → reason ≡ project_reason e o place
+    → decimal place ∷ p.id ∷ p.name ∷ money_text p.cost ∷ decimal reason.votes ∷ ending_fields reason.ending ≡ project_row e o place
+project_row_read e o place p known is reason reason_is =
+    ap (λ (r : ProjectReason). decimal place ∷ p.id ∷ p.name ∷ money_text p.cost ∷ decimal r.votes ∷ ending_fields r.ending) reason_is
+    ∙ ap (λ id. decimal place ∷ id ∷ p.name ∷ money_text p.cost ∷ decimal (project_reason e o place).votes ∷ ending_fields (project_reason e o place).ending) (sym (id_at-known e place p known is))
+    ∙ ap (λ name. decimal place ∷ id_at e place ∷ name ∷ money_text p.cost ∷ decimal (project_reason e o place).votes ∷ ending_fields (project_reason e o place).ending) (sym (name_at-known e place p known is))
+    ∙ ap (λ cost. decimal place ∷ id_at e place ∷ name_at e place ∷ money_text cost ∷ decimal (project_reason e o place).votes ∷ ending_fields (project_reason e o place).ending) (sym (cost_at-known e place p known is))
+
+-- the row of a voter, as it is written
+pub voter_row_read : (e : ElectionView) (o : Settled) (voter : ℕ) (v : VoterView) → voter < length e.voters → v ≡ get_or e.voters voter v
+    → (id : List ℕ) → id ≡ v.id → (reason : VoterReasonView) → reason ≡ voter_reason e o voter → id ∷ reason_fields reason ≡ voter_row e o voter
+voter_row_read e o voter v known is id id_is reason reason_is =
+    ap (λ (r : VoterReasonView). id ∷ reason_fields r) reason_is
+    ∙ ap (λ (i : List ℕ). i ∷ reason_fields (voter_reason e o voter))
+    (id_is ∙ ap (λ (u : VoterView). u.id) is ∙ sym (get_or-map (λ (u : VoterView). u.id) e.voters voter v [] known))

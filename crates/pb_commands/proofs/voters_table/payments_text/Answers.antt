@@ -1,0 +1,22 @@
+use Rattle.std.proofs.Common.{◌≡◌, ◌<◌, ◌++◌, ℕ, List, codes, decimal, inl, inr, string_bytes, refl, ◌∙◌, ap, arith}
+use Rattle.std.specs.Prelude.{◌⊎◌}
+use Rattle.pb_core.specs.MoneyText.{money_text}
+use Rattle.pb_commands.proofs.PaymentsText.{text_put}
+use Rattle.pb_commands.proofs.voters_table.payments_text.Goals as goal
+use Rattle.pb_commands.proofs.voters_table.payments_text.Goals.{then-i-gt0+in_ok-push_str, else-i-gt0}
+
+pub loop-i-preserved : goal.loop-i-preserved
+loop-i-preserved c =
+    let i = c.loop-i.i in
+    let p = c.index-payments-i.result in
+    let before = string_bytes c.loop-i.text in
+    let start = string_bytes c.if-i-gt0.text in
+    let begins : ((0 < i) × (start ≡ before ++ codes ",")) ⊎ ((i ≡ 0) × (start ≡ before)) = elim c.if-i-gt0.branch [
+      | then-i-gt0+in_ok-push_str w ↦ inl (w.if-i-gt0.true, rw w.text-is w.in_ok-push_str.ensures.bytes)
+      | else-i-gt0 w ↦ inr (omega (arith, w.if-i-gt0.false), rw w.text-is refl)
+    ] in
+    let place : string_bytes c.push_str-in-loop-i.new.self ≡ start ++ decimal p.place = rw c.format.ensures.text at c.in_ok-push_str-2.ensures.bytes in
+    let amount : string_bytes c.push_str-in-loop-i-3.new.self ≡ string_bytes c.push_str-in-loop-i-2.new.self ++ money_text p.amount =
+    rw (c.as_str.ensures.value, c.in_ok-amount.ensures) at c.in_ok-push_str-4.ensures.bytes in
+    text_put c.args.payments.now i p c.loop-i-test.true c.index-payments-i.is before start (string_bytes c.push_str-in-loop-i-3.new.self) c.loop-i.invariant begins
+    (amount ∙ ap (λ (t : List ℕ). t ++ money_text p.amount) (c.in_ok-push_str-3.ensures.bytes ∙ ap (λ (t : List ℕ). t ++ codes ":") place))

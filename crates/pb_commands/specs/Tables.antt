@@ -1,0 +1,64 @@
+-- The tables of an outcome: project by project, and voter by voter.
+use Rattle.std.specs.Prelude.{ℕ, List, [], ◌∷◌, ◌++◌, codes, decimal, length, map, slice_index_or}
+use Rattle.std.specs.List.{join_with_byte, range_with_len}
+use Rattle.pb_core.specs.Election.{ElectionView, voter_ids}
+use Rattle.pb_core.specs.MoneyText.{money_text}
+use Rattle.pb_price.specs.Supporters.{cost_at, support_of}
+use Rattle.pb_reasons.specs.Reasons.{VoterReasonView, project_reason, voter_reason}
+use Rattle.pb_reasons.specs.declared.payment.Payment.{Payment}
+use Rattle.pb_reasons.specs.declared.project_reason.Ending.{Ending}
+use Rattle.pb_reasons.specs.declared.project_reason.Ending.TheVariants.{Won, Lost}
+use Rattle.pb_rounds.specs.Outcome.{Settled}
+use Rattle.pb_rows.specs.Reading.{Fields}
+use Rattle.pb_rows.specs.Writing.{text_of_rows}
+use Rattle.pb_commands.specs.Report.{id_at}
+use Rattle.pb_commands.specs.declared.table.Table.{Table}
+use Rattle.pb_commands.specs.declared.table.Table.TheVariants.{Projects, Voters}
+
+-- the columns of projects
+abbrev pub project_columns : Fields
+project_columns =
+    codes "place" ∷ codes "project_id" ∷ codes "name" ∷ codes "cost" ∷ codes "votes" ∷ codes "round"
+    ∷ codes "price" ∷ codes "collected" ∷ codes "in_full" ∷ codes "left" ∷ codes "missing" ∷ []
+
+-- the name of the project at this place
+abbrev pub name_at : ElectionView → ℕ → List ℕ
+name_at e place = slice_index_or (map (λ p. p.name) e.projects) place []
+
+-- the fields on how a project ended; those of the other ending are empty
+abbrev pub ending_fields : Ending → Fields
+ending_fields (Won w) =
+    decimal w.round ∷ money_text w.price ∷ money_text w.collected ∷ decimal w.in_full ∷ [] ∷ [] ∷ []
+ending_fields (Lost l) = [] ∷ [] ∷ [] ∷ [] ∷ money_text l.left ∷ money_text l.missing ∷ []
+
+-- the row of the project at this place
+abbrev pub project_row : ElectionView → Settled → ℕ → Fields
+project_row e o place =
+    decimal place ∷ id_at e place ∷ name_at e place ∷ money_text (cost_at (support_of e) place)
+    ∷ decimal (project_reason e o place).votes ∷ ending_fields (project_reason e o place).ending
+
+-- the columns of voters
+abbrev pub voter_columns : Fields
+voter_columns =
+    codes "voter_id" ∷ codes "votes" ∷ codes "elected" ∷ codes "paid" ∷ codes "left" ∷ codes "payments" ∷ []
+
+-- payments as text: each a place, `:` and an amount, with `,` between two
+abbrev pub payments_text : List Payment → List ℕ
+payments_text payments =
+    join_with_byte 44 (map (λ p. decimal p.place ++ (codes ":" ++ money_text p.amount)) payments)
+
+-- the fields on what a ballot came to
+abbrev pub reason_fields : VoterReasonView → Fields
+reason_fields r =
+    decimal r.votes ∷ decimal r.elected ∷ money_text r.paid ∷ money_text r.left ∷ payments_text r.payments ∷ []
+
+-- the row of the voter at this position
+abbrev pub voter_row : ElectionView → Settled → ℕ → Fields
+voter_row e o voter = slice_index_or (voter_ids e) voter [] ∷ reason_fields (voter_reason e o voter)
+
+-- a table of an outcome, as text: its columns, and then a row each, in the order of the file
+unfoldable pub table_of : Table → ElectionView → Settled → List ℕ
+table_of Projects e o =
+    text_of_rows (project_columns ∷ map (project_row e o) (range_with_len 0 (length e.projects)))
+table_of Voters e o =
+    text_of_rows (voter_columns ∷ map (voter_row e o) (range_with_len 0 (length e.voters)))

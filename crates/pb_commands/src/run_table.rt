@@ -1,0 +1,130 @@
+// Runs that write a table: who won and why, who lost and by how much, who paid.
+
+ghost use Rattle.std.specs.Prelude.{◌≡◌, ◌≢◌, ◌++◌, ℕ, List, IfErr, IfOk, IfSome, OnOk};
+ghost use Rattle.pb_reasons.specs.Reasons.{CanBeTold};
+ghost use Rattle.pb_rounds.specs.Counted.{IsCountFault};
+ghost use Rattle.pb_rounds.specs.Outcome.{settled};
+ghost use Rattle.pb_commands.specs.Counted.{CountRefuses};
+ghost use Rattle.pb_commands.specs.Ends.{Accepts, FailsBy, HasWritten};
+ghost use Rattle.pb_commands.specs.Fault.{merged};
+ghost use Rattle.pb_commands.specs.Tabled.{IsTableOf, TableWrites};
+ghost use Rattle.pb_commands.specs.Tables.{table_of};
+
+use crate::fault::AppFault;
+use crate::projects_table::put_projects;
+use crate::run_count::{finished, write_out};
+use crate::table::Table;
+use crate::voters_table::put_voters;
+use pb_core::election::Election;
+use pb_core::no_memory::NoMemory;
+use pb_read::read_pb;
+use pb_reasons::Reasons;
+use pb_rounds::count::count;
+use pb_rounds::count_fault::CountFault;
+use pb_rounds::options::CountOptions;
+use pb_rounds::outcome::Outcome;
+use pb_rows::RowsWriter;
+use std::alloc::Global;
+use std::io::{Read, Write};
+use std::thread::Threads;
+
+/// Reads a .pb file, counts it with these options, and writes this table of the outcome. What it refuses, and when,
+/// is as for `run_count`.
+///
+/// The file is refused before the options are looked at, and nothing is written but the whole table.
+/// Where the fault is `Write` some of the table may have gone out; on any other fault the writer is as it
+/// was.
+pub fn run_table<T: Threads + Sync, R: Read + Drop, W: Write>(
+    rt: &T,
+    alloc: Global,
+    reader: R,
+    writer: &mut W,
+    options: &CountOptions,
+    table: Table,
+) -> Result<(), AppFault>
+    // Where the reader's bytes are known, they alone and the options decide what is written,
+    ensures ok { OnOk result (IfSome (R.remaining reader) (λ bytes.
+        HasWritten (TableWrites table bytes options.now) (W.contents writer.old) (W.contents writer.new))) }
+
+    // and which fault comes.
+    ensures fault { IfErr result (λ fault. IfSome (R.remaining reader) (λ bytes.
+        FailsBy (CountRefuses options.now) (TableWrites table bytes options.now) bytes fault)) }
+
+    // A file that has a table gets it, unless a device fails or memory is refused.
+    ensures accepts { IfSome (R.remaining reader) (λ bytes.
+        Accepts (TableWrites table bytes options.now) result) }
+
+    // A fault writes nothing, unless it is the writer's.
+    ensures unchanged { IfErr result (λ fault. fault ≢ AppFault.Write → writer.new ≡ writer.old) }
+
+    // Out of memory is one fault.
+    ensures merged { IfErr result (λ fault. merged fault ≡ fault) }
+{
+    let election = read_pb(alloc, reader)?;
+    let made = table_text(rt, alloc, &election, options, table);
+    drop(election);
+    let text = made?;
+    write_out(writer, text.as_slice())
+}
+
+/// This table of an election, counted with these options.
+fn table_text<T: Threads + Sync>(
+    rt: &T,
+    alloc: Global,
+    election: &Election,
+    options: &CountOptions,
+    table: Table,
+) -> Result<Vec<u8>, CountFault>
+    ensures ok { IfOk result (λ text. IsTableOf table election.now options.now text.items) }
+    ensures fault { IfErr result (IsCountFault election.now options.now) }
+{
+    let mut rows = RowsWriter::start(alloc);
+    match put_counted(rt, alloc, &mut rows, election, options, table) {
+        Ok(()) => finished(rows),
+        Err(fault) => {
+            drop(rows);
+            Err(fault)
+        }
+    }
+}
+
+/// Counts an election, and puts this table after the rows that stand there.
+fn put_counted<T: Threads + Sync>(
+    rt: &T,
+    alloc: Global,
+    rows: &mut RowsWriter,
+    election: &Election,
+    options: &CountOptions,
+    table: Table,
+) -> Result<(), CountFault>
+    ensures ok { OnOk result ((text : List ℕ)
+        × IsTableOf table election.now options.now text × (rows.new.text ≡ rows.old.text ++ text)) }
+    ensures fault { IfErr result (IsCountFault election.now options.now) }
+{
+    // What is true of every election is true of its reasons.
+    let _budget = election.budget();
+    let outcome = count(rt, alloc, election, options)?;
+    put_outcome(rows, alloc, election, &outcome, table)?;
+    Ok(())
+}
+
+/// Puts this table of an outcome after the rows that stand there.
+fn put_outcome(
+    rows: &mut RowsWriter,
+    alloc: Global,
+    election: &Election,
+    outcome: &Outcome,
+    table: Table,
+) -> Result<(), NoMemory>
+    requires { CanBeTold election.now (settled outcome.now) }
+    ensures { OnOk result (rows.new.text
+        ≡ rows.old.text ++ table_of table election.now (settled outcome.now)) }
+{
+    let reasons = Reasons::of(alloc, election, outcome)?;
+    let put = match table {
+        Table::Projects => put_projects(rows, alloc, election, outcome, &reasons),
+        Table::Voters => put_voters(rows, alloc, election, outcome, &reasons),
+    };
+    drop(reasons);
+    put
+}

@@ -1,0 +1,8 @@
+/// A table that a run writes.
+#[derive(Clone, Copy, Debug, PartialEq, Eq)]
+pub enum Table {
+    /// Who won and why, and who lost and by how much: a row for each project.
+    Projects,
+    /// Who paid: a row for each voter.
+    Voters,
+}

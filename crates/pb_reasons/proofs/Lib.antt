@@ -1,0 +1,5 @@
+pub mod Told
+pub mod Found
+pub mod Paying
+pub mod Reasoned
+pub mod VoterTold

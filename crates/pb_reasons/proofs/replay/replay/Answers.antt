@@ -1,0 +1,29 @@
+use Rattle.std.proofs.Common.{◌≡◌, ◌<◌, ◌++◌, take, drop, length, get_or, List, ℕ, refl, sym, ◌∙◌, ap, arith}
+use Rattle.std.specs.Prelude.{replicate}
+use Rattle.pb_rounds.specs.Run.{ElectedView, charged}
+use Rattle.pb_price.specs.Supporters.{supporters_at}
+use Rattle.pb_rounds.proofs.Charged.{length-charged}
+use Rattle.pb_reasons.specs.Replay.{row_of}
+use Rattle.pb_reasons.proofs.Paying.{paid_all, paid_more, whole_part}
+use Rattle.pb_reasons.proofs.replay.replay.Goals as goal
+
+pub loop-winner-preserved : goal.loop-winner-preserved
+loop-winner-preserved c =
+    let s = c.args.supporters.now in
+    let w = c.winner-item.result in
+    let rests = c.loop-winner.rests.items in
+    let long : length c.pay.new.rests ≡ c.loop-winner.rests.len = omega (arith, c.pay.auto.rests, ap length c.deref_mut.ensures.value, c.loop-winner.rests.ok.0) in
+    let whole = whole_part c.loop-winner.rests.len c.pay.new.rests (drop (length c.pay.new.rests) rests) long in
+    let place_is : c.winner.inside.place ≡ w.place = ap (λ (v : ElectedView). v.place) c.winner.view_is in
+    let price_is : c.winner.inside.price ≡ w.price = ap (λ (v : ElectedView). v.price) c.winner.view_is in
+    let supporters_are : c.of.result.now ≡ supporters_at s w.place = c.of.ensures.supporters ∙ ap (supporters_at s) place_is in
+    let charged_is : c.pay.new.rests ≡ charged (supporters_at s w.place) w.price rests =
+    rw (supporters_are, price_is, c.deref_mut.ensures.value) at c.in_ok-row.ensures.rests in
+    let row_is : c.in_ok-row.row ≡ row_of (supporters_at s w.place) w.price rests = rw (supporters_are, price_is, c.deref_mut.ensures.value) at c.in_ok-row.ensures.row in
+    record {
+      one_each = rw whole (ap length charged_is ∙ length-charged (supporters_at s w.place) w.price rests ∙ c.loop-winner.invariant.one_each);
+      paid = rw (whole, charged_is, c.in_ok-push.ensures.items) (paid_more s c.args.elected.now c.loop-winner.winner-index w c.loop-winner-test.true c.winner-item.is rests c.in_ok-row.row row_is c.loop-winner.paid.items _ c.loop-winner.invariant.paid);
+    }
+
+pub returns : goal.returns
+returns c = paid_all c.args.supporters.now c.args.elected.now c.loop-winner.rests.items c.loop-winner.paid.items _ c.loop-winner.winner-index c.loop-winner-test.false c.loop-winner.invariant.paid

@@ -1,0 +1,17 @@
+//! Why an outcome is as it is: project by project who won and by which round, or how much was missing, and voter by voter
+//! who paid what.
+#![tactic(auto)]
+
+mod ending;
+mod paid_row;
+pub mod payment;
+pub mod project_reason;
+pub mod reasons;
+mod replay;
+mod rounds;
+pub mod voter_reason;
+
+pub use payment::Payment;
+pub use project_reason::{Ending, Lost, ProjectReason, Won};
+pub use reasons::Reasons;
+pub use voter_reason::VoterReason;

@@ -1,0 +1,10 @@
+use pb_core::money::Money;
+
+/// What a voter paid for an elected project.
+#[derive(Clone, Copy, Debug, PartialEq, Eq)]
+pub struct Payment {
+    /// The project's place in the file, from 0.
+    pub place: u32,
+    /// The amount, in hundredths.
+    pub amount: Money,
+}

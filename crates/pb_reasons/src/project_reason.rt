@@ -1,0 +1,41 @@
+use pb_core::money::Money;
+
+/// How an elected project was paid.
+#[derive(Clone, Copy, Debug, PartialEq, Eq)]
+pub struct Won {
+    /// The round that elected it, from 1.
+    pub round: u32,
+    /// The most that a supporter paid, in hundredths.
+    pub price: Money,
+    /// What the payments sum to, in hundredths.
+    pub collected: Money,
+    /// How many supporters paid the whole price.
+    pub in_full: u32,
+}
+
+/// What a project that is not elected lacked.
+#[derive(Clone, Copy, Debug, PartialEq, Eq)]
+pub struct Lost {
+    /// What its supporters have left together, in hundredths.
+    pub left: Money,
+    /// Its cost less that, in hundredths.
+    pub missing: Money,
+}
+
+/// How a project ended.
+#[derive(Clone, Copy, Debug, PartialEq, Eq)]
+pub enum Ending {
+    /// It is elected.
+    Won(Won),
+    /// It is not.
+    Lost(Lost),
+}
+
+/// Why a project is elected, or is not.
+#[derive(Clone, Copy, Debug, PartialEq, Eq)]
+pub struct ProjectReason {
+    /// How many ballots approve it.
+    pub votes: u32,
+    /// How it ended.
+    pub ending: Ending,
+}
