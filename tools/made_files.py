@@ -50,3 +50,6 @@ MADE = {
     'two-clerks.script': lambda: two_clerks(True),
     'two-clerks.rows': lambda: two_clerks(False),
 }
+
+# Those that `rt try` would be slow on: it copies each file for each case, and runs with checks.
+LARGE = {'large.pb', 'largest.pb', 'records.pb', 'records-and-one.pb'}
