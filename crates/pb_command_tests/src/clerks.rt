@@ -5,8 +5,8 @@ use pb_commands::run_desk::run_desk;
 use pb_price::gate::Gate;
 use std::alloc::Global;
 use std::process::Abort;
-use std::sync::atomic::AtomicBool;
 use std::sync::atomic::Ordering::SeqCst;
+use std::sync::atomic::{AtomicBool, AtomicU32};
 use std::thread::{Threads, yield_now};
 
 /// Each of two clerks casts twice, for voters of its own.
@@ -39,13 +39,54 @@ impl Gate for Holding {
     }
 }
 
-/// The journal of the script, which two clerks serve.
-fn journal_of<R: Threads + Sync + Abort>(rt: &R, alloc: Global, gate: &Holding) -> Vec<u8> {
+/// The journal of this script, which two clerks serve.
+fn journal_of<R: Threads + Sync + Abort, G: Gate>(
+    rt: &R,
+    alloc: Global,
+    script: &str,
+    gate: &G,
+) -> Vec<u8> {
     let mut journal = Vec::new(alloc);
-    let (file, script) = (THREE_VOTERS.as_bytes(), SCRIPT.as_bytes());
+    let (file, script) = (THREE_VOTERS.as_bytes(), script.as_bytes());
     let ran = run_desk(rt, alloc, file, script, 2, false, gate, &mut journal);
     same(rt, ran, Ok(()), "a desk");
     journal
+}
+
+/// Holds each of two clerks at its row until the other has come to its own, for a bounded number of turns.
+#[derive(Drop)]
+struct Meeting {
+    /// 1 for clerk 0 and 2 for clerk 1, each at its first row: so 3 for both.
+    came: AtomicU32,
+    met: AtomicU32,
+}
+
+impl Gate for Meeting {
+    fn at(&self, clerk: u32, row: u32) {
+        self.came.fetch_add(
+            clerk.wrapping_add(1).wrapping_add(row.wrapping_mul(100)),
+            SeqCst,
+        );
+        for _ in 0..10_000_000 {
+            if self.came.load(SeqCst) == 3 {
+                self.met.fetch_add(1, SeqCst);
+                return;
+            }
+            yield_now();
+        }
+    }
+}
+
+/// A row of each of two clerks: neither was served before the other had come to its own.
+#[test]
+fn clerks_meet(rt: HostRuntime) {
+    let gate = Meeting {
+        came: AtomicU32::new(0),
+        met: AtomicU32::new(0),
+    };
+    let journal = journal_of(&rt, rt.alloc(), "0;shut;;\n1;shut;;\n", &gate);
+    same(&rt, gate.met.load(SeqCst), 2, "clerks who met");
+    drop(journal);
 }
 
 /// While this clerk is held at its first row, the other is served its own.
@@ -54,7 +95,7 @@ fn serves_the_other<R: Threads + Sync + Abort>(rt: &R, alloc: Global, held: u32,
         held,
         came: AtomicBool::new(false),
     };
-    let journal = journal_of(rt, alloc, &gate);
+    let journal = journal_of(rt, alloc, SCRIPT, &gate);
     same(rt, journal.starts_with(first.as_bytes()), true, first);
     drop(journal);
 }

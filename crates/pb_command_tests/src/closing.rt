@@ -3,11 +3,13 @@
 ghost use Rattle.std.specs.Prelude.{◌≡◌, All};
 
 use crate::checks::{THREE_VOTERS, same};
+use crate::faults::shows;
 use pb_closing::close_and_count::close_and_count;
 use pb_closing::{CloseFault, Closing, DeskCount};
 use pb_core::{Request, VoterId};
 use pb_desk::Desk;
 use pb_read::read_pb;
+use pb_rounds::count_fault::CountFault;
 use pb_rounds::options::CountOptions;
 use pb_rounds::outcome::Elected;
 use pb_shared::clerk::Clerk;
@@ -137,4 +139,21 @@ fn a_shut_desk_is_counted(rt: HostRuntime) {
     for (shuts, workers, wanted) in CLOSINGS {
         closes(&rt, rt.alloc(), *shuts, *workers, wanted);
     }
+}
+
+/// The fault is shown as this text.
+fn tells(rt: &impl Abort, alloc: Global, fault: CloseFault, wanted: &str) {
+    shows(rt, alloc, &fault, wanted);
+    drop(fault);
+}
+
+#[test]
+fn a_closing_tells_its_faults(rt: HostRuntime) {
+    let alloc = rt.alloc();
+    tells(&rt, alloc, CloseFault::Unfinished(4), "the lock word is 4");
+    let open = desk(&rt, alloc);
+    tells(&rt, alloc, CloseFault::NoMemory(open), "out of memory");
+    let election = read_pb(alloc, THREE_VOTERS.as_bytes()).expect(&rt, "an election");
+    let spent = CloseFault::NotCounted(CountFault::RaisesSpent, election);
+    tells(&rt, alloc, spent, "the raises are spent");
 }

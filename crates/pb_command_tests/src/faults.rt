@@ -125,7 +125,7 @@ const SERVE_FAULTS: &[(ServeFault, &str)] = &[
 ];
 
 /// It is shown as this text.
-fn shows<D: Display>(rt: &impl Abort, alloc: Global, fault: &D, wanted: &str) {
+pub(crate) fn shows<D: Display>(rt: &impl Abort, alloc: Global, fault: &D, wanted: &str) {
     let shown = format!(in alloc; "{fault}").expect(rt, "memory");
     same(rt, shown.as_str(), wanted, wanted);
     drop(shown);
@@ -138,6 +138,28 @@ fn a_run_tells_its_faults(rt: HostRuntime) {
     }
     for (fault, wanted) in SERVE_FAULTS {
         shows(&rt, rt.alloc(), fault, wanted);
+    }
+}
+
+/// A fault of the device, and the line of it.
+const LINES: &[(AppFault, &[u8])] = &[
+    (AppFault::Write, b"fault;write\n"),
+    (AppFault::Open(2), b"fault;open;2\n"),
+];
+
+/// A writer that takes all has taken the whole line, and the call says so.
+fn writes_line(rt: &impl Abort, alloc: Global, fault: &AppFault, wanted: &[u8]) {
+    let mut line = Vec::new(alloc);
+    let written = fault.write_line(&mut line).is_ok();
+    same(rt, written, true, "a line that is written");
+    same(rt, line.as_slice(), wanted, "a line");
+    drop(line);
+}
+
+#[test]
+fn a_line_that_is_taken_is_written(rt: HostRuntime) {
+    for (fault, wanted) in LINES {
+        writes_line(&rt, rt.alloc(), fault, wanted);
     }
 }
 

@@ -1,8 +1,12 @@
 //! What the desk's faults say of themselves: number, name and text.
 
 use crate::checks::tells;
+use crate::elections::three_voters;
+use crate::serving::desk_with_room;
+use pb_desk::IntoFault;
 use pb_desk::audit_fault::AuditFault;
 use pb_desk::desk_fault::DeskFault;
+use pb_desk::start_fault::StartFault;
 use pb_desk::write_fault::WriteFault;
 
 const DESK_FAULTS: &[(DeskFault, &str)] = &[
@@ -65,4 +69,18 @@ fn an_audit_tells_its_faults(rt: HostRuntime) {
         let named = (fault.number(), fault.name());
         tells(&rt, rt.alloc(), named, fault, wanted);
     }
+}
+
+/// What they tell who hand an election or a desk back.
+#[test]
+fn what_is_handed_back_comes_with_its_fault(rt: HostRuntime) {
+    let alloc = rt.alloc();
+    let start: StartFault = StartFault::NoMemory(three_voters(&rt, alloc));
+    let named = (start.number(), start.name());
+    tells(&rt, alloc, named, &start, "1 NoMemory: out of memory");
+    drop(start);
+    let into: IntoFault = IntoFault::NoMemory(desk_with_room(&rt, alloc, 1));
+    let named = (into.number(), into.name());
+    tells(&rt, alloc, named, &into, "2 NoMemory: out of memory");
+    drop(into);
 }

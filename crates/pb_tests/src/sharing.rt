@@ -16,6 +16,8 @@ use pb_shared::shared_fault::SharedFault;
 use pb_shared::unfinished::Unfinished;
 use std::alloc::Global;
 use std::process::Abort;
+use std::sync::atomic::AtomicU32;
+use std::sync::atomic::Ordering::SeqCst;
 
 /// What a clerk is answered.
 type Said = Result<Answer, SharedFault>;
@@ -258,6 +260,17 @@ fn tries(rt: &impl Abort, alloc: Global, shared: &SharedDesk, clerk: &mut Clerk,
     asks(rt, alloc, shared, clerk, &rows[1]);
 }
 
+/// While clerk 0 has the desk, the clerk's look is turned away, and nothing is lent.
+fn looks_in_vain(rt: &impl Abort, shared: &SharedDesk, clerk: &mut Clerk)
+    requires { clerk.old.desk ≡ shared.now }
+    ensures { clerk.new.desk ≡ shared.now }
+{
+    let called = AtomicU32::new(0);
+    let looked = shared.look(clerk, |_desk| called.fetch_add(1, SeqCst));
+    same(rt, looked, Err(Busy(0)), "a look");
+    same(rt, called.load(SeqCst), 0, "a look that is turned away");
+}
+
 /// While clerk 0 has the desk, this clerk is turned away, and nothing is appended.
 fn is_turned_away(
     rt: &impl Abort,
@@ -271,6 +284,7 @@ fn is_turned_away(
 {
     let mut other = other;
     tries(rt, alloc, shared, &mut other, &TURNED_AWAY);
+    looks_in_vain(rt, shared, &mut other);
     same(rt, desk.entries(), 0, "entries while a clerk looks");
     other
 }
@@ -375,6 +389,40 @@ fn are_numbered(rt: &impl Abort, clerks: &[Clerk]) {
     for (i, clerk) in clerks.iter().enumerate() {
         same(rt, clerk.number() as usize, i, "a number");
     }
+}
+
+/// What nobody's ballot needs: it is answered all the same, by one try or by three.
+const ALONE: [Row; 2] = [
+    Row("withdraw", "ann", &[], 1, Ok(Answer::NoBallot)),
+    Row("withdraw", "ann", &[], 3, Ok(Answer::NoBallot)),
+];
+
+/// Each clerk is served twice while nobody else asks.
+fn each_asks(rt: &impl Abort, alloc: Global, shared: &SharedDesk, clerks: &mut Vec<Clerk>)
+    requires { All (λ clerk. clerk.desk ≡ shared.now) clerks.old.items }
+    ensures { All (λ clerk. clerk.desk ≡ shared.now) clerks.new.items }
+{
+    let mut entries = 0u32;
+    for number in 0..64 {
+        asks_by(rt, alloc, shared, clerks, number, &ALONE[0]);
+        asks_by(rt, alloc, shared, clerks, number, &ALONE[1]);
+        entries = entries.saturating_add(2);
+        reads(rt, shared, clerks, number, entries);
+    }
+}
+
+/// Each of 64 clerks is served alone. Whoever reads the front word again reads what another has served since.
+#[test]
+fn each_clerk_is_served_alone(rt: HostRuntime) {
+    let alloc = rt.alloc();
+    let (shared, mut clerks) = share(&rt, alloc, desk_with_room(&rt, alloc, 1000), 64);
+    each_asks(&rt, alloc, &shared, &mut clerks);
+    reads(&rt, &shared, &mut clerks, 5, 128);
+    asks_by(&rt, alloc, &shared, &mut clerks, 9, &CAST_ANN);
+    reads(&rt, &shared, &mut clerks, 5, 129);
+    reads(&rt, &shared, &mut clerks, 5, 129);
+    drop(clerks);
+    drop(shared);
 }
 
 /// What one clerk wrote another reads, by the desk and by the front word, also one that has made no call before.

@@ -1,0 +1,15 @@
+META
+key;value
+budget;3.60
+vote_type;approval
+PROJECTS
+project_id;cost
+x;1.99
+y;1.50
+VOTES
+voter_id;vote
+v1;x,y
+v2;x,y
+v3;x,y
+v4;x,y
+v5;x

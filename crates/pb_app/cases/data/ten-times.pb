@@ -1,0 +1,13 @@
+META
+key;value
+budget;1000
+vote_type;approval
+PROJECTS
+project_id;cost
+a;300
+b;600
+VOTES
+voter_id;vote
+v1;a
+v2;a,b
+v3;b

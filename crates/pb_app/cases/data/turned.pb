@@ -1,0 +1,13 @@
+META
+key;value
+budget;100
+vote_type;approval
+PROJECTS
+cost;project_id
+30;a
+60;b
+VOTES
+vote;voter_id
+a;v1
+a,b;v2
+b;v3

@@ -1,0 +1,13 @@
+META
+key;value
+budget;30000
+vote_type;approval
+PROJECTS
+project_id;cost
+a;100
+b;20000
+VOTES
+voter_id;vote
+v1;a
+v2;
+v3;b
