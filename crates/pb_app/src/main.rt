@@ -2,29 +2,45 @@
 //! the desk that took its ballots.
 #![tactic(auto)]
 
+mod counted;
+mod output;
 mod perform;
+mod words;
 
-use pb_command_line::Parsed;
+use crate::output::Output;
+use crate::perform::{Refusal, perform};
 use pb_command_line::parse::parse;
+use pb_command_line::{Asked, Parsed};
 use pb_commands::{AppFault, BAD_ARGUMENTS};
+use pb_words::Tally;
+use std::io::{IsTerminal, Write};
 use std::process::ExitCode;
 use std::rt::{Env, Files};
 use std::thread::Threads;
 use std::{env, io};
 
+/// The line of a desk that is open and was to be shut, and the status.
+const OPEN_DESK: &[u8] = b"fault;open-desk\n";
+
+const REFUSED: u8 = 1;
+
 fn main(rt: HostRuntime) -> ExitCode {
-    match run(&rt) {
+    let at_terminal = rt.stdin().is_terminal();
+    match run(&rt, at_terminal) {
         Ok(code) => code,
-        Err(fault) => {
-            // Where the line can't be written either, the status alone tells.
-            let _ = fault.write_line(&mut io::writer(&rt));
-            ExitCode::from(fault.status())
-        }
+        Err(fault) => refused(&rt, fault),
     }
 }
 
+/// Ends a run that came to no task.
+fn refused<R: Print>(rt: &R, fault: AppFault) -> ExitCode {
+    // Where the line can't be written either, the status alone tells.
+    let _ = fault.write_line(&mut io::writer(rt));
+    ExitCode::from(fault.status())
+}
+
 /// Reads the arguments, and does what they ask for.
-fn run<R>(rt: &R) -> Result<ExitCode, AppFault>
+fn run<R>(rt: &R, at_terminal: bool) -> Result<ExitCode, AppFault>
 where
     R: Env + Files + Input + Print + Eprint + AllocGlobal + Threads + Sync,
 {
@@ -36,6 +52,10 @@ where
             return Ok(ExitCode::from(BAD_ARGUMENTS));
         }
     };
+    if at_terminal && arguments.len() <= 1 {
+        words::say_usage(rt);
+        return Ok(ExitCode::from(BAD_ARGUMENTS));
+    }
     obey(rt, arguments.as_slice())
 }
 
@@ -45,11 +65,49 @@ where
     R: Files + Input + Print + Eprint + AllocGlobal + Threads + Sync,
 {
     match parse(rt, rt.alloc(), arguments) {
-        Ok(Parsed::Asks(task)) => {
-            perform::perform(rt, &task)?;
-            Ok(ExitCode::SUCCESS)
+        Ok(Parsed::Asks(asked)) => Ok(done(rt, &asked)),
+        Ok(Parsed::Ends(status)) => {
+            if status == BAD_ARGUMENTS {
+                words::say_mistaken(rt, arguments);
+            }
+            Ok(ExitCode::from(status))
         }
-        Ok(Parsed::Ends(status)) => Ok(ExitCode::from(status)),
         Err(_) => Err(AppFault::Memory),
+    }
+}
+
+/// Does a task, and says on standard error what came of it.
+fn done<R>(rt: &R, asked: &Asked<'_>) -> ExitCode
+where
+    R: Files + Input + Print + Eprint + AllocGlobal + Threads + Sync,
+{
+    let mut output = Output::new(rt, asked.output);
+    let mut audited = Tally::new();
+    let code = match perform(rt, asked, &mut output, &mut audited) {
+        Ok(()) => {
+            words::say_tally(rt, &asked.task, &output.tally, &audited);
+            ExitCode::SUCCESS
+        }
+        Err(refusal) => {
+            let status = write_line(rt, &refusal);
+            words::say_refusal(rt, asked, &refusal, output.failure.as_ref());
+            ExitCode::from(status)
+        }
+    };
+    drop(output);
+    code
+}
+
+/// Writes the line of a refusal to standard output, and answers the status.
+fn write_line<R: Print>(rt: &R, refusal: &Refusal) -> u8 {
+    match refusal {
+        Refusal::Fault(fault) => {
+            let _ = fault.write_line(&mut io::writer(rt));
+            fault.status()
+        }
+        Refusal::OpenDesk => {
+            let _ = io::writer(rt).write_all(OPEN_DESK);
+            REFUSED
+        }
     }
 }

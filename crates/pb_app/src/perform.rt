@@ -1,6 +1,8 @@
 // What the command line asks for, done on real files.
 
-use pb_command_line::{Source, Task};
+use crate::counted::Counted;
+use crate::output::Output;
+use pb_command_line::{Asked, Source, Task};
 use pb_commands::run_audit::run_audit;
 use pb_commands::run_count::run_count;
 use pb_commands::run_desk::run_desk;
@@ -8,116 +10,159 @@ use pb_commands::run_table::run_table;
 use pb_commands::{AppFault, Table};
 use pb_price::gate::NoGate;
 use pb_rounds::options::CountOptions;
-use std::io::Read;
+use pb_words::Tally;
+use std::io::{Read, Write};
 use std::rt::Files;
 use std::thread::Threads;
 use std::{fs, io};
 
-/// Does what the arguments ask for, and writes to standard output. Files are opened, in their order, before
-/// any is read.
-pub(crate) fn perform<R>(rt: &R, task: &Task<'_>) -> Result<(), AppFault>
+/// Why a run ends without a result.
+#[derive(Clone, Copy)]
+pub(crate) enum Refusal {
+    /// The runs of the commands say why.
+    Fault(AppFault),
+    /// The desk is open, and was to be shut.
+    OpenDesk,
+}
+
+impl From<AppFault> for Refusal {
+    fn from(fault: AppFault) -> Refusal {
+        Refusal::Fault(fault)
+    }
+}
+
+/// Does what the arguments ask for, and writes the result to its place. Files are opened, in their order, before any
+/// is read. The tally takes the entries of a journal that is audited.
+pub(crate) fn perform<R>(
+    rt: &R,
+    asked: &Asked<'_>,
+    output: &mut Output<'_, R>,
+    tally: &mut Tally,
+) -> Result<(), Refusal>
+where
+    R: Files + Input + Print + AllocGlobal + Threads + Sync,
+{
+    match run(rt, &asked.task, output, tally) {
+        Ok(()) => match output.finish() {
+            Ok(()) => Ok(()),
+            Err(error) => {
+                output.failure = Some(error);
+                Err(Refusal::Fault(AppFault::Write))
+            }
+        },
+        Err(refusal) => {
+            output.give_up();
+            Err(refusal)
+        }
+    }
+}
+
+fn run<R, W: Write>(
+    rt: &R,
+    task: &Task<'_>,
+    writer: &mut W,
+    tally: &mut Tally,
+) -> Result<(), Refusal>
 where
     R: Files + Input + Print + AllocGlobal + Threads + Sync,
 {
     match task {
-        Task::Count(source, options) => count(rt, source, options),
-        Task::Projects(source, options) => tell(rt, source, options, Table::Projects),
-        Task::Voters(source, options) => tell(rt, source, options, Table::Voters),
-        Task::Desk(source, script, clerks, shuts) => serve(rt, source, script, *clerks, *shuts),
-        Task::Audit(source, journal, options) => audit(rt, source, journal, options),
+        Task::Count(source, options) => count(rt, source, options, writer)?,
+        Task::Projects(source, options) => tell(rt, source, options, Table::Projects, writer)?,
+        Task::Voters(source, options) => tell(rt, source, options, Table::Voters, writer)?,
+        Task::Desk(source, script, clerks, shuts) => {
+            serve(rt, source, script, *clerks, *shuts, writer)?
+        }
+        Task::Audit(source, journal, options, false) => {
+            audit(rt, source, journal, options, writer, tally)?
+        }
+        Task::Audit(source, journal, options, true) => {
+            return audit_shut(rt, source, journal, options, writer, tally);
+        }
     }
+    Ok(())
 }
 
 /// Counts a .pb file.
-fn count<R>(rt: &R, source: &Source<'_>, options: &CountOptions) -> Result<(), AppFault>
+fn count<R, W: Write>(
+    rt: &R,
+    source: &Source<'_>,
+    options: &CountOptions,
+    writer: &mut W,
+) -> Result<(), AppFault>
 where
     R: Files + Input + Print + AllocGlobal + Threads + Sync,
 {
     match source {
-        Source::Input => count_from(rt, rt.reader(), options),
-        Source::File(path) => count_from(rt, open(rt, path, 1)?, options),
+        Source::Input => run_count(rt, rt.alloc(), rt.reader(), writer, options),
+        Source::File(path) => run_count(rt, rt.alloc(), open(rt, path, 1)?, writer, options),
     }
-}
-
-/// Counts the .pb file that a reader gives.
-fn count_from<R, P: Read + Drop>(rt: &R, file: P, options: &CountOptions) -> Result<(), AppFault>
-where
-    R: Print + AllocGlobal + Threads + Sync,
-{
-    run_count(rt, rt.alloc(), file, &mut io::writer(rt), options)
 }
 
 /// Counts a .pb file, and writes this table of the outcome.
-fn tell<R>(
+fn tell<R, W: Write>(
     rt: &R,
     source: &Source<'_>,
     options: &CountOptions,
     table: Table,
+    writer: &mut W,
 ) -> Result<(), AppFault>
 where
     R: Files + Input + Print + AllocGlobal + Threads + Sync,
 {
+    let alloc = rt.alloc();
     match source {
-        Source::Input => tell_from(rt, rt.reader(), options, table),
-        Source::File(path) => tell_from(rt, open(rt, path, 1)?, options, table),
+        Source::Input => run_table(rt, alloc, rt.reader(), writer, options, table),
+        Source::File(path) => run_table(rt, alloc, open(rt, path, 1)?, writer, options, table),
     }
 }
 
-/// Counts the .pb file that a reader gives, and writes this table of the outcome.
-fn tell_from<R, P: Read + Drop>(
-    rt: &R,
-    file: P,
-    options: &CountOptions,
-    table: Table,
-) -> Result<(), AppFault>
-where
-    R: Print + AllocGlobal + Threads + Sync,
-{
-    run_table(rt, rt.alloc(), file, &mut io::writer(rt), options, table)
-}
-
 /// Lets this many clerks serve a script on the desk of a .pb file, which is then shut, or not.
-fn serve<R>(
+fn serve<R, W: Write>(
     rt: &R,
     source: &Source<'_>,
-    script: &str,
+    script: &Source<'_>,
     clerks: u32,
     shuts: bool,
+    writer: &mut W,
 ) -> Result<(), AppFault>
 where
     R: Files + Input + Print + AllocGlobal + Threads + Sync,
 {
     match source {
-        Source::Input => serve_from(rt, rt.reader(), script, clerks, shuts),
-        Source::File(path) => serve_from(rt, open(rt, path, 1)?, script, clerks, shuts),
+        Source::Input => serve_from(rt, rt.reader(), script, clerks, shuts, writer),
+        Source::File(path) => serve_from(rt, open(rt, path, 1)?, script, clerks, shuts, writer),
     }
 }
 
 /// The same on the desk of the .pb file that a reader gives.
-fn serve_from<R, P: Read + Drop>(
+fn serve_from<R, P: Read + Drop, W: Write>(
     rt: &R,
     file: P,
-    script: &str,
+    script: &Source<'_>,
     clerks: u32,
     shuts: bool,
+    writer: &mut W,
 ) -> Result<(), AppFault>
 where
-    R: Files + Print + AllocGlobal + Threads + Sync,
+    R: Files + Input + Print + AllocGlobal + Threads + Sync,
 {
-    match open(rt, script, 2) {
-        Ok(script) => {
-            let mut out = io::writer(rt);
-            run_desk(
-                rt,
-                rt.alloc(),
-                file,
-                script,
-                clerks,
-                shuts,
-                &NoGate,
-                &mut out,
-            )
-        }
+    let alloc = rt.alloc();
+    let path = match script {
+        Source::Input => return run_desk(
+            rt,
+            alloc,
+            file,
+            rt.reader(),
+            clerks,
+            shuts,
+            &NoGate,
+            writer,
+        ),
+        Source::File(path) => path,
+    };
+    match open(rt, path, 2) {
+        Ok(script) => run_desk(rt, alloc, file, script, clerks, shuts, &NoGate, writer),
         Err(fault) => {
             drop(file);
             Err(fault)
@@ -126,40 +171,97 @@ where
 }
 
 /// Audits a journal on a .pb file.
-fn audit<R>(
+fn audit<R, W: Write>(
     rt: &R,
     source: &Source<'_>,
-    journal: &str,
+    journal: &Source<'_>,
     options: &CountOptions,
+    writer: &mut W,
+    tally: &mut Tally,
 ) -> Result<(), AppFault>
 where
     R: Files + Input + Print + AllocGlobal + Threads + Sync,
 {
     match source {
-        Source::Input => audit_from(rt, rt.reader(), journal, options),
-        Source::File(path) => audit_from(rt, open(rt, path, 1)?, journal, options),
+        Source::Input => audit_from(rt, rt.reader(), journal, options, writer, tally),
+        Source::File(path) => {
+            audit_from(rt, open(rt, path, 1)?, journal, options, writer, tally)
+        }
     }
 }
 
 /// Audits a journal on the .pb file that a reader gives.
-fn audit_from<R, P: Read + Drop>(
+fn audit_from<R, P: Read + Drop, W: Write>(
     rt: &R,
     file: P,
-    journal: &str,
+    journal: &Source<'_>,
     options: &CountOptions,
+    writer: &mut W,
+    tally: &mut Tally,
 ) -> Result<(), AppFault>
 where
-    R: Files + Print + AllocGlobal + Threads + Sync,
+    R: Files + Input + Print + AllocGlobal + Threads + Sync,
 {
-    match open(rt, journal, 2) {
+    let alloc = rt.alloc();
+    let path = match journal {
+        Source::Input => {
+            let journal = Counted::new(rt.reader(), tally);
+            return run_audit(rt, alloc, file, journal, writer, options);
+        }
+        Source::File(path) => path,
+    };
+    match open(rt, path, 2) {
         Ok(journal) => {
-            let mut out = io::writer(rt);
-            run_audit(rt, rt.alloc(), file, journal, &mut out, options)
+            let journal = Counted::new(journal, tally);
+            run_audit(rt, alloc, file, journal, writer, options)
         }
         Err(fault) => {
             drop(file);
             Err(fault)
         }
+    }
+}
+
+/// Audits a journal on a .pb file, and refuses an open desk.
+fn audit_shut<R, W: Write>(
+    rt: &R,
+    source: &Source<'_>,
+    journal: &Source<'_>,
+    options: &CountOptions,
+    writer: &mut W,
+    tally: &mut Tally,
+) -> Result<(), Refusal>
+where
+    R: Files + Input + Print + AllocGlobal + Threads + Sync,
+{
+    let mut text = Vec::new(rt.alloc());
+    let audited = audit(rt, source, journal, options, &mut text, tally);
+    let passed = match audited {
+        Ok(()) => pass_shut(text.as_slice(), writer),
+        // A text in memory is refused for memory alone.
+        Err(AppFault::Write) => Err(Refusal::Fault(AppFault::Memory)),
+        Err(fault) => Err(Refusal::Fault(fault)),
+    };
+    drop(text);
+    passed
+}
+
+/// Writes what an audit says of a shut desk.
+fn pass_shut<W: Write>(text: &[u8], writer: &mut W) -> Result<(), Refusal> {
+    if says_open(text) {
+        return Err(Refusal::OpenDesk);
+    }
+    if writer.write_all(text).is_err() || writer.flush().is_err() {
+        return Err(Refusal::Fault(AppFault::Write));
+    }
+    Ok(())
+}
+
+/// Whether the first row of an audit's text, `entries;N;open` or `entries;N;shut`, is that of an open desk.
+fn says_open(text: &[u8]) -> bool {
+    match text.split(|byte| *byte == b'\n').next() {
+        Some(row) => row.ends_with(b";open"),
+        None => false,
     }
 }
 

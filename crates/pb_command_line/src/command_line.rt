@@ -1,6 +1,6 @@
 // The commands and options that the program knows, and what parsed arguments ask for.
 
-use crate::task::{Source, Task};
+use crate::task::{Asked, Source, Task};
 use clap::{Arg, ArgAction, ArgMatches, Command, value_parser};
 use pb_core::money::Money;
 use pb_rounds::measure::Measure;
@@ -13,11 +13,32 @@ const VERSION: &str = "1.0.0";
 /// The measures by their names, votes first.
 const MEASURES: &[&str] = &["votes", "cost"];
 
+/// What the program is.
+const ABOUT: &str =
+    "Participatory budgeting by the Method of Equal Shares: counts a city's .pb file, serves its desk, and audits the desk's journal";
+
+/// What stands below the commands.
+const AFTER_HELP: &str = "Without a command standard input is counted.
+
+Examples:
+  pb_app count city.pb
+  pb_app count city.pb --step 1000 --output city.report
+  pb_app desk city.pb requests.script --clerks 2 --output city.journal
+  pb_app audit city.pb city.journal --require-shut
+
+Statuses: 0 the result is written whole, 1 a file, script, journal or count is refused, 2 the arguments are
+refused, 3 a device failed or memory was refused. A refusal is one line on standard output, for programs; words for
+people stand on standard error.
+
+The formats, and what to do about each fault: docs/formats.md. What a count does: docs/counting.md.";
+
 /// What an argument of a command takes.
 #[derive(Clone, Copy)]
 enum Takes {
     /// The path of a file, which has to be named.
     Path,
+    /// The path of a file, behind an option of this one letter too.
+    OptionalPath(char),
     /// A whole number, which its help calls so.
     Number(&'static str),
     /// The name of a measure.
@@ -53,14 +74,14 @@ const ELECTION: Argument = Argument {
 const SCRIPT: Argument = Argument {
     name: "SCRIPT",
     takes: Takes::Path,
-    help: "What each clerk asks, a row a request",
+    help: "What each clerk asks, a row a request; - is standard input",
 };
 
 /// The journal that is audited.
 const JOURNAL: Argument = Argument {
     name: "JOURNAL",
     takes: Takes::Path,
-    help: "The journal of a desk that opened with it",
+    help: "The journal of a desk that opened with it; - is standard input",
 };
 
 /// How many clerks a desk has.
@@ -112,40 +133,66 @@ const MEASURE: Argument = Argument {
     help: "Elects the least price (votes), or the least price over cost (cost) [default: votes]",
 };
 
+/// The file that gets the result.
+const OUTPUT: Argument = Argument {
+    name: "output",
+    takes: Takes::OptionalPath('o'),
+    help: "Writes the result to this file, whole or not at all; it replaces an older one",
+};
+
+/// Whether an open desk is refused.
+const REQUIRE_SHUT: Argument = Argument {
+    name: "require-shut",
+    takes: Takes::Nothing,
+    help: "Refuses a desk that is still open",
+};
+
 /// The commands that the program knows.
 const COMMANDS: &[CommandForm] = &[
     CommandForm {
         name: "count",
         about: "Counts a .pb file, and prints the report",
-        arguments: &[ELECTION, WORKERS, STEP, RAISES, PLAIN, MEASURE],
+        arguments: &[ELECTION, WORKERS, STEP, RAISES, PLAIN, MEASURE, OUTPUT],
     },
     CommandForm {
         name: "projects",
         about: "Counts a .pb file, and prints who won and why, and who lost and by how much",
-        arguments: &[ELECTION, WORKERS, STEP, RAISES, PLAIN, MEASURE],
+        arguments: &[ELECTION, WORKERS, STEP, RAISES, PLAIN, MEASURE, OUTPUT],
     },
     CommandForm {
         name: "voters",
         about: "Counts a .pb file, and prints what each voter paid, and for what",
-        arguments: &[ELECTION, WORKERS, STEP, RAISES, PLAIN, MEASURE],
+        arguments: &[ELECTION, WORKERS, STEP, RAISES, PLAIN, MEASURE, OUTPUT],
     },
     CommandForm {
         name: "desk",
         about: "Serves a script's requests on the desk of a .pb file, and prints the journal",
-        arguments: &[ELECTION, SCRIPT, CLERKS, SHUT],
+        arguments: &[ELECTION, SCRIPT, CLERKS, SHUT, OUTPUT],
     },
     CommandForm {
         name: "audit",
         about: "Audits a journal on a .pb file, and prints the report of a shut desk",
-        arguments: &[ELECTION, JOURNAL, WORKERS, STEP, RAISES, PLAIN, MEASURE],
+        arguments: &[
+            ELECTION,
+            JOURNAL,
+            WORKERS,
+            STEP,
+            RAISES,
+            PLAIN,
+            MEASURE,
+            REQUIRE_SHUT,
+            OUTPUT,
+        ],
     },
 ];
 
 /// The command line that the program reads.
 pub(crate) fn command_line<'a>(alloc: Global) -> Result<Command<'a>, AllocError> {
-    let about = "Counts standard input by the Method of Equal Shares, where no command is given";
     let program = Command::new(alloc, "pb_app").bin_name("pb_app")?;
-    with_commands(alloc, program.version(VERSION).about(about))
+    with_commands(
+        alloc,
+        program.version(VERSION).about(ABOUT).after_help(AFTER_HELP),
+    )
 }
 
 /// The program with the commands that it knows.
@@ -194,6 +241,11 @@ fn made<'a>(alloc: Global, argument: &Argument) -> Arg<'a> {
             .value_name(argument.name)
             .required(true)
             .action(ArgAction::Set),
+        Takes::OptionalPath(letter) => arg
+            .long(argument.name)
+            .short(letter)
+            .value_name("PATH")
+            .action(ArgAction::Set),
         Takes::Number(name) => arg
             .long(argument.name)
             .value_name(name)
@@ -209,29 +261,44 @@ fn made<'a>(alloc: Global, argument: &Argument) -> Arg<'a> {
 }
 
 /// What parsed arguments ask for; without a command it is a count of standard input.
-pub(crate) fn task_of<'a>(matches: &ArgMatches<'a>) -> Task<'a> {
+pub(crate) fn asked_by<'a>(matches: &ArgMatches<'a>) -> Asked<'a> {
     match matches.subcommand() {
-        Some(("count", given)) => Task::Count(source_of(given), options_of(given)),
-        Some(("projects", given)) => Task::Projects(source_of(given), options_of(given)),
-        Some(("voters", given)) => Task::Voters(source_of(given), options_of(given)),
-        Some(("desk", given)) => Task::Desk(
-            source_of(given),
-            path_of(given, "SCRIPT"),
-            given.get_one("clerks").unwrap_or(1),
-            given.get_flag("shut"),
-        ),
-        Some((_, given)) => Task::Audit(
-            source_of(given),
-            path_of(given, "JOURNAL"),
-            options_of(given),
-        ),
-        None => Task::Count(Source::Input, CountOptions::standard()),
+        Some((name, given)) => Asked {
+            task: task_of(name, given),
+            output: given.get_str("output"),
+        },
+        None => Asked {
+            task: Task::Count(Source::Input, CountOptions::standard()),
+            output: None,
+        },
     }
 }
 
-/// Where FILE is read from.
-fn source_of<'a>(given: &ArgMatches<'a>) -> Source<'a> {
-    match path_of(given, "FILE") {
+/// What the arguments of a command ask for.
+fn task_of<'a>(name: &str, given: &ArgMatches<'a>) -> Task<'a> {
+    let file = source_of(given, "FILE");
+    match name {
+        "count" => Task::Count(file, options_of(given)),
+        "projects" => Task::Projects(file, options_of(given)),
+        "voters" => Task::Voters(file, options_of(given)),
+        "desk" => Task::Desk(
+            file,
+            source_of(given, "SCRIPT"),
+            given.get_one("clerks").unwrap_or(1),
+            given.get_flag("shut"),
+        ),
+        _ => Task::Audit(
+            file,
+            source_of(given, "JOURNAL"),
+            options_of(given),
+            given.get_flag("require-shut"),
+        ),
+    }
+}
+
+/// Where a text is read from.
+fn source_of<'a>(given: &ArgMatches<'a>, name: &str) -> Source<'a> {
+    match path_of(given, name) {
         "-" => Source::Input,
         path => Source::File(path),
     }

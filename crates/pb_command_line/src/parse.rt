@@ -1,16 +1,21 @@
 //! What given arguments ask for.
 
-use crate::command_line::{command_line, task_of};
-use crate::task::Task;
+use crate::command_line::{asked_by, command_line};
+use crate::task::{Asked, Source, Task};
 use clap::Error;
 use clap::error::ErrorKind;
 use std::alloc::{AllocError, Global};
+
+/// The status of arguments that are refused.
+const BAD_ARGUMENTS: u8 = 2;
+/// The status where a text that was asked for could not be printed.
+const NOT_PRINTED: u8 = 3;
 
 /// What given arguments come to.
 #[derive(Clone, Copy)]
 pub enum Parsed<'a> {
     /// They ask for this.
-    Asks(Task<'a>),
+    Asks(Asked<'a>),
     /// They ask for nothing more: they are refused, or for a text that was printed. The program ends with this status.
     Ends(u8),
 }
@@ -24,9 +29,12 @@ pub fn parse<'a, R: Print + Eprint>(
 ) -> Result<Parsed<'a>, AllocError> {
     match command_line(alloc)?.try_get_matches_from(arguments) {
         Ok(matches) => {
-            let task = task_of(&matches);
+            let asked = asked_by(&matches);
             drop(matches);
-            Ok(Parsed::Asks(task))
+            match read_twice(&asked.task) {
+                Some(name) => Ok(Parsed::Ends(refuse_twice(rt, name))),
+                None => Ok(Parsed::Asks(asked)),
+            }
         }
         Err(error) => {
             let end = refused(rt, &error);
@@ -36,11 +44,37 @@ pub fn parse<'a, R: Print + Eprint>(
     }
 }
 
+/// The argument that is standard input beside FILE, where it is.
+fn read_twice(task: &Task<'_>) -> Option<&'static str> {
+    match task {
+        Task::Desk(Source::Input, Source::Input, ..) => Some("SCRIPT"),
+        Task::Audit(Source::Input, Source::Input, ..) => Some("JOURNAL"),
+        _ => None,
+    }
+}
+
+/// Refuses arguments of which FILE and this one are standard input.
+fn refuse_twice<R: Eprint>(rt: &R, name: &str) -> u8 {
+    let _ = eprintln!(rt;
+        "error: FILE and {name} are both standard input (-), which can be read once"
+    );
+    BAD_ARGUMENTS
+}
+
 /// How the program ends where `clap` refuses its arguments, or prints what they ask for.
 fn refused<'a, R: Print + Eprint>(rt: &R, error: &Error) -> Result<Parsed<'a>, AllocError> {
     if error.kind() == ErrorKind::OutOfMemory {
         return Err(AllocError);
     }
-    let _ = error.print(rt);
-    Ok(Parsed::Ends(error.exit_code() as u8))
+    let printed = error.print(rt);
+    if error.exit_code() != 0 {
+        return Ok(Parsed::Ends(BAD_ARGUMENTS));
+    }
+    match printed {
+        Ok(()) => Ok(Parsed::Ends(0)),
+        Err(reason) => {
+            let _ = eprintln!(rt; "standard output: {reason}.");
+            Ok(Parsed::Ends(NOT_PRINTED))
+        }
+    }
 }

@@ -2,13 +2,23 @@
 
 use pb_rounds::options::CountOptions;
 
-/// Where a .pb file is read from.
+/// Where a text is read from.
 #[derive(Clone, Copy)]
 pub enum Source<'a> {
     /// Standard input, which `-` names.
     Input,
     /// The file with this path.
     File(&'a str),
+}
+
+impl<'a> Source<'a> {
+    /// The file's path; standard input has none.
+    pub fn path(&self) -> Option<&'a str> {
+        match *self {
+            Source::Input => None,
+            Source::File(path) => Some(path),
+        }
+    }
 }
 
 /// What the arguments ask for.
@@ -20,9 +30,16 @@ pub enum Task<'a> {
     Projects(Source<'a>, CountOptions),
     /// The voters of a count of a .pb file: who paid.
     Voters(Source<'a>, CountOptions),
-    /// A run of the desk of a .pb file: this many clerks serve the script with this path, and then the desk is shut,
-    /// or not.
-    Desk(Source<'a>, &'a str, u32, bool),
-    /// An audit of the journal with this path on a .pb file.
-    Audit(Source<'a>, &'a str, CountOptions),
+    /// A run of the desk of a .pb file: this many clerks serve a script, and then the desk is shut, or not.
+    Desk(Source<'a>, Source<'a>, u32, bool),
+    /// An audit of a journal on a .pb file; where the last is true an open desk is refused.
+    Audit(Source<'a>, Source<'a>, CountOptions, bool),
+}
+
+/// What the arguments ask for, and where the result goes.
+#[derive(Clone, Copy)]
+pub struct Asked<'a> {
+    pub task: Task<'a>,
+    /// The path of the file that gets the result; none is standard output.
+    pub output: Option<&'a str>,
 }

@@ -1,0 +1,168 @@
+// The line of the text at which a record begins, and the quotation mark that makes it run over several lines.
+
+use crate::rows::{Mark, open_again};
+use std::io::{Read, Seek, SeekFrom};
+use std::rt::Files;
+
+/// How far the bytes of a record were looked at.
+#[derive(Clone, Copy)]
+enum State {
+    /// Before the record: line ends may come that are no record's.
+    Before,
+    /// A field begins.
+    Begins,
+    /// In a field without quotes, or behind its quotes.
+    Plain,
+    /// Behind a quotation mark that opened a field.
+    Quoted,
+    /// Behind a quotation mark in a quoted field: it closes the field, or is doubled.
+    Closing,
+    /// Behind the record.
+    Done,
+}
+
+/// What the bytes of a record say.
+#[derive(Clone, Copy)]
+pub(crate) struct Span {
+    state: State,
+    line: u64,
+    /// The line at which the record begins, from 1.
+    pub(crate) begins: u64,
+    /// The line of the last quotation mark that opened a field.
+    opened: u64,
+    /// The lines of the first quoted field that runs over several: where it opens and where it closes.
+    over: Option<(u64, u64)>,
+}
+
+impl Span {
+    fn new(line: u64) -> Span {
+        Span {
+            state: State::Before,
+            line,
+            begins: line,
+            opened: line,
+            over: None,
+        }
+    }
+
+    /// The line of a quotation mark that is never closed.
+    pub(crate) fn unclosed(&self) -> Option<u64> {
+        match self.state {
+            State::Quoted => Some(self.opened),
+            _ => None,
+        }
+    }
+
+    /// The lines of the first quoted field that runs over several lines: where it opens and where it closes.
+    pub(crate) fn over(&self) -> Option<(u64, u64)> {
+        self.over
+    }
+
+    fn is_done(&self) -> bool {
+        matches!(self.state, State::Done)
+    }
+
+    /// Takes the next byte.
+    fn take(&mut self, byte: u8) {
+        self.state = match self.state {
+            State::Before => self.before(byte),
+            State::Begins => self.begin_field(byte),
+            State::Plain => plain(byte),
+            State::Quoted => self.quoted(byte),
+            State::Closing => self.closing(byte),
+            State::Done => State::Done,
+        };
+    }
+
+    fn before(&mut self, byte: u8) -> State {
+        match byte {
+            b'\n' => {
+                self.line = self.line.saturating_add(1);
+                self.begins = self.line;
+                State::Before
+            }
+            b'\r' => State::Before,
+            _ => self.begin_field(byte),
+        }
+    }
+
+    fn begin_field(&mut self, byte: u8) -> State {
+        if byte == b'"' {
+            self.opened = self.line;
+            State::Quoted
+        } else {
+            plain(byte)
+        }
+    }
+
+    fn quoted(&mut self, byte: u8) -> State {
+        match byte {
+            b'"' => State::Closing,
+            b'\n' => {
+                self.line = self.line.saturating_add(1);
+                State::Quoted
+            }
+            _ => State::Quoted,
+        }
+    }
+
+    fn closing(&mut self, byte: u8) -> State {
+        if byte == b'"' {
+            return State::Quoted;
+        }
+        if self.over.is_none() && self.opened < self.line {
+            self.over = Some((self.opened, self.line));
+        }
+        plain(byte)
+    }
+}
+
+/// What comes after a byte that is in no quotes.
+fn plain(byte: u8) -> State {
+    match byte {
+        b';' => State::Begins,
+        b'\n' | b'\r' => State::Done,
+        _ => State::Plain,
+    }
+}
+
+/// What the bytes say of the record with this mark, in a file that is read again.
+pub(crate) fn span_of<R: Files>(rt: &R, path: &str, mark: Mark) -> Option<Span> {
+    let mut file = open_again(rt, path)?;
+    if file.seek(SeekFrom::Start(mark.byte)).is_err() {
+        drop(file);
+        return None;
+    }
+    let span = scan(&mut file, mark.line);
+    drop(file);
+    Some(span)
+}
+
+/// Reads a record to its end.
+fn scan<F: Read>(file: &mut F, line: u64) -> Span {
+    let mut span = Span::new(line);
+    let mut buffer = [0u8; 4096];
+    for _ in 0..u64::MAX {
+        let Ok(count) = file.read(&mut buffer) else {
+            return span;
+        };
+        if count == 0 {
+            return span;
+        }
+        if take_all(&mut span, &buffer[..count]) {
+            return span;
+        }
+    }
+    span
+}
+
+/// Takes these bytes, and answers whether the record has ended.
+fn take_all(span: &mut Span, bytes: &[u8]) -> bool {
+    for byte in bytes {
+        span.take(*byte);
+        if span.is_done() {
+            return true;
+        }
+    }
+    false
+}

@@ -1,0 +1,200 @@
+// What the records of a .pb file before a certain one say of its sections.
+
+use crate::fields::{column_of, is_blank, text_at};
+use crate::rows::{Mark, Rows};
+use csv::ByteRecord;
+use std::io::Read;
+
+/// A section of a file.
+#[derive(Clone, Copy, PartialEq, Eq)]
+pub(crate) enum Section {
+    Meta,
+    Projects,
+    Votes,
+}
+
+impl Section {
+    /// The section that a record is the head of.
+    pub(crate) fn headed_by(row: &ByteRecord) -> Option<Section> {
+        let word = text_at(row, 0);
+        if word.eq_ignore_ascii_case("META") {
+            Some(Section::Meta)
+        } else if word.eq_ignore_ascii_case("PROJECTS") {
+            Some(Section::Projects)
+        } else if word.eq_ignore_ascii_case("VOTES") {
+            Some(Section::Votes)
+        } else {
+            None
+        }
+    }
+
+    pub(crate) fn name(self) -> &'static str {
+        match self {
+            Section::Meta => "META",
+            Section::Projects => "PROJECTS",
+            Section::Votes => "VOTES",
+        }
+    }
+
+    /// The column of its rows' ids.
+    pub(crate) fn id_column(self) -> &'static str {
+        match self {
+            Section::Meta => "key",
+            Section::Projects => "project_id",
+            Section::Votes => "voter_id",
+        }
+    }
+
+    /// The other column that its rows need.
+    pub(crate) fn value_column(self) -> &'static str {
+        match self {
+            Section::Meta => "value",
+            Section::Projects => "cost",
+            Section::Votes => "vote",
+        }
+    }
+
+    /// What its rows are.
+    pub(crate) fn subject(self) -> &'static str {
+        match self {
+            Section::Meta => "key",
+            Section::Projects => "project",
+            Section::Votes => "voter",
+        }
+    }
+}
+
+/// What may come next.
+#[derive(Clone, Copy, PartialEq, Eq)]
+pub(crate) enum Stage {
+    /// META's head.
+    Start,
+    /// The header row of this section.
+    Header(Section),
+    /// A row of this section, or the next section's head.
+    Rows(Section),
+}
+
+/// What the records say that were looked at so far.
+#[derive(Clone, Copy)]
+pub(crate) struct Seen {
+    pub(crate) stage: Stage,
+    /// The places of the needed columns in the section's rows.
+    pub(crate) id_place: Option<usize>,
+    pub(crate) value_place: Option<usize>,
+    /// The rows of META that gave these keys last.
+    pub(crate) budget: Option<Mark>,
+    pub(crate) vote_type: Option<Mark>,
+    pub(crate) max_length: Option<Mark>,
+    /// How many rows PROJECTS and VOTES have.
+    pub(crate) projects: u64,
+    pub(crate) votes: u64,
+    /// The last record that is not blank.
+    pub(crate) last: Mark,
+}
+
+impl Seen {
+    pub(crate) fn nothing() -> Seen {
+        Seen {
+            stage: Stage::Start,
+            id_place: None,
+            value_place: None,
+            budget: None,
+            vote_type: None,
+            max_length: None,
+            projects: 0,
+            votes: 0,
+            last: Mark::start(),
+        }
+    }
+
+    /// Takes a record that has no fault.
+    pub(crate) fn take(&mut self, row: &ByteRecord, mark: Mark) {
+        if is_blank(row) {
+            return;
+        }
+        self.last = mark;
+        match Section::headed_by(row) {
+            Some(section) => self.stage = Stage::Header(section),
+            None => self.take_plain(row, mark),
+        }
+    }
+
+    fn take_plain(&mut self, row: &ByteRecord, mark: Mark) {
+        match self.stage {
+            Stage::Start => {}
+            Stage::Header(section) => {
+                self.id_place = column_of(row, section.id_column());
+                self.value_place = column_of(row, section.value_column());
+                self.stage = Stage::Rows(section);
+            }
+            Stage::Rows(Section::Meta) => self.take_key(text_at(row, 0), mark),
+            Stage::Rows(Section::Projects) => self.projects = self.projects.saturating_add(1),
+            Stage::Rows(Section::Votes) => self.votes = self.votes.saturating_add(1),
+        }
+    }
+
+    fn take_key(&mut self, key: &str, mark: Mark) {
+        if key.eq_ignore_ascii_case("budget") {
+            self.budget = Some(mark);
+        }
+        if key.eq_ignore_ascii_case("vote_type") {
+            self.vote_type = Some(mark);
+        }
+        if key.eq_ignore_ascii_case("max_length") {
+            self.max_length = Some(mark);
+        }
+    }
+
+    /// The id of a row of this section; the empty text where it has none.
+    pub(crate) fn id<'r>(&self, row: &'r ByteRecord) -> &'r str {
+        match self.id_place {
+            Some(place) => text_at(row, place),
+            None => "",
+        }
+    }
+
+    /// The other value of a row of this section; the empty text where it has none.
+    pub(crate) fn value<'r>(&self, row: &'r ByteRecord) -> &'r str {
+        match self.value_place {
+            Some(place) => text_at(row, place),
+            None => "",
+        }
+    }
+}
+
+/// Takes the records before the one with this number, reads that one too, and answers whether there is one.
+pub(crate) fn walk<F: Read>(rows: &mut Rows<F>, seen: &mut Seen, number: u64) -> bool {
+    for at in 1..number {
+        if !rows.advance() {
+            return false;
+        }
+        let mark = Mark {
+            record: at,
+            ..rows.mark()
+        };
+        seen.take(&rows.row, mark);
+    }
+    rows.advance()
+}
+
+/// Where, before the record with this number, the id stood first in a row of this section.
+pub(crate) fn first_with<F: Read>(
+    rows: &mut Rows<F>,
+    section: Section,
+    id: &str,
+    number: u64,
+) -> Option<Mark> {
+    let mut seen = Seen::nothing();
+    for _ in 1..number {
+        if !rows.advance() {
+            return None;
+        }
+        let mark = rows.mark();
+        if seen.stage == Stage::Rows(section) && seen.id(&rows.row) == id {
+            return Some(mark);
+        }
+        seen.take(&rows.row, mark);
+    }
+    None
+}
