@@ -3,6 +3,7 @@
 
 use crate::checks;
 use crate::checks::{holds, same};
+use crate::crowd::Crowd;
 use crate::elections::{THREE_VOTERS, amounts, read};
 use crate::outcomes::counted;
 use pb_core::money::Money;
@@ -254,6 +255,50 @@ fn prices_the_heads_of_the_queue(rt: HostRuntime) {
     }
     let refused = run(&rt, rt.alloc(), THREE_VOTERS, 65, &NoGate).err();
     same(&rt, refused, Some(CountFault::WorkerCount), "65 workers");
+}
+
+/// The start of a file, up to its projects.
+const BEFORE_PROJECTS: &str =
+    "META\nkey;value\nbudget;1\nvote_type;approval\nPROJECTS\nproject_id;cost\n";
+
+/// 200 projects that cost 1,500.00 each, and 600 voters who approve all: 120,000 approvals.
+fn town(rt: &impl Abort, alloc: Global) -> String {
+    let mut file = String::from_str(alloc, BEFORE_PROJECTS).expect(rt, "memory");
+    for project in 0..200 {
+        write!(file, "{project};1500\n").expect(rt, "memory");
+    }
+    file.push_str("VOTES\nvoter_id;vote\n").expect(rt, "memory");
+    for voter in 0..600 {
+        write!(file, "{voter};").expect(rt, "memory");
+        for project in 0..200 {
+            write!(file, "{project},").expect(rt, "memory");
+        }
+        file.push('\n').expect(rt, "memory");
+    }
+    file
+}
+
+/// Four projects at 2.50 take each voter's 10.00.
+const TOWN_ELECTED: &[(u32, u64, u64)] = &[
+    (0, 250, 150_000),
+    (1, 250, 150_000),
+    (2, 250, 150_000),
+    (3, 250, 150_000),
+];
+
+/// 120,000 approvals are worth two threads: two workers meet in the first round.
+#[test]
+fn workers_meet_in_a_round(rt: HostRuntime) {
+    let file = town(&rt, rt.alloc());
+    let gate = Crowd::of(2);
+    let outcome = run(&rt, rt.alloc(), file.as_str(), 2, &gate).expect(&rt, "an outcome");
+    let winners = elected(&rt, rt.alloc(), TOWN_ELECTED);
+    let (found, wanted) = (outcome.elected.as_slice(), winners.as_slice());
+    same(&rt, found, wanted, "the elected");
+    gate.has_met(&rt);
+    drop(winners);
+    drop(outcome);
+    drop(file);
 }
 
 /// Price, weight and place of two keys, of which the first comes before the second.

@@ -11,6 +11,8 @@ mod checks;
 #[cfg(test)]
 mod counting;
 #[cfg(test)]
+mod crowd;
+#[cfg(test)]
 mod elections;
 #[cfg(test)]
 mod outcomes;

@@ -6,6 +6,7 @@ ghost use Rattle.pb_core.specs.Election.{most_projects};
 ghost use Rattle.pb_price.specs.Price.{AreRests};
 
 use crate::checks::{same, tells};
+use crate::crowd::Crowd;
 use crate::elections::{THREE_VOTERS, amounts, push_amount, read};
 use pb_core::money::Money;
 use pb_price::gate::{Gate, NoGate};
@@ -15,7 +16,7 @@ use std::alloc::Global;
 use std::process::Abort;
 use std::sync::atomic::AtomicU32;
 use std::sync::atomic::Ordering::SeqCst;
-use std::thread::{Threads, yield_now};
+use std::thread::Threads;
 
 /// The largest share of a voter.
 const LARGEST_SHARE: Money = Money(2_000_000_000_000_000);
@@ -332,37 +333,34 @@ fn refuses_a_number_of_workers(rt: HostRuntime) {
     }
 }
 
-/// Each of two pieces waits at the gate until both have come there, for a bounded number of turns.
-#[derive(Drop)]
-struct Meeting {
-    /// 1 for piece 0, 2 for piece 1, and so 3 for both.
-    came: AtomicU32,
-    /// How many pieces saw both there.
-    met: AtomicU32,
+/// As many projects of the three voters as there are workers at most, a and b in turn.
+const IN_TURN: [u32; 64] = [
+    0, 1, 0, 1, 0, 1, 0, 1, 0, 1, 0, 1, 0, 1, 0, 1, 0, 1, 0, 1, 0, 1, 0, 1, 0, 1, 0, 1, 0, 1, 0, 1,
+    0, 1, 0, 1, 0, 1, 0, 1, 0, 1, 0, 1, 0, 1, 0, 1, 0, 1, 0, 1, 0, 1, 0, 1, 0, 1, 0, 1, 0, 1, 0, 1,
+];
+
+/// This many workers meet at as many pieces, each at one, and no worker comes twice: so none was priced before each of the
+/// others was drawn by a worker of its own.
+fn meet(rt: &(impl Threads + Abort + Sync), alloc: Global, workers: u32, numbers: u64) {
+    let gate = Crowd::of(workers);
+    let projects = IN_TURN.get(..workers as usize).expect(rt, "projects");
+    let (prices, tally) = priced_by(rt, alloc, workers, &gate, projects);
+    same(rt, prices.is_ok(), true, "prices");
+    same(rt, tally, u64::from(workers), "the tally");
+    gate.has_met(rt);
+    gate.was_of(rt, numbers);
+    drop(prices);
 }
 
-impl Gate for Meeting {
-    fn at(&self, _worker: u32, piece: u32) {
-        self.came.fetch_add(if piece == 0 { 1 } else { 2 }, SeqCst);
-        for _ in 0..10_000_000 {
-            if self.came.load(SeqCst) == 3 {
-                self.met.fetch_add(1, SeqCst);
-                return;
-            }
-            yield_now();
-        }
-    }
-}
+/// Numbers of workers, and the sum of as many powers of two from 1 on.
+const CROWDS: &[(u32, u64)] = &[(2, 3), (3, 7), (64, u64::MAX)];
 
-/// The workers run side by side: of two pieces neither could be priced before the other was drawn.
+/// The workers run side by side, each under its own number.
 #[test]
 fn prices_side_by_side(rt: HostRuntime) {
-    let gate = Meeting {
-        came: AtomicU32::new(0),
-        met: AtomicU32::new(0),
-    };
-    prices_as(&rt, rt.alloc(), 2, &gate, &[0, 1], &[1500, 3000]);
-    same(&rt, gate.met.load(SeqCst), 2, "pieces that met");
+    for (workers, numbers) in CROWDS {
+        meet(&rt, rt.alloc(), *workers, *numbers);
+    }
 }
 
 const FAULTS: &[(PriceFault, &str)] = &[

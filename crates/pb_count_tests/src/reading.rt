@@ -44,6 +44,13 @@ const COLUMNS: &str =
 const RARE: &str =
     "META\nkey;value\nbudget;0\nvote_type;approval\nPROJECTS\nproject_id;cost\na;10000000000000.00\nb;60\n\"x,y\";7\nc;8\nVOTES\nvoter_id;vote\nv1;a\nv2;\nv3;b,c\nv4;\" , \"\n";
 
+/// A column that is not the name, though it is one elsewhere; then rows that end before the name, and after it.
+const TITLES: &str =
+    "META\nk;v\nbudget;1\nvote_type;approval\nPROJECTS\nproject_id;cost;title\na;1;A\nVOTES\nvoter_id;vote\nv;a\n";
+
+const SHORT: &str =
+    "META\nk;v\nbudget;1\nvote_type;approval\nPROJECTS\nproject_id;cost;Name\na;1\nb;2;\nc;3; C ;D\nVOTES\nvoter_id;vote\nv;a\n";
+
 /// Files, and the election of each.
 const FILES: &[(&str, &str)] = &[
     (CITY, "500000;a,Park; north,120050;b,Library,30000;|v1 0 1;"),
@@ -52,6 +59,8 @@ const FILES: &[(&str, &str)] = &[
         RARE,
         "0;a,,1000000000000000;b,,6000;x,y,,700;c,,800;|v1 0;v2;v3 1 3;v4;",
     ),
+    (TITLES, "100;a,,100;|v 0;"),
+    (SHORT, "100;a,,100;b,,200;c,C,300;|v 0;"),
 ];
 
 #[test]
