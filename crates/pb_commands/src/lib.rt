@@ -1,4 +1,4 @@
-//! The three commands, `count`, `desk` and `audit`, from bytes to bytes.
+//! The commands `count`, `projects`, `voters`, `desk` and `audit`, from bytes to bytes.
 //!
 //! A run reads its inputs in their order, makes its whole text in memory, and then writes it: so a run that is
 //! refused has written nothing. Each refusal has one line and one status.
