@@ -14,6 +14,10 @@ is reached when such a contract, the model of a public type, or a reached defini
 that hold between any two atomic steps of threads. A type that is declared in code is reached in the same way; one
 that has a model is seen by it, any other by its fields and variants. Words of std and of the toolchain's crates are
 not followed, nor are words that only private contracts name. A crate of tests alone has no contracts.
+
+Some definitions compute what others say in the words of a rule, and a law proves the two the same. What is reached by such
+a law alone computes, and is proved the same: it is printed behind the others, is listed by the page in rows that say so,
+and is not among the lines to believe.
 """
 import re
 import sys
@@ -39,6 +43,9 @@ RULES = (
     ("pb_shared", "Steps", "knowing"),
     ("pb_price", "Claims", "AreClaims"),
 )
+# Laws that say only that a definition computes just what the words of a rule say. What these alone reach is for running on
+# small inputs, and nobody has to believe it.
+COMPUTING_LAWS = {("pb_rounds", "completion_is_its_rule"), ("pb_rounds", "count_is_computed")}
 # What an impl has to say besides its meaning: proofs that a law holds.
 PROOFS = {"laws", "total", "matches_partial_cmp", "matches_eq", "respects_eq"}
 
@@ -340,6 +347,15 @@ class Reach:
         self.reached, self.reached_types, self.lost, self.waiting = {}, {}, [], []
         for crate, file, rule in RULES:
             self.lead_to((crate, file, rule), "the rules")
+        laws = [contract for contract in contracts if (contract.crate, contract.title) in COMPUTING_LAWS]
+        self.follow([contract for contract in contracts if contract not in laws])
+        believed = set(self.reached)
+        self.follow(laws)
+        self.computing = {key: one for key, one in self.reached.items() if key not in believed}
+        self.reached = {key: one for key, one in self.reached.items() if key in believed}
+
+    def follow(self, contracts):
+        """What these contracts lead to."""
         for contract in contracts:
             self.lead(contract.text, contract.crate, None, contract.imports)
         while self.waiting:
@@ -399,7 +415,18 @@ def files_in_order(crate, reached):
     return order
 
 
-def print_book(crates, contracts, definitions, reached, types):
+def print_definitions(crate, definitions, reached):
+    for file in files_in_order(crate, reached.values()):
+        print(f"\n-- {file}")
+        seen = set()
+        for definition in definitions[crate].values():
+            if definition.file == file and definition.key() in reached and definition.key() not in seen:
+                seen.add(definition.key())
+                print("\n" + "\n".join(definition.comment + definition.lines))
+
+
+def print_book(crates, contracts, definitions, book):
+    types = book.reached_types
     for crate in crates:
         own = [c for c in contracts if c.crate == crate]
         if not own:
@@ -416,13 +443,10 @@ def print_book(crates, contracts, definitions, reached, types):
         for declared in seen_by_fields:
             print("\n" + "\n".join(line for line in declared.text if not line.lstrip().startswith("#[")))
         print("\n-- definitions")
-        for file in files_in_order(crate, reached.values()):
-            print(f"\n-- {file}")
-            seen = set()
-            for definition in definitions[crate].values():
-                if definition.file == file and definition.key() in reached and definition.key() not in seen:
-                    seen.add(definition.key())
-                    print("\n" + "\n".join(definition.comment + definition.lines))
+        print_definitions(crate, definitions, book.reached)
+        if lines_of(book.computing, crate):
+            print("\n-- what computes, and is proved the same as words above")
+            print_definitions(crate, definitions, book.computing)
         if crate == steps.SOURCE.parent.name:
             print(f"\n-- its steps\n\n{steps.text_of_steps()}")
         print("\n-- what its public functions promise")
@@ -437,20 +461,33 @@ def lines_of(reached, crate):
     return sum(len(d.lines) for d in reached.values() if d.crate == crate)
 
 
-def check(crates, reached, lost):
+def words_named(rows):
+    """The words of the page's rows, in their second column."""
+    return {word for row in rows for word in re.findall(r"`([^`]+)`", row.split("|")[2])}
+
+
+def compare(crate, what, words, named):
+    wrong = [f"{crate}: the page lacks `{word}` among what {what}" for word in sorted(words - named)]
+    return wrong + [f"{crate}: `{word}` is not among what {what}" for word in sorted(named - words)]
+
+
+def check(crates, book):
     """What is wrong with the page or with the book: a line each."""
-    wrong = sorted(set(lost)) + steps.faults()
+    reached = book.reached
+    wrong = sorted(set(book.lost)) + steps.faults()
     text = PAGE.read_text()
     sections = re.split(r"^## ", text, flags=re.M)
     for crate in crates:
-        words = {d.name for d in reached.values() if d.crate == crate}
         section = next((s for s in sections if f"({crate})" in s.splitlines()[0]), "")
         rows = [line for line in section.splitlines() if line.startswith("| `")]
-        named = set()
-        for row in rows:
-            named |= set(re.findall(r"`([^`]+)`", row.split("|")[2]))
-        wrong += [f"{crate}: the page lacks `{word}`" for word in sorted(words - named)]
-        wrong += [f"{crate}: no public contract reaches `{word}`" for word in sorted(named - words)]
+        computing = [row for row in rows if "computes, proved the same" in row]
+        believed = [row for row in rows if row not in computing]
+        for what, part, listed in (
+            ("has to be believed", reached, believed),
+            ("computes, and is proved the same", book.computing, computing),
+        ):
+            words = {d.name for d in part.values() if d.crate == crate}
+            wrong += compare(crate, what, words, words_named(listed))
     total = sum(lines_of(reached, crate) for crate in crates)
     if f"**{total} lines**" not in text:
         wrong.append(f"the definitions have {total} lines, and the page doesn't say so")
@@ -469,11 +506,11 @@ def main():
             print(f"{crate:12} {lines_of(reached, crate):5}")
         print(f"{'all':12} {sum(lines_of(reached, crate) for crate in crates):5}")
     elif "--check" in sys.argv:
-        wrong = check(crates, reached, book.lost)
+        wrong = check(crates, book)
         print("\n".join(wrong))
         sys.exit(1 if wrong else 0)
     else:
-        print_book(crates, contracts, definitions, reached, book.reached_types)
+        print_book(crates, contracts, definitions, book)
 
 
 if __name__ == "__main__":
