@@ -13,3 +13,4 @@ pub mod DraftFacts
 pub mod ProgressFacts
 pub mod Tracking
 pub mod Blames
+pub mod Checks

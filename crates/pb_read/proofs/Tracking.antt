@@ -38,7 +38,7 @@ tracks_more (Some all) (Some (r ∷ rest)) after count p q row tracks next none 
       reached = subst (Reached (tracks.done ++ next.fields ∷ [])) (sym (goes ∙ ap (λ x. advance p (next_row x)) next.row_is)) (reached_next tracks.done p next.fields tracks.reached next.text (ap (λ x. row_fault p (next_row x)) (sym next.row_is) ∙ none));
     })
 
-cut_short : (all left : List Fields) (count : ℕ) (p : Position) → HasCome all left count p → count ≤ most_records → (at : ℕ) → at ≡ count + 1 → IsReachedAt all at
+pub cut_short : (all left : List Fields) (count : ℕ) (p : Position) → HasCome all left count p → count ≤ most_records → (at : ℕ) → at ≡ count + 1 → IsReachedAt all at
 cut_short all left count p come few at is = record {
   done = come.done;
   left = left;
@@ -47,14 +47,14 @@ cut_short all left count p come few at is = record {
   no_fault_before = no_fault_so_far come.done p (omega (arith, come.count_is, few)) come.reached;
 }
 
-first_at : (all left : List Fields) (count : ℕ) (p : Position) → HasCome all left count p → count ≤ most_records → (at : ℕ) → at ≡ count + 1 → (kind : ReadKind) → lowest_kind count p left ≡ Some kind → IsFirstFault all kind at
+pub first_at : (all left : List Fields) (count : ℕ) (p : Position) → HasCome all left count p → count ≤ most_records → (at : ℕ) → at ≡ count + 1 → (kind : ReadKind) → lowest_kind count p left ≡ Some kind → IsFirstFault all kind at
 first_at all left count p come few at is kind lowest =
     let here : IsFirstFault (come.done ++ left) kind (length come.done + 1) =
     first_fault come.done left p kind (omega (arith, come.count_is, few)) come.reached (ap (λ n. lowest_kind n p left) come.count_is ∙ lowest) in
     subst (λ n. IsFirstFault all kind n) (ap (λ n. n + 1) come.count_is ∙ sym is) (subst (λ xs. IsFirstFault xs kind (length come.done + 1)) (sym come.cut) here)
 
 -- a kind that the checks found
-explained : (all : List Fields) (kind : ReadKind) (at : ℕ) (found : Option ReadKind) → IsReachedAt all at → Explains kind found → ((k : ReadKind) → found ≡ Some k → IsFirstFault all k at) → IsFaultAt all kind at
+pub explained : (all : List Fields) (kind : ReadKind) (at : ℕ) (found : Option ReadKind) → IsReachedAt all at → Explains kind found → ((k : ReadKind) → found ≡ Some k → IsFirstFault all k at) → IsFaultAt all kind at
 explained all kinds.ReadFailed at found cut said first = cut
 explained all kinds.NoMemory at found cut said first = cut
 explained all kind at found cut said first = first _ said

@@ -28,3 +28,7 @@ pub record HasVoter (columns : VoteColumns) (row : Fields) (id : List ℕ) : Typ
   pub whole : has_fields columns.voter columns.vote row ≡ true
   pub id_is : id ≡ field row columns.voter
   pub has_id : is_empty (field row columns.voter) ≡ false
+
+-- a row that was refused has left the election and its ids as they were
+abbrev pub IsAsBefore : Draft → Draft → Type 0
+IsAsBefore old new = (new.election ≡ old.election) × IsTied new

@@ -4,7 +4,9 @@ pub mod Faults
 pub mod FirstFault
 pub mod Ids
 pub mod Kinds
+pub mod Checking
 pub mod Lengths
+pub mod Listed
 pub mod Machine
 pub mod MetaRows
 pub mod MoneyKinds

@@ -42,6 +42,10 @@ Advances old next new =
 abbrev pub Refuses : Progress → Next → ReadKind → Type 0
 Refuses old next kind = Explains kind (row_fault (place_of old) next)
 
+-- what was refused has changed nothing
+abbrev pub Stays : Progress → Progress → Type 0
+Stays old new = (place_of new ≡ place_of old) × IsReady new
+
 -- a file may end here, with this election
 abbrev pub EndsWith : Position → ElectionView → Type 0
 EndsWith p election = (columns : VoteColumns) × (p ≡ (InVotes columns, election))

@@ -1,9 +1,9 @@
 // The election as far as its rows were read.
 
-ghost use Rattle.std.specs.Prelude.{◌≡◌, ◌≤◌, [], ◌∷◌, ◌++◌, IfErr, IfOk, OnOk, None};
+ghost use Rattle.std.specs.Prelude.{◌≡◌, ◌≢◌, ◌≤◌, [], ◌∷◌, ◌++◌, IfErr, IfOk, OnOk, None};
 ghost use Rattle.pb_core.specs.Election.{project_ids, voter_ids};
 ghost use Rattle.pb_core.specs.Money.{largest_money};
-ghost use Rattle.pb_read.specs.Drafts.{HasVoter, IsTied};
+ghost use Rattle.pb_read.specs.Drafts.{HasVoter, IsAsBefore, IsTied};
 ghost use Rattle.pb_read.specs.Ids.{Finds};
 ghost use Rattle.pb_read.specs.Machine.{Explains, project_row_checks, vote_row_checks, with_project, with_voter};
 ghost use Rattle.pb_read.specs.Rows.{field};
@@ -69,19 +69,21 @@ impl Draft {
             × (self.new.election ≡ with_project columns row.now self.old.election) × IsTied self.new) }
         ensures err { IfErr result (λ kind.
             Explains kind (project_row_checks columns row.now self.old.election)) }
+        ensures stays { IfErr result (λ kind. kind ≢ ReadKind.NoMemory → IsAsBefore self.old self.new) }
     {
         let (id, cost) = match columns.id_and_cost(row) {
             Ok(found) => found,
             Err(kind) => return Err(kind),
         };
         let place = self.election.projects().len();
-        let before = self.project_ids.insert(self.alloc, id, place as u32)?;
+        let before = self.project_ids.get(id);
         if before.is_some() {
             return Err(ReadKind::RepeatedProject);
         }
         if place >= MOST_PROJECTS {
             return Err(ReadKind::TooManyProjects);
         }
+        self.project_ids.insert(self.alloc, id, place as u32)?;
         let name = String::from_str(self.alloc, columns.name(row))?;
         let id = String::from_str(self.alloc, id)?;
         self.election.add_project(Project::new(id, name, cost))?;
@@ -95,6 +97,7 @@ impl Draft {
             × (self.new.election ≡ with_voter columns row.now self.old.election) × IsTied self.new) }
         ensures err { IfErr result (λ kind.
             Explains kind (vote_row_checks columns row.now self.old.election)) }
+        ensures stays { IfErr result (λ kind. kind ≢ ReadKind.NoMemory → IsAsBefore self.old self.new) }
     {
         let id = match columns.voter_id(self.alloc, row) {
             Ok(id) => id,
@@ -127,9 +130,10 @@ impl Draft {
             × (self.new.project_ids ≡ self.old.project_ids) }
         ensures err { IfErr result (λ kind.
             Explains kind (vote_row_checks columns row.now self.old.election)) }
+        ensures stays { IfErr result (λ kind. kind ≢ ReadKind.NoMemory → IsAsBefore self.old self.new) }
     {
         let place = self.election.voters().len();
-        let before = self.voter_ids.insert(self.alloc, id.text(), place as u32)?;
+        let before = self.voter_ids.get(id.text());
         if before.is_some() {
             return Err(ReadKind::RepeatedVoter);
         }
@@ -140,6 +144,7 @@ impl Draft {
         if place >= MOST_VOTERS {
             return Err(ReadKind::TooManyVoters);
         }
+        self.voter_ids.insert(self.alloc, id.text(), place as u32)?;
         let ballot = Ballot::of(self.alloc, &self.places)?;
         // The clause of `places` tells the proof that the ballot rises.
         let _places = ballot.places();

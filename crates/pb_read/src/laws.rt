@@ -1,10 +1,12 @@
 // Laws of the definitions.
 
-ghost use Rattle.std.specs.Prelude.{◌≡◌, ◌≤◌, ◌-◌, ℕ, List, length, take};
+ghost use Rattle.std.specs.Prelude.{◌≡◌, ◌≤◌, ◌-◌, ◌↔◌, ◌∷◌, [], ℕ, List, length, take};
 ghost use Rattle.pb_core.specs.Election.{ElectionView};
 ghost use Rattle.pb_rows.specs.Reading.{Fields};
 ghost use Rattle.pb_read.specs.FirstFault.{HasNoFault, IsFaultAt, IsFromOutside};
+ghost use Rattle.pb_read.specs.Listed.{AreListed};
 ghost use Rattle.pb_read.specs.StandsFor.{StandsFor};
+ghost use Rattle.pb_read.specs.declared.fault.ReadFault.{ReadFault};
 ghost use Rattle.pb_read.specs.declared.fault.ReadKind.{ReadKind};
 
 /// Records stand for one election at most, are refused by one fault at most, and never both; a failed
@@ -24,4 +26,14 @@ pub fn one_answer()
     ensures one_with_it { (records : List Fields) (kind : ReadKind) (at : ℕ) →
         IsFaultAt records kind at → ¬ IsFromOutside kind → at ≤ length records →
         ¬ HasNoFault (take at records) }
+{}
+
+/// What a check lists of records begins with their first fault, and is nothing where they stand for an election, a failed
+/// reader aside.
+pub fn first_listed()
+    ensures none { (records : List Fields) → AreListed 0 records [] ↔ ((e : ElectionView) × StandsFor records e) }
+    ensures first { (records : List Fields) (fault : ReadFault) (more : List ReadFault) →
+        AreListed 0 records (fault ∷ more) → IsFaultAt records fault.kind fault.at }
+    ensures accepts { (records : List Fields) (fault : ReadFault) (more : List ReadFault) (e : ElectionView) →
+        AreListed 0 records (fault ∷ more) → StandsFor records e → IsFromOutside fault.kind }
 {}

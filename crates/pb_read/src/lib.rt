@@ -1,6 +1,7 @@
 //! The reader of Pabulib's .pb files: META, PROJECTS and VOTES of an approval election.
 #![tactic(auto)]
 
+mod check;
 mod columns;
 mod draft;
 mod fault;
@@ -12,7 +13,10 @@ mod read;
 mod row;
 mod section;
 mod vote;
+mod watch;
 
+pub use check::{MOST_FAULTS, list_faults};
 pub use fault::{ReadFault, ReadKind};
-pub use laws::one_answer;
+pub use laws::{first_listed, one_answer};
 pub use read::{MOST_RECORDS, read_pb};
+pub use watch::{Warning, Watch};

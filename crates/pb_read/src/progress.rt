@@ -1,9 +1,10 @@
 // How far a file was read.
 
-ghost use Rattle.std.specs.Prelude.{◌≡◌, None, Some, IfErr, OnOk, MatchResult};
+ghost use Rattle.std.specs.Prelude.{◌≡◌, ◌≢◌, None, false, Some, IfErr, OnOk, MatchResult};
+ghost use Rattle.pb_read.specs.Listed.{is_of_row};
 ghost use Rattle.pb_read.specs.Stages.{head, next_row, plain, the_end};
 ghost use Rattle.pb_read.specs.Machine.{budget_of, head_checks, limit_of};
-ghost use Rattle.pb_read.specs.Progresses.{Advances, EndsWith, IsRead, IsReady, Refuses, place_of};
+ghost use Rattle.pb_read.specs.Progresses.{Advances, EndsWith, IsRead, IsReady, Refuses, Stays, place_of};
 ghost use Rattle.pb_read.specs.StandsFor.{opening};
 ghost use Rattle.pb_read.specs.declared.progress.Stage.TheVariants.{Start, Header};
 ghost use Rattle.pb_read.specs.declared.section.Section.TheVariants.{Projects};
@@ -58,6 +59,7 @@ impl Progress {
         requires { IsReady self.old }
         ensures ok { OnOk result (Advances self.old (next_row row.now) self.new) }
         ensures err { IfErr result (Refuses self.old (next_row row.now)) }
+        ensures stays { IfErr result (λ kind. kind ≢ ReadKind.NoMemory → Stays self.old self.new) }
     {
         if row.is_blank() {
             return Ok(());
@@ -74,6 +76,7 @@ impl Progress {
         requires { IsReady self.old }
         ensures ok { OnOk result (Advances self.old (head section) self.new) }
         ensures err { IfErr result (Refuses self.old (head section)) }
+        ensures stays { IfErr result (λ kind. kind ≢ ReadKind.NoMemory → Stays self.old self.new) }
     {
         match (self.stage, section) {
             (Stage::Start, Section::Meta) | (Stage::InProjects(_), Section::Votes) => {
@@ -94,7 +97,7 @@ impl Progress {
             ≡ (Header Projects, opening (budget_of meta.budget) (limit_of meta.max_length)))
             × IsReady self.new) }
         ensures err { IfErr result (λ kind.
-            head_checks meta.budget meta.approval meta.max_length ≡ Some kind) }
+            (head_checks meta.budget meta.approval meta.max_length ≡ Some kind) × (self.new ≡ self.old)) }
     {
         let (budget, max_length) = match meta.terms() {
             Ok(terms) => terms,
@@ -112,6 +115,7 @@ impl Progress {
         requires { IsReady self.old }
         ensures ok { OnOk result (Advances self.old (plain row.now) self.new) }
         ensures err { IfErr result (Refuses self.old (plain row.now)) }
+        ensures stays { IfErr result (λ kind. kind ≢ ReadKind.NoMemory → Stays self.old self.new) }
     {
         match self.stage {
             Stage::Start => return Err(ReadKind::NoSection),
@@ -134,10 +138,16 @@ impl Progress {
         Ok(())
     }
 
+    /// Whether rows of PROJECTS or of VOTES are read.
+    pub(crate) fn is_in_rows(&self) -> bool {
+        matches!(self.stage, Stage::InProjects(_) | Stage::InVotes(_))
+    }
+
     /// Hands out the election, where the file may end here.
     #[tactic(auto, unfolding(crate::specs::Machine::row_fault))]
     pub(crate) fn finish(&mut self) -> Result<Election, ReadKind>
-        ensures { MatchResult result (EndsWith (place_of self.old)) (Refuses self.old the_end) }
+        ensures end { MatchResult result (EndsWith (place_of self.old)) (Refuses self.old the_end) }
+        ensures no_row { IfErr result (λ kind. is_of_row kind ≡ false) }
     {
         match self.stage {
             Stage::InVotes(_) => Ok(self.draft.take_election()),

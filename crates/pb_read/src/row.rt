@@ -6,13 +6,26 @@ ghost use Rattle.csv.specs.Records.{fields_of};
 ghost use Rattle.pb_rows.specs.Reading.{NextIsNoText};
 ghost use Rattle.pb_read.specs.Columns.{column, has_fields};
 ghost use Rattle.pb_read.specs.Rows.{field, is_blank, is_word, trimmed};
+ghost use Rattle.pb_read.specs.Checking.{HasFound};
 ghost use Rattle.pb_read.specs.Tracking.{IsNextRow};
 
-use csv::StringRecord;
+use csv::{ByteRecord, StringRecord};
 use pb_rows::{Records, RecordsFault};
 use std::alloc::Global;
 use std::io::Read;
 use std::marker::Model;
+use std::mem;
+
+/// What was read of a text whose records need not be text.
+#[derive(Clone, Copy)]
+pub(crate) enum Found {
+    /// A record that is text.
+    Text,
+    /// A record with a field that is none.
+    NoText,
+    /// The end.
+    End,
+}
 
 /// A record of the file. A contract sees its fields without the white space at their ends.
 #[derive(Drop)]
@@ -46,6 +59,37 @@ impl Row {
         ensures unknown { OnErr result (records.new.left ≡ None) }
     {
         records.read(&mut self.untrimmed)
+    }
+
+    /// Reads the next record, which need not be text: into this row where it is, and else into `raw`.
+    pub(crate) fn read_any<R: Read>(
+        &mut self,
+        alloc: Global,
+        raw: &mut ByteRecord,
+        records: &mut Records<R>,
+    ) -> Result<Found, RecordsFault>
+        ensures { IfOk result (HasFound records.old.left records.new.left self.new) }
+    {
+        if !records.read_bytes(raw)? {
+            return Ok(Found::End);
+        }
+        let bytes = mem::replace(raw, ByteRecord::new(alloc));
+        match StringRecord::from_byte_record(bytes) {
+            Ok(text) => {
+                let before = mem::replace(&mut self.untrimmed, text);
+                drop(mem::replace(raw, before.into_byte_record()));
+                Ok(Found::Text)
+            }
+            Err(refused) => {
+                drop(mem::replace(raw, refused.into_byte_record()));
+                Ok(Found::NoText)
+            }
+        }
+    }
+
+    /// The record as it stands in the file.
+    pub(crate) fn bytes(&self) -> &ByteRecord {
+        self.untrimmed.as_byte_record()
     }
 
     /// Whether the record has a field at each of two places, from 0.

@@ -17,14 +17,14 @@ pub returns-then-is_some-clause-err : goal.returns-then-is_some-clause-err
 returns-then-is_some-clause-err c =
     let e = c.args.self.now.election in
     let has = c.in-Ok.ensures.ok in
-    let among = was_among c.args.self.now.project_ids (project_ids e) c.in-Ok.found.0.now (field c.args.row.now c.args.columns.id) c.requires.tied.project_ids_are has.id_is c.in_ok-before.ensures.before c.is_some.ensures c.if-is_some.true in
+    let among = was_among c.args.self.now.project_ids (project_ids e) c.in-Ok.found.0.now (field c.args.row.now c.args.columns.id) c.requires.tied.project_ids_are has.id_is c.get-before.ensures c.is_some.ensures c.if-is_some.true in
     project_checked c.args.columns c.args.row.now e _ _ has among refl
 
 pub returns-then-place-ge-MOST_PROJECTS-clause-err : goal.returns-then-place-ge-MOST_PROJECTS-clause-err
 returns-then-place-ge-MOST_PROJECTS-clause-err c =
     let e = c.args.self.now.election in
     let has = c.in-Ok.ensures.ok in
-    let among = was_among c.args.self.now.project_ids (project_ids e) c.in-Ok.found.0.now (field c.args.row.now c.args.columns.id) c.requires.tied.project_ids_are has.id_is c.in_ok-before.ensures.before c.is_some.ensures c.if-is_some.false in
+    let among = was_among c.args.self.now.project_ids (project_ids e) c.in-Ok.found.0.now (field c.args.row.now c.args.columns.id) c.requires.tied.project_ids_are has.id_is c.get-before.ensures c.is_some.ensures c.if-is_some.false in
     let full = le-leb most_projects (length e.projects) (omega (arith, ap length c.projects-place.ensures.projects, c.if-place-ge-MOST_PROJECTS.true)) in
     project_checked c.args.columns c.args.row.now e _ _ has among full
 
@@ -35,7 +35,7 @@ pub add_project-requires-clause-new_id : goal.add_project-requires-clause-new_id
 add_project-requires-clause-new_id c =
     let e = c.args.self.now.election in
     let has = c.in-Ok.ensures.ok in
-    let among = was_among c.args.self.now.project_ids (project_ids e) c.in-Ok.found.0.now (field c.args.row.now c.args.columns.id) c.requires.tied.project_ids_are has.id_is c.in_ok-before.ensures.before c.is_some.ensures c.if-is_some.false in
+    let among = was_among c.args.self.now.project_ids (project_ids e) c.in-Ok.found.0.now (field c.args.row.now c.args.columns.id) c.requires.tied.project_ids_are has.id_is c.get-before.ensures c.is_some.ensures c.if-is_some.false in
     not_among (project_ids e) c.new.result.id (ap (is_among (project_ids e)) (c.new.ensures.id ∙ c.in_ok-id.ensures.ok ∙ has.id_is) ∙ among)
 
 pub returns-clause-ok : goal.returns-clause-ok
@@ -43,7 +43,7 @@ returns-clause-ok c =
     let row = c.args.row.now in
     let e = c.args.self.now.election in
     let has = c.in-Ok.ensures.ok in
-    let among = was_among c.args.self.now.project_ids (project_ids e) c.in-Ok.found.0.now (field row c.args.columns.id) c.requires.tied.project_ids_are has.id_is c.in_ok-before.ensures.before c.is_some.ensures c.if-is_some.false in
+    let among = was_among c.args.self.now.project_ids (project_ids e) c.in-Ok.found.0.now (field row c.args.columns.id) c.requires.tied.project_ids_are has.id_is c.get-before.ensures c.is_some.ensures c.if-is_some.false in
     let room = lt-leb most_projects (length e.projects) (omega (arith, ap length c.projects-place.ensures.projects, c.if-place-ge-MOST_PROJECTS.false)) in
     let id = c.new.ensures.id ∙ c.in_ok-id.ensures.ok in
     let name = c.new.ensures.name ∙ c.in_ok-name.ensures.ok ∙ c.name.ensures in
@@ -51,7 +51,7 @@ returns-clause-ok c =
     let project = same_project c.new.result (project_of c.args.columns row) (id ∙ has.id_is) name cost in
     let after = c.in_ok-add_project.ensures.ok in
     let size = ap length c.projects-place.ensures.projects ∙ sym (length-map e.projects (λ (p : ProjectView). p.id)) in
-    let ids = finds_after c.args.self.now.project_ids (project_ids e) c.in-Ok.found.0.now c.new.result.id c.requires.tied.project_ids_are (sym id) (ap (is_among (project_ids e)) (id ∙ has.id_is) ∙ among) size c.in_ok-before.ensures.ok in (
+    let ids = finds_after c.args.self.now.project_ids (project_ids e) c.in-Ok.found.0.now c.new.result.id c.requires.tied.project_ids_are (sym id) (ap (is_among (project_ids e)) (id ∙ has.id_is) ∙ among) size c.in_ok-insert.ensures.ok in (
       project_checked c.args.columns row e _ _ has among room,
       after ∙ ap (λ p. record e { projects = e.projects ++ p ∷ [] }) project,
       record {

@@ -1,0 +1,276 @@
+-- A check of a whole file: what each verdict means for the faults that are listed.
+use Rattle.std.proofs.Common.{◌≡◌, ◌≢◌, ◌<◌, ◌≤◌, ◌+◌, ◌-◌, ◌==◌, ◌⊎◌, ℕ, true, false, cond, not, List, [], ◌∷◌, ◌++◌, length, take, drop, Option, Some, None, refl, ap, sym, ◌∙◌, subst, arith, inl, inr, ⊎_elim, length-append}
+use Rattle.std.specs.Prelude.{IfSome}
+use Rattle.std.specs.List.{list_all}
+use Rattle.std.specs.Str.{is_utf8}
+use Rattle.std.proofs.Math.Seq.{drop-append-add, take-append_seam}
+use Rattle.std.proofs.lemmas.Bool.{eqb-false, false≢true, true≢false, false_from_ne_true}
+use Rattle.csv.specs.Records.{AllText}
+use Rattle.pb_core.specs.Election.{ElectionView}
+use Rattle.pb_rows.specs.Reading.{Fields, IsNext}
+use Rattle.pb_read.proofs.DraftFacts.{explains}
+use Rattle.pb_read.proofs.GoesOn.{AllText-from_test, test-from_AllText}
+use Rattle.pb_read.proofs.Tracking.{cut_short, ended, explained, first_at, tracks_more, tracks_start}
+use Rattle.pb_read.specs.Checking.{EndsAt, Going, IsGoing, IsRefusal, IsVerdict, Judges, JudgesEnd, JudgesRow, LeadsTo, LeftHas, NextHas, text_fault}
+use Rattle.pb_read.proofs.Uniqueness.{refused_from_outside}
+use Rattle.pb_read.specs.FirstFault.{IsFaultAt, IsFromOutside, IsReachedAt}
+use Rattle.pb_read.specs.Listed.{AreListed, is_of_row, without}
+use Rattle.pb_read.specs.Machine.{Explains, Position, lowest_kind, row_fault, start}
+use Rattle.pb_read.specs.Progresses.{EndsWith}
+use Rattle.pb_read.specs.Rows.{trimmed}
+use Rattle.pb_read.specs.Stages.{next_row, the_end}
+use Rattle.pb_read.specs.StandsFor.{StandsFor, most_records}
+use Rattle.pb_read.specs.Tracking.{HasCome, HasEnded, IsNextRow, Tracks}
+use Rattle.pb_read.specs.declared.check.Verdict.{Verdict}
+use Rattle.pb_read.specs.declared.check.Verdict.TheVariants.{Passes, LeavesOut, Ends, Done}
+use Rattle.pb_read.specs.declared.fault.ReadFault.{ReadFault}
+use Rattle.pb_read.specs.declared.fault.ReadKind.{ReadKind}
+use Rattle.pb_read.specs.declared.fault.ReadKind.TheVariants as kinds
+
+-- the record after those that were kept is taken out
+without-here : (done : List Fields) (next : Fields) (rest : List Fields) → without (length done + 1) (done ++ next ∷ rest) ≡ done ++ rest
+without-here done next rest =
+    let back : length done + 1 - 1 ≡ length done = omega arith in
+    ap (λ n. take n (done ++ next ∷ rest) ++ drop (length done + 1) (done ++ next ∷ rest)) back
+    ∙ ap (λ (t : List Fields). t ++ drop (length done + 1) (done ++ next ∷ rest)) (take-append_seam done (next ∷ rest))
+    ∙ ap (λ (t : List Fields). done ++ t) (drop-append-add done (next ∷ rest) 1)
+
+come_without : (now : List Fields) (next : Fields) (rest : List Fields) (kept : ℕ) (p : Position) → HasCome now (next ∷ rest) kept p → HasCome (without (kept + 1) now) rest kept p
+come_without now next rest kept p come = record {
+  done = come.done;
+  cut = (λ i. without (sym come.count_is i + 1) (come.cut i)) ∙ without-here come.done next rest;
+  count_is = come.count_is;
+  reached = come.reached;
+}
+
+-- the first fault of the records that were not left out
+fault_here : (now left : List Fields) (kept : ℕ) (p : Position) (kind : ReadKind) → HasCome now left kept p → kept ≤ most_records → lowest_kind kept p left ≡ Some kind → IsFaultAt now kind (kept + 1)
+fault_here now left kept p kind come few lowest =
+    explained now kind (kept + 1) (lowest_kind kept p left) (cut_short now left kept p come few (kept + 1) refl) (explains kind _ lowest) (λ k found. first_at now left kept p come few (kept + 1) refl k found)
+
+fault_left : (now left : List Fields) (kept : ℕ) (p : Position) (kind : ReadKind) → HasCome now left kept p → kept ≤ most_records → LeftHas kept (Some left) p kind → IsFaultAt now kind (kept + 1)
+fault_left now left kept p kinds.ReadFailed come few has = cut_short now left kept p come few (kept + 1) refl
+fault_left now left kept p kinds.NoMemory come few has = cut_short now left kept p come few (kept + 1) refl
+fault_left now left kept p kind come few has = fault_here now left kept p _ come few has
+
+-- one more record is taken out
+leads_push : (out : ℕ) (records : List Fields) (faults : List ReadFault) (fault : ReadFault) (now : List Fields) (n : ℕ) → LeadsTo out records faults now → n ≡ out + length faults → n < fault.at → IsFaultAt now fault.kind (fault.at - n) →
+    LeadsTo out records (faults ++ fault ∷ []) (without (fault.at - n) now)
+leads_push out records [] fault now n leads same after is =
+    let at_start : n ≡ out = omega (arith, same) in (
+      omega (arith, after, at_start),
+      subst (λ (x : List Fields). IsFaultAt x fault.kind (fault.at - out)) (sym leads) (subst (λ m. IsFaultAt now fault.kind (fault.at - m)) at_start is),
+      λ i. without (fault.at - sym at_start i) (leads i),
+    )
+leads_push out records (first ∷ more) fault now n leads same after is =
+    (leads.0, leads.1, leads_push (out + 1) (without (first.at - out) records) more fault now n leads.2 (omega (arith, same)) after is)
+
+-- no fault is left
+listed_all : (out : ℕ) (records : List Fields) (faults : List ReadFault) (now : List Fields) (e : ElectionView) → LeadsTo out records faults now → StandsFor now e → AreListed out records faults
+listed_all out records [] now e leads stands = (e, subst (λ x. StandsFor x e) (sym leads) stands)
+listed_all out records (first ∷ more) now e leads stands =
+    (leads.0, leads.1, inr (listed_all (out + 1) (without (first.at - out) records) more now e leads.2 stands))
+
+-- the last fault that is listed
+listed_end : (out : ℕ) (records : List Fields) (faults : List ReadFault) (fault : ReadFault) (now : List Fields) (n : ℕ) → LeadsTo out records faults now → n ≡ out + length faults → n < fault.at → IsFaultAt now fault.kind (fault.at - n) →
+    (is_of_row fault.kind ≡ false) ⊎ (n ≡ 999) → AreListed out records (faults ++ fault ∷ [])
+listed_end out records [] fault now n leads same after is may =
+    let at_start : n ≡ out = omega (arith, same) in (
+      omega (arith, after, at_start),
+      subst (λ (x : List Fields). IsFaultAt x fault.kind (fault.at - out)) (sym leads) (subst (λ m. IsFaultAt now fault.kind (fault.at - m)) at_start is),
+      inl (refl, ⊎_elim (λ kind. inl kind) (λ last. inr (sym at_start ∙ last)) may),
+    )
+listed_end out records (first ∷ more) fault now n leads same after is may =
+    (leads.0, leads.1, inr (listed_end (out + 1) (without (first.at - out) records) more fault now n leads.2 (omega (arith, same)) after is may))
+
+pub going_start : (all : Option (List Fields)) → IsGoing all all 0 [] start
+going_start None = tt
+going_start (Some all) = record { now = all; kept = 0; leads = refl; done_is = refl; few = omega arith; tracks = tracks_start (Some all) }
+
+-- a record passes
+pub going_passes : (all left after : Option (List Fields)) (done kept : ℕ) (faults : List ReadFault) (p q : Position) → IsGoing all left done faults p → done ≡ kept + length faults → Judges kept left after p q Passes → IsGoing all after (done + 1) faults q
+going_passes None left after done kept faults p q going same judged = tt
+going_passes (Some all) left after done kept faults p q going same judged =
+    let is : going.kept ≡ kept = omega (arith, same, going.done_is) in
+    let not_full : kept ≢ most_records = eqb-false kept most_records judged.2.0 in
+    record {
+      now = going.now;
+      kept = going.kept + 1;
+      leads = going.leads;
+      done_is = omega (arith, going.done_is);
+      few = omega (arith, going.few, is, not_full);
+      tracks = tracks_more (Some going.now) left after going.kept p q judged.0 going.tracks judged.1 judged.2.1 judged.2.2;
+    }
+
+-- a record is left out
+pub going_leaves : (all left after : Option (List Fields)) (done kept : ℕ) (faults : List ReadFault) (p q : Position) (kind : ReadKind) → IsGoing all left done faults p → done ≡ kept + length faults → Judges kept left after p q (LeavesOut kind) →
+    IsGoing all after (done + 1) (faults ++ record { kind = kind; at = done + 1 } ∷ []) q
+going_leaves None left after done kept faults p q kind going same judged = tt
+going_leaves (Some all) None after done kept faults p q kind going same judged = absurd going.tracks
+going_leaves (Some all) (Some []) after done kept faults p q kind going same judged = absurd judged.0
+going_leaves (Some all) (Some (next ∷ rest)) after done kept faults p q kind going same judged =
+    let is : going.kept ≡ kept = omega (arith, same, going.done_is) in
+    let fault : ReadFault = record { kind = kind; at = done + 1 } in
+    let number : done + 1 - length faults ≡ going.kept + 1 = omega (arith, going.done_is) in
+    let here : IsFaultAt going.now kind (done + 1 - length faults) =
+    subst (λ n. IsFaultAt going.now kind n) (sym number) (fault_here going.now (next ∷ rest) going.kept p kind going.tracks going.few (ap (λ n. lowest_kind n p (next ∷ rest)) is ∙ judged.0.1)) in
+    let come : HasCome (without (done + 1 - length faults) going.now) rest going.kept q =
+    subst (λ n. HasCome (without n going.now) rest going.kept q) (sym number) (subst (HasCome (without (going.kept + 1) going.now) rest going.kept) (sym judged.1) (come_without going.now next rest going.kept p going.tracks)) in
+    let one : List ReadFault = fault ∷ [] in
+    record {
+      now = without (done + 1 - length faults) going.now;
+      kept = going.kept;
+      leads = leads_push 0 all faults fault going.now (length faults) going.leads (omega arith) (omega (arith, going.done_is)) here;
+      done_is = omega (arith, going.done_is, length-append faults one);
+      few = going.few;
+      tracks = subst (λ l. Tracks (Some (without (done + 1 - length faults) going.now)) l going.kept q) (sym judged.0.0) come;
+    }
+
+-- the last of as many as are listed
+pub listed_full : (all left after : Option (List Fields)) (done kept : ℕ) (faults : List ReadFault) (p q : Position) (kind : ReadKind) → IsGoing all left done faults p → done ≡ kept + length faults → length faults ≡ 999 → Judges kept left after p q (LeavesOut kind) →
+    IfSome all (λ records. AreListed 0 records (faults ++ record { kind = kind; at = done + 1 } ∷ []))
+listed_full None left after done kept faults p q kind going same last judged = tt
+listed_full (Some all) None after done kept faults p q kind going same last judged = absurd going.tracks
+listed_full (Some all) (Some []) after done kept faults p q kind going same last judged = absurd judged.0
+listed_full (Some all) (Some (next ∷ rest)) after done kept faults p q kind going same last judged =
+    let is : going.kept ≡ kept = omega (arith, same, going.done_is) in
+    let number : done + 1 - length faults ≡ going.kept + 1 = omega (arith, going.done_is) in
+    let here : IsFaultAt going.now kind (done + 1 - length faults) =
+    subst (λ n. IsFaultAt going.now kind n) (sym number) (fault_here going.now (next ∷ rest) going.kept p kind going.tracks going.few (ap (λ n. lowest_kind n p (next ∷ rest)) is ∙ judged.0.1)) in
+    listed_end 0 all faults (record { kind = kind; at = done + 1 }) going.now (length faults) going.leads (omega arith) (omega (arith, going.done_is)) here (inr last)
+
+-- reading ends at a fault
+pub listed_last : (all left after : Option (List Fields)) (done kept : ℕ) (faults : List ReadFault) (p q : Position) (kind : ReadKind) → IsGoing all left done faults p → done ≡ kept + length faults → Judges kept left after p q (Ends kind) →
+    IfSome all (λ records. AreListed 0 records (faults ++ record { kind = kind; at = done + 1 } ∷ []))
+listed_last None left after done kept faults p q kind going same judged = tt
+listed_last (Some all) None after done kept faults p q kind going same judged = absurd going.tracks
+listed_last (Some all) (Some left) after done kept faults p q kind going same judged =
+    let is : kept ≡ going.kept = omega (arith, same, going.done_is) in
+    let number : done + 1 - length faults ≡ going.kept + 1 = omega (arith, going.done_is) in
+    let here : IsFaultAt going.now kind (done + 1 - length faults) =
+    subst (λ n. IsFaultAt going.now kind n) (sym number) (fault_left going.now left going.kept p kind going.tracks going.few (subst (λ n. LeftHas n (Some left) p kind) is judged.0)) in
+    listed_end 0 all faults (record { kind = kind; at = done + 1 }) going.now (length faults) going.leads (omega arith) (omega (arith, going.done_is)) here (inl judged.1)
+
+-- the file has ended
+pub listed_done : (all left after : Option (List Fields)) (done kept : ℕ) (faults : List ReadFault) (p q : Position) → IsGoing all left done faults p → Judges kept left after p q Done → IfSome all (λ records. AreListed 0 records faults)
+listed_done None left after done kept faults p q going judged = tt
+listed_done (Some all) None after done kept faults p q going judged = absurd going.tracks
+listed_done (Some all) (Some left) after done kept faults p q going judged =
+    let come : HasCome going.now [] going.kept p = subst (λ l. HasCome going.now l going.kept p) judged.0 going.tracks in
+    let end : HasEnded (Some going.now) (going.kept + 1) p = record { count = going.kept; at_is = refl; few = going.few; come = come } in
+    listed_all 0 all faults going.now judged.1.0 going.leads (ended (Some going.now) (going.kept + 1) p judged.1.0 end judged.1.1)
+
+-- no more records are kept, and left out, than these
+pub listed_over : (all left : Option (List Fields)) (done : ℕ) (faults : List ReadFault) (p : Position) → IsGoing all left done faults p → length faults < 1000 → done ≡ 2001000 → IfSome all (λ records. AreListed 0 records faults)
+listed_over None left done faults p going few over = tt
+listed_over (Some all) left done faults p going few over = absurd (omega (arith, going.done_is, going.few, few, over))
+
+-- a kind that was found, and one at which reading ends
+pub ends_at : (kind : ReadKind) (found : Option ReadKind) → Explains kind found → EndsAt kind found
+ends_at kinds.ReadFailed found said = tt
+ends_at kinds.NoMemory found said = tt
+ends_at kind found said = said
+
+explained_unless : (kind : ReadKind) (found : Option ReadKind) → Explains kind found → kind ≢ kinds.NoMemory → found ≡ Some kind
+explained_unless kinds.NoMemory found said other = absurd (other refl)
+explained_unless kind found said other = said
+
+pub refusal_judged : (q p : Position) (found : Option ReadKind) (kind : ReadKind) (verdict : Verdict) → Explains kind found → (kind ≢ kinds.NoMemory → q ≡ p) → IsRefusal kind verdict → IsVerdict found p q verdict
+refusal_judged q p found kind Passes said stays refusal = absurd refusal
+refusal_judged q p found kind Done said stays refusal = absurd refusal
+refusal_judged q p found kind (LeavesOut other) said stays refusal =
+    (explained_unless kind found said refusal.1 ∙ ap (λ k. Some k) (sym refusal.0), stays refusal.1)
+refusal_judged q p found kind (Ends other) said stays refusal =
+    (subst (λ k. EndsAt k found) (sym refusal.0) (ends_at kind found said), ap is_of_row refusal.0 ∙ refusal.1)
+
+-- the kind that applies to a record that is text
+text_lowest : (kept : ℕ) (p : Position) (next : Fields) (rest : List Fields) → AllText next → lowest_kind kept p (next ∷ rest) ≡ text_fault kept p (trimmed next)
+text_lowest kept p next rest text =
+    ap (λ t. cond (not t) (Some kinds.NotText) (cond (kept == most_records) (Some kinds.TooManyRecords) (row_fault p (next_row (trimmed next))))) (test-from_AllText next text)
+
+-- and to one that is none
+no_text_lowest : (kept : ℕ) (p : Position) (next : Fields) (rest : List Fields) → ¬ AllText next → lowest_kind kept p (next ∷ rest) ≡ Some kinds.NotText
+no_text_lowest kept p next rest none =
+    let test : list_all is_utf8 next ≡ false = false_from_ne_true (list_all is_utf8 next) (λ e. none (AllText-from_test next e)) in
+    ap (λ t. cond (not t) (Some kinds.NotText) (cond (kept == most_records) (Some kinds.TooManyRecords) (row_fault p (next_row (trimmed next))))) test
+
+-- a kind that applies to the next record
+next_judged : (kept : ℕ) (next : Fields) (rest : List Fields) (after : Option (List Fields)) (p q : Position) (verdict : Verdict) → after ≡ Some rest → IsVerdict (lowest_kind kept p (next ∷ rest)) p q verdict → Judges kept (Some (next ∷ rest)) after p q verdict
+next_judged kept next rest after p q Passes goes judged = absurd judged
+next_judged kept next rest after p q Done goes judged = absurd judged
+next_judged kept next rest after p q (LeavesOut kind) goes judged = ((goes, judged.0), judged.1)
+next_judged kept next rest after p q (Ends kind) goes judged = (left_has kind judged.0, judged.1)
+  where
+    left_has : (k : ReadKind) → EndsAt k (lowest_kind kept p (next ∷ rest)) → LeftHas kept (Some (next ∷ rest)) p k
+    left_has kinds.ReadFailed at = tt
+    left_has kinds.NoMemory at = tt
+    left_has k at = at
+
+-- where nothing is known of what is left
+unknown_judged : (kept : ℕ) (after : Option (List Fields)) (p q : Position) (found : Option ReadKind) (verdict : Verdict) → IsVerdict found p q verdict → Judges kept None after p q verdict
+unknown_judged kept after p q found Passes judged = absurd judged
+unknown_judged kept after p q found Done judged = absurd judged
+unknown_judged kept after p q found (LeavesOut kind) judged = (tt, judged.1)
+unknown_judged kept after p q found (Ends kind) judged = (left_has kind, judged.1)
+  where
+    left_has : (k : ReadKind) → LeftHas kept None p k
+    left_has kinds.ReadFailed = tt
+    left_has kinds.NoMemory = tt
+    left_has k = tt
+
+refused_judged : (kept : ℕ) (left after : Option (List Fields)) (p q : Position) (fields : Fields) (found : Option ReadKind) (verdict : Verdict) → IsNext left after true fields → ((rest : List Fields) → lowest_kind kept p (fields ∷ rest) ≡ found) → IsVerdict found p q verdict → Judges kept left after p q verdict
+refused_judged kept None after p q fields found verdict next lowest judged = unknown_judged kept after p q found verdict judged
+refused_judged kept (Some []) after p q fields found verdict next lowest judged = absurd (true≢false next)
+refused_judged kept (Some (first ∷ rest)) after p q fields found verdict next lowest judged =
+    next_judged kept first rest after p q verdict next.2 (subst (λ f. IsVerdict f p q verdict) (sym (lowest rest) ∙ ap (λ x. lowest_kind kept p (x ∷ rest)) next.1) judged)
+
+-- a row that is text was judged
+text_refused : (kept : ℕ) (left after : Option (List Fields)) (p q : Position) (row : Fields) (verdict : Verdict) → IsNextRow left after true row → IsVerdict (text_fault kept p row) p q verdict → Judges kept left after p q verdict
+text_refused kept left after p q row verdict next judged =
+    refused_judged kept left after p q next.fields (text_fault kept p (trimmed next.fields)) verdict next.next (λ rest. text_lowest kept p next.fields rest next.text) (subst (λ x. IsVerdict (text_fault kept p x) p q verdict) next.row_is judged)
+
+pub text_judged : (kept : ℕ) (left after : Option (List Fields)) (p q : Position) (row : Fields) (verdict : Verdict) → IsNextRow left after true row → JudgesRow kept row p q verdict → Judges kept left after p q verdict
+text_judged kept left after p q row Passes next judged = (row, next, judged)
+text_judged kept left after p q row Done next judged = absurd judged
+text_judged kept left after p q row (LeavesOut kind) next judged = text_refused kept left after p q row (LeavesOut kind) next judged
+text_judged kept left after p q row (Ends kind) next judged = text_refused kept left after p q row (Ends kind) next judged
+
+-- a record that is no text
+pub no_text_judged : (kept : ℕ) (left after : Option (List Fields)) (p q : Position) (verdict : Verdict) → (fields : Fields) × IsNext left after true fields × ¬ AllText fields → q ≡ p → IsRefusal kinds.NotText verdict → Judges kept left after p q verdict
+no_text_judged kept left after p q verdict found stays refusal =
+    refused_judged kept left after p q found.0 (Some kinds.NotText) verdict found.1 (λ rest. no_text_lowest kept p found.0 rest found.2) (refusal_judged q p (Some kinds.NotText) kinds.NotText verdict refl (λ other. stays) refusal)
+
+-- the end of the file
+pub end_judged : (kept : ℕ) (left after : Option (List Fields)) (p q : Position) (verdict : Verdict) → (fields : Fields) × IsNext left after false fields → JudgesEnd p verdict → Judges kept left after p q verdict
+end_judged kept left after p q Passes found judged = absurd judged
+end_judged kept left after p q (LeavesOut kind) found judged = absurd judged
+end_judged kept None after p q Done found judged = (tt, judged)
+end_judged kept (Some []) after p q Done found judged = (refl, judged)
+end_judged kept (Some (first ∷ rest)) after p q Done found judged = absurd (false≢true found.1.0)
+end_judged kept left after p q (Ends kind) found judged = (left_has kind left found.1 judged.0, judged.1)
+  where
+    left_has : (k : ReadKind) (l : Option (List Fields)) → IsNext l after false found.0 → EndsAt k (row_fault p the_end) → LeftHas kept l p k
+    left_has kinds.ReadFailed l next at = tt
+    left_has kinds.NoMemory l next at = tt
+    left_has k None next at = no k
+      where
+        no : (other : ReadKind) → LeftHas kept None p other
+        no kinds.ReadFailed = tt
+        no kinds.NoMemory = tt
+        no other = tt
+    left_has k (Some []) next at = at
+    left_has k (Some (first ∷ rest)) next at = absurd (false≢true next.0)
+
+-- what is listed begins with the first fault
+pub listed_first : (records : List Fields) (fault : ReadFault) (more : List ReadFault) → AreListed 0 records (fault ∷ more) → IsFaultAt records fault.kind fault.at
+listed_first records fault more listed =
+    let same : fault.at - 0 ≡ fault.at = omega arith in
+    subst (IsFaultAt records fault.kind) same listed.1
+
+pub accepted_listed : (records : List Fields) (fault : ReadFault) (more : List ReadFault) (e : ElectionView) → AreListed 0 records (fault ∷ more) → StandsFor records e → IsFromOutside fault.kind
+accepted_listed records fault more e listed stands = refused_from_outside records e fault.kind fault.at stands (listed_first records fault more listed)
+
+pub one_longer : (faults new : List ReadFault) (fault : ReadFault) → new ≡ faults ++ fault ∷ [] → length new ≡ length faults + 1
+one_longer faults new fault pushed =
+    let one : List ReadFault = fault ∷ [] in
+    ap length pushed ∙ length-append faults one

@@ -1,0 +1,109 @@
+-- How far a check of a whole file has come; private contracts speak of it.
+use Rattle.std.specs.Prelude.{◌≡◌, ◌≢◌, ◌≤◌, ◌<◌, ◌+◌, ◌-◌, ◌==◌, ℕ, Bool, true, false, List, [], ◌∷◌, length, Option, Some, None, IfSome, if◌then◌else◌}
+use Rattle.csv.specs.Records.{AllText}
+use Rattle.pb_core.specs.Election.{ElectionView}
+use Rattle.pb_rows.specs.Reading.{Fields, IsNext}
+use Rattle.pb_read.specs.FirstFault.{IsFaultAt}
+use Rattle.pb_read.specs.Listed.{is_of_row, without}
+use Rattle.pb_read.specs.Machine.{Position, advance, lowest_kind, row_fault}
+use Rattle.pb_read.specs.Progresses.{EndsWith}
+use Rattle.pb_read.specs.Stages.{next_row, the_end}
+use Rattle.pb_read.specs.StandsFor.{most_records}
+use Rattle.pb_read.specs.Tracking.{IsNextRow, Tracks}
+use Rattle.pb_read.specs.declared.check.Verdict.{Verdict}
+use Rattle.pb_read.specs.declared.check.Verdict.TheVariants.{Passes, LeavesOut, Ends, Done}
+use Rattle.pb_read.specs.declared.fault.ReadFault.{ReadFault}
+use Rattle.pb_read.specs.declared.fault.ReadKind.{ReadKind}
+use Rattle.pb_read.specs.declared.fault.ReadKind.TheVariants.{ReadFailed, NoMemory, TooManyRecords}
+use Rattle.pb_read.specs.declared.row.Found.{Found}
+use Rattle.pb_read.specs.declared.row.Found.TheVariants.{Text, NoText, End}
+
+-- the next record was read, as a row or as one that is no text; or none is left
+abbrev pub HasFound : Option (List Fields) → Option (List Fields) → Fields → Found → Type 0
+HasFound left after row Text = IsNextRow left after true row
+HasFound left after row NoText = (fields : Fields) × IsNext left after true fields × ¬ AllText fields
+HasFound left after row End = (fields : Fields) × IsNext left after false fields
+
+-- the lowest kind of fault of a row that is text, after this many that were kept
+abbrev pub text_fault : ℕ → Position → Fields → Option ReadKind
+text_fault kept p row = if kept == most_records then Some TooManyRecords else row_fault p (next_row row)
+
+-- what comes of a fault of this kind
+abbrev pub IsRefusal : ReadKind → Verdict → Type 0
+IsRefusal kind (LeavesOut other) = (other ≡ kind) × (kind ≢ NoMemory)
+IsRefusal kind (Ends other) = (other ≡ kind) × (is_of_row kind ≡ false)
+IsRefusal kind verdict = ⊥
+
+-- reading ends at a kind that applies; that the reader failed, or memory was refused, no clause can say
+abbrev pub EndsAt : ReadKind → Option ReadKind → Type 0
+EndsAt ReadFailed found = Unit {0}
+EndsAt NoMemory found = Unit {0}
+EndsAt kind found = found ≡ Some kind
+
+-- a verdict on what comes next at a position, by the lowest kind that applies there
+abbrev pub IsVerdict : Option ReadKind → Position → Position → Verdict → Type 0
+IsVerdict found p q (LeavesOut kind) = (found ≡ Some kind) × (q ≡ p)
+IsVerdict found p q (Ends kind) = EndsAt kind found × (is_of_row kind ≡ false)
+IsVerdict found p q verdict = ⊥
+
+-- the same of a row that is text, which may pass
+abbrev pub JudgesRow : ℕ → Fields → Position → Position → Verdict → Type 0
+JudgesRow kept row p q Passes =
+    ((kept == most_records) ≡ false) × (row_fault p (next_row row) ≡ None) × (q ≡ advance p (next_row row))
+JudgesRow kept row p q verdict = IsVerdict (text_fault kept p row) p q verdict
+
+-- the next record, where it is known what is left, is followed by these, and its lowest kind of fault is this one
+abbrev pub NextHas : ℕ → Option (List Fields) → Option (List Fields) → Position → ReadKind → Type 0
+NextHas kept None after p kind = Unit {0}
+NextHas kept (Some []) after p kind = ⊥
+NextHas kept (Some (next ∷ rest)) after p kind =
+    (after ≡ Some rest) × (lowest_kind kept p (next ∷ rest) ≡ Some kind)
+
+-- the same of what is left, be it a record or the end
+abbrev pub LeftHas : ℕ → Option (List Fields) → Position → ReadKind → Type 0
+LeftHas kept left p ReadFailed = Unit {0}
+LeftHas kept left p NoMemory = Unit {0}
+LeftHas kept left p kind = IfSome left (λ records. lowest_kind kept p records ≡ Some kind)
+
+-- a verdict on the records that are left, after this many that were kept
+abbrev pub Judges :
+    ℕ → Option (List Fields) → Option (List Fields) → Position → Position → Verdict → Type 0
+Judges kept left after p q Passes =
+    (row : Fields) × IsNextRow left after true row × JudgesRow kept row p q Passes
+Judges kept left after p q (LeavesOut kind) = NextHas kept left after p kind × (q ≡ p)
+Judges kept left after p q (Ends kind) = LeftHas kept left p kind × (is_of_row kind ≡ false)
+Judges kept left after p q Done = IfSome left (λ records. records ≡ []) × ((e : ElectionView) × EndsWith p e)
+
+-- a verdict on the end of the file
+abbrev pub JudgesEnd : Position → Verdict → Type 0
+JudgesEnd p (Ends kind) = EndsAt kind (row_fault p the_end) × (is_of_row kind ≡ false)
+JudgesEnd p Done = (e : ElectionView) × EndsWith p e
+JudgesEnd p verdict = ⊥
+
+-- reading goes on
+abbrev pub GoesOn : Verdict → Type 0
+GoesOn (Ends kind) = ⊥
+GoesOn Done = ⊥
+GoesOn verdict = Unit {0}
+
+-- taking out the records of these faults, of which each is the first of those that are left, leads to these
+abbrev pub LeadsTo : ℕ → List Fields → List ReadFault → List Fields → Type 0
+LeadsTo out records [] now = records ≡ now
+LeadsTo out records (fault ∷ more) now =
+    (out < fault.at) × IsFaultAt records fault.kind (fault.at - out)
+    × LeadsTo (out + 1) (without (fault.at - out) records) more now
+
+-- this many records were read, and these faults listed
+pub record Going (all : List Fields) (left : Option (List Fields)) (done : ℕ) (faults : List ReadFault)
+    (p : Position) : Type 0 where
+  pub now : List Fields
+  pub kept : ℕ
+  pub leads : LeadsTo 0 all faults now
+  pub done_is : done ≡ kept + length faults
+  pub few : kept ≤ most_records
+  pub tracks : Tracks (Some now) left kept p
+
+-- the same where the records are known
+abbrev pub IsGoing : Option (List Fields) → Option (List Fields) → ℕ → List ReadFault → Position → Type 0
+IsGoing None left done faults p = Unit {0}
+IsGoing (Some all) left done faults p = Going all left done faults p

@@ -1,0 +1,250 @@
+// The check of a whole file: it goes on after a faulty row.
+
+ghost use Rattle.std.specs.Prelude.{◌≡◌, [], None, IfOk, IfSome, OnOk};
+ghost use Rattle.pb_rows.specs.Reading.{records_of};
+ghost use Rattle.pb_read.specs.Checking.{GoesOn, IsGoing, IsRefusal, Judges, JudgesEnd, JudgesRow};
+ghost use Rattle.pb_read.specs.Listed.{AreListed, is_of_row};
+ghost use Rattle.pb_read.specs.Progresses.{IsReady, place_of};
+ghost use Rattle.pb_read.specs.StandsFor.{opening};
+ghost use Rattle.pb_read.specs.declared.progress.Stage.TheVariants.{Start};
+
+use crate::fault::{ReadFault, ReadKind};
+use crate::progress::Progress;
+use crate::read::MOST_RECORDS;
+use crate::row::{Found, Row};
+use crate::watch::Watch;
+use csv::ByteRecord;
+use pb_core::no_memory::NoMemory;
+use pb_rows::{Records, RecordsFault};
+use std::alloc::Global;
+use std::io::Read;
+
+/// The most faults that are listed.
+pub const MOST_FAULTS: usize = 1_000;
+
+/// The most records that are read while faults are listed.
+const MOST_CHECKED: u32 = 2_001_000;
+
+/// Lists what is wrong with a .pb file: a fault for each row of PROJECTS and VOTES that is refused, up to 1,000.
+///
+/// A row that is refused is left out, and the rows after it are read as if it were not there; votes for a project
+/// that was left out are `UnknownProject`. Any other fault ends the reading. After the 1,000th fault none is listed,
+/// and reading goes on for who looks on. Within the rows that are left out the reader is `read_pb`'s: where there is no
+/// fault it would answer an election, and otherwise the first of these. A reader that fails is the last fault.
+pub fn list_faults<R: Read + Drop, W: Watch>(
+    alloc: Global,
+    reader: R,
+    watch: &mut W,
+) -> Result<Vec<ReadFault>, NoMemory>
+    ensures { IfSome (R.remaining reader) (λ bytes.
+        IfOk result (λ faults. AreListed 0 (records_of bytes) faults.items)) }
+{
+    let mut records = Records::new(alloc, reader);
+    list_records(alloc, &mut records, watch)
+}
+
+/// The same of these records.
+fn list_records<R: Read, W: Watch>(
+    alloc: Global,
+    records: &mut Records<R>,
+    watch: &mut W,
+) -> Result<Vec<ReadFault>, NoMemory>
+    ensures { IfSome records.old.left (λ all. IfOk result (λ faults. AreListed 0 all faults.items)) }
+{
+    let mut faults = Vec::new(alloc);
+    let mut check = Check::new(alloc);
+    let listed = check.list(records, watch, &mut faults);
+    // Letting go of it by a call keeps this function's proof short.
+    drop(check);
+    match listed {
+        Ok(()) => Ok(faults),
+        Err(refused) => {
+            drop(faults);
+            Err(refused)
+        }
+    }
+}
+
+/// What comes of the next record, or of the end.
+#[derive(Clone, Copy)]
+pub(crate) enum Verdict {
+    /// The record has no fault.
+    Passes,
+    /// The record is left out by this fault, and reading goes on.
+    LeavesOut(ReadKind),
+    /// Reading ends by this fault.
+    Ends(ReadKind),
+    /// The file ends here, and nothing is wrong with that.
+    Done,
+}
+
+impl Verdict {
+    /// The fault, if there is one.
+    fn fault(self) -> Option<ReadKind> {
+        match self {
+            Verdict::LeavesOut(kind) | Verdict::Ends(kind) => Some(kind),
+            Verdict::Passes | Verdict::Done => None,
+        }
+    }
+}
+
+/// How far a file was checked.
+#[derive(Drop)]
+pub(crate) struct Check {
+    pub(crate) progress: Progress,
+    /// The record that was read last, where it is text.
+    row: Row,
+    /// The record that was read last, where it is none.
+    raw: ByteRecord,
+    alloc: Global,
+}
+
+impl Check {
+    /// Nothing was read yet.
+    fn new(alloc: Global) -> Check
+        ensures start { place_of result.progress ≡ (Start, opening 0 None) }
+        ensures ready { IsReady result.progress }
+    {
+        Check {
+            progress: Progress::new(alloc),
+            row: Row::new(alloc),
+            raw: ByteRecord::new(alloc),
+            alloc,
+        }
+    }
+
+    /// Reads all records, and lists their faults.
+    fn list<R: Read, W: Watch>(
+        &mut self,
+        records: &mut Records<R>,
+        watch: &mut W,
+        faults: &mut Vec<ReadFault>,
+    ) -> Result<(), NoMemory>
+        requires at_start { place_of self.old.progress ≡ (Start, opening 0 None) }
+        requires ready { IsReady self.old.progress }
+        requires none { faults.old.items ≡ [] }
+        ensures { OnOk result (IfSome records.old.left (λ all. AreListed 0 all faults.new.items)) }
+    {
+        for done in 0..MOST_CHECKED {
+            let at = done + 1;
+            let kept = done - faults.len() as u32;
+            match self.next(records, watch, kept, at) {
+                Verdict::Passes => {}
+                Verdict::LeavesOut(kind) => {
+                    faults.push(ReadFault { kind, at })?;
+                    if faults.len() >= MOST_FAULTS {
+                        self.read_on(records, watch, at);
+                        return Ok(());
+                    }
+                }
+                Verdict::Ends(ReadKind::NoMemory) => return Err(NoMemory),
+                Verdict::Ends(kind) => {
+                    faults.push(ReadFault { kind, at })?;
+                    return Ok(());
+                }
+                Verdict::Done => return Ok(()),
+            }
+        }
+        Ok(())
+    }
+
+    /// Reads on after this many records, for who looks on.
+    fn read_on<R: Read, W: Watch>(&mut self, records: &mut Records<R>, watch: &mut W, done: u32)
+        requires { IsReady self.old.progress }
+    {
+        for before in done..MOST_RECORDS {
+            match self.next(records, watch, 0, before + 1) {
+                Verdict::Passes | Verdict::LeavesOut(_) => {}
+                Verdict::Ends(_) | Verdict::Done => return,
+            }
+        }
+    }
+
+    /// Reads the next record, number `at`, after so many that were kept, and judges it.
+    fn next<R: Read, W: Watch>(
+        &mut self,
+        records: &mut Records<R>,
+        watch: &mut W,
+        kept: u32,
+        at: u32,
+    ) -> Verdict
+        requires { IsReady self.old.progress }
+        ensures judged { Judges kept records.old.left records.new.left
+            (place_of self.old.progress) (place_of self.new.progress) result }
+        ensures ready { GoesOn result → IsReady self.new.progress }
+    {
+        match self.row.read_any(self.alloc, &mut self.raw, records) {
+            Ok(Found::Text) => {
+                let verdict = self.judge(kept);
+                watch.see(self.row.bytes(), at, verdict.fault());
+                verdict
+            }
+            Ok(Found::NoText) => {
+                let verdict = self.refused_by(ReadKind::NotText);
+                watch.see(&self.raw, at, verdict.fault());
+                verdict
+            }
+            Ok(Found::End) => self.judge_end(),
+            Err(RecordsFault::NoMemory) => Verdict::Ends(ReadKind::NoMemory),
+            Err(_) => Verdict::Ends(ReadKind::ReadFailed),
+        }
+    }
+
+    /// Judges the row that was read, after so many that were kept.
+    fn judge(&mut self, kept: u32) -> Verdict
+        requires { IsReady self.old.progress }
+        ensures judged { JudgesRow kept self.old.row
+            (place_of self.old.progress) (place_of self.new.progress) result }
+        ensures ready { GoesOn result → IsReady self.new.progress }
+    {
+        if kept == MOST_RECORDS {
+            return Verdict::Ends(ReadKind::TooManyRecords);
+        }
+        match self.progress.read(&self.row) {
+            Ok(()) => Verdict::Passes,
+            Err(kind) => self.refused_by(kind),
+        }
+    }
+
+    /// Judges the end of the file.
+    fn judge_end(&mut self) -> Verdict
+        ensures { JudgesEnd (place_of self.old.progress) result }
+    {
+        match self.progress.finish() {
+            Ok(election) => {
+                drop(election);
+                Verdict::Done
+            }
+            Err(kind) => Verdict::Ends(kind),
+        }
+    }
+
+    /// What comes of a fault of this kind.
+    fn refused_by(&self, kind: ReadKind) -> Verdict
+        ensures { IsRefusal kind result }
+    {
+        match kind {
+            ReadKind::NoMemory => Verdict::Ends(kind),
+            _ if is_of_row(kind) || (self.progress.is_in_rows() && is_of_record(kind)) => {
+                Verdict::LeavesOut(kind)
+            }
+            _ => Verdict::Ends(kind),
+        }
+    }
+}
+
+/// Whether only rows of PROJECTS and VOTES have a fault of this kind.
+fn is_of_row(kind: ReadKind) -> bool
+    ensures { result ≡ is_of_row kind }
+{
+    let number = kind.number();
+    number == 8 || (14 <= number && number <= 20)
+}
+
+/// Whether rows of PROJECTS and VOTES have a fault of this kind, besides others.
+fn is_of_record(kind: ReadKind) -> bool {
+    matches!(
+        kind,
+        ReadKind::NotText | ReadKind::BadMoney | ReadKind::MoneyTooFine | ReadKind::MoneyTooLarge
+    )
+}
