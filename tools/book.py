@@ -379,6 +379,8 @@ class Reach:
         crate, file, name = target
         if crate not in self.definitions:
             return
+        if file.endswith(".TheConstants"):
+            return  # a text of the program's own, which is read where it stands
         declared = DECLARED.match(file)
         if declared:
             self.put(self.types[crate].get(declared.group(1)), self.reached_types, target, whose)

@@ -1,0 +1,3 @@
+mod Characters
+mod Texts
+mod Delimiters

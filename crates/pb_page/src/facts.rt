@@ -1,0 +1,23 @@
+use pb_rounds::options::CountOptions;
+
+/// A text that was read.
+#[derive(Clone, Copy)]
+pub struct Source<'a> {
+    /// The name of its file.
+    pub name: &'a str,
+    /// The SHA-256 of its bytes, in hexadecimal.
+    pub digest: &'a str,
+}
+
+/// What a page says beside the outcome.
+#[derive(Clone, Copy)]
+pub struct Facts<'a> {
+    /// What was voted on.
+    pub title: &'a str,
+    /// The file that was counted.
+    pub file: Source<'a>,
+    /// The journal that left the ballots, if there is one.
+    pub journal: Option<Source<'a>>,
+    /// How it was counted.
+    pub options: CountOptions,
+}

@@ -1,0 +1,68 @@
+// The page of an outcome.
+
+ghost use Rattle.std.specs.Prelude.{IfOk};
+ghost use Rattle.pb_reasons.specs.Reasons.{AreReasons, CanBeTold};
+ghost use Rattle.pb_rounds.specs.Outcome.{settled};
+ghost use Rattle.pb_page.specs.Page.{IsPage};
+
+use crate::budget::{put_budget, put_head, put_summary};
+use crate::check::put_check;
+use crate::facts::Facts;
+use crate::others::put_others;
+use crate::rule::put_rule;
+use crate::voters::put_voters;
+use crate::winners::put_winners;
+use crate::written_page::Page;
+use pb_core::election::Election;
+use pb_core::no_memory::NoMemory;
+use pb_reasons::Reasons;
+use pb_rounds::outcome::Outcome;
+use std::alloc::Global;
+
+/// The page of an outcome of this election: an HTML document that needs no other file, and runs no script.
+///
+/// Nothing in it is markup but the program's own pieces, whatever texts the election and the facts have.
+pub fn page_of(
+    alloc: Global,
+    election: &Election,
+    outcome: &Outcome,
+    facts: &Facts,
+) -> Result<Vec<u8>, NoMemory>
+    requires { CanBeTold election.now (settled outcome.now) }
+    ensures { IfOk result (λ text. IsPage text.items) }
+{
+    let reasons = Reasons::of(alloc, election, outcome)?;
+    let mut page = Page::start(alloc);
+    let put = put_all(&mut page, alloc, election, outcome, &reasons, facts);
+    drop(reasons);
+    match put {
+        Ok(()) => page.finish(),
+        Err(refused) => {
+            drop(page);
+            Err(refused)
+        }
+    }
+}
+
+/// All pieces of a page.
+fn put_all(
+    page: &mut Page,
+    alloc: Global,
+    election: &Election,
+    outcome: &Outcome,
+    reasons: &Reasons,
+    facts: &Facts,
+) -> Result<(), NoMemory>
+    requires told { CanBeTold election.now (settled outcome.now) }
+    requires own { AreReasons election.now (settled outcome.now) reasons.now }
+{
+    let elected = outcome.elected.as_slice();
+    put_head(page, alloc, facts.title)?;
+    put_summary(page, alloc, election, elected)?;
+    put_budget(page, alloc, election, elected)?;
+    put_winners(page, alloc, election, outcome, reasons, elected)?;
+    put_others(page, alloc, election, outcome, reasons)?;
+    put_voters(page, alloc, election, elected)?;
+    put_rule(page, alloc, &facts.options, outcome)?;
+    put_check(page, alloc, facts)
+}

@@ -1,0 +1,84 @@
+// The projects that did not win.
+
+ghost use Rattle.pb_reasons.specs.Reasons.{AreReasons, CanBeTold};
+ghost use Rattle.pb_rounds.specs.Outcome.{settled};
+
+use crate::budget::ten_thousandths;
+use crate::part::Part;
+use crate::winners::{put_nothing, shown};
+use crate::written_page::Page;
+use pb_core::election::Election;
+use pb_core::no_memory::NoMemory;
+use pb_core::project::Project;
+use pb_markup::Value;
+use pb_reasons::{Ending, ProjectReason, Reasons};
+use pb_rounds::outcome::Outcome;
+use std::alloc::Global;
+
+/// The projects that did not win, in the order of the file.
+pub(crate) fn put_others(
+    page: &mut Page,
+    alloc: Global,
+    election: &Election,
+    outcome: &Outcome,
+    reasons: &Reasons,
+) -> Result<(), NoMemory>
+    requires told { CanBeTold election.now (settled outcome.now) }
+    requires own { AreReasons election.now (settled outcome.now) reasons.now }
+{
+    if outcome.elected.len() == election.projects().len() {
+        return put_nothing(
+            page,
+            alloc,
+            "others",
+            "The other projects",
+            "There are none.",
+        );
+    }
+    page.put(alloc, Part::OthersOpening, &[])?;
+    put_rows(page, alloc, election, outcome, reasons)?;
+    page.put(alloc, Part::TableClosing, &[])
+}
+
+/// A row for each project that did not win.
+fn put_rows(
+    page: &mut Page,
+    alloc: Global,
+    election: &Election,
+    outcome: &Outcome,
+    reasons: &Reasons,
+) -> Result<(), NoMemory>
+    requires told { CanBeTold election.now (settled outcome.now) }
+    requires own { AreReasons election.now (settled outcome.now) reasons.now }
+{
+    let projects = election.projects();
+    for place in 0..projects.len() {
+        let reason = reasons.project(election, outcome, place as u32);
+        put_other(page, alloc, &projects[place], &reason)?;
+    }
+    Ok(())
+}
+
+/// A project, where it did not win.
+fn put_other(
+    page: &mut Page,
+    alloc: Global,
+    project: &Project,
+    reason: &ProjectReason,
+) -> Result<(), NoMemory> {
+    let Ending::Lost(lost) = reason.ending else {
+        return Ok(());
+    };
+    page.put(
+        alloc,
+        Part::Other,
+        &[
+            Value::Text(shown(project)),
+            Value::Number(ten_thousandths(lost.left, project.cost())),
+            Value::Amount(project.cost()),
+            Value::Number(u64::from(reason.votes)),
+            Value::Amount(lost.left),
+            Value::Amount(lost.missing),
+        ],
+    )
+}

@@ -1,0 +1,88 @@
+// The head of a page, with how it looks.
+
+/// The head, and what the page is about. Values: the title, and again the title.
+pub(crate) const HEAD: &str = "<!DOCTYPE html>
+<html lang='en'>
+<head>
+<meta charset='utf-8'>
+<meta name='viewport' content='width=device-width, initial-scale=1'>
+<meta http-equiv='Content-Security-Policy' content=\"default-src 'none'; style-src 'unsafe-inline'; img-src data:\">
+<meta name='color-scheme' content='light dark'>
+<link rel='icon' href='data:,'>
+<title>~</title>
+<style>
+:root {
+  color-scheme: light dark;
+  --paper: #ffffff; --ink: #1c1e23; --soft: #545a66; --line: #d5d9e0; --track: #e6e9ee;
+  --won: #0a6b4b; --won-too: #2f8f6d; --lost: #8a4a06; --many: #2b559c;
+}
+@media (prefers-color-scheme: dark) {
+  :root {
+    --paper: #15171b; --ink: #eceef2; --soft: #b4bac5; --line: #3a404a; --track: #2c3139;
+    --won: #57c79d; --won-too: #379f78; --lost: #e2a55a; --many: #86aef0;
+  }
+}
+* { box-sizing: border-box; }
+body {
+  margin: 0 auto; padding: 1.5rem 1rem 3rem; max-width: 62rem;
+  background: var(--paper); color: var(--ink);
+  font: 1rem/1.5 system-ui, 'Segoe UI', Roboto, 'Helvetica Neue', Arial, sans-serif;
+  overflow-wrap: anywhere;
+}
+h1 { font-size: clamp(1.5rem, 5vw, 2.25rem); line-height: 1.2; margin: 0 0 .75rem; }
+h2 { font-size: 1.3rem; line-height: 1.25; margin: 2.5rem 0 .5rem; }
+.lead { font-size: 1.15rem; margin: .25rem 0; max-width: 46rem; }
+p, li { max-width: 46rem; }
+figure { margin: 1rem 0 0; }
+figcaption { margin-top: .4rem; }
+figcaption, caption { color: var(--soft); font-size: .9rem; }
+svg { display: block; width: 100%; }
+.budget { height: 2.75rem; border: 1px solid var(--soft); border-radius: .35rem; background: var(--track); }
+.budget rect { fill: var(--won); stroke: var(--paper); stroke-width: 1; vector-effect: non-scaling-stroke; }
+.budget rect:nth-child(even) { fill: var(--won-too); }
+.bar { height: .4rem; margin-top: .3rem; background: var(--track); border-radius: .2rem; overflow: hidden; }
+.won .bar rect { fill: var(--won); }
+.lost .bar rect { fill: var(--lost); }
+.many .bar rect { fill: var(--many); }
+table { width: 100%; border-collapse: collapse; margin: .5rem 0 0; }
+caption { text-align: start; padding-bottom: .4rem; }
+th, td { padding: .5rem .6rem; border-bottom: 1px solid var(--line); text-align: start; vertical-align: top; }
+thead th { color: var(--soft); font-size: .85rem; line-height: 1.25; vertical-align: bottom; overflow-wrap: normal; }
+tbody th { font-weight: 600; }
+.n { text-align: end; font-variant-numeric: tabular-nums; }
+td.n { overflow-wrap: normal; white-space: nowrap; }
+dl { margin: .5rem 0; }
+dt { color: var(--soft); font-size: .9rem; }
+dd { margin: 0 0 .6rem; }
+code { font: .9rem/1.5 ui-monospace, 'DejaVu Sans Mono', Consolas, monospace; }
+pre { margin: .5rem 0; padding: .75rem; background: var(--track); border-radius: .35rem; white-space: pre-wrap; }
+@media (min-width: 44rem) {
+  .wide thead .n { width: 7.5rem; }
+  .wide thead .round { width: 4rem; }
+}
+@media (max-width: 43.99rem) {
+  .wide, .wide caption, .wide tbody { display: block; }
+  .wide thead { position: absolute; width: 1px; height: 1px; overflow: hidden; clip-path: inset(50%); }
+  .wide tr { display: grid; grid-template-columns: 1fr auto; padding: .6rem 0; border-bottom: 1px solid var(--line); }
+  .wide th, .wide td { display: block; padding: .15rem 0; border: 0; }
+  .wide tbody th { grid-column: 1 / -1; grid-row: 1; padding-bottom: .35rem; }
+  .wide td { grid-column: 1 / -1; display: flex; justify-content: space-between; gap: 1rem; }
+  .wide td::before { content: attr(data-label); color: var(--soft); font-size: .9rem; text-align: start; }
+}
+@media print {
+  :root {
+    --paper: #ffffff; --ink: #000000; --soft: #444444; --line: #bbbbbb; --track: #eeeeee;
+    --won: #0a6b4b; --won-too: #2f8f6d; --lost: #8a4a06; --many: #2b559c;
+  }
+  body { padding: 0; max-width: none; font-size: 10pt; }
+  .wide thead .n { width: 6rem; }
+  h2 { break-after: avoid; }
+  tr, figure, pre { break-inside: avoid; }
+  svg { print-color-adjust: exact; -webkit-print-color-adjust: exact; }
+}
+</style>
+</head>
+<body>
+<header>
+<h1 dir='auto'>~</h1>
+";

@@ -1,0 +1,95 @@
+// The projects that won.
+
+ghost use Rattle.std.specs.Prelude.{◌<◌, All, length};
+ghost use Rattle.pb_reasons.specs.Reasons.{AreReasons, CanBeTold};
+ghost use Rattle.pb_rounds.specs.Outcome.{settled};
+
+use crate::budget::ten_thousandths;
+use crate::part::Part;
+use crate::written_page::Page;
+use pb_core::election::Election;
+use pb_core::money::Money;
+use pb_core::no_memory::NoMemory;
+use pb_core::project::Project;
+use pb_markup::Value;
+use pb_reasons::{Ending, ProjectReason, Reasons};
+use pb_rounds::outcome::{Elected, Outcome};
+use std::alloc::Global;
+
+/// What a project is called: its name, or its id where it has none.
+pub(crate) fn shown(project: &Project) -> &str {
+    let name = project.name();
+    if name.is_empty() { project.id() } else { name }
+}
+
+/// A section that says that there is nothing to list.
+pub(crate) fn put_nothing(
+    page: &mut Page,
+    alloc: Global,
+    id: &'static str,
+    heading: &'static str,
+    sentence: &'static str,
+) -> Result<(), NoMemory> {
+    page.put(
+        alloc,
+        Part::Nothing,
+        &[
+            Value::Text(id),
+            Value::Text(id),
+            Value::Text(heading),
+            Value::Text(sentence),
+        ],
+    )
+}
+
+/// The winners, in order of election.
+pub(crate) fn put_winners(
+    page: &mut Page,
+    alloc: Global,
+    election: &Election,
+    outcome: &Outcome,
+    reasons: &Reasons,
+    elected: &[Elected],
+) -> Result<(), NoMemory>
+    requires told { CanBeTold election.now (settled outcome.now) }
+    requires own { AreReasons election.now (settled outcome.now) reasons.now }
+    requires known { All (λ w. w.place < length election.now.projects) elected.now }
+{
+    if elected.is_empty() {
+        return put_nothing(page, alloc, "winners", "The winners", "No project won.");
+    }
+    let projects = election.projects();
+    page.put(alloc, Part::WinnersOpening, &[])?;
+    for winner in elected {
+        let reason = reasons.project(election, outcome, winner.place);
+        let project = &projects[winner.place as usize];
+        put_winner(page, alloc, project, &reason, election.budget())?;
+    }
+    page.put(alloc, Part::TableClosing, &[])
+}
+
+/// A winner.
+fn put_winner(
+    page: &mut Page,
+    alloc: Global,
+    project: &Project,
+    reason: &ProjectReason,
+    budget: Money,
+) -> Result<(), NoMemory> {
+    let Ending::Won(won) = reason.ending else {
+        return Ok(());
+    };
+    page.put(
+        alloc,
+        Part::Winner,
+        &[
+            Value::Number(u64::from(won.round)),
+            Value::Text(shown(project)),
+            Value::Number(ten_thousandths(project.cost(), budget)),
+            Value::Amount(project.cost()),
+            Value::Number(u64::from(reason.votes)),
+            Value::Amount(won.price),
+            Value::Number(u64::from(won.in_full)),
+        ],
+    )
+}
