@@ -1,32 +1,33 @@
 // Reads a .pb file as plain_keeper.rs does, and counts it with Add1 by the program's own algorithm: prices in steps, a
-// queue of stale prices in each run, raises one after another. `plain_count FILE [plain|add1] [votes|cost]` prints the report.
+// queue of stale prices in each run, raises one after another. `plain_count FILE [plain|add1] [votes|cost] [step H]` prints the
+// report.
 use std::collections::{BTreeSet, HashMap, HashSet};
 
-const STEP: u64 = 100;
 const MOST_RAISES: u64 = 1_000_000;
 
-struct City {
-    budget: u64,
-    ids: Vec<String>,
-    costs: Vec<u64>,
-    supporters: Vec<Vec<u32>>,
-    voters: usize,
+pub struct City {
+    pub budget: u64,
+    pub ids: Vec<String>,
+    pub costs: Vec<u64>,
+    pub supporters: Vec<Vec<u32>>,
+    pub voters: usize,
 }
 
-struct Outcome {
-    share: u64,
-    raised: u64,
-    elected: Vec<(usize, u64)>,
-    collected: u128,
-    spent: u128,
+#[derive(Clone, PartialEq, Eq, Debug)]
+pub struct Outcome {
+    pub share: u64,
+    pub raised: u64,
+    pub elected: Vec<(usize, u64)>,
+    pub collected: u128,
+    pub spent: u128,
 }
 
 // The least price over weight first, then the earlier place, by cross products.
 #[derive(Clone, Copy, PartialEq, Eq)]
-struct Key {
-    price: u64,
-    weight: u64,
-    place: usize,
+pub struct Key {
+    pub price: u64,
+    pub weight: u64,
+    pub place: usize,
 }
 
 impl Ord for Key {
@@ -49,7 +50,7 @@ fn money(text: &str) -> u64 {
     whole.parse::<u64>().expect("a number") * 100 + hundredths.parse::<u64>().expect("a number")
 }
 
-fn read(text: &str) -> City {
+pub fn read(text: &str) -> City {
     let (mut section, mut is_header) = ("", false);
     let mut city = City { budget: 0, ids: Vec::new(), costs: Vec::new(), supporters: Vec::new(), voters: 0 };
     let mut places: HashMap<String, u32> = HashMap::new();
@@ -111,7 +112,7 @@ fn price(city: &City, rests: &[u64], place: usize) -> Option<u64> {
     }
 }
 
-fn run(city: &City, share: u64, raised: u64, by_cost: bool, stop_over: bool) -> Outcome {
+pub fn run(city: &City, share: u64, raised: u64, by_cost: bool, stop_over: bool) -> Outcome {
     let mut rests = vec![share; city.voters];
     let key = |price, place: usize| Key { price, weight: if by_cost { city.costs[place] } else { 1 }, place };
     let mut queue: BTreeSet<Key> =
@@ -160,14 +161,14 @@ fn is_exhausted(city: &City, outcome: &Outcome) -> bool {
     !(0..city.ids.len()).any(|place| could_join(&place))
 }
 
-fn count(city: &City, add1: bool, by_cost: bool) -> Outcome {
+pub fn count(city: &City, step: u64, add1: bool, by_cost: bool) -> Outcome {
     let opening = city.budget.checked_div(city.voters as u64).unwrap_or(0);
     let mut last = run(city, opening, 0, by_cost, false);
     if !add1 || is_exhausted(city, &last) {
         return last;
     }
     for raised in 1..=MOST_RAISES {
-        let outcome = run(city, opening + raised * STEP, raised, by_cost, true);
+        let outcome = run(city, opening + raised * step, raised, by_cost, true);
         if is_over(city, &outcome) {
             return last;
         }
@@ -192,7 +193,17 @@ fn main() {
         println!("{} projects, {} voters", city.ids.len(), city.voters);
         return;
     }
-    let outcome = count(&city, !has("plain"), has("cost"));
+    let outcome = count(&city, step(&words), !has("plain"), has("cost"));
+    print(&city, &outcome);
+}
+
+// The word after "step", or 100.
+pub fn step(words: &[String]) -> u64 {
+    let at = words.iter().position(|word| word == "step");
+    at.map_or(100, |at| words[at + 1].parse().expect("a number"))
+}
+
+pub fn print(city: &City, outcome: &Outcome) {
     println!("budget;{}\nvoters;{}", text(city.budget.into()), city.voters);
     println!("share;{}\nraises;{}", text(outcome.share.into()), outcome.raised);
     for (place, price) in &outcome.elected {
