@@ -2,5 +2,6 @@ pub mod Script
 pub mod Asking
 pub mod ScriptFault
 pub mod ScriptReading
+pub mod RequestRows
 pub mod Serving
 pub mod Served

@@ -1,13 +1,15 @@
 //! A script and its serving: the requests of a run's clerks, read, served side by side on one desk, and written as
-//! the text of its journal.
+//! the text of its journal. The same rows are read one at a time where they are served as they come in.
 #![tactic(auto)]
 
+pub mod request_rows;
 mod requests;
 mod script;
 pub mod script_fault;
 pub mod serve_fault;
 pub mod serve_script;
 
+pub use request_rows::{RequestRow, RequestRows, RowsFault};
 pub use script_fault::ScriptFault;
 pub use serve_fault::ServeFault;
 pub use serve_script::ROOM;

@@ -1,0 +1,100 @@
+//! The rows of requests, read one at a time while they come in.
+
+ghost use Rattle.std.specs.Prelude.{◌≡◌, option_map, IfOk, IsErrOf, IsSome, MatchOption};
+ghost use Rattle.pb_rows.specs.Reading.{records_of};
+ghost use Rattle.pb_script.specs.RequestRows.{TakesRequestRow};
+ghost use Rattle.pb_script.specs.ScriptReading.{NoneLeft};
+
+use crate::script::read_row;
+use csv::{ByteRecord, StringRecord};
+use pb_core::no_memory::NoMemory;
+use pb_core::request::Request;
+use pb_desk::desk::MOST_CLERKS;
+use pb_rows::{Records, RecordsFault};
+use std::alloc::Global;
+use std::io::Read;
+use std::marker::Model;
+use thiserror::Error;
+
+/// A row of requests.
+#[derive(Drop)]
+pub enum RequestRow {
+    /// This clerk, below 64, asks this.
+    Asks(u32, Request),
+    /// The row has not the form of a script's row for 64 clerks.
+    Bad,
+}
+
+/// Why there is no next row.
+#[derive(Clone, Copy, Debug, PartialEq, Eq, Error)]
+pub enum RowsFault {
+    /// The reader failed.
+    #[error("the reader failed")]
+    ReadFailed,
+    /// Memory was refused.
+    #[error("out of memory")]
+    NoMemory,
+}
+
+impl From<NoMemory> for RowsFault {
+    ghost use Rattle.std.specs.Prelude.{◌≡◌};
+    ghost use Rattle.pb_script.specs.declared.request_rows.RowsFault.TheVariants as fault;
+
+    ghost from_gives = { λ _ e. e ≡ fault.NoMemory };
+
+    fn from(_refused: NoMemory) -> RowsFault {
+        RowsFault::NoMemory
+    }
+}
+
+/// The rows of requests that a reader gives, for 64 clerks, read one at a time. One that has not the form stops
+/// nothing. A contract sees `left`, the records that are still to come, as it does for `Records`.
+#[derive(Drop)]
+pub struct RequestRows<R: Read> {
+    records: Records<R>,
+    places: Vec<u32>,
+}
+
+impl<R: Read> Model for RequestRows<R> {
+    ghost use Rattle.pb_rows.specs.Reading.{Left};
+
+    ghost Value = { Left };
+
+    ghost view = { λ rows. rows.records };
+}
+
+impl<R: Read> RequestRows<R> {
+    /// The rows that `reader` gives.
+    pub fn new(alloc: Global, reader: R) -> RequestRows<R>
+        ensures { result.left ≡ option_map records_of (R.remaining reader) }
+    {
+        RequestRows {
+            records: Records::new(alloc, reader),
+            places: Vec::new(alloc),
+        }
+    }
+
+    /// The next row, if there is one. Stop at the first fault.
+    pub fn next(&mut self, alloc: Global) -> Result<Option<RequestRow>, RowsFault>
+        ensures next { IfOk result (λ next. MatchOption next (NoneLeft self.old.left)
+            (TakesRequestRow self.old.left self.new.left)) }
+        ensures blame { IsErrOf result RowsFault.ReadFailed → IsSome self.new.fault }
+    {
+        let mut row = ByteRecord::new(alloc);
+        match self.records.read_bytes(&mut row) {
+            Ok(true) => {}
+            Ok(false) => return Ok(None),
+            Err(RecordsFault::NoMemory) => return Err(RowsFault::NoMemory),
+            Err(_) => return Err(RowsFault::ReadFailed),
+        }
+        let row = match StringRecord::from_byte_record(row) {
+            Ok(row) => row,
+            // A field is no text.
+            Err(_) => return Ok(Some(RequestRow::Bad)),
+        };
+        match read_row(alloc, &row, &mut self.places, MOST_CLERKS)? {
+            Some(said) => Ok(Some(RequestRow::Asks(said.clerk, said.request))),
+            None => Ok(Some(RequestRow::Bad)),
+        }
+    }
+}
