@@ -1,13 +1,14 @@
 //! Words for the faults of a journal.
 
-use crate::escape::{put, put_number, put_quoted};
 use crate::fields::{bytes_at, place_of_no_text, raw_text};
 use crate::file_words::put_reading_failed;
 use crate::journal_form::{EDITED, complaint_of};
 use crate::journal_state::{Told, answer_at, opening_of, standing_at};
 use crate::place::{Text, put_number_place, put_place, put_quotes, put_subject};
 use crate::row_form::Complaint;
-use crate::rows::{Mark, rows_of};
+use crate::rows::{Mark, rows_from, rows_of};
+use crate::tally::Tally;
+use crate::words::Words;
 use csv::ByteRecord;
 use pb_desk::AuditFault;
 use std::alloc::{AllocError, Global};
@@ -24,6 +25,8 @@ struct Audited<'a> {
     fault: AuditFault,
     /// The number of the faulty row, from 1.
     at: u64,
+    /// Where to begin with reading the journal again.
+    start: Mark,
 }
 
 /// Words for a fault of a journal, audited on a .pb file; no path is standard input.
@@ -34,28 +37,43 @@ pub fn journal_words<R: Files>(
     journal: Option<&str>,
     fault: AuditFault,
 ) -> Result<String, AllocError> {
-    let mut out = String::new(alloc);
+    seen_words(rt, alloc, file, journal, fault, &Tally::new())
+}
+
+/// The same where a tally has seen the journal: then it need not be read from its start.
+pub fn seen_words<R: Files>(
+    rt: &R,
+    alloc: Global,
+    file: Option<&str>,
+    journal: Option<&str>,
+    fault: AuditFault,
+    tally: &Tally,
+) -> Result<String, AllocError> {
+    let mut out = Words::new(alloc);
     let is_second = is_second(rt, alloc, journal);
+    let before = if is_second { 1 } else { 0 };
+    let at = fault.at().unwrap_or(0);
     let audited = Audited {
         file,
         journal: Text {
             path: journal,
             unit: "row",
-            before: if is_second { 1 } else { 0 },
+            before,
         },
         is_second,
         fault,
-        at: fault.at().unwrap_or(0),
+        at,
+        start: match fault {
+            AuditFault::WrongAnswer(_) => tally.mark_before(at.saturating_add(before)),
+            _ => Mark::start(),
+        },
     };
-    put_words(rt, alloc, &mut out, &audited)?;
-    Ok(out)
+    put_words(rt, alloc, &mut out, &audited);
+    out.finish()
 }
 
 /// Whether the first record begins as the row of a version.
 fn is_second<R: Files>(rt: &R, alloc: Global, path: Option<&str>) -> bool {
-    let Some(path) = path else {
-        return false;
-    };
     let Some(mut rows) = rows_of(rt, alloc, path) else {
         return false;
     };
@@ -64,22 +82,17 @@ fn is_second<R: Files>(rt: &R, alloc: Global, path: Option<&str>) -> bool {
     is_second
 }
 
-fn put_words<R: Files>(
-    rt: &R,
-    alloc: Global,
-    out: &mut String,
-    audited: &Audited<'_>,
-) -> Result<(), AllocError> {
+fn put_words<R: Files>(rt: &R, alloc: Global, out: &mut Words, audited: &Audited<'_>) {
     if let Some(path) = audited.journal.path {
         if matches!(audited.fault, AuditFault::ReadFailed(_)) {
             return put_reading_failed(rt, out, &audited.journal, path, audited.at);
         }
-        if put_found(rt, alloc, out, audited, path)? {
-            return Ok(());
+        if put_found(rt, alloc, out, audited) {
+            return;
         }
     }
-    put_number_place(out, &audited.journal, audited.at)?;
-    put(out, &[": ", rule(audited.fault), "\n"])
+    put_number_place(out, &audited.journal, audited.at);
+    out.put_all(&[": ", rule(audited.fault), "\n"])
 }
 
 /// What is wrong and what to do, where no more than the fault is known.
@@ -107,64 +120,54 @@ fn rule(fault: AuditFault) -> &'static str {
 }
 
 /// Reads the journal again up to the faulty row, and puts what is wrong there; answers whether it was found.
-fn put_found<R: Files>(
-    rt: &R,
-    alloc: Global,
-    out: &mut String,
-    audited: &Audited<'_>,
-    path: &str,
-) -> Result<bool, AllocError> {
-    let Some(mut rows) = rows_of(rt, alloc, path) else {
-        return Ok(false);
+fn put_found<R: Files>(rt: &R, alloc: Global, out: &mut Words, audited: &Audited<'_>) -> bool {
+    let Some(mut rows) = rows_from(rt, alloc, audited.journal.path, audited.start) else {
+        return false;
     };
     let record = audited.at.saturating_add(audited.journal.before);
     let is_there = rows.advance_to(record);
-    let put = if is_there {
+    if is_there {
         let mark = rows.mark();
-        put_row(rt, alloc, out, audited, mark, &rows.row)
-    } else {
-        Ok(())
-    };
+        put_row(rt, alloc, out, audited, mark, &rows.row);
+    }
     drop(rows);
-    put?;
-    Ok(is_there)
+    is_there
 }
 
 fn put_row<R: Files>(
     rt: &R,
     alloc: Global,
-    out: &mut String,
+    out: &mut Words,
     audited: &Audited<'_>,
     mark: Mark,
     row: &ByteRecord,
-) -> Result<(), AllocError> {
-    put_place(rt, out, &audited.journal, mark)?;
+) {
+    put_place(rt, out, &audited.journal, mark);
     match audited.fault {
         AuditFault::BadRow(0) => put_version(out, row),
         AuditFault::BadRow(_) => {
-            put_bad_row(out, row)?;
-            put_quotes(rt, out, &audited.journal, mark)?;
-            Ok(())
+            put_bad_row(out, row);
+            put_quotes(rt, out, &audited.journal, mark);
         }
         AuditFault::WrongNumber(at) => put_wrong_number(out, row, at),
         AuditFault::WrongAnswer(_) => put_wrong_answer(rt, alloc, out, audited, mark, row),
-        fault => put(out, &[": ", rule(fault), "\n"]),
+        fault => out.put_all(&[": ", rule(fault), "\n"]),
     }
 }
 
-fn put_version(out: &mut String, row: &ByteRecord) -> Result<(), AllocError> {
-    out.push_str(": the version ")?;
-    put_quoted(out, bytes_at(row, 1))?;
-    out.push_str(" is none that there is; `journal;2` is due.\n")?;
-    put(out, &[EDITED, "\n"])
+fn put_version(out: &mut Words, row: &ByteRecord) {
+    out.put(": the version ");
+    out.put_quoted(bytes_at(row, 1));
+    out.put(" is none that there is; `journal;2` is due.\n");
+    out.put_all(&[EDITED, "\n"])
 }
 
 /// Puts which condition a row breaks.
-fn put_bad_row(out: &mut String, row: &ByteRecord) -> Result<(), AllocError> {
+fn put_bad_row(out: &mut Words, row: &ByteRecord) {
     if row.len() != 6 && place_of_no_text(row).is_none() {
-        out.push_str(": the row has ")?;
-        put_number(out, row.len() as u64)?;
-        return put(out, &[" fields, and 6 are due.\n", EDITED, "\n"]);
+        out.put(": the row has ");
+        out.put_number(row.len() as u64);
+        return out.put_all(&[" fields, and 6 are due.\n", EDITED, "\n"]);
     }
     match complaint_of(row) {
         Some(complaint) => Complaint {
@@ -172,52 +175,52 @@ fn put_bad_row(out: &mut String, row: &ByteRecord) -> Result<(), AllocError> {
             ..complaint
         }
         .put(out),
-        None => out.push_str(": the row is refused.\n"),
+        None => out.put(": the row is refused.\n"),
     }
 }
 
-fn put_wrong_number(out: &mut String, row: &ByteRecord, at: u64) -> Result<(), AllocError> {
-    out.push_str(", field number: ")?;
-    put_quoted(out, bytes_at(row, 0))?;
-    out.push_str(" stands where ")?;
-    put_number(out, at)?;
-    out.push_str(" is due.\n")?;
-    out.push_str("A row before it is missing, doubled or out of order: get the desk's own copy.\n")
+fn put_wrong_number(out: &mut Words, row: &ByteRecord, at: u64) {
+    out.put(", field number: ");
+    out.put_quoted(bytes_at(row, 0));
+    out.put(" stands where ");
+    out.put_number(at);
+    out.put(" is due.\n");
+    out.put("A row before it is missing, doubled or out of order: get the desk's own copy.\n")
 }
 
 /// Puts what the row says, and what the desk answers there.
 fn put_wrong_answer<R: Files>(
     rt: &R,
     alloc: Global,
-    out: &mut String,
+    out: &mut Words,
     audited: &Audited<'_>,
     mark: Mark,
     row: &ByteRecord,
-) -> Result<(), AllocError> {
-    put_subject(out, "voter", raw_text(row, 3))?;
-    put(out, &[", request "])?;
-    put_quoted(out, bytes_at(row, 2))?;
-    out.push_str(": the answer is ")?;
-    put_quoted(out, bytes_at(row, 5))?;
+) {
+    put_subject(out, "voter", raw_text(row, 3));
+    out.put_all(&[", request "]);
+    out.put_quoted(bytes_at(row, 2));
+    out.put(": the answer is ");
+    out.put_quoted(bytes_at(row, 5));
     match told_at(rt, alloc, audited, mark, row) {
-        Some(told) => put_told(out, &told)?,
-        None => out.push_str(", and the desk gives another.\n")?,
+        Some(told) => put_told(out, &told),
+        None => out.put(", and the desk gives another.\n"),
     }
-    out.push_str(
+    out.put(
         "Compare the .pb file with the one that the desk opened with; if it is the same, the row was changed.\n",
     )
 }
 
-fn put_told(out: &mut String, told: &Told) -> Result<(), AllocError> {
-    put(out, &[", and the desk answers `", told.answer])?;
+fn put_told(out: &mut Words, told: &Told) {
+    out.put_all(&[", and the desk answers `", told.answer]);
     if let Some(place) = told.place {
-        put_number(out, place)?;
+        out.put_number(place);
     }
-    put(out, &["`: ", told.why])?;
+    out.put_all(&["`: ", told.why]);
     if let Some(number) = told.number {
-        put_number(out, number)?;
+        out.put_number(number);
     }
-    out.push_str(".\n")
+    out.put(".\n")
 }
 
 /// What the desk answers at a row, where both texts can be read again.
@@ -228,8 +231,13 @@ fn told_at<R: Files>(
     mark: Mark,
     row: &ByteRecord,
 ) -> Option<Told> {
-    let journal = audited.journal.path?;
-    let standing = standing_at(rt, alloc, journal, mark.record, bytes_at(row, 3))?;
-    let opening = opening_of(rt, alloc, audited.file?, raw_text(row, 3))?;
+    let standing = standing_at(
+        rt,
+        alloc,
+        audited.journal.path,
+        mark.record,
+        bytes_at(row, 3),
+    )?;
+    let opening = opening_of(rt, alloc, audited.file, raw_text(row, 3))?;
     Some(answer_at(row, &opening, &standing, audited.is_second))
 }

@@ -1,20 +1,19 @@
 //! Words for people beside a fault's line: where it stands, what stands there and which rule it breaks, and what to do.
 //!
 //! Words are made after a run has failed. A named file is opened and read again, so no result can change by them; of
-//! standard input they say what the fault alone says. All text from outside goes through `escape`, so no word puts a
+//! standard input they say what the fault alone says. All text from outside goes through `Words`, so no word puts a
 //! control character into a terminal. Nothing but that each call returns is proved of a word.
 #![tactic(auto)]
 
 pub mod count_words;
-mod escape;
 mod fields;
 mod file_words;
+mod ids;
 mod journal_form;
 mod journal_state;
 pub mod journal_words;
 mod looks;
 mod meta_words;
-mod nearest;
 mod place;
 mod quote;
 mod read_rules;
@@ -24,6 +23,9 @@ mod rows;
 pub mod script_words;
 mod seen;
 mod tally;
+mod walk;
+pub mod warnings;
+mod words;
 
 pub use file_words::{mistaken_words, open_words, write_words};
 pub use tally::Tally;

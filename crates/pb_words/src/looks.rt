@@ -12,8 +12,8 @@ pub(crate) struct Looks {
 }
 
 /// What the file with this path looks like by its first bytes; none where they say nothing.
-pub(crate) fn looks_of<R: Files>(rt: &R, path: &str) -> Option<Looks> {
-    let mut file = open_again(rt, path)?;
+pub(crate) fn looks_of<R: Files>(rt: &R, path: Option<&str>) -> Option<Looks> {
+    let mut file = open_again(rt, path?)?;
     let mut buffer = [0u8; 512];
     let count = match file.read(&mut buffer) {
         Ok(count) => count,

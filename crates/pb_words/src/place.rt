@@ -1,9 +1,8 @@
 // Where something stands in a text, in words.
 
-use crate::escape::{put, put_id, put_name, put_number};
 use crate::quote::{Span, span_of};
 use crate::rows::Mark;
-use std::alloc::AllocError;
+use crate::words::Words;
 use std::rt::Files;
 
 /// The text that words speak of.
@@ -18,85 +17,61 @@ pub(crate) struct Text<'a> {
 }
 
 /// Puts where a record stands that was not read again: `standard input: record 32`.
-pub(crate) fn put_number_place(
-    out: &mut String,
-    text: &Text<'_>,
-    number: u64,
-) -> Result<(), AllocError> {
-    put_name(out, text.path)?;
-    put(out, &[": ", text.unit, " "])?;
-    put_number(out, number)
+pub(crate) fn put_number_place(out: &mut Words, text: &Text<'_>, number: u64) {
+    out.put_name(text.path);
+    out.put_all(&[": ", text.unit, " "]);
+    out.put_number(number);
 }
 
 /// Puts where a record begins: `city.pb: line 39 (record 32)`.
-pub(crate) fn put_place<R: Files>(
-    rt: &R,
-    out: &mut String,
-    text: &Text<'_>,
-    mark: Mark,
-) -> Result<(), AllocError> {
-    put_name(out, text.path)?;
-    out.push_str(": line ")?;
-    put_number(out, line_of(rt, text, mark))?;
-    put(out, &[" (", text.unit, " "])?;
-    put_number(out, mark.record.saturating_sub(text.before))?;
-    out.push_str(")")
+pub(crate) fn put_place<R: Files>(rt: &R, out: &mut Words, text: &Text<'_>, mark: Mark) {
+    out.put_name(text.path);
+    out.put(": line ");
+    out.put_number(line_of(rt, text, mark));
+    out.put_all(&[" (", text.unit, " "]);
+    out.put_number(mark.record.saturating_sub(text.before));
+    out.put(")");
 }
 
 /// The line at which a record begins.
 pub(crate) fn line_of<R: Files>(rt: &R, text: &Text<'_>, mark: Mark) -> u64 {
-    match span_at(rt, text, mark) {
+    match span_of(rt, text.path, mark) {
         Some(span) => span.begins,
         None => mark.line,
     }
 }
 
-/// What the bytes of a record say.
-pub(crate) fn span_at<R: Files>(rt: &R, text: &Text<'_>, mark: Mark) -> Option<Span> {
-    match text.path {
-        Some(path) => span_of(rt, path, mark),
-        None => None,
-    }
-}
-
-/// Puts the column of a value: `, column cost`.
-pub(crate) fn put_column(out: &mut String, column: &str) -> Result<(), AllocError> {
-    put(out, &[", column ", column])
-}
-
 /// Puts whose row it is, where it has an id: `, project p7`.
-pub(crate) fn put_subject(out: &mut String, subject: &str, id: &str) -> Result<(), AllocError> {
-    if id.is_empty() {
-        return Ok(());
+pub(crate) fn put_subject(out: &mut Words, subject: &str, id: &str) {
+    if !id.is_empty() {
+        out.put_all(&[", ", subject, " "]);
+        out.put_id(id.as_bytes());
     }
-    put(out, &[", ", subject, " "])?;
-    put_id(out, id.as_bytes())
 }
 
 /// Puts what is to be said of quotation marks, where the record runs over several lines by one; answers
 /// whether one is never closed.
-pub(crate) fn put_quotes<R: Files>(
-    rt: &R,
-    out: &mut String,
-    text: &Text<'_>,
-    mark: Mark,
-) -> Result<bool, AllocError> {
-    let Some(span) = span_at(rt, text, mark) else {
-        return Ok(false);
-    };
+pub(crate) fn put_quotes<R: Files>(rt: &R, out: &mut Words, text: &Text<'_>, mark: Mark) -> bool {
+    match span_of(rt, text.path, mark) {
+        Some(span) => put_span(out, &span),
+        None => false,
+    }
+}
+
+fn put_span(out: &mut Words, span: &Span) -> bool {
     if let Some(opened) = span.unclosed() {
-        out.push_str("A quotation mark opens on line ")?;
-        put_number(out, opened)?;
-        out.push_str(" and is not closed, so all that follows is one field.\n")?;
-        out.push_str("Close it, or double it where it belongs to the text.\n")?;
-        return Ok(true);
+        out.put("A quotation mark opens on line ");
+        out.put_number(opened);
+        out.put(" and is not closed, so all that follows is one field.\n");
+        out.put("Close it, or double it where it belongs to the text.\n");
+        return true;
     }
     if let Some((opens, closes)) = span.over() {
-        out.push_str("A quotation mark opens on line ")?;
-        put_number(out, opens)?;
-        out.push_str(" and is closed on line ")?;
-        put_number(out, closes)?;
-        out.push_str(", so the lines between are one field.\n")?;
+        out.put("A quotation mark opens on line ");
+        out.put_number(opens);
+        out.put(" and is closed on line ");
+        out.put_number(closes);
+        out.put(", so the lines between are one field.\n");
     }
-    Ok(false)
+    false
 }

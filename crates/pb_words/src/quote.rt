@@ -127,8 +127,8 @@ fn plain(byte: u8) -> State {
 }
 
 /// What the bytes say of the record with this mark, in a file that is read again.
-pub(crate) fn span_of<R: Files>(rt: &R, path: &str, mark: Mark) -> Option<Span> {
-    let mut file = open_again(rt, path)?;
+pub(crate) fn span_of<R: Files>(rt: &R, path: Option<&str>, mark: Mark) -> Option<Span> {
+    let mut file = open_again(rt, path?)?;
     if file.seek(SeekFrom::Start(mark.byte)).is_err() {
         drop(file);
         return None;

@@ -1,10 +1,9 @@
 // The form of a row of a script or a journal, and which of its conditions a row breaks.
 
-use crate::escape::{put, put_number, put_quoted};
 use crate::fields::{bytes_at, place_of_no_text, raw_text};
+use crate::words::Words;
 use csv::ByteRecord;
 use pb_rows::read_number;
-use std::alloc::AllocError;
 
 /// The first condition that a row breaks.
 #[derive(Clone, Copy)]
@@ -21,14 +20,14 @@ pub(crate) struct Complaint<'r> {
 
 impl<'r> Complaint<'r> {
     /// Puts the complaint behind the place of its row.
-    pub(crate) fn put(&self, out: &mut String) -> Result<(), AllocError> {
-        put(out, &[", field ", self.field, ": "])?;
-        put_quoted(out, self.value)?;
-        out.push_str(self.rule)?;
+    pub(crate) fn put(&self, out: &mut Words) {
+        out.put_all(&[", field ", self.field, ": "]);
+        out.put_quoted(self.value);
+        out.put(self.rule);
         if let Some(number) = self.number {
-            put_number(out, number)?;
+            out.put_number(number);
         }
-        put(out, &[".\n", self.remedy, "\n"])
+        out.put_all(&[".\n", self.remedy, "\n"]);
     }
 }
 

@@ -3,7 +3,7 @@
 use csv::{ByteRecord, Position, Reader, ReaderBuilder};
 use std::alloc::Global;
 use std::fs;
-use std::io::Read;
+use std::io::{Read, Seek, SeekFrom};
 use std::rt::Files;
 
 /// Where a record begins in its text. The bytes before it may end with blank lines that are no records.
@@ -34,12 +34,15 @@ pub(crate) struct Rows<F: Read> {
     reader: Reader<F>,
     /// The record that was read last.
     pub(crate) row: ByteRecord,
-    /// How many were read.
-    number: u64,
+    /// The number of that record.
+    pub(crate) number: u64,
+    /// Where reading began.
+    start: Mark,
 }
 
 impl<F: Read> Rows<F> {
-    pub(crate) fn new(alloc: Global, reader: F) -> Rows<F> {
+    /// The records of the text that a reader gives from this mark on.
+    pub(crate) fn new(alloc: Global, reader: F, start: Mark) -> Rows<F> {
         let reader = ReaderBuilder::new()
             .delimiter(b';')
             .has_headers(false)
@@ -48,7 +51,8 @@ impl<F: Read> Rows<F> {
         Rows {
             reader,
             row: ByteRecord::new(alloc),
-            number: 0,
+            number: start.record,
+            start,
         }
     }
 
@@ -82,18 +86,38 @@ impl<F: Read> Rows<F> {
         let position = self.row.position().unwrap_or(Position::new());
         Mark {
             record: self.number,
-            byte: position.byte(),
-            line: position.line(),
+            byte: self.start.byte.saturating_add(position.byte()),
+            line: self
+                .start
+                .line
+                .saturating_add(position.line())
+                .saturating_sub(1),
         }
     }
 }
 
-/// The records of the file with this path, if it is a file that can be read again.
-pub(crate) fn rows_of<R: Files>(rt: &R, alloc: Global, path: &str) -> Option<Rows<R::File>> {
-    match open_again(rt, path) {
-        Some(file) => Some(Rows::new(alloc, file)),
-        None => None,
+/// The records of the file with this path, if it is a file that can be read again; no path is standard input.
+pub(crate) fn rows_of<R: Files>(
+    rt: &R,
+    alloc: Global,
+    path: Option<&str>,
+) -> Option<Rows<R::File>> {
+    Some(Rows::new(alloc, open_again(rt, path?)?, Mark::start()))
+}
+
+/// The records from this mark on.
+pub(crate) fn rows_from<R: Files>(
+    rt: &R,
+    alloc: Global,
+    path: Option<&str>,
+    start: Mark,
+) -> Option<Rows<R::File>> {
+    let mut file = open_again(rt, path?)?;
+    if file.seek(SeekFrom::Start(start.byte)).is_err() {
+        drop(file);
+        return None;
     }
+    Some(Rows::new(alloc, file, start))
 }
 
 /// Opens a file again. A pipe or a device is not: it has given what it had.

@@ -1,7 +1,6 @@
 //! Words for the faults of a script.
 
 use crate::count_words::put_range;
-use crate::escape::{put, put_number};
 use crate::fields::place_of_no_text;
 use crate::file_words::put_reading_failed;
 use crate::place::{Text, put_number_place, put_place, put_quotes};
@@ -9,6 +8,7 @@ use crate::row_form::{
     Complaint, bad_clerk, bad_places, bad_voter, bad_word, form_at, no_text, surplus_places,
 };
 use crate::rows::rows_of;
+use crate::words::Words;
 use csv::ByteRecord;
 use pb_script::ScriptFault;
 use std::alloc::{AllocError, Global};
@@ -23,37 +23,37 @@ pub fn script_words<R: Files>(
     fault: Option<ScriptFault>,
     clerks: u32,
 ) -> Result<String, AllocError> {
-    let mut out = String::new(alloc);
+    let mut out = Words::new(alloc);
     let text = Text {
         path,
         unit: "row",
         before: 0,
     };
     match fault {
-        Some(fault) => put_words(rt, alloc, &mut out, &text, fault, clerks)?,
-        None => put_range(&mut out, "clerks", u64::from(clerks), "1 to 64")?,
+        Some(fault) => put_words(rt, alloc, &mut out, &text, fault, clerks),
+        None => put_range(&mut out, "clerks", u64::from(clerks), "1 to 64"),
     }
-    Ok(out)
+    out.finish()
 }
 
 fn put_words<R: Files>(
     rt: &R,
     alloc: Global,
-    out: &mut String,
+    out: &mut Words,
     text: &Text<'_>,
     fault: ScriptFault,
     clerks: u32,
-) -> Result<(), AllocError> {
+) {
     let at = u64::from(fault.at());
     if let Some(path) = text.path {
         match fault {
             ScriptFault::ReadFailed(_) => return put_reading_failed(rt, out, text, path, at),
-            ScriptFault::BadRow(_) if put_row(rt, alloc, out, text, at, clerks)? => return Ok(()),
+            ScriptFault::BadRow(_) if put_row(rt, alloc, out, text, at, clerks) => return,
             _ => {}
         }
     }
-    put_number_place(out, text, at)?;
-    put(out, &[": ", rule(fault), "\n"])
+    put_number_place(out, text, at);
+    out.put_all(&[": ", rule(fault), "\n"]);
 }
 
 /// What is wrong and what to do, where no more than the fault is known.
@@ -76,40 +76,37 @@ fn rule(fault: ScriptFault) -> &'static str {
 fn put_row<R: Files>(
     rt: &R,
     alloc: Global,
-    out: &mut String,
+    out: &mut Words,
     text: &Text<'_>,
     at: u64,
     clerks: u32,
-) -> Result<bool, AllocError> {
-    let Some(mut rows) = rows_of(rt, alloc, text.path.unwrap_or("")) else {
-        return Ok(false);
+) -> bool {
+    let Some(mut rows) = rows_of(rt, alloc, text.path) else {
+        return false;
     };
     let is_there = rows.advance_to(at);
-    let put = if is_there {
+    if is_there {
         let mark = rows.mark();
-        put_place(rt, out, text, mark)
-            .and_then(|_| put_row_words(out, &rows.row, clerks))
-            .and_then(|_| put_quotes(rt, out, text, mark))
-    } else {
-        Ok(false)
-    };
+        put_place(rt, out, text, mark);
+        put_row_words(out, &rows.row, clerks);
+        put_quotes(rt, out, text, mark);
+    }
     drop(rows);
-    put?;
-    Ok(is_there)
+    is_there
 }
 
 /// Puts which condition a row breaks, and what to do.
-fn put_row_words(out: &mut String, row: &ByteRecord, clerks: u32) -> Result<(), AllocError> {
+fn put_row_words(out: &mut Words, row: &ByteRecord, clerks: u32) {
     if row.len() != 4 && place_of_no_text(row).is_none() {
-        out.push_str(": the row has ")?;
-        put_number(out, row.len() as u64)?;
-        return out.push_str(
+        out.put(": the row has ");
+        out.put_number(row.len() as u64);
+        return out.put(
             " fields, and 4 are due.\nWrite it as CLERK;REQUEST;VOTER;PLACES, with three `;`.\n",
         );
     }
     match complaint_of(row, clerks.min(64)) {
         Some(complaint) => complaint.put(out),
-        None => out.push_str(": the row is refused.\n"),
+        None => out.put(": the row is refused.\n"),
     }
 }
 

@@ -36,6 +36,14 @@ impl Section {
         }
     }
 
+    /// What makes its name a genitive.
+    pub(crate) fn of(self) -> &'static str {
+        match self {
+            Section::Meta => "'s",
+            Section::Projects | Section::Votes => "'",
+        }
+    }
+
     /// The column of its rows' ids.
     pub(crate) fn id_column(self) -> &'static str {
         match self {
@@ -108,6 +116,14 @@ impl Seen {
         }
     }
 
+    /// The section that is read.
+    pub(crate) fn section(&self) -> Section {
+        match self.stage {
+            Stage::Start => Section::Meta,
+            Stage::Header(section) | Stage::Rows(section) => section,
+        }
+    }
+
     /// Takes a record that has no fault.
     pub(crate) fn take(&mut self, row: &ByteRecord, mark: Mark) {
         if is_blank(row) {
@@ -120,6 +136,15 @@ impl Seen {
         }
     }
 
+    /// Counts a row that is left out.
+    pub(crate) fn count(&mut self) {
+        match self.stage {
+            Stage::Rows(Section::Projects) => self.projects = self.projects.saturating_add(1),
+            Stage::Rows(Section::Votes) => self.votes = self.votes.saturating_add(1),
+            _ => {}
+        }
+    }
+
     fn take_plain(&mut self, row: &ByteRecord, mark: Mark) {
         match self.stage {
             Stage::Start => {}
@@ -129,8 +154,7 @@ impl Seen {
                 self.stage = Stage::Rows(section);
             }
             Stage::Rows(Section::Meta) => self.take_key(text_at(row, 0), mark),
-            Stage::Rows(Section::Projects) => self.projects = self.projects.saturating_add(1),
-            Stage::Rows(Section::Votes) => self.votes = self.votes.saturating_add(1),
+            Stage::Rows(Section::Projects | Section::Votes) => self.count(),
         }
     }
 
@@ -161,40 +185,4 @@ impl Seen {
             None => "",
         }
     }
-}
-
-/// Takes the records before the one with this number, reads that one too, and answers whether there is one.
-pub(crate) fn walk<F: Read>(rows: &mut Rows<F>, seen: &mut Seen, number: u64) -> bool {
-    for at in 1..number {
-        if !rows.advance() {
-            return false;
-        }
-        let mark = Mark {
-            record: at,
-            ..rows.mark()
-        };
-        seen.take(&rows.row, mark);
-    }
-    rows.advance()
-}
-
-/// Where, before the record with this number, the id stood first in a row of this section.
-pub(crate) fn first_with<F: Read>(
-    rows: &mut Rows<F>,
-    section: Section,
-    id: &str,
-    number: u64,
-) -> Option<Mark> {
-    let mut seen = Seen::nothing();
-    for _ in 1..number {
-        if !rows.advance() {
-            return None;
-        }
-        let mark = rows.mark();
-        if seen.stage == Stage::Rows(section) && seen.id(&rows.row) == id {
-            return Some(mark);
-        }
-        seen.take(&rows.row, mark);
-    }
-    None
 }

@@ -1,7 +1,8 @@
-// Text from outside, made fit for a terminal.
+// Words that are being written: text from outside is made fit for a terminal.
 
 use itoa::Buffer;
-use std::alloc::AllocError;
+use std::alloc::{AllocError, Global};
+use std::io::Error;
 use std::str;
 
 /// The most characters of a value that are shown.
@@ -10,109 +11,132 @@ const MOST_SHOWN: usize = 60;
 /// The most characters of a file's name that are shown.
 const MOST_OF_NAME: usize = 4096;
 
-/// Puts these texts, which are the program's own, one after the other.
-pub(crate) fn put(out: &mut String, pieces: &[&str]) -> Result<(), AllocError> {
-    for piece in pieces {
-        out.push_str(piece)?;
-    }
-    Ok(())
+/// Words that are being written. Where memory is refused they are void, which their end tells.
+#[derive(Drop)]
+pub(crate) struct Words {
+    text: String,
+    is_whole: bool,
 }
 
-/// Puts a number in decimal.
-pub(crate) fn put_number(out: &mut String, number: u64) -> Result<(), AllocError> {
-    let mut digits = Buffer::new();
-    out.push_str(digits.format(number))
-}
-
-/// Puts a value in quotes, cut after 60 characters; three dots after the quotes say that it goes on.
-pub(crate) fn put_quoted(out: &mut String, value: &[u8]) -> Result<(), AllocError> {
-    out.push('"')?;
-    let is_whole = put_escaped(out, value, MOST_SHOWN)?;
-    out.push('"')?;
-    put_dots(out, is_whole)
-}
-
-/// Puts an id without quotes, cut as a value is.
-pub(crate) fn put_id(out: &mut String, id: &[u8]) -> Result<(), AllocError> {
-    let is_whole = put_escaped(out, id, MOST_SHOWN)?;
-    put_dots(out, is_whole)
-}
-
-/// Puts the name of a file as it was given; none is standard input.
-pub(crate) fn put_name(out: &mut String, path: Option<&str>) -> Result<(), AllocError> {
-    match path {
-        Some(path) => {
-            let is_whole = put_escaped(out, path.as_bytes(), MOST_OF_NAME)?;
-            put_dots(out, is_whole)
+impl Words {
+    /// No words yet.
+    pub(crate) fn new(alloc: Global) -> Words {
+        Words {
+            text: String::new(alloc),
+            is_whole: true,
         }
-        None => out.push_str("standard input"),
     }
-}
 
-/// Puts three dots where a text was cut.
-fn put_dots(out: &mut String, is_whole: bool) -> Result<(), AllocError> {
-    if is_whole {
-        Ok(())
-    } else {
-        out.push_str("...")
-    }
-}
-
-/// Puts at most this many characters of a text, those that a terminal would obey as escapes, and answers
-/// whether that is all of it. Bytes that are no text are shown one by one.
-fn put_escaped(out: &mut String, value: &[u8], most: usize) -> Result<bool, AllocError> {
-    match str::from_utf8(value) {
-        Ok(text) => put_text(out, text, most),
-        Err(_) => put_bytes(out, value, most),
-    }
-}
-
-fn put_text(out: &mut String, text: &str, most: usize) -> Result<bool, AllocError> {
-    let mut left = most;
-    for c in text.chars() {
-        if left == 0 {
-            return Ok(false);
+    /// The words, where no memory was refused.
+    pub(crate) fn finish(self) -> Result<String, AllocError> {
+        if self.is_whole {
+            Ok(self.text)
+        } else {
+            Err(AllocError)
         }
-        left -= 1;
-        put_char(out, c)?;
     }
-    Ok(true)
-}
 
-fn put_bytes(out: &mut String, bytes: &[u8], most: usize) -> Result<bool, AllocError> {
-    let mut left = most;
-    for byte in bytes {
-        if left == 0 {
-            return Ok(false);
+    /// Says that memory was refused.
+    pub(crate) fn fail(&mut self) {
+        self.is_whole = false;
+    }
+
+    /// Puts a text that is the program's own.
+    pub(crate) fn put(&mut self, piece: &str) {
+        if self.text.push_str(piece).is_err() {
+            self.is_whole = false;
         }
-        left -= 1;
-        put_byte(out, *byte)?;
     }
-    Ok(true)
-}
 
-fn put_byte(out: &mut String, byte: u8) -> Result<(), AllocError> {
-    if byte < 0x80 {
-        return put_char(out, char::from(byte));
+    /// Puts these texts, one after the other.
+    pub(crate) fn put_all(&mut self, pieces: &[&str]) {
+        for piece in pieces {
+            self.put(piece);
+        }
     }
-    write!(out, "\\x{byte:02x}")
-}
 
-fn put_char(out: &mut String, c: char) -> Result<(), AllocError> {
-    match c {
-        '\n' => out.push_str("\\n"),
-        '\r' => out.push_str("\\r"),
-        '\t' => out.push_str("\\t"),
-        '"' => out.push_str("\\\""),
-        '\\' => out.push_str("\\\\"),
-        _ if is_hidden(c) => put_code(out, u32::from(c)),
-        _ => out.push(c),
+    /// Puts a number in decimal.
+    pub(crate) fn put_number(&mut self, number: u64) {
+        let mut digits = Buffer::new();
+        self.put(digits.format(number));
     }
-}
 
-/// Puts a character by its number.
-fn put_code(out: &mut String, code: u32) -> Result<(), AllocError> {
-    write!(out, "\\u{{{code:x}}}")
+    /// Puts a value in quotes, cut after 60 characters; three dots after the quotes say that it goes on.
+    pub(crate) fn put_quoted(&mut self, value: &[u8]) {
+        self.put("\"");
+        let is_whole = self.put_escaped(value, MOST_SHOWN);
+        self.put("\"");
+        if !is_whole {
+            self.put("...");
+        }
+    }
+
+    /// Puts an id without quotes, cut as a value is.
+    pub(crate) fn put_id(&mut self, id: &[u8]) {
+        if !self.put_escaped(id, MOST_SHOWN) {
+            self.put("...");
+        }
+    }
+
+    /// Puts the name of a file as it was given; none is standard input.
+    pub(crate) fn put_name(&mut self, path: Option<&str>) {
+        let path = path.unwrap_or("standard input");
+        if !self.put_escaped(path.as_bytes(), MOST_OF_NAME) {
+            self.put("...");
+        }
+    }
+
+    /// Puts the system's reason, and ends the line.
+    pub(crate) fn put_error(&mut self, error: &Error) {
+        if write!(&mut self.text, ": {error}.\n").is_err() {
+            self.is_whole = false;
+        }
+    }
+
+    /// Puts at most this many characters of a text, those that a terminal would obey as escapes, and answers
+    /// whether that is all of it. Bytes that are no text are shown one by one.
+    fn put_escaped(&mut self, value: &[u8], most: usize) -> bool {
+        match str::from_utf8(value) {
+            Ok(text) => {
+                for c in text.chars().take(most) {
+                    self.put_char(c);
+                }
+                text.chars().nth(most).is_none()
+            }
+            Err(_) => {
+                for byte in value.iter().take(most) {
+                    self.put_byte(*byte);
+                }
+                value.len() <= most
+            }
+        }
+    }
+
+    fn put_byte(&mut self, byte: u8) {
+        if byte < 0x80 {
+            self.put_char(char::from(byte));
+        } else if write!(&mut self.text, "\\x{byte:02x}").is_err() {
+            self.is_whole = false;
+        }
+    }
+
+    fn put_char(&mut self, c: char) {
+        let put = match c {
+            '\n' => self.text.push_str("\\n"),
+            '\r' => self.text.push_str("\\r"),
+            '\t' => self.text.push_str("\\t"),
+            '"' => self.text.push_str("\\\""),
+            '\\' => self.text.push_str("\\\\"),
+            _ if is_hidden(c) => {
+                let code = u32::from(c);
+                write!(&mut self.text, "\\u{{{code:x}}}")
+            }
+            _ => self.text.push(c),
+        };
+        if put.is_err() {
+            self.is_whole = false;
+        }
+    }
 }
 
 /// Whether a character is a control character, or one that is not seen or turns the direction of a line.

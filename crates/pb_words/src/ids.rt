@@ -1,0 +1,159 @@
+// The ids of a file's projects and voters, as far as it was read again.
+
+use crate::fields::is_blank;
+use crate::rows::Mark;
+use crate::seen::{Section, Seen, Stage};
+use csv::ByteRecord;
+use pb_ids::IdTable;
+use pb_read::{ReadFault, ReadKind};
+use std::alloc::{AllocError, Global};
+use strsim::levenshtein;
+
+/// Ids longer than this many bytes are not compared.
+const LONGEST: usize = 64;
+
+/// For so many ids the nearest one is looked for.
+const MOST_COMPARED: u32 = 100;
+
+/// The ids of projects and voters that words may need, each with the place in `marks` of its first row.
+#[derive(Drop)]
+pub(crate) struct Ids {
+    alloc: Global,
+    keeps_projects: bool,
+    keeps_voters: bool,
+    projects: IdTable,
+    left_out: IdTable,
+    voters: IdTable,
+    marks: Vec<Mark>,
+    /// The ids of the projects that were not left out.
+    names: Vec<String>,
+    compared: u32,
+}
+
+impl Ids {
+    /// No id yet; those will be kept that the words for these faults need.
+    pub(crate) fn new(alloc: Global, faults: &[ReadFault]) -> Ids {
+        Ids {
+            alloc,
+            keeps_projects: has_kind(faults, ReadKind::UnknownProject)
+                || has_kind(faults, ReadKind::RepeatedProject),
+            keeps_voters: has_kind(faults, ReadKind::RepeatedVoter),
+            projects: IdTable::new(alloc),
+            left_out: IdTable::new(alloc),
+            voters: IdTable::new(alloc),
+            marks: Vec::new(alloc),
+            names: Vec::new(alloc),
+            compared: 0,
+        }
+    }
+
+    /// Keeps the id of a row, which is left out or not.
+    pub(crate) fn keep(
+        &mut self,
+        seen: &Seen,
+        row: &ByteRecord,
+        mark: Mark,
+        is_left_out: bool,
+    ) -> Result<(), AllocError> {
+        let id = seen.id(row);
+        if id.is_empty() || is_blank(row) || Section::headed_by(row).is_some() {
+            return Ok(());
+        }
+        let place = u32::try_from(self.marks.len()).unwrap_or(u32::MAX);
+        match seen.stage {
+            Stage::Rows(Section::Projects) if self.keeps_projects && is_left_out => {
+                if self.left_out.get(id).is_none() {
+                    self.left_out.insert(self.alloc, id, place)?;
+                    self.marks.push(mark)?;
+                }
+            }
+            Stage::Rows(Section::Projects) if self.keeps_projects => {
+                self.projects.insert(self.alloc, id, place)?;
+                self.marks.push(mark)?;
+                self.names.push(String::from_str(self.alloc, id)?)?;
+            }
+            Stage::Rows(Section::Votes) if self.keeps_voters && !is_left_out => {
+                self.voters.insert(self.alloc, id, place)?;
+                self.marks.push(mark)?;
+            }
+            _ => {}
+        }
+        Ok(())
+    }
+
+    /// Where an id stood first in this section.
+    pub(crate) fn first(&self, section: Section, id: &str) -> Option<Mark> {
+        match section {
+            Section::Votes => self.mark_at(self.voters.get(id)),
+            _ => self.mark_at(self.projects.get(id)),
+        }
+    }
+
+    /// Where the project with this id stands, if it was left out.
+    pub(crate) fn left_out(&self, id: &str) -> Option<Mark> {
+        self.mark_at(self.left_out.get(id))
+    }
+
+    fn mark_at(&self, place: Option<u32>) -> Option<Mark> {
+        match self.marks.get(place? as usize) {
+            Some(mark) => Some(*mark),
+            None => None,
+        }
+    }
+
+    /// The first id that a vote names and that no project has.
+    pub(crate) fn unknown_of<'v>(&self, vote: &'v str) -> &'v str {
+        for piece in vote.split(',') {
+            let id = piece.trim();
+            if !id.is_empty() && self.projects.get(id).is_none() {
+                return id;
+            }
+        }
+        ""
+    }
+
+    /// The place in `names` of the id that is nearest to this one, if one is near: it differs in case alone, or in at
+    /// most a third of the characters. It is looked for a limited number of times.
+    pub(crate) fn nearest(&mut self, id: &str) -> Result<Option<usize>, AllocError> {
+        if self.compared >= MOST_COMPARED {
+            return Ok(None);
+        }
+        self.compared += 1;
+        nearest(self.alloc, self.names.as_slice(), id)
+    }
+
+    /// The id of a project that was not left out.
+    pub(crate) fn name(&self, place: usize) -> &str {
+        match self.names.get(place) {
+            Some(name) => name.as_str(),
+            None => "",
+        }
+    }
+}
+
+fn has_kind(faults: &[ReadFault], kind: ReadKind) -> bool {
+    faults.iter().any(|fault| fault.kind == kind)
+}
+
+fn nearest(alloc: Global, names: &[String], id: &str) -> Result<Option<usize>, AllocError> {
+    let length = id.chars().count();
+    let mut best = None;
+    let mut least = length / 3 + 1;
+    for place in 0..names.len() {
+        let other = names[place].as_str();
+        if other.eq_ignore_ascii_case(id) {
+            return Ok(Some(place));
+        }
+        if other.len() > LONGEST || id.len() > LONGEST {
+            continue;
+        }
+        if other.chars().count().abs_diff(length) < least {
+            let distance = levenshtein(alloc, other, id)?;
+            if distance < least {
+                least = distance;
+                best = Some(place);
+            }
+        }
+    }
+    Ok(best)
+}

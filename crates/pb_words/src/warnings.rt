@@ -1,0 +1,322 @@
+//! Warnings of what is accepted in a .pb file, and probably not meant.
+
+use crate::fields::{is_blank, text_at};
+use crate::rows::Mark;
+use crate::seen::{Section, Seen, Stage};
+use csv::ByteRecord;
+use pb_core::money::Money;
+use pb_core::no_memory::NoMemory;
+use pb_ids::IdTable;
+use pb_read::{ReadFault, ReadKind, Warning, Watch};
+use std::alloc::{AllocError, Global};
+
+/// The names of warnings, in the order in which they are written.
+const NAMES: [&str; 9] = [
+    "VotesMissing",
+    "ProjectsMissing",
+    "SurplusFields",
+    "TooLongBallot",
+    "TooShortBallot",
+    "EmptyBallot",
+    "NoSupporter",
+    "OverBudget",
+    "CommaInId",
+];
+
+const VOTES_MISSING: usize = 0;
+
+const PROJECTS_MISSING: usize = 1;
+
+const SURPLUS_FIELDS: usize = 2;
+
+const TOO_LONG_BALLOT: usize = 3;
+
+const TOO_SHORT_BALLOT: usize = 4;
+
+const EMPTY_BALLOT: usize = 5;
+
+const NO_SUPPORTER: usize = 6;
+
+const OVER_BUDGET: usize = 7;
+
+const COMMA_IN_ID: usize = 8;
+
+/// The most warnings of one name.
+const MOST: u64 = 100;
+
+/// A number that META says, and its record.
+#[derive(Clone, Copy)]
+struct Claim {
+    record: u32,
+    /// None where the value is no whole number.
+    number: Option<u64>,
+}
+
+/// What META says that warnings rest on; of a repeated key the last value counts.
+#[derive(Clone, Copy)]
+struct Claims {
+    votes: Option<Claim>,
+    projects: Option<Claim>,
+    max_length: Option<u64>,
+    min_length: Option<u64>,
+    budget: Option<u64>,
+}
+
+/// A project, and the last vote that named it, from 1.
+#[derive(Clone, Copy)]
+struct Backed {
+    record: u32,
+    vote: u64,
+}
+
+/// Looks on while a file is checked, and collects warnings.
+#[derive(Drop)]
+pub struct Warnings {
+    alloc: Global,
+    seen: Seen,
+    claims: Claims,
+    /// How many fields the row of the section's column names has.
+    columns: usize,
+    places: IdTable,
+    projects: Vec<Backed>,
+    /// At most 100 of each name, and how many there are of each.
+    found: Vec<Warning>,
+    counts: [u64; 9],
+    /// Whether no memory was refused.
+    is_whole: bool,
+}
+
+impl Warnings {
+    /// Nothing was seen yet.
+    pub fn new(alloc: Global) -> Warnings {
+        Warnings {
+            alloc,
+            seen: Seen::nothing(),
+            claims: Claims {
+                votes: None,
+                projects: None,
+                max_length: None,
+                min_length: None,
+                budget: None,
+            },
+            columns: 0,
+            places: IdTable::new(alloc),
+            projects: Vec::new(alloc),
+            found: Vec::new(alloc),
+            counts: [0; 9],
+            is_whole: true,
+        }
+    }
+
+    /// Warns of a record by the name with this place.
+    fn warn(&mut self, name: usize, record: u32) {
+        if name >= 9 {
+            return;
+        }
+        self.counts[name] = self.counts[name].saturating_add(1);
+        if self.counts[name] > MOST {
+            return;
+        }
+        let warning = Warning {
+            name: NAMES[name],
+            number: u64::from(record),
+            is_more: false,
+        };
+        if self.found.push(warning).is_err() {
+            self.is_whole = false;
+        }
+    }
+
+    /// Takes a row of META.
+    fn take_key(&mut self, row: &ByteRecord, record: u32) {
+        let key = text_at(row, 0);
+        let value = text_at(row, 1);
+        let number = whole_number(value);
+        let claim = if value.is_empty() {
+            None
+        } else {
+            Some(Claim { record, number })
+        };
+        if key.eq_ignore_ascii_case("num_votes") {
+            self.claims.votes = claim;
+        } else if key.eq_ignore_ascii_case("num_projects") {
+            self.claims.projects = claim;
+        } else if key.eq_ignore_ascii_case("max_length") {
+            self.claims.max_length = number;
+        } else if key.eq_ignore_ascii_case("min_length") {
+            self.claims.min_length = number;
+        } else if key.eq_ignore_ascii_case("budget") {
+            self.claims.budget = match Money::read(value) {
+                Ok(budget) => Some(budget.0),
+                Err(_) => None,
+            };
+        }
+    }
+
+    /// Takes a project that is accepted.
+    fn take_project(&mut self, row: &ByteRecord, record: u32) -> Result<(), AllocError> {
+        let id = self.seen.id(row);
+        if id.contains(',') {
+            self.warn(COMMA_IN_ID, record);
+        }
+        if let (Ok(cost), Some(budget)) = (Money::read(self.seen.value(row)), self.claims.budget) {
+            if cost.0 > budget {
+                self.warn(OVER_BUDGET, record);
+            }
+        }
+        let place = u32::try_from(self.projects.len()).unwrap_or(u32::MAX);
+        self.places.insert(self.alloc, self.seen.id(row), place)?;
+        self.projects.push(Backed { record, vote: 0 })?;
+        Ok(())
+    }
+
+    /// Takes a vote that is accepted.
+    fn take_vote(&mut self, row: &ByteRecord, record: u32) {
+        if row.len() > self.columns {
+            self.warn(SURPLUS_FIELDS, record);
+        }
+        let length = self.back(row);
+        if length == 0 {
+            self.warn(EMPTY_BALLOT, record);
+        }
+        if self.claims.max_length.unwrap_or(u64::MAX) < length {
+            self.warn(TOO_LONG_BALLOT, record);
+        }
+        if length < self.claims.min_length.unwrap_or(0) {
+            self.warn(TOO_SHORT_BALLOT, record);
+        }
+    }
+
+    /// Notes which projects a vote names, and answers how many they are.
+    fn back(&mut self, row: &ByteRecord) -> u64 {
+        let mut length = 0u64;
+        for piece in self.seen.value(row).split(',') {
+            let place = self.places.get(piece.trim()).unwrap_or(u32::MAX) as usize;
+            if place < self.projects.len() && self.projects[place].vote < self.seen.votes {
+                self.projects[place].vote = self.seen.votes;
+                length = length.saturating_add(1);
+            }
+        }
+        length
+    }
+
+    /// Warns of what is known at the end alone.
+    fn take_end(&mut self) {
+        if let Some(record) = broken(self.claims.votes, self.seen.votes) {
+            self.warn(VOTES_MISSING, record);
+        }
+        if let Some(record) = broken(self.claims.projects, self.seen.projects) {
+            self.warn(PROJECTS_MISSING, record);
+        }
+        for place in 0..self.projects.len() {
+            let unbacked = match self.projects.get(place) {
+                Some(project) if project.vote == 0 => Some(project.record),
+                _ => None,
+            };
+            if let Some(record) = unbacked {
+                self.warn(NO_SUPPORTER, record);
+            }
+        }
+    }
+
+    /// Puts the warnings of the name with this place, and how many more there are.
+    fn put_named(&self, name: usize, all: &mut Vec<Warning>) -> Result<(), AllocError> {
+        let name_text = NAMES[name.min(8)];
+        for warning in self.found.iter() {
+            if warning.name == name_text {
+                all.push(*warning)?;
+            }
+        }
+        let count = self.counts[name.min(8)];
+        if count > MOST {
+            all.push(Warning {
+                name: name_text,
+                number: count - MOST,
+                is_more: true,
+            })?;
+        }
+        Ok(())
+    }
+
+    fn put_all(&self, all: &mut Vec<Warning>) -> Result<(), AllocError> {
+        for name in 0..9usize {
+            self.put_named(name, all)?;
+        }
+        Ok(())
+    }
+}
+
+impl Watch for Warnings {
+    fn see(&mut self, record: &ByteRecord, at: u32, refused: Option<ReadKind>) {
+        let mark = Mark {
+            record: u64::from(at),
+            ..Mark::start()
+        };
+        if is_blank(record) {
+            return;
+        }
+        if refused.is_some() {
+            self.seen.count();
+            return;
+        }
+        let is_head = Section::headed_by(record).is_some();
+        let stage = self.seen.stage;
+        self.seen.take(record, mark);
+        match stage {
+            _ if is_head => {}
+            Stage::Header(_) => self.columns = record.len(),
+            Stage::Rows(Section::Meta) => self.take_key(record, at),
+            Stage::Rows(Section::Projects) => {
+                if self.take_project(record, at).is_err() {
+                    self.is_whole = false;
+                }
+            }
+            Stage::Rows(Section::Votes) => self.take_vote(record, at),
+            Stage::Start => {}
+        }
+    }
+
+    fn warnings(&mut self, faults: &[ReadFault]) -> Result<Vec<Warning>, NoMemory> {
+        let mut all = Vec::new(self.alloc);
+        if !ends_early(faults, self.seen.stage) {
+            self.take_end();
+            if self.put_all(&mut all).is_err() {
+                self.is_whole = false;
+            }
+        }
+        if self.is_whole {
+            return Ok(all);
+        }
+        drop(all);
+        Err(NoMemory)
+    }
+}
+
+/// Whether a check ended before the file did.
+fn ends_early(faults: &[ReadFault], stage: Stage) -> bool {
+    let by_fault = match faults.last() {
+        Some(fault) => matches!(
+            fault.kind,
+            ReadKind::ReadFailed | ReadKind::TooManyRecords | ReadKind::SectionOrder
+        ),
+        None => false,
+    };
+    by_fault || stage != Stage::Rows(Section::Votes)
+}
+
+/// The record of a claim that there are other than so many.
+fn broken(claim: Option<Claim>, count: u64) -> Option<u32> {
+    let claim = claim?;
+    if claim.number == Some(count) {
+        return None;
+    }
+    Some(claim.record)
+}
+
+/// The whole number that a value names, perhaps with zeros as decimals.
+fn whole_number(value: &str) -> Option<u64> {
+    match Money::read(value) {
+        Ok(Money(hundredths)) if hundredths % 100 == 0 => Some(hundredths / 100),
+        _ => None,
+    }
+}
