@@ -45,8 +45,8 @@ whole_text P start after (Err fault) none put is = tt
 whole_text P start after (Ok text) none put is = subst P (sym (is ∙ put.2 ∙ ap (λ before. before ++ put.0) none)) put.1
 
 -- the rows of those so far with one more
-pub list_grown : {X : Type 0} (row : X → Fields) (xs : List X) (i : ℕ) (x : X) (old first second : List ℕ)
-    → i < length xs → x ≡ get_or xs i x → first ≡ old ++ text_of_rows (map row (take i xs)) → second ≡ first ++ text_of_row (row x)
+pub list_read : {X : Type 0} (row : X → Fields) (xs : List X) (i : ℕ) (d : X) (old first second : List ℕ)
+    → i < length xs → first ≡ old ++ text_of_rows (map row (take i xs)) → second ≡ first ++ text_of_row (row (get_or xs i d))
     → second ≡ old ++ text_of_rows (map row (take (i + 1) xs))
-list_grown row xs i x old first second below here before grown =
-    rw (map_more row xs i x below, ← here) (row_grown _ _ old first second before grown)
+list_read row xs i d old first second below before grown =
+    rw (map_more row xs i d below) (row_grown _ _ old first second before grown)
