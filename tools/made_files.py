@@ -39,6 +39,20 @@ def two_clerks(is_script):
     return ''.join(['journal;2\n'] + rows).encode()
 
 
+def many_faults():
+    """The three voters, 1,001 further votes of v1, and 102 voters who vote for nothing: of the faults 1,000 are listed, of
+    the empty ballots 100."""
+    rows = ['v1;a'] * 1_001 + [f'w{row};' for row in range(102)]
+    return three_voters(tail=''.join(row + '\n' for row in rows))
+
+
+def listed_faults():
+    """What a check of them lists: the three voters' file has 13 records."""
+    rows = [f'fault;read;17;RepeatedVoter;{at}' for at in range(14, 1_014)]
+    rows += [f'warning;EmptyBallot;{at}' for at in range(1_015, 1_115)] + ['warning;MoreOf;EmptyBallot;2']
+    return ''.join(row + '\n' for row in rows).encode()
+
+
 MADE = {
     'large.pb': lambda: city(100_000),
     'largest.pb': lambda: city(1_000_000),
@@ -47,6 +61,8 @@ MADE = {
     'records-and-one.pb': lambda: three_voters(['k;v'] * 1_999_988),
     # rows of 2,001 fields and more, one of 100,000
     'wide.pb': lambda: three_voters(['k' + ';' * 99_999], 1_999),
+    'faulty.pb': many_faults,
+    'faulty.rows': listed_faults,
     'two-clerks.script': lambda: two_clerks(True),
     'two-clerks.rows': lambda: two_clerks(False),
 }

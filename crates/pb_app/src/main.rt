@@ -5,17 +5,20 @@
 mod counted;
 mod output;
 mod perform;
+mod progress;
 mod words;
 
 use crate::output::Output;
 use crate::perform::{Refusal, perform};
+use crate::progress::Progress;
 use pb_command_line::parse::parse;
 use pb_command_line::{Asked, Parsed};
 use pb_commands::{AppFault, BAD_ARGUMENTS};
+use pb_read::ReadFault;
 use pb_words::Tally;
 use std::io::{IsTerminal, Write};
 use std::process::ExitCode;
-use std::rt::{Env, Files};
+use std::rt::{Clock, Env, Files};
 use std::thread::Threads;
 use std::{env, io};
 
@@ -24,9 +27,19 @@ const OPEN_DESK: &[u8] = b"fault;open-desk\n";
 
 const REFUSED: u8 = 1;
 
+/// Which streams are terminals.
+#[derive(Clone, Copy)]
+struct Terminals {
+    input: bool,
+    error: bool,
+}
+
 fn main(rt: HostRuntime) -> ExitCode {
-    let at_terminal = rt.stdin().is_terminal();
-    match run(&rt, at_terminal) {
+    let terminals = Terminals {
+        input: rt.stdin().is_terminal(),
+        error: rt.stderr().is_terminal(),
+    };
+    match run(&rt, terminals) {
         Ok(code) => code,
         Err(fault) => refused(&rt, fault),
     }
@@ -40,9 +53,9 @@ fn refused<R: Print>(rt: &R, fault: AppFault) -> ExitCode {
 }
 
 /// Reads the arguments, and does what they ask for.
-fn run<R>(rt: &R, at_terminal: bool) -> Result<ExitCode, AppFault>
+fn run<R>(rt: &R, terminals: Terminals) -> Result<ExitCode, AppFault>
 where
-    R: Env + Files + Input + Print + Eprint + AllocGlobal + Threads + Sync,
+    R: Env + Files + Input + Print + Eprint + Clock + AllocGlobal + Threads + Sync,
 {
     let arguments: Vec<String> = match env::args(rt) {
         Ok(arguments) => arguments.collect(rt.alloc())?,
@@ -52,20 +65,20 @@ where
             return Ok(ExitCode::from(BAD_ARGUMENTS));
         }
     };
-    if at_terminal && arguments.len() <= 1 {
+    if terminals.input && arguments.len() <= 1 {
         words::say_usage(rt);
         return Ok(ExitCode::from(BAD_ARGUMENTS));
     }
-    obey(rt, arguments.as_slice())
+    obey(rt, arguments.as_slice(), terminals.error)
 }
 
 /// Does what these arguments ask for.
-fn obey<R>(rt: &R, arguments: &[String]) -> Result<ExitCode, AppFault>
+fn obey<R>(rt: &R, arguments: &[String], shows: bool) -> Result<ExitCode, AppFault>
 where
-    R: Files + Input + Print + Eprint + AllocGlobal + Threads + Sync,
+    R: Files + Input + Print + Eprint + Clock + AllocGlobal + Threads + Sync,
 {
     match parse(rt, rt.alloc(), arguments) {
-        Ok(Parsed::Asks(asked)) => Ok(done(rt, &asked)),
+        Ok(Parsed::Asks(asked)) => Ok(done(rt, &asked, shows)),
         Ok(Parsed::Ends(status)) => {
             if status == BAD_ARGUMENTS {
                 words::say_mistaken(rt, arguments);
@@ -77,25 +90,39 @@ where
 }
 
 /// Does a task, and says on standard error what came of it.
-fn done<R>(rt: &R, asked: &Asked<'_>) -> ExitCode
+fn done<R>(rt: &R, asked: &Asked<'_>, shows: bool) -> ExitCode
 where
-    R: Files + Input + Print + Eprint + AllocGlobal + Threads + Sync,
+    R: Files + Input + Print + Eprint + Clock + AllocGlobal + Threads + Sync,
 {
     let mut output = Output::new(rt, asked.output);
     let mut audited = Tally::new();
-    let code = match perform(rt, asked, &mut output, &mut audited) {
+    let mut faults = Vec::new(rt.alloc());
+    let progress = Progress::new(rt, asked.shows.unwrap_or(shows));
+    let result = perform(rt, asked, &mut output, &mut audited, &mut faults, &progress);
+    progress.clear();
+    let code = match result {
         Ok(()) => {
             words::say_tally(rt, &asked.task, &output.tally, &audited);
-            ExitCode::SUCCESS
+            words::say_faults(rt, &asked.task, faults.as_slice());
+            status_of(faults.as_slice())
         }
         Err(refusal) => {
             let status = write_line(rt, &refusal);
-            words::say_refusal(rt, asked, &refusal, output.failure.as_ref());
-            ExitCode::from(status)
+            words::say_refusal(rt, asked, &refusal, output.failure.as_ref(), &audited);
+            status
         }
     };
+    drop(faults);
     drop(output);
-    code
+    ExitCode::from(code)
+}
+
+/// The status of a check that lists these faults; of all other results 0.
+fn status_of(faults: &[ReadFault]) -> u8 {
+    match faults.last() {
+        Some(fault) => AppFault::Read(*fault).status(),
+        None => 0,
+    }
 }
 
 /// Writes the line of a refusal to standard output, and answers the status.

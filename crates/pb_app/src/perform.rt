@@ -2,19 +2,24 @@
 
 use crate::counted::Counted;
 use crate::output::Output;
+use crate::progress::{Progress, Shown};
 use pb_command_line::{Asked, Source, Task};
 use pb_commands::run_audit::run_audit;
+use pb_commands::run_check::run_check;
 use pb_commands::run_count::run_count;
 use pb_commands::run_desk::run_desk;
 use pb_commands::run_table::run_table;
 use pb_commands::{AppFault, Table};
 use pb_price::gate::NoGate;
+use pb_read::ReadFault;
 use pb_rounds::options::CountOptions;
 use pb_words::Tally;
+use pb_words::warnings::Warnings;
+use std::alloc::Global;
 use std::io::{Read, Write};
-use std::rt::Files;
+use std::rt::{Clock, Files};
 use std::thread::Threads;
-use std::{fs, io};
+use std::{fs, io, mem};
 
 /// Why a run ends without a result.
 #[derive(Clone, Copy)]
@@ -32,17 +37,19 @@ impl From<AppFault> for Refusal {
 }
 
 /// Does what the arguments ask for, and writes the result to its place. Files are opened, in their order, before any
-/// is read. The tally takes the entries of a journal that is audited.
+/// is read. The tally takes the entries of a journal that is audited, and `faults` those of a file that is checked.
 pub(crate) fn perform<R>(
     rt: &R,
     asked: &Asked<'_>,
     output: &mut Output<'_, R>,
     tally: &mut Tally,
+    faults: &mut Vec<ReadFault>,
+    progress: &Progress<'_, R>,
 ) -> Result<(), Refusal>
 where
-    R: Files + Input + Print + AllocGlobal + Threads + Sync,
+    R: Files + Input + Print + Eprint + Clock + AllocGlobal + Threads + Sync,
 {
-    match run(rt, &asked.task, output, tally) {
+    match run(rt, &asked.task, output, tally, faults, progress) {
         Ok(()) => match output.finish() {
             Ok(()) => Ok(()),
             Err(error) => {
@@ -62,22 +69,39 @@ fn run<R, W: Write>(
     task: &Task<'_>,
     writer: &mut W,
     tally: &mut Tally,
+    faults: &mut Vec<ReadFault>,
+    progress: &Progress<'_, R>,
 ) -> Result<(), Refusal>
 where
-    R: Files + Input + Print + AllocGlobal + Threads + Sync,
+    R: Files + Input + Print + Eprint + Clock + AllocGlobal + Threads + Sync,
 {
     match task {
-        Task::Count(source, options) => count(rt, source, options, writer)?,
-        Task::Projects(source, options) => tell(rt, source, options, Table::Projects, writer)?,
-        Task::Voters(source, options) => tell(rt, source, options, Table::Voters, writer)?,
+        Task::Count(source, options) => count(rt, source, options, writer, progress)?,
+        Task::Projects(source, options) => tell(
+            rt,
+            source,
+            options,
+            Table::Projects,
+            writer,
+            progress,
+        )?,
+        Task::Voters(source, options) => tell(
+            rt,
+            source,
+            options,
+            Table::Voters,
+            writer,
+            progress,
+        )?,
+        Task::Check(source) => check(rt, source, writer, faults, progress)?,
         Task::Desk(source, script, clerks, shuts) => {
-            serve(rt, source, script, *clerks, *shuts, writer)?
+            serve(rt, source, script, *clerks, *shuts, writer, progress)?
         }
         Task::Audit(source, journal, options, false) => {
-            audit(rt, source, journal, options, writer, tally)?
+            audit(rt, source, journal, options, writer, tally, progress)?
         }
         Task::Audit(source, journal, options, true) => {
-            return audit_shut(rt, source, journal, options, writer, tally);
+            return audit_shut(rt, source, journal, options, writer, tally, progress);
         }
     }
     Ok(())
@@ -89,13 +113,23 @@ fn count<R, W: Write>(
     source: &Source<'_>,
     options: &CountOptions,
     writer: &mut W,
+    progress: &Progress<'_, R>,
 ) -> Result<(), AppFault>
 where
-    R: Files + Input + Print + AllocGlobal + Threads + Sync,
+    R: Files + Input + Print + Eprint + Clock + AllocGlobal + Threads + Sync,
 {
     match source {
-        Source::Input => run_count(rt, rt.alloc(), rt.reader(), writer, options),
-        Source::File(path) => run_count(rt, rt.alloc(), open(rt, path, 1)?, writer, options),
+        Source::Input => run_count(
+            rt,
+            rt.alloc(),
+            Shown::new(rt.reader(), progress),
+            writer,
+            options,
+        ),
+        Source::File(path) => {
+            let file = Shown::new(open(rt, path, 1)?, progress);
+            run_count(rt, rt.alloc(), file, writer, options)
+        }
     }
 }
 
@@ -106,15 +140,67 @@ fn tell<R, W: Write>(
     options: &CountOptions,
     table: Table,
     writer: &mut W,
+    progress: &Progress<'_, R>,
 ) -> Result<(), AppFault>
 where
-    R: Files + Input + Print + AllocGlobal + Threads + Sync,
+    R: Files + Input + Print + Eprint + Clock + AllocGlobal + Threads + Sync,
 {
     let alloc = rt.alloc();
     match source {
-        Source::Input => run_table(rt, alloc, rt.reader(), writer, options, table),
-        Source::File(path) => run_table(rt, alloc, open(rt, path, 1)?, writer, options, table),
+        Source::Input => {
+            run_table(
+                rt,
+                alloc,
+                Shown::new(rt.reader(), progress),
+                writer,
+                options,
+                table,
+            )
+        }
+        Source::File(path) => {
+            let file = Shown::new(open(rt, path, 1)?, progress);
+            run_table(rt, alloc, file, writer, options, table)
+        }
     }
+}
+
+/// Checks a .pb file, and keeps its faults.
+fn check<R, W: Write>(
+    rt: &R,
+    source: &Source<'_>,
+    writer: &mut W,
+    faults: &mut Vec<ReadFault>,
+    progress: &Progress<'_, R>,
+) -> Result<(), AppFault>
+where
+    R: Files + Input + Print + Eprint + Clock + AllocGlobal + Threads + Sync,
+{
+    match source {
+        Source::Input => check_from(
+            rt.alloc(),
+            Shown::new(rt.reader(), progress),
+            writer,
+            faults,
+        ),
+        Source::File(path) => {
+            let file = Shown::new(open(rt, path, 1)?, progress);
+            check_from(rt.alloc(), file, writer, faults)
+        }
+    }
+}
+
+/// Checks the .pb file that a reader gives, and keeps its faults.
+fn check_from<P: Read + Drop, W: Write>(
+    alloc: Global,
+    file: P,
+    writer: &mut W,
+    faults: &mut Vec<ReadFault>,
+) -> Result<(), AppFault> {
+    let mut warnings = Warnings::new(alloc);
+    let checked = run_check(alloc, file, writer, &mut warnings);
+    drop(warnings);
+    drop(mem::replace(faults, checked?));
+    Ok(())
 }
 
 /// Lets this many clerks serve a script on the desk of a .pb file, which is then shut, or not.
@@ -125,13 +211,24 @@ fn serve<R, W: Write>(
     clerks: u32,
     shuts: bool,
     writer: &mut W,
+    progress: &Progress<'_, R>,
 ) -> Result<(), AppFault>
 where
-    R: Files + Input + Print + AllocGlobal + Threads + Sync,
+    R: Files + Input + Print + Eprint + Clock + AllocGlobal + Threads + Sync,
 {
     match source {
-        Source::Input => serve_from(rt, rt.reader(), script, clerks, shuts, writer),
-        Source::File(path) => serve_from(rt, open(rt, path, 1)?, script, clerks, shuts, writer),
+        Source::Input => serve_from(
+            rt,
+            Shown::new(rt.reader(), progress),
+            script,
+            clerks,
+            shuts,
+            writer,
+        ),
+        Source::File(path) => {
+            let file = Shown::new(open(rt, path, 1)?, progress);
+            serve_from(rt, file, script, clerks, shuts, writer)
+        }
     }
 }
 
@@ -145,7 +242,7 @@ fn serve_from<R, P: Read + Drop, W: Write>(
     writer: &mut W,
 ) -> Result<(), AppFault>
 where
-    R: Files + Input + Print + AllocGlobal + Threads + Sync,
+    R: Files + Input + Print + Eprint + Clock + AllocGlobal + Threads + Sync,
 {
     let alloc = rt.alloc();
     let path = match script {
@@ -178,14 +275,19 @@ fn audit<R, W: Write>(
     options: &CountOptions,
     writer: &mut W,
     tally: &mut Tally,
+    progress: &Progress<'_, R>,
 ) -> Result<(), AppFault>
 where
-    R: Files + Input + Print + AllocGlobal + Threads + Sync,
+    R: Files + Input + Print + Eprint + Clock + AllocGlobal + Threads + Sync,
 {
     match source {
-        Source::Input => audit_from(rt, rt.reader(), journal, options, writer, tally),
+        Source::Input => {
+            let file = Shown::new(rt.reader(), progress);
+            audit_from(rt, file, journal, options, writer, tally, progress)
+        }
         Source::File(path) => {
-            audit_from(rt, open(rt, path, 1)?, journal, options, writer, tally)
+            let file = Shown::new(open(rt, path, 1)?, progress);
+            audit_from(rt, file, journal, options, writer, tally, progress)
         }
     }
 }
@@ -198,21 +300,22 @@ fn audit_from<R, P: Read + Drop, W: Write>(
     options: &CountOptions,
     writer: &mut W,
     tally: &mut Tally,
+    progress: &Progress<'_, R>,
 ) -> Result<(), AppFault>
 where
-    R: Files + Input + Print + AllocGlobal + Threads + Sync,
+    R: Files + Input + Print + Eprint + Clock + AllocGlobal + Threads + Sync,
 {
     let alloc = rt.alloc();
     let path = match journal {
         Source::Input => {
-            let journal = Counted::new(rt.reader(), tally);
+            let journal = Counted::new(Shown::new(rt.reader(), progress), tally);
             return run_audit(rt, alloc, file, journal, writer, options);
         }
         Source::File(path) => path,
     };
     match open(rt, path, 2) {
         Ok(journal) => {
-            let journal = Counted::new(journal, tally);
+            let journal = Counted::new(Shown::new(journal, progress), tally);
             run_audit(rt, alloc, file, journal, writer, options)
         }
         Err(fault) => {
@@ -230,12 +333,13 @@ fn audit_shut<R, W: Write>(
     options: &CountOptions,
     writer: &mut W,
     tally: &mut Tally,
+    progress: &Progress<'_, R>,
 ) -> Result<(), Refusal>
 where
-    R: Files + Input + Print + AllocGlobal + Threads + Sync,
+    R: Files + Input + Print + Eprint + Clock + AllocGlobal + Threads + Sync,
 {
     let mut text = Vec::new(rt.alloc());
-    let audited = audit(rt, source, journal, options, &mut text, tally);
+    let audited = audit(rt, source, journal, options, &mut text, tally, progress);
     let passed = match audited {
         Ok(()) => pass_shut(text.as_slice(), writer),
         // A text in memory is refused for memory alone.

@@ -3,10 +3,11 @@
 use crate::perform::Refusal;
 use pb_command_line::{Asked, Source, Task};
 use pb_commands::AppFault;
+use pb_read::ReadFault;
 use pb_rounds::options::CountOptions;
 use pb_words::count_words::count_words;
-use pb_words::journal_words::journal_words;
-use pb_words::read_words::read_words;
+use pb_words::journal_words::seen_words;
+use pb_words::read_words::{list_words, read_words};
 use pb_words::script_words::script_words;
 use pb_words::{Tally, mistaken_words, open_words, write_words};
 use std::alloc::AllocError;
@@ -33,11 +34,12 @@ pub(crate) fn say_refusal<R: Files + Eprint + AllocGlobal>(
     asked: &Asked<'_>,
     refusal: &Refusal,
     failure: Option<&Error>,
+    audited: &Tally,
 ) {
     match refusal {
         Refusal::OpenDesk => say(rt, OPEN_DESK),
         Refusal::Fault(AppFault::Memory) => say(rt, NO_MEMORY),
-        Refusal::Fault(fault) => say_words(rt, words_of(rt, asked, fault, failure)),
+        Refusal::Fault(fault) => say_words(rt, words_of(rt, asked, fault, failure, audited)),
     }
 }
 
@@ -47,6 +49,7 @@ fn words_of<R: Files + AllocGlobal>(
     asked: &Asked<'_>,
     fault: &AppFault,
     failure: Option<&Error>,
+    audited: &Tally,
 ) -> Result<String, AllocError> {
     let alloc = rt.alloc();
     let (first, second) = paths_of(&asked.task);
@@ -56,7 +59,7 @@ fn words_of<R: Files + AllocGlobal>(
             script_words(rt, alloc, second, Some(*fault), clerks_of(&asked.task))
         }
         AppFault::ClerkCount => script_words(rt, alloc, second, None, clerks_of(&asked.task)),
-        AppFault::Audit(fault) => journal_words(rt, alloc, first, second, *fault),
+        AppFault::Audit(fault) => seen_words(rt, alloc, first, second, *fault, audited),
         AppFault::Count(fault) => count_words(rt, alloc, first, *fault, &options_of(&asked.task)),
         AppFault::Open(1) => open_words(rt, alloc, first.unwrap_or("-")),
         AppFault::Open(_) => open_words(rt, alloc, second.unwrap_or("-")),
@@ -68,10 +71,10 @@ fn words_of<R: Files + AllocGlobal>(
 /// The paths of the texts that are read; standard input has none.
 fn paths_of<'a>(task: &Task<'a>) -> (Option<&'a str>, Option<&'a str>) {
     match task {
-        Task::Count(file, _) | Task::Projects(file, _) | Task::Voters(file, _) => (
-            file.path(),
-            None,
-        ),
+        Task::Count(file, _)
+        | Task::Projects(file, _)
+        | Task::Voters(file, _)
+        | Task::Check(file) => (file.path(), None),
         Task::Desk(file, script, ..) => (file.path(), script.path()),
         Task::Audit(file, journal, ..) => (file.path(), journal.path()),
     }
@@ -90,7 +93,19 @@ fn options_of(task: &Task<'_>) -> CountOptions {
         | Task::Projects(_, options)
         | Task::Voters(_, options)
         | Task::Audit(_, _, options, _) => *options,
-        Task::Desk(..) => CountOptions::standard(),
+        Task::Desk(..) | Task::Check(_) => CountOptions::standard(),
+    }
+}
+
+/// Says what is wrong with a file that was checked.
+pub(crate) fn say_faults<R: Files + Eprint + AllocGlobal>(
+    rt: &R,
+    task: &Task<'_>,
+    faults: &[ReadFault],
+) {
+    if !faults.is_empty() {
+        let (file, _) = paths_of(task);
+        say_words(rt, list_words(rt, rt.alloc(), file, faults));
     }
 }
 
@@ -102,7 +117,7 @@ pub(crate) fn say_tally<R: Eprint + AllocGlobal>(
     audited: &Tally,
 ) {
     match task {
-        Task::Count(..) | Task::Projects(..) | Task::Voters(..) => {}
+        Task::Count(..) | Task::Projects(..) | Task::Voters(..) | Task::Check(_) => {}
         Task::Desk(..) => say_words(rt, written.words(rt.alloc(), "entries written")),
         Task::Audit(..) => say_words(rt, audited.words(rt.alloc(), "entries audited")),
     }

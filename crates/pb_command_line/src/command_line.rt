@@ -21,6 +21,7 @@ const ABOUT: &str =
 const AFTER_HELP: &str = "Without a command standard input is counted.
 
 Examples:
+  pb_app check city.pb
   pb_app count city.pb
   pb_app count city.pb --step 1000 --output city.report
   pb_app desk city.pb requests.script --clerks 2 --output city.journal
@@ -147,27 +148,52 @@ const REQUIRE_SHUT: Argument = Argument {
     help: "Refuses a desk that is still open",
 };
 
+/// Whether it is not shown how far the work has come.
+const QUIET: Argument = Argument {
+    name: "quiet",
+    takes: Takes::Nothing,
+    help: "Shows nothing of how far the work has come",
+};
+
+/// Whether it is shown.
+const PROGRESS: Argument = Argument {
+    name: "progress",
+    takes: Takes::Nothing,
+    help: "Shows how far it has come on standard error, also where that is no terminal",
+};
+
 /// The commands that the program knows.
 const COMMANDS: &[CommandForm] = &[
     CommandForm {
         name: "count",
         about: "Counts a .pb file, and prints the report",
-        arguments: &[ELECTION, WORKERS, STEP, RAISES, PLAIN, MEASURE, OUTPUT],
+        arguments: &[
+            ELECTION, WORKERS, STEP, RAISES, PLAIN, MEASURE, OUTPUT, QUIET, PROGRESS,
+        ],
     },
     CommandForm {
         name: "projects",
         about: "Counts a .pb file, and prints who won and why, and who lost and by how much",
-        arguments: &[ELECTION, WORKERS, STEP, RAISES, PLAIN, MEASURE, OUTPUT],
+        arguments: &[
+            ELECTION, WORKERS, STEP, RAISES, PLAIN, MEASURE, OUTPUT, QUIET, PROGRESS,
+        ],
     },
     CommandForm {
         name: "voters",
         about: "Counts a .pb file, and prints what each voter paid, and for what",
-        arguments: &[ELECTION, WORKERS, STEP, RAISES, PLAIN, MEASURE, OUTPUT],
+        arguments: &[
+            ELECTION, WORKERS, STEP, RAISES, PLAIN, MEASURE, OUTPUT, QUIET, PROGRESS,
+        ],
+    },
+    CommandForm {
+        name: "check",
+        about: "Lists all that is wrong with a .pb file, and what is probably not meant",
+        arguments: &[ELECTION, OUTPUT, QUIET, PROGRESS],
     },
     CommandForm {
         name: "desk",
         about: "Serves a script's requests on the desk of a .pb file, and prints the journal",
-        arguments: &[ELECTION, SCRIPT, CLERKS, SHUT, OUTPUT],
+        arguments: &[ELECTION, SCRIPT, CLERKS, SHUT, OUTPUT, QUIET, PROGRESS],
     },
     CommandForm {
         name: "audit",
@@ -182,6 +208,8 @@ const COMMANDS: &[CommandForm] = &[
             MEASURE,
             REQUIRE_SHUT,
             OUTPUT,
+            QUIET,
+            PROGRESS,
         ],
     },
 ];
@@ -266,10 +294,12 @@ pub(crate) fn asked_by<'a>(matches: &ArgMatches<'a>) -> Asked<'a> {
         Some((name, given)) => Asked {
             task: task_of(name, given),
             output: given.get_str("output"),
+            shows: shows_by(given),
         },
         None => Asked {
             task: Task::Count(Source::Input, CountOptions::standard()),
             output: None,
+            shows: None,
         },
     }
 }
@@ -281,6 +311,7 @@ fn task_of<'a>(name: &str, given: &ArgMatches<'a>) -> Task<'a> {
         "count" => Task::Count(file, options_of(given)),
         "projects" => Task::Projects(file, options_of(given)),
         "voters" => Task::Voters(file, options_of(given)),
+        "check" => Task::Check(file),
         "desk" => Task::Desk(
             file,
             source_of(given, "SCRIPT"),
@@ -293,6 +324,17 @@ fn task_of<'a>(name: &str, given: &ArgMatches<'a>) -> Task<'a> {
             options_of(given),
             given.get_flag("require-shut"),
         ),
+    }
+}
+
+/// Whether it is shown how far the work has come.
+fn shows_by(given: &ArgMatches<'_>) -> Option<bool> {
+    if given.get_flag("quiet") {
+        Some(false)
+    } else if given.get_flag("progress") {
+        Some(true)
+    } else {
+        None
     }
 }
 

@@ -30,6 +30,8 @@ pub enum Task<'a> {
     Projects(Source<'a>, CountOptions),
     /// The voters of a count of a .pb file: who paid.
     Voters(Source<'a>, CountOptions),
+    /// A check of a .pb file.
+    Check(Source<'a>),
     /// A run of the desk of a .pb file: this many clerks serve a script, and then the desk is shut, or not.
     Desk(Source<'a>, Source<'a>, u32, bool),
     /// An audit of a journal on a .pb file; where the last is true an open desk is refused.
@@ -42,4 +44,6 @@ pub struct Asked<'a> {
     pub task: Task<'a>,
     /// The path of the file that gets the result; none is standard output.
     pub output: Option<&'a str>,
+    /// Whether it is shown how far the work has come; none is where standard error is a terminal.
+    pub shows: Option<bool>,
 }

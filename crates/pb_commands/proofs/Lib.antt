@@ -13,3 +13,4 @@ pub mod TableAccepted
 pub mod Tellable
 pub mod TableRows
 pub mod PaymentsText
+pub mod CheckWritten

@@ -1,6 +1,7 @@
 -- Rows written one after the other.
-use Rattle.std.proofs.Common.{◌≡◌, ℕ, List, [], ◌∷◌, ◌++◌, Vec, Global, Result, Ok, Err, append_assoc, append-nil, sym, ◌∙◌, ap, subst}
+use Rattle.std.proofs.Common.{◌≡◌, ◌<◌, ◌+◌, ℕ, length, get_or, map, take, List, [], ◌∷◌, ◌++◌, Vec, Global, Result, Ok, Err, append_assoc, append-nil, sym, ◌∙◌, ap, subst}
 use Rattle.std.specs.Prelude.{IfOk}
+use Rattle.std.proofs.lemmas.List.{map_more}
 use Rattle.pb_rows.specs.Reading.{Fields}
 use Rattle.pb_rows.specs.Writing.{text_of_row, text_of_rows}
 use Rattle.pb_rows.proofs.RowsText.{text_of_rows-nil, text_of_rows-cons, text_of_rows-append}
@@ -42,3 +43,10 @@ pub whole_text : {E : Type 0} (P : List ℕ → Type 0) (start after : List ℕ)
     → IfOk r (λ text. text.items ≡ after) → IfOk r (λ text. P text.items)
 whole_text P start after (Err fault) none put is = tt
 whole_text P start after (Ok text) none put is = subst P (sym (is ∙ put.2 ∙ ap (λ before. before ++ put.0) none)) put.1
+
+-- the rows of those so far with one more
+pub list_read : {X : Type 0} (row : X → Fields) (xs : List X) (i : ℕ) (d : X) (old first second : List ℕ)
+    → i < length xs → first ≡ old ++ text_of_rows (map row (take i xs)) → second ≡ first ++ text_of_row (row (get_or xs i d))
+    → second ≡ old ++ text_of_rows (map row (take (i + 1) xs))
+list_read row xs i d old first second below before grown =
+    rw (map_more row xs i d below) (row_grown _ _ old first second before grown)

@@ -1,4 +1,4 @@
-//! The commands `count`, `projects`, `voters`, `desk` and `audit`, from bytes to bytes.
+//! The commands `count`, `projects`, `voters`, `desk`, `audit` and `check`, from bytes to bytes.
 //!
 //! A run reads its inputs in their order, makes its whole text in memory, and then writes it: so a run that is
 //! refused has written nothing. Each refusal has one line and one status.
@@ -10,6 +10,7 @@ pub mod laws;
 mod projects_table;
 mod report;
 pub mod run_audit;
+pub mod run_check;
 pub mod run_count;
 pub mod run_desk;
 pub mod run_table;
