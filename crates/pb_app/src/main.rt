@@ -8,32 +8,27 @@ mod perform;
 mod words;
 
 use crate::output::Output;
-use crate::perform::{Refusal, perform};
+use crate::perform::perform;
 use pb_command_line::parse::parse;
 use pb_command_line::{Asked, Parsed};
 use pb_commands::{AppFault, BAD_ARGUMENTS};
 use pb_words::Tally;
-use std::io::{IsTerminal, Write};
+use std::io::IsTerminal;
 use std::process::ExitCode;
 use std::rt::{Env, Files};
 use std::thread::Threads;
 use std::{env, io};
 
-/// The line of a desk that is open and was to be shut, and the status.
-const OPEN_DESK: &[u8] = b"fault;open-desk\n";
-
-const REFUSED: u8 = 1;
-
 fn main(rt: HostRuntime) -> ExitCode {
     let at_terminal = rt.stdin().is_terminal();
     match run(&rt, at_terminal) {
         Ok(code) => code,
-        Err(fault) => refused(&rt, fault),
+        Err(fault) => refused(&rt, &fault),
     }
 }
 
-/// Ends a run that came to no task.
-fn refused<R: Print>(rt: &R, fault: AppFault) -> ExitCode {
+/// Writes a fault's line to standard output, and ends with its status.
+fn refused<R: Print>(rt: &R, fault: &AppFault) -> ExitCode {
     // Where the line can't be written either, the status alone tells.
     let _ = fault.write_line(&mut io::writer(rt));
     ExitCode::from(fault.status())
@@ -88,26 +83,12 @@ where
             words::say_tally(rt, &asked.task, &output.tally, &audited);
             ExitCode::SUCCESS
         }
-        Err(refusal) => {
-            let status = write_line(rt, &refusal);
-            words::say_refusal(rt, asked, &refusal, output.failure.as_ref());
-            ExitCode::from(status)
+        Err(fault) => {
+            let code = refused(rt, &fault);
+            words::say_refusal(rt, asked, &fault, output.failure.as_ref());
+            code
         }
     };
     drop(output);
     code
-}
-
-/// Writes the line of a refusal to standard output, and answers the status.
-fn write_line<R: Print>(rt: &R, refusal: &Refusal) -> u8 {
-    match refusal {
-        Refusal::Fault(fault) => {
-            let _ = fault.write_line(&mut io::writer(rt));
-            fault.status()
-        }
-        Refusal::OpenDesk => {
-            let _ = io::writer(rt).write_all(OPEN_DESK);
-            REFUSED
-        }
-    }
 }

@@ -2,11 +2,11 @@
 
 use crate::counted::Counted;
 use crate::output::Output;
-use pb_command_line::{Asked, Source, Task};
+use pb_command_line::{Asked, Ballots, Source, Task};
 use pb_commands::run_audit::run_audit;
 use pb_commands::run_count::run_count;
 use pb_commands::run_desk::run_desk;
-use pb_commands::run_table::run_table;
+use pb_commands::run_table::{run_closed_table, run_table};
 use pb_commands::{AppFault, Table};
 use pb_price::gate::NoGate;
 use pb_rounds::options::CountOptions;
@@ -16,21 +16,6 @@ use std::rt::Files;
 use std::thread::Threads;
 use std::{fs, io};
 
-/// Why a run ends without a result.
-#[derive(Clone, Copy)]
-pub(crate) enum Refusal {
-    /// The runs of the commands say why.
-    Fault(AppFault),
-    /// The desk is open, and was to be shut.
-    OpenDesk,
-}
-
-impl From<AppFault> for Refusal {
-    fn from(fault: AppFault) -> Refusal {
-        Refusal::Fault(fault)
-    }
-}
-
 /// Does what the arguments ask for, and writes the result to its place. Files are opened, in their order, before any
 /// is read. The tally takes the entries of a journal that is audited.
 pub(crate) fn perform<R>(
@@ -38,7 +23,7 @@ pub(crate) fn perform<R>(
     asked: &Asked<'_>,
     output: &mut Output<'_, R>,
     tally: &mut Tally,
-) -> Result<(), Refusal>
+) -> Result<(), AppFault>
 where
     R: Files + Input + Print + AllocGlobal + Threads + Sync,
 {
@@ -47,12 +32,12 @@ where
             Ok(()) => Ok(()),
             Err(error) => {
                 output.failure = Some(error);
-                Err(Refusal::Fault(AppFault::Write))
+                Err(AppFault::Write)
             }
         },
-        Err(refusal) => {
+        Err(fault) => {
             output.give_up();
-            Err(refusal)
+            Err(fault)
         }
     }
 }
@@ -62,25 +47,24 @@ fn run<R, W: Write>(
     task: &Task<'_>,
     writer: &mut W,
     tally: &mut Tally,
-) -> Result<(), Refusal>
+) -> Result<(), AppFault>
 where
     R: Files + Input + Print + AllocGlobal + Threads + Sync,
 {
     match task {
-        Task::Count(source, options) => count(rt, source, options, writer)?,
-        Task::Projects(source, options) => tell(rt, source, options, Table::Projects, writer)?,
-        Task::Voters(source, options) => tell(rt, source, options, Table::Voters, writer)?,
+        Task::Count(source, options) => count(rt, source, options, writer),
+        Task::Projects(ballots, options) => tell(rt, ballots, options, Table::Projects, writer),
+        Task::Voters(ballots, options) => tell(rt, ballots, options, Table::Voters, writer),
         Task::Desk(source, script, clerks, shuts) => {
-            serve(rt, source, script, *clerks, *shuts, writer)?
+            serve(rt, source, script, *clerks, *shuts, writer)
         }
         Task::Audit(source, journal, options, false) => {
-            audit(rt, source, journal, options, writer, tally)?
+            audit(rt, source, journal, options, writer, tally)
         }
         Task::Audit(source, journal, options, true) => {
-            return audit_shut(rt, source, journal, options, writer, tally);
+            audit_shut(rt, source, journal, options, writer, tally)
         }
     }
-    Ok(())
 }
 
 /// Counts a .pb file.
@@ -99,10 +83,37 @@ where
     }
 }
 
-/// Counts a .pb file, and writes this table of the outcome.
+/// Counts these ballots, and writes this table of the outcome.
 fn tell<R, W: Write>(
     rt: &R,
-    source: &Source<'_>,
+    ballots: &Ballots<'_>,
+    options: &CountOptions,
+    table: Table,
+    writer: &mut W,
+) -> Result<(), AppFault>
+where
+    R: Files + Input + Print + AllocGlobal + Threads + Sync,
+{
+    match ballots.file {
+        Source::Input => tell_from(rt, rt.reader(), ballots.journal, options, table, writer),
+        Source::File(path) => {
+            tell_from(
+                rt,
+                open(rt, path, 1)?,
+                ballots.journal,
+                options,
+                table,
+                writer,
+            )
+        }
+    }
+}
+
+/// Writes this table of the .pb file that a reader gives, or of the ballots that a journal leaves.
+fn tell_from<R, P: Read + Drop, W: Write>(
+    rt: &R,
+    file: P,
+    journal: Option<Source<'_>>,
     options: &CountOptions,
     table: Table,
     writer: &mut W,
@@ -111,9 +122,19 @@ where
     R: Files + Input + Print + AllocGlobal + Threads + Sync,
 {
     let alloc = rt.alloc();
-    match source {
-        Source::Input => run_table(rt, alloc, rt.reader(), writer, options, table),
-        Source::File(path) => run_table(rt, alloc, open(rt, path, 1)?, writer, options, table),
+    let path = match journal {
+        None => return run_table(rt, alloc, file, writer, options, table),
+        Some(Source::Input) => {
+            return run_closed_table(rt, alloc, file, rt.reader(), writer, options, table);
+        }
+        Some(Source::File(path)) => path,
+    };
+    match open(rt, path, 2) {
+        Ok(journal) => run_closed_table(rt, alloc, file, journal, writer, options, table),
+        Err(fault) => {
+            drop(file);
+            Err(fault)
+        }
     }
 }
 
@@ -230,7 +251,7 @@ fn audit_shut<R, W: Write>(
     options: &CountOptions,
     writer: &mut W,
     tally: &mut Tally,
-) -> Result<(), Refusal>
+) -> Result<(), AppFault>
 where
     R: Files + Input + Print + AllocGlobal + Threads + Sync,
 {
@@ -239,20 +260,20 @@ where
     let passed = match audited {
         Ok(()) => pass_shut(text.as_slice(), writer),
         // A text in memory is refused for memory alone.
-        Err(AppFault::Write) => Err(Refusal::Fault(AppFault::Memory)),
-        Err(fault) => Err(Refusal::Fault(fault)),
+        Err(AppFault::Write) => Err(AppFault::Memory),
+        Err(fault) => Err(fault),
     };
     drop(text);
     passed
 }
 
 /// Writes what an audit says of a shut desk.
-fn pass_shut<W: Write>(text: &[u8], writer: &mut W) -> Result<(), Refusal> {
+fn pass_shut<W: Write>(text: &[u8], writer: &mut W) -> Result<(), AppFault> {
     if says_open(text) {
-        return Err(Refusal::OpenDesk);
+        return Err(AppFault::OpenDesk);
     }
     if writer.write_all(text).is_err() || writer.flush().is_err() {
-        return Err(Refusal::Fault(AppFault::Write));
+        return Err(AppFault::Write);
     }
     Ok(())
 }

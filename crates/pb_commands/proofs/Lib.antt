@@ -10,6 +10,10 @@ mod ThreeVoters
 pub mod DeskRuns
 pub mod Recounts
 pub mod TableAccepted
+pub mod ClosedDesks
+pub mod ClosedTables
 pub mod Tellable
+pub mod TablesTell
 pub mod TableRows
+pub mod TableHeads
 pub mod PaymentsText

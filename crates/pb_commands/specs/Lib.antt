@@ -7,3 +7,4 @@ pub mod Ends
 pub mod Counted
 pub mod Audited
 pub mod Desked
+pub mod Closed
