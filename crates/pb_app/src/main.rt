@@ -9,23 +9,18 @@ mod progress;
 mod words;
 
 use crate::output::Output;
-use crate::perform::{Refusal, perform};
+use crate::perform::perform;
 use crate::progress::Progress;
 use pb_command_line::parse::parse;
 use pb_command_line::{Asked, Parsed};
 use pb_commands::{AppFault, BAD_ARGUMENTS};
 use pb_read::ReadFault;
 use pb_words::Tally;
-use std::io::{IsTerminal, Write};
+use std::io::IsTerminal;
 use std::process::ExitCode;
 use std::rt::{Clock, Env, Files};
 use std::thread::Threads;
 use std::{env, io};
-
-/// The line of a desk that is open and was to be shut, and the status.
-const OPEN_DESK: &[u8] = b"fault;open-desk\n";
-
-const REFUSED: u8 = 1;
 
 /// Which streams are terminals.
 #[derive(Clone, Copy)]
@@ -41,15 +36,15 @@ fn main(rt: HostRuntime) -> ExitCode {
     };
     match run(&rt, terminals) {
         Ok(code) => code,
-        Err(fault) => refused(&rt, fault),
+        Err(fault) => ExitCode::from(write_fault(&rt, fault)),
     }
 }
 
-/// Ends a run that came to no task.
-fn refused<R: Print>(rt: &R, fault: AppFault) -> ExitCode {
+/// Writes a fault's line to standard output, and answers the status.
+fn write_fault<R: Print>(rt: &R, fault: AppFault) -> u8 {
     // Where the line can't be written either, the status alone tells.
     let _ = fault.write_line(&mut io::writer(rt));
-    ExitCode::from(fault.status())
+    fault.status()
 }
 
 /// Reads the arguments, and does what they ask for.
@@ -106,9 +101,9 @@ where
             words::say_faults(rt, &asked.task, faults.as_slice());
             status_of(faults.as_slice())
         }
-        Err(refusal) => {
-            let status = write_line(rt, &refusal);
-            words::say_refusal(rt, asked, &refusal, output.failure.as_ref(), &audited);
+        Err(fault) => {
+            let status = write_fault(rt, fault);
+            words::say_refusal(rt, asked, &fault, output.failure.as_ref(), &audited);
             status
         }
     };
@@ -122,19 +117,5 @@ fn status_of(faults: &[ReadFault]) -> u8 {
     match faults.last() {
         Some(fault) => AppFault::Read(*fault).status(),
         None => 0,
-    }
-}
-
-/// Writes the line of a refusal to standard output, and answers the status.
-fn write_line<R: Print>(rt: &R, refusal: &Refusal) -> u8 {
-    match refusal {
-        Refusal::Fault(fault) => {
-            let _ = fault.write_line(&mut io::writer(rt));
-            fault.status()
-        }
-        Refusal::OpenDesk => {
-            let _ = io::writer(rt).write_all(OPEN_DESK);
-            REFUSED
-        }
     }
 }

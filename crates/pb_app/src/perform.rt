@@ -3,12 +3,12 @@
 use crate::counted::Counted;
 use crate::output::Output;
 use crate::progress::{Progress, Shown};
-use pb_command_line::{Asked, Source, Task};
+use pb_command_line::{Asked, Ballots, Source, Task};
 use pb_commands::run_audit::run_audit;
 use pb_commands::run_check::run_check;
 use pb_commands::run_count::run_count;
 use pb_commands::run_desk::run_desk;
-use pb_commands::run_table::run_table;
+use pb_commands::run_table::{run_closed_table, run_table};
 use pb_commands::{AppFault, Table};
 use pb_price::gate::NoGate;
 use pb_read::ReadFault;
@@ -21,21 +21,6 @@ use std::rt::{Clock, Files};
 use std::thread::Threads;
 use std::{fs, io, mem};
 
-/// Why a run ends without a result.
-#[derive(Clone, Copy)]
-pub(crate) enum Refusal {
-    /// The runs of the commands say why.
-    Fault(AppFault),
-    /// The desk is open, and was to be shut.
-    OpenDesk,
-}
-
-impl From<AppFault> for Refusal {
-    fn from(fault: AppFault) -> Refusal {
-        Refusal::Fault(fault)
-    }
-}
-
 /// Does what the arguments ask for, and writes the result to its place. Files are opened, in their order, before any
 /// is read. The tally takes the entries of a journal that is audited, and `faults` those of a file that is checked.
 pub(crate) fn perform<R>(
@@ -45,7 +30,7 @@ pub(crate) fn perform<R>(
     tally: &mut Tally,
     faults: &mut Vec<ReadFault>,
     progress: &Progress<'_, R>,
-) -> Result<(), Refusal>
+) -> Result<(), AppFault>
 where
     R: Files + Input + Print + Eprint + Clock + AllocGlobal + Threads + Sync,
 {
@@ -54,12 +39,12 @@ where
             Ok(()) => Ok(()),
             Err(error) => {
                 output.failure = Some(error);
-                Err(Refusal::Fault(AppFault::Write))
+                Err(AppFault::Write)
             }
         },
-        Err(refusal) => {
+        Err(fault) => {
             output.give_up();
-            Err(refusal)
+            Err(fault)
         }
     }
 }
@@ -71,40 +56,39 @@ fn run<R, W: Write>(
     tally: &mut Tally,
     faults: &mut Vec<ReadFault>,
     progress: &Progress<'_, R>,
-) -> Result<(), Refusal>
+) -> Result<(), AppFault>
 where
     R: Files + Input + Print + Eprint + Clock + AllocGlobal + Threads + Sync,
 {
     match task {
-        Task::Count(source, options) => count(rt, source, options, writer, progress)?,
-        Task::Projects(source, options) => tell(
+        Task::Count(source, options) => count(rt, source, options, writer, progress),
+        Task::Projects(ballots, options) => tell(
             rt,
-            source,
+            ballots,
             options,
             Table::Projects,
             writer,
             progress,
-        )?,
-        Task::Voters(source, options) => tell(
+        ),
+        Task::Voters(ballots, options) => tell(
             rt,
-            source,
+            ballots,
             options,
             Table::Voters,
             writer,
             progress,
-        )?,
-        Task::Check(source) => check(rt, source, writer, faults, progress)?,
+        ),
+        Task::Check(source) => check(rt, source, writer, faults, progress),
         Task::Desk(source, script, clerks, shuts) => {
-            serve(rt, source, script, *clerks, *shuts, writer, progress)?
+            serve(rt, source, script, *clerks, *shuts, writer, progress)
         }
         Task::Audit(source, journal, options, false) => {
-            audit(rt, source, journal, options, writer, tally, progress)?
+            audit(rt, source, journal, options, writer, tally, progress)
         }
         Task::Audit(source, journal, options, true) => {
-            return audit_shut(rt, source, journal, options, writer, tally, progress);
+            audit_shut(rt, source, journal, options, writer, tally, progress)
         }
     }
-    Ok(())
 }
 
 /// Counts a .pb file.
@@ -133,10 +117,10 @@ where
     }
 }
 
-/// Counts a .pb file, and writes this table of the outcome.
+/// Counts these ballots, and writes this table of the outcome.
 fn tell<R, W: Write>(
     rt: &R,
-    source: &Source<'_>,
+    ballots: &Ballots<'_>,
     options: &CountOptions,
     table: Table,
     writer: &mut W,
@@ -145,21 +129,43 @@ fn tell<R, W: Write>(
 where
     R: Files + Input + Print + Eprint + Clock + AllocGlobal + Threads + Sync,
 {
-    let alloc = rt.alloc();
-    match source {
+    match ballots.file {
         Source::Input => {
-            run_table(
-                rt,
-                alloc,
-                Shown::new(rt.reader(), progress),
-                writer,
-                options,
-                table,
-            )
+            let file = Shown::new(rt.reader(), progress);
+            tell_from(rt, file, ballots.journal, options, table, writer)
         }
         Source::File(path) => {
             let file = Shown::new(open(rt, path, 1)?, progress);
-            run_table(rt, alloc, file, writer, options, table)
+            tell_from(rt, file, ballots.journal, options, table, writer)
+        }
+    }
+}
+
+/// Writes this table of the .pb file that a reader gives, or of the ballots that a journal leaves.
+fn tell_from<R, P: Read + Drop, W: Write>(
+    rt: &R,
+    file: P,
+    journal: Option<Source<'_>>,
+    options: &CountOptions,
+    table: Table,
+    writer: &mut W,
+) -> Result<(), AppFault>
+where
+    R: Files + Input + Print + Eprint + Clock + AllocGlobal + Threads + Sync,
+{
+    let alloc = rt.alloc();
+    let path = match journal {
+        None => return run_table(rt, alloc, file, writer, options, table),
+        Some(Source::Input) => {
+            return run_closed_table(rt, alloc, file, rt.reader(), writer, options, table);
+        }
+        Some(Source::File(path)) => path,
+    };
+    match open(rt, path, 2) {
+        Ok(journal) => run_closed_table(rt, alloc, file, journal, writer, options, table),
+        Err(fault) => {
+            drop(file);
+            Err(fault)
         }
     }
 }
@@ -334,7 +340,7 @@ fn audit_shut<R, W: Write>(
     writer: &mut W,
     tally: &mut Tally,
     progress: &Progress<'_, R>,
-) -> Result<(), Refusal>
+) -> Result<(), AppFault>
 where
     R: Files + Input + Print + Eprint + Clock + AllocGlobal + Threads + Sync,
 {
@@ -343,20 +349,20 @@ where
     let passed = match audited {
         Ok(()) => pass_shut(text.as_slice(), writer),
         // A text in memory is refused for memory alone.
-        Err(AppFault::Write) => Err(Refusal::Fault(AppFault::Memory)),
-        Err(fault) => Err(Refusal::Fault(fault)),
+        Err(AppFault::Write) => Err(AppFault::Memory),
+        Err(fault) => Err(fault),
     };
     drop(text);
     passed
 }
 
 /// Writes what an audit says of a shut desk.
-fn pass_shut<W: Write>(text: &[u8], writer: &mut W) -> Result<(), Refusal> {
+fn pass_shut<W: Write>(text: &[u8], writer: &mut W) -> Result<(), AppFault> {
     if says_open(text) {
-        return Err(Refusal::OpenDesk);
+        return Err(AppFault::OpenDesk);
     }
     if writer.write_all(text).is_err() || writer.flush().is_err() {
-        return Err(Refusal::Fault(AppFault::Write));
+        return Err(AppFault::Write);
     }
     Ok(())
 }

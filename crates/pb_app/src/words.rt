@@ -1,6 +1,5 @@
 // What is said on standard error, beside what programs read.
 
-use crate::perform::Refusal;
 use pb_command_line::{Asked, Source, Task};
 use pb_commands::AppFault;
 use pb_read::ReadFault;
@@ -32,14 +31,14 @@ For more: pb_app --help
 pub(crate) fn say_refusal<R: Files + Eprint + AllocGlobal>(
     rt: &R,
     asked: &Asked<'_>,
-    refusal: &Refusal,
+    fault: &AppFault,
     failure: Option<&Error>,
     audited: &Tally,
 ) {
-    match refusal {
-        Refusal::OpenDesk => say(rt, OPEN_DESK),
-        Refusal::Fault(AppFault::Memory) => say(rt, NO_MEMORY),
-        Refusal::Fault(fault) => say_words(rt, words_of(rt, asked, fault, failure, audited)),
+    match fault {
+        AppFault::OpenDesk => say(rt, OPEN_DESK),
+        AppFault::Memory => say(rt, NO_MEMORY),
+        fault => say_words(rt, words_of(rt, asked, fault, failure, audited)),
     }
 }
 
@@ -64,17 +63,18 @@ fn words_of<R: Files + AllocGlobal>(
         AppFault::Open(1) => open_words(rt, alloc, first.unwrap_or("-")),
         AppFault::Open(_) => open_words(rt, alloc, second.unwrap_or("-")),
         AppFault::Write => write_words(alloc, asked.output, failure),
-        AppFault::Memory => Err(AllocError),
+        AppFault::OpenDesk | AppFault::Memory => Err(AllocError),
     }
 }
 
 /// The paths of the texts that are read; standard input has none.
 fn paths_of<'a>(task: &Task<'a>) -> (Option<&'a str>, Option<&'a str>) {
     match task {
-        Task::Count(file, _)
-        | Task::Projects(file, _)
-        | Task::Voters(file, _)
-        | Task::Check(file) => (file.path(), None),
+        Task::Count(file, _) | Task::Check(file) => (file.path(), None),
+        Task::Projects(ballots, _) | Task::Voters(ballots, _) => (
+            ballots.file.path(),
+            ballots.journal_path(),
+        ),
         Task::Desk(file, script, ..) => (file.path(), script.path()),
         Task::Audit(file, journal, ..) => (file.path(), journal.path()),
     }

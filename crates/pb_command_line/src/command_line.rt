@@ -1,6 +1,6 @@
 // The commands and options that the program knows, and what parsed arguments ask for.
 
-use crate::task::{Asked, Source, Task};
+use crate::task::{Asked, Ballots, Source, Task};
 use clap::{Arg, ArgAction, ArgMatches, Command, value_parser};
 use pb_core::money::Money;
 use pb_rounds::measure::Measure;
@@ -38,6 +38,8 @@ The formats, and what to do about each fault: docs/formats.md. What a count does
 enum Takes {
     /// The path of a file, which has to be named.
     Path,
+    /// Where a text is read from, which its help calls so, behind an option.
+    OptionalSource(&'static str),
     /// The path of a file, behind an option of this one letter too.
     OptionalPath(char),
     /// A whole number, which its help calls so.
@@ -83,6 +85,13 @@ const JOURNAL: Argument = Argument {
     name: "JOURNAL",
     takes: Takes::Path,
     help: "The journal of a desk that opened with it; - is standard input",
+};
+
+/// The journal whose desk leaves the ballots.
+const LEFT_BY: Argument = Argument {
+    name: "journal",
+    takes: Takes::OptionalSource("JOURNAL"),
+    help: "Counts the ballots that this journal of its shut desk leaves; - is standard input",
 };
 
 /// How many clerks a desk has.
@@ -175,14 +184,14 @@ const COMMANDS: &[CommandForm] = &[
         name: "projects",
         about: "Counts a .pb file, and prints who won and why, and who lost and by how much",
         arguments: &[
-            ELECTION, WORKERS, STEP, RAISES, PLAIN, MEASURE, OUTPUT, QUIET, PROGRESS,
+            ELECTION, LEFT_BY, WORKERS, STEP, RAISES, PLAIN, MEASURE, OUTPUT, QUIET, PROGRESS,
         ],
     },
     CommandForm {
         name: "voters",
         about: "Counts a .pb file, and prints what each voter paid, and for what",
         arguments: &[
-            ELECTION, WORKERS, STEP, RAISES, PLAIN, MEASURE, OUTPUT, QUIET, PROGRESS,
+            ELECTION, LEFT_BY, WORKERS, STEP, RAISES, PLAIN, MEASURE, OUTPUT, QUIET, PROGRESS,
         ],
     },
     CommandForm {
@@ -269,6 +278,10 @@ fn made<'a>(alloc: Global, argument: &Argument) -> Arg<'a> {
             .value_name(argument.name)
             .required(true)
             .action(ArgAction::Set),
+        Takes::OptionalSource(name) => arg
+            .long(argument.name)
+            .value_name(name)
+            .action(ArgAction::Set),
         Takes::OptionalPath(letter) => arg
             .long(argument.name)
             .short(letter)
@@ -309,8 +322,8 @@ fn task_of<'a>(name: &str, given: &ArgMatches<'a>) -> Task<'a> {
     let file = source_of(given, "FILE");
     match name {
         "count" => Task::Count(file, options_of(given)),
-        "projects" => Task::Projects(file, options_of(given)),
-        "voters" => Task::Voters(file, options_of(given)),
+        "projects" => Task::Projects(ballots_of(given, file), options_of(given)),
+        "voters" => Task::Voters(ballots_of(given, file), options_of(given)),
         "check" => Task::Check(file),
         "desk" => Task::Desk(
             file,
@@ -327,6 +340,15 @@ fn task_of<'a>(name: &str, given: &ArgMatches<'a>) -> Task<'a> {
     }
 }
 
+/// The ballots of this file, or those that a given journal leaves.
+fn ballots_of<'a>(given: &ArgMatches<'a>, file: Source<'a>) -> Ballots<'a> {
+    let journal = match given.get_str("journal") {
+        Some(path) => Some(source_at(path)),
+        None => None,
+    };
+    Ballots { file, journal }
+}
+
 /// Whether it is shown how far the work has come.
 fn shows_by(given: &ArgMatches<'_>) -> Option<bool> {
     if given.get_flag("quiet") {
@@ -340,7 +362,12 @@ fn shows_by(given: &ArgMatches<'_>) -> Option<bool> {
 
 /// Where a text is read from.
 fn source_of<'a>(given: &ArgMatches<'a>, name: &str) -> Source<'a> {
-    match path_of(given, name) {
+    source_at(path_of(given, name))
+}
+
+/// The file with this path, or standard input.
+fn source_at<'a>(path: &'a str) -> Source<'a> {
+    match path {
         "-" => Source::Input,
         path => Source::File(path),
     }

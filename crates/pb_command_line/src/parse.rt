@@ -1,7 +1,7 @@
 //! What given arguments ask for.
 
 use crate::command_line::{asked_by, command_line};
-use crate::task::{Asked, Source, Task};
+use crate::task::{Asked, Ballots, Source, Task};
 use clap::Error;
 use clap::error::ErrorKind;
 use std::alloc::{AllocError, Global};
@@ -49,6 +49,15 @@ fn read_twice(task: &Task<'_>) -> Option<&'static str> {
     match task {
         Task::Desk(Source::Input, Source::Input, ..) => Some("SCRIPT"),
         Task::Audit(Source::Input, Source::Input, ..) => Some("JOURNAL"),
+        Task::Projects(ballots, _) | Task::Voters(ballots, _) => ballots_read_twice(ballots),
+        _ => None,
+    }
+}
+
+/// The argument that is standard input beside the file of these ballots, where it is.
+fn ballots_read_twice(ballots: &Ballots<'_>) -> Option<&'static str> {
+    match (ballots.file, ballots.journal) {
+        (Source::Input, Some(Source::Input)) => Some("JOURNAL"),
         _ => None,
     }
 }

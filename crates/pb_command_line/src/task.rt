@@ -21,15 +21,34 @@ impl<'a> Source<'a> {
     }
 }
 
+/// The ballots that are counted.
+#[derive(Clone, Copy)]
+pub struct Ballots<'a> {
+    /// The .pb file.
+    pub file: Source<'a>,
+    /// The journal of its desk, which leaves the ballots; with none they are the file's own.
+    pub journal: Option<Source<'a>>,
+}
+
+impl<'a> Ballots<'a> {
+    /// The journal's path; standard input has none.
+    pub fn journal_path(&self) -> Option<&'a str> {
+        match self.journal {
+            Some(journal) => journal.path(),
+            None => None,
+        }
+    }
+}
+
 /// What the arguments ask for.
 #[derive(Clone, Copy)]
 pub enum Task<'a> {
     /// A count of a .pb file.
     Count(Source<'a>, CountOptions),
-    /// The projects of a count of a .pb file: who won and why, who lost and by how much.
-    Projects(Source<'a>, CountOptions),
-    /// The voters of a count of a .pb file: who paid.
-    Voters(Source<'a>, CountOptions),
+    /// The projects of a count of these ballots: who won and why, who lost and by how much.
+    Projects(Ballots<'a>, CountOptions),
+    /// The voters of a count of these ballots: who paid.
+    Voters(Ballots<'a>, CountOptions),
     /// A check of a .pb file.
     Check(Source<'a>),
     /// A run of the desk of a .pb file: this many clerks serve a script, and then the desk is shut, or not.

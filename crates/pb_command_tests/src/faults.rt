@@ -103,6 +103,7 @@ const RUN_FAULTS: &[(AppFault, &str)] = &[
         AppFault::Audit(AuditFault::WrongNumber(7)),
         "journal: row 7 has another number",
     ),
+    (AppFault::OpenDesk, "the desk is open"),
     (
         AppFault::Count(CountFault::RaisesSpent),
         "count: the raises are spent",

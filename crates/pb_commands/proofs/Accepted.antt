@@ -25,7 +25,7 @@ use Rattle.pb_commands.specs.Report.{report_of}
 use Rattle.pb_script.specs.declared.script_fault.ScriptFault.{ScriptFault}
 use Rattle.pb_script.specs.declared.script_fault.ScriptFault.TheVariants as script
 use Rattle.pb_commands.specs.declared.fault.AppFault.{AppFault}
-use Rattle.pb_commands.specs.declared.fault.AppFault.TheVariants.{Read, Script, ClerkCount, Audit, Count, Open, Write, Memory}
+use Rattle.pb_commands.specs.declared.fault.AppFault.TheVariants.{Read, Script, ClerkCount, Audit, OpenDesk, Count, Open, Write, Memory}
 
 pub read_from_outside : (kind : ReadKind) (at : ℕ) → IsReadFromOutside kind → IsFromOutside (merged (Read (record { kind = kind; at = at })))
 read_from_outside ReadFailed at outside = refl
@@ -33,7 +33,7 @@ read_from_outside NoMemory at outside = refl
 read_from_outside kind at outside = absurd outside
 
 -- an error that is a given fault
-pub given_fault : (P : AppFault → Type 0) (r : Result (Unit {0}) AppFault) (fault : AppFault) → IsErrAnd r (λ app. app ≡ fault) → P fault → IfErr r P
+pub given_fault : {T : Type 0} (P : AppFault → Type 0) (r : Result T AppFault) (fault : AppFault) → IsErrAnd r (λ app. app ≡ fault) → P fault → IfErr r P
 given_fault P (Ok done) fault is holds = tt
 given_fault P (Err app) fault is holds = subst P (sym is) holds
 
@@ -60,15 +60,16 @@ merged_again (Script fault) = script_again fault
 merged_again (Audit fault) = audit_again fault
 merged_again (Count fault) = count_again fault
 merged_again ClerkCount = refl
+merged_again OpenDesk = refl
 merged_again (Open number) = refl
 merged_again Write = refl
 merged_again Memory = refl
 
-pub stays_merged : (fault : AppFault) (r : Result (Unit {0}) AppFault) → IsErrAnd r (λ app. app ≡ merged fault) → IfErr r (λ app. merged app ≡ app)
+pub stays_merged : {T : Type 0} (fault : AppFault) (r : Result T AppFault) → IsErrAnd r (λ app. app ≡ merged fault) → IfErr r (λ app. merged app ≡ app)
 stays_merged fault r is = given_fault (λ app. merged app ≡ app) r (merged fault) is (merged_again fault)
 
 -- the file's fault
-reader_fails : (Refuses : ElectionView → AppFault → Type 0) (IsText : List ℕ → Type 0) (bytes : List ℕ) (kind : ReadKind) (at : ℕ) → IsFaultAt (records_of bytes) kind at
+pub reader_fails : (Refuses : ElectionView → AppFault → Type 0) (IsText : List ℕ → Type 0) (bytes : List ℕ) (kind : ReadKind) (at : ℕ) → IsFaultAt (records_of bytes) kind at
     → FailsBy Refuses IsText bytes (merged (Read (record { kind = kind; at = at })))
 reader_fails Refuses IsText bytes NoMemory at fails = tt
 reader_fails Refuses IsText bytes kind at fails = fails

@@ -64,7 +64,7 @@ audited_by_reader (Some bytes) (Some journal) options fault r is accepts = λ te
     given_fault IsFromOutside r (merged (Read fault)) is (read_from_outside fault.kind fault.at (accepts writes.0.opening.election writes.1.stands))
 
 -- the rows of a sound journal have no fault, so that the fault is none of theirs
-journal_from_outside : (o : OpeningView) (journal : List EntryView) → IsSound o program_room journal
+pub journal_from_outside : (o : OpeningView) (journal : List EntryView) → IsSound o program_room journal
     → (fault : AuditFault) → IsFaultOfJournal o.election program_room (rows_of o.version journal) fault → IsFromOutside (merged (Audit fault))
 journal_from_outside o journal sound (audit.ReadFailed row) fails = refl
 journal_from_outside o journal sound (audit.BadRow row) fails = absurd (no_fault o program_room journal (audit.BadRow row) (omega arith) sound fails tt)

@@ -28,7 +28,7 @@ use Rattle.pb_commands.proofs.AuditAccepted.{IsAudited, desk_of}
 abbrev AuditFails : List ℕ → List ℕ → CountOptions → AppFault → Type 0
 AuditFails bytes journal options fault = FailsBy (AuditRefuses bytes journal options) (AuditWrites bytes journal options) bytes fault
 
-abbrev IsElectionFile : List ℕ → Type 0
+abbrev pub IsElectionFile : List ℕ → Type 0
 IsElectionFile bytes = (e : ElectionView) × StandsFor (records_of bytes) e
 
 -- what was written is what the bytes make `audit` write
@@ -85,13 +85,13 @@ refused_by_desk (Some bytes) (Some journal) options e d fault r is audited refus
     (desk_fails bytes journal options d fault (desk_of bytes journal e d audited) refused)
 
 -- an error that is a given fault, judged by the file
-judged : (files : Option (List ℕ)) (fault : AppFault) (r : Result (Unit {0}) AppFault)
+pub judged : (files : Option (List ℕ)) (fault : AppFault) (r : Result (Unit {0}) AppFault)
     → IsErrAnd r (λ app. app ≡ fault) → IfSome files (λ bytes. JudgesFile bytes (Err fault)) → IfSome files (λ bytes. JudgesFile bytes r)
 judged files fault (Ok done) is judges = absurd is
 judged None fault (Err app) is judges = tt
 judged (Some bytes) fault (Err app) is judges = subst (λ app. JudgesFile bytes (Err app)) (sym is) judges
 
-reader_judges : (bytes : List ℕ) (kind : ReadKind) (at : ℕ) → IsFaultAt (records_of bytes) kind at
+pub reader_judges : (bytes : List ℕ) (kind : ReadKind) (at : ℕ) → IsFaultAt (records_of bytes) kind at
     → JudgesFile bytes (Err (merged (Read (record { kind = kind; at = at }))))
 reader_judges bytes NoMemory at fails = tt
 reader_judges bytes kind at fails = fails
@@ -102,7 +102,7 @@ pub judged_by_reader : (files : Option (List ℕ)) (fault : ReadFault) (r : Resu
 judged_by_reader None fault r is fails = tt
 judged_by_reader (Some bytes) fault r is fails = judged (Some bytes) (merged (Read fault)) r is (reader_judges bytes fault.kind fault.at fails)
 
-audit_judges : (bytes : List ℕ) (fault : AuditFault) → IsElectionFile bytes → JudgesFile bytes (Err (merged (Audit fault)))
+pub audit_judges : (bytes : List ℕ) (fault : AuditFault) → IsElectionFile bytes → JudgesFile bytes (Err (merged (Audit fault)))
 audit_judges bytes audit.NoMemory is = tt
 audit_judges bytes fault is = is
 
@@ -111,7 +111,7 @@ pub judged_by_audit : (files : Option (List ℕ)) (e : ElectionView) (fault : Au
 judged_by_audit None e fault r is stands = tt
 judged_by_audit (Some bytes) e fault r is stands = judged (Some bytes) (merged (Audit fault)) r is (audit_judges bytes fault (e, stands))
 
-count_judges : (bytes : List ℕ) (fault : CountFault) → IsElectionFile bytes → JudgesFile bytes (Err (merged (Count fault)))
+pub count_judges : (bytes : List ℕ) (fault : CountFault) → IsElectionFile bytes → JudgesFile bytes (Err (merged (Count fault)))
 count_judges bytes count.NoMemory is = tt
 count_judges bytes fault is = is
 

@@ -1,15 +1,17 @@
 -- The outcome of a count elects projects of the election, at most as many as there are.
-use Rattle.std.proofs.Common.{◌≡◌, ℕ, zero, suc, ◌<◌, ◌≤◌, List, [], length, true, Option, Some, None, refl, ap, arith}
-use Rattle.std.specs.Prelude.{All, option_map, replicate}
+use Rattle.std.proofs.Common.{◌≡◌, ◌≢◌, ℕ, zero, suc, ◌<◌, ◌≤◌, List, [], length, true, Option, Some, None, refl, sym, ◌∙◌, ap, arith}
+use Rattle.std.specs.Prelude.{All, AllPairs, option_map, replicate}
 use Rattle.std.specs.List.{range_with_len}
 use Rattle.std.specs.Option.{option_map_or}
+use Rattle.std.proofs.lemmas.Bool.{true≢false}
 use Rattle.std.proofs.lemmas.List.{length-map}
+use Rattle.std.proofs.lemmas.List.Kept.{AllPairs-cons}
 use Rattle.std.proofs.lemmas.List.Elements.{All-cons, All-nil}
 use Rattle.std.proofs.lemmas.Option.{none-some, same_Some}
 use Rattle.pb_core.specs.Election.{ElectionView}
 use Rattle.pb_price.specs.Supporters.{SupportView, supporters_at, support_of}
 use Rattle.pb_rounds.proofs.BestBid.{best_is_bid}
-use Rattle.pb_rounds.proofs.Listed.{RisesWithin-below, listed-below, listed_from_without, range_rises}
+use Rattle.pb_rounds.proofs.Listed.{RisesWithin-below, is_listed-without_same, listed-below, listed_from_without, range_rises}
 use Rattle.pb_rounds.specs.Bid.{Bid}
 use Rattle.pb_rounds.specs.Count.{count_of, raises_of, share_after}
 use Rattle.pb_rounds.specs.Outcome.{Settled, settled_by}
@@ -17,13 +19,17 @@ use Rattle.pb_rounds.specs.Run.{ElectedView, best_of, charged, elected_by, is_li
 use Rattle.pb_rounds.specs.declared.measure.Measure.{Measure}
 use Rattle.pb_rounds.specs.declared.options.CountOptions.{CountOptions}
 
--- at most this many are elected, all from those that were left
+abbrev pub AreApart : ElectedView → ElectedView → Type 0
+AreApart v w = v.place ≢ w.place
+
+-- at most this many are elected, all from those that were left, and no two are the same
 pub record IsDrawn (rounds : ℕ) (left : List ℕ) (elected : List ElectedView) : Type 0 where
   pub few : length elected ≤ rounds
   pub listed : All (λ w. is_listed left w.place ≡ true) elected
+  pub apart : AllPairs AreApart elected
 
 none_drawn : (rounds : ℕ) (left : List ℕ) → IsDrawn rounds left []
-none_drawn rounds left = record { few = omega arith; listed = All-nil (λ w. is_listed left w.place ≡ true) }
+none_drawn rounds left = record { few = omega arith; listed = All-nil (λ w. is_listed left w.place ≡ true); apart = λ i j d before below. absurd (omega arith) }
 
 run_is_drawn : (m : Measure) (s : SupportView) (rounds : ℕ) (rests left : List ℕ) → IsDrawn rounds left (run_from m s rounds rests left).elected
 unfolding run_from
@@ -40,12 +46,15 @@ run_is_drawn m s (suc rounds) rests left = by_best (best_of m s rests left) refl
           few = omega (arith, drawn.few);
           listed = All-cons (λ w. is_listed left w.place ≡ true) _ _ (best_is_bid m s rests left b e).is_left
               (λ k d below. listed_from_without left b.place _ (drawn.listed k d below));
+          apart = AllPairs-cons AreApart _ _
+              (λ k d below same. true≢false (sym (drawn.listed k d below) ∙ ap (is_listed (without b.place left)) (sym same) ∙ is_listed-without_same left b.place)) drawn.apart;
         }
 
 -- the elected are projects of the election, at most as many as there are
 pub record AreProjects (e : ElectionView) (elected : List ElectedView) : Type 0 where
   pub known : All (λ w. w.place < length e.projects) elected
   pub few : length elected ≤ length e.projects
+  pub apart : AllPairs AreApart elected
 
 run_elects_projects : (m : Measure) (e : ElectionView) (share : ℕ) → AreProjects e (outcome_of m e share).elected
 unfolding run_of
@@ -57,6 +66,7 @@ run_elects_projects m e share =
     record {
       known = λ k d below. omega (arith, listed-below (range_with_len 0 n) n _ (RisesWithin-below _ 0 n (range_rises 0 n n (omega arith))) (drawn.listed k d below));
       few = omega (arith, drawn.few);
+      apart = drawn.apart;
     }
 
 settled_elects_projects : (m : Measure) (e : ElectionView) (shares : ℕ → ℕ) (raises : Option ℕ) (o : Settled)

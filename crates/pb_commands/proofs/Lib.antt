@@ -10,7 +10,11 @@ mod ThreeVoters
 pub mod DeskRuns
 pub mod Recounts
 pub mod TableAccepted
+pub mod ClosedDesks
+pub mod ClosedTables
 pub mod Tellable
+pub mod TablesTell
 pub mod TableRows
+pub mod TableHeads
 pub mod PaymentsText
 pub mod CheckWritten

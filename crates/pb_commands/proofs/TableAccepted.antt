@@ -26,13 +26,13 @@ module _ (table : Table) where
   pub accepted_by_reader : (files : Option (List ℕ)) (options : CountOptions) (fault : ReadFault) (r : Result (Unit {0}) AppFault)
       → IsErrAnd r (λ app. app ≡ merged (Read fault))
       → IfSome files (λ bytes. (e : ElectionView) → StandsFor (records_of bytes) e → IsReadFromOutside fault.kind)
-      → IfSome files (λ bytes. Accepts (TableWrites table bytes options) r)
+      → IfSome files (λ bytes. Accepts (TableWrites table options (StandsFor (records_of bytes))) r)
   accepted_by_reader None options fault r is accepts = tt
   accepted_by_reader (Some bytes) options fault r is accepts = λ text writes.
       given_fault IsFromOutside r (merged (Read fault)) is (read_from_outside fault.kind fault.at (accepts writes.0 writes.1))
 
   -- the count of an election that has a table is refused from outside alone
-  pub table_from_outside : (e : ElectionView) (options : CountOptions) (text : List ℕ) → IsTableOf table e options text
+  pub table_from_outside : (e : ElectionView) (options : CountOptions) (text : List ℕ) → IsTableOf table options e text
       → (fault : CountFault) → IsCountFault e options fault → IsFromOutside (merged (Count fault))
   table_from_outside e options text report count.WorkerCount refused = absurd (none-some _ (sym report.1.in_range ∙ refused))
   table_from_outside e options text report count.StepRange refused = absurd (none-some _ (sym report.1.in_range ∙ refused))
@@ -42,20 +42,20 @@ module _ (table : Table) where
 
   pub accepted_by_count : (files : Option (List ℕ)) (options : CountOptions) (e : ElectionView) (fault : CountFault) (r : Result (Unit {0}) AppFault)
       → IsErrAnd r (λ app. app ≡ merged (Count fault)) → IfSome files (λ bytes. StandsFor (records_of bytes) e) → IsCountFault e options fault
-      → IfSome files (λ bytes. Accepts (TableWrites table bytes options) r)
+      → IfSome files (λ bytes. Accepts (TableWrites table options (StandsFor (records_of bytes))) r)
   accepted_by_count None options e fault r is stands refused = tt
   accepted_by_count (Some bytes) options e fault r is stands refused = λ text writes.
       let report = rw (one_election (records_of bytes) writes.0 e writes.1 stands) at writes.2 in
       given_fault IsFromOutside r (merged (Count fault)) is (table_from_outside e options text report fault refused)
 
   refused_count : (bytes : List ℕ) (options : CountOptions) (e : ElectionView) (fault : CountFault) → StandsFor (records_of bytes) e → IsCountFault e options fault
-      → FailsBy (CountRefuses options) (TableWrites table bytes options) bytes (merged (Count fault))
+      → FailsBy (CountRefuses options) (TableWrites table options (StandsFor (records_of bytes))) bytes (merged (Count fault))
   refused_count bytes options e count.NoMemory stands refused = tt
   refused_count bytes options e fault stands refused = (e, stands, refused)
 
   pub refused_by_count : (files : Option (List ℕ)) (options : CountOptions) (e : ElectionView) (fault : CountFault) (r : Result (Unit {0}) AppFault)
       → IsErrAnd r (λ app. app ≡ merged (Count fault)) → IfSome files (λ bytes. StandsFor (records_of bytes) e) → IsCountFault e options fault
-      → IfErr r (λ app. IfSome files (λ bytes. FailsBy (CountRefuses options) (TableWrites table bytes options) bytes app))
+      → IfErr r (λ app. IfSome files (λ bytes. FailsBy (CountRefuses options) (TableWrites table options (StandsFor (records_of bytes))) bytes app))
   refused_by_count None options e fault r is stands refused = given_fault (λ app. Unit {0}) r (merged (Count fault)) is tt
   refused_by_count (Some bytes) options e fault r is stands refused =
-      given_fault (FailsBy (CountRefuses options) (TableWrites table bytes options) bytes) r (merged (Count fault)) is (refused_count bytes options e fault stands refused)
+      given_fault (FailsBy (CountRefuses options) (TableWrites table options (StandsFor (records_of bytes))) bytes) r (merged (Count fault)) is (refused_count bytes options e fault stands refused)

@@ -10,7 +10,7 @@ use Rattle.pb_rounds.specs.declared.count_fault.CountFault.TheVariants as count
 use Rattle.pb_script.specs.ScriptFault.{numbered_name as of_script}
 use Rattle.pb_script.specs.declared.script_fault.ScriptFault.TheVariants as script
 use Rattle.pb_commands.specs.declared.fault.AppFault.{AppFault}
-use Rattle.pb_commands.specs.declared.fault.AppFault.TheVariants.{Read, Script, ClerkCount, Audit, Count, Open, Write, Memory}
+use Rattle.pb_commands.specs.declared.fault.AppFault.TheVariants.{Read, Script, ClerkCount, Audit, OpenDesk, Count, Open, Write, Memory}
 
 -- the same fault, in which out of memory is one case, whichever crate met it
 abbrev pub merged : AppFault → AppFault
@@ -35,6 +35,7 @@ fields_of (Script fault) = numbered (codes "script") (of_script fault)
 fields_of ClerkCount = codes "clerks" ∷ codes "1" ∷ codes "ClerkCount" ∷ []
 fields_of (Audit fault) =
     numbered (codes "audit") ((of_audit fault).0, (of_audit fault).1, unwrap_or (of_audit fault).2 0)
+fields_of OpenDesk = codes "open-desk" ∷ []
 fields_of (Count fault) = codes "count" ∷ decimal (of_count fault).0 ∷ (of_count fault).1 ∷ []
 fields_of (Open number) = codes "open" ∷ decimal number ∷ []
 fields_of Write = codes "write" ∷ []
@@ -58,4 +59,5 @@ status_of (Audit fault) = read_status (of_audit fault).0
 status_of (Count count.RaisesSpent) = 1
 status_of (Count fault) = 2
 status_of ClerkCount = 2
+status_of OpenDesk = 1
 status_of fault = 3

@@ -8,3 +8,4 @@ pub mod Counted
 pub mod Audited
 pub mod Desked
 pub mod Checked
+pub mod Closed

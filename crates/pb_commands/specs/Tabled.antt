@@ -1,25 +1,22 @@
--- What a run that writes a table writes, and what refuses it.
+-- What a run that writes a table writes.
 use Rattle.std.specs.Prelude.{◌≡◌, ℕ, List}
 use Rattle.pb_core.specs.Election.{ElectionView}
 use Rattle.pb_price.specs.Supporters.{support_of}
-use Rattle.pb_read.specs.StandsFor.{StandsFor}
 use Rattle.pb_reasons.specs.Reasons.{all_payments}
 use Rattle.pb_rounds.specs.Counted.{IsCountOf}
 use Rattle.pb_rounds.specs.Outcome.{OutcomeView, settled}
 use Rattle.pb_rounds.specs.PriceSystem.{IsPriceSystem}
 use Rattle.pb_rounds.specs.declared.options.CountOptions.{CountOptions}
-use Rattle.pb_rows.specs.Reading.{records_of}
 use Rattle.pb_commands.specs.Tables.{table_of}
 use Rattle.pb_commands.specs.declared.table.Table.{Table}
 
 -- the text is this table of the election, counted with these options; the payments that it tells are a price system
-abbrev pub IsTableOf : Table → ElectionView → CountOptions → List ℕ → Type 0
-IsTableOf table e options text =
+abbrev pub IsTableOf : Table → CountOptions → ElectionView → List ℕ → Type 0
+IsTableOf table options e text =
     (o : OutcomeView) × IsCountOf e options o
     × IsPriceSystem (support_of e) o.share o.elected o.rests (all_payments e (settled o))
     × (text ≡ table_of table e (settled o))
 
--- what these bytes, read as a file, make a run write of this table
-abbrev pub TableWrites : Table → List ℕ → CountOptions → List ℕ → Type 0
-TableWrites table bytes options text =
-    (e : ElectionView) × StandsFor (records_of bytes) e × IsTableOf table e options text
+-- the text is this table of an election that is such
+abbrev pub TableWrites : Table → CountOptions → (ElectionView → Type 0) → List ℕ → Type 0
+TableWrites table options IsSuch text = (e : ElectionView) × IsSuch e × IsTableOf table options e text

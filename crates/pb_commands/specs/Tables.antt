@@ -15,7 +15,7 @@ use Rattle.pb_commands.specs.Report.{id_at}
 use Rattle.pb_commands.specs.declared.table.Table.{Table}
 use Rattle.pb_commands.specs.declared.table.Table.TheVariants.{Projects, Voters}
 
--- the columns of projects
+-- the columns of projects; private contracts speak of them
 abbrev pub project_columns : Fields
 project_columns =
     codes "place" ∷ codes "project_id" ∷ codes "name" ∷ codes "cost" ∷ codes "votes" ∷ codes "round"
@@ -37,7 +37,7 @@ project_row e o place =
     decimal place ∷ id_at e place ∷ name_at e place ∷ money_text (cost_at (support_of e) place)
     ∷ decimal (project_reason e o place).votes ∷ ending_fields (project_reason e o place).ending
 
--- the columns of voters
+-- the columns of voters; private contracts speak of them
 abbrev pub voter_columns : Fields
 voter_columns =
     codes "voter_id" ∷ codes "votes" ∷ codes "elected" ∷ codes "paid" ∷ codes "left" ∷ codes "payments" ∷ []
@@ -59,6 +59,8 @@ voter_row e o voter = slice_index_or (voter_ids e) voter [] ∷ reason_fields (v
 -- a table of an outcome, as text: its columns, and then a row each, in the order of the file
 unfoldable pub table_of : Table → ElectionView → Settled → List ℕ
 table_of Projects e o =
-    text_of_rows (project_columns ∷ map (project_row e o) (range_with_len 0 (length e.projects)))
+    codes "place;project_id;name;cost;votes;round;price;collected;in_full;left;missing\n"
+    ++ text_of_rows (map (project_row e o) (range_with_len 0 (length e.projects)))
 table_of Voters e o =
-    text_of_rows (voter_columns ∷ map (voter_row e o) (range_with_len 0 (length e.voters)))
+    codes "voter_id;votes;elected;paid;left;payments\n"
+    ++ text_of_rows (map (voter_row e o) (range_with_len 0 (length e.voters)))

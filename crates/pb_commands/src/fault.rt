@@ -23,6 +23,9 @@ pub enum AppFault {
     /// The journal is refused, or could not be read.
     #[error("journal: {0}")]
     Audit(AuditFault),
+    /// The desk is open, and was to be shut.
+    #[error("the desk is open")]
+    OpenDesk,
     /// An option of the count is out of its range, or its raises are spent.
     #[error("count: {0}")]
     Count(CountFault),

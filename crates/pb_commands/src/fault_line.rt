@@ -38,6 +38,7 @@ impl AppFault {
                 let row = fault.at().unwrap_or(0);
                 write_numbered(writer, "audit", fault.number(), fault.name(), row)
             }
+            AppFault::OpenDesk => write_fields(writer, &["open-desk"]),
             AppFault::Count(fault) => write_count(writer, fault),
             AppFault::Open(number) => write_open(writer, number),
             AppFault::Write => write_fields(writer, &["write"]),
@@ -55,7 +56,7 @@ impl AppFault {
             AppFault::Script(fault) => read_status(fault.number()),
             AppFault::ClerkCount => BAD_ARGUMENTS,
             AppFault::Audit(fault) => read_status(fault.number()),
-            AppFault::Count(CountFault::RaisesSpent) => REFUSED,
+            AppFault::OpenDesk | AppFault::Count(CountFault::RaisesSpent) => REFUSED,
             AppFault::Count(_) => BAD_ARGUMENTS,
             AppFault::Open(_) | AppFault::Write | AppFault::Memory => NO_DEVICE,
         }

@@ -4,6 +4,7 @@
 //! refused has written nothing. Each refusal has one line and one status.
 #![tactic(auto)]
 
+mod closed_desk;
 pub mod fault;
 mod fault_line;
 pub mod laws;
@@ -15,6 +16,7 @@ pub mod run_count;
 pub mod run_desk;
 pub mod run_table;
 pub mod table;
+pub mod table_laws;
 mod voters_table;
 
 pub use fault::AppFault;

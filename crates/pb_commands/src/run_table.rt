@@ -1,15 +1,19 @@
 // Runs that write a table: who won and why, who lost and by how much, who paid.
 
 ghost use Rattle.std.specs.Prelude.{◌≡◌, ◌≢◌, ◌++◌, ℕ, List, IfErr, IfOk, IfSome, OnOk};
+ghost use Rattle.pb_read.specs.StandsFor.{StandsFor};
 ghost use Rattle.pb_reasons.specs.Reasons.{CanBeTold};
 ghost use Rattle.pb_rounds.specs.Counted.{IsCountFault};
 ghost use Rattle.pb_rounds.specs.Outcome.{settled};
+ghost use Rattle.pb_rows.specs.Reading.{records_of};
+ghost use Rattle.pb_commands.specs.Closed.{ClosedRefuses, Leaves};
 ghost use Rattle.pb_commands.specs.Counted.{CountRefuses};
-ghost use Rattle.pb_commands.specs.Ends.{Accepts, FailsBy, HasWritten};
+ghost use Rattle.pb_commands.specs.Ends.{Accepts, FailsBy, HasWritten, IfBothKnown, JudgesFile};
 ghost use Rattle.pb_commands.specs.Fault.{merged};
 ghost use Rattle.pb_commands.specs.Tabled.{IsTableOf, TableWrites};
 ghost use Rattle.pb_commands.specs.Tables.{table_of};
 
+use crate::closed_desk::closed_ballots;
 use crate::fault::AppFault;
 use crate::projects_table::put_projects;
 use crate::run_count::{finished, write_out};
@@ -44,15 +48,15 @@ pub fn run_table<T: Threads + Sync, R: Read + Drop, W: Write>(
 ) -> Result<(), AppFault>
     // Where the reader's bytes are known, they alone and the options decide what is written,
     ensures ok { OnOk result (IfSome (R.remaining reader) (λ bytes.
-        HasWritten (TableWrites table bytes options.now) (W.contents writer.old) (W.contents writer.new))) }
+        HasWritten (TableWrites table options.now (StandsFor (records_of bytes))) (W.contents writer.old) (W.contents writer.new))) }
 
     // and which fault comes.
     ensures fault { IfErr result (λ fault. IfSome (R.remaining reader) (λ bytes.
-        FailsBy (CountRefuses options.now) (TableWrites table bytes options.now) bytes fault)) }
+        FailsBy (CountRefuses options.now) (TableWrites table options.now (StandsFor (records_of bytes))) bytes fault)) }
 
     // A file that has a table gets it, unless a device fails or memory is refused.
     ensures accepts { IfSome (R.remaining reader) (λ bytes.
-        Accepts (TableWrites table bytes options.now) result) }
+        Accepts (TableWrites table options.now (StandsFor (records_of bytes))) result) }
 
     // A fault writes nothing, unless it is the writer's.
     ensures unchanged { IfErr result (λ fault. fault ≢ AppFault.Write → writer.new ≡ writer.old) }
@@ -67,6 +71,50 @@ pub fn run_table<T: Threads + Sync, R: Read + Drop, W: Write>(
     write_out(writer, text.as_slice())
 }
 
+/// Reads a .pb file and a journal, audits the journal, counts the ballots that its shut desk leaves with these options,
+/// and writes this table of the outcome. What it refuses, and when, is as for `run_audit`, and an open desk is refused too.
+///
+/// The file is refused before the journal, the journal before an open desk, and that before the options. Nothing is
+/// written but the whole table. Where the fault is `Write` some of the table may have gone out; on any other fault the
+/// writer is as it was.
+pub fn run_closed_table<T: Threads + Sync, P: Read + Drop, J: Read + Drop, W: Write>(
+    rt: &T,
+    alloc: Global,
+    file: P,
+    journal: J,
+    writer: &mut W,
+    options: &CountOptions,
+    table: Table,
+) -> Result<(), AppFault>
+    // Where the bytes of both readers are known, they alone and the options decide what is written,
+    ensures ok { OnOk result (IfBothKnown (P.remaining file) (J.remaining journal) (λ bytes rows. HasWritten
+        (TableWrites table options.now (Leaves bytes rows)) (W.contents writer.old) (W.contents writer.new))) }
+
+    // and which fault comes.
+    ensures fault { IfErr result (λ fault. IfBothKnown (P.remaining file) (J.remaining journal) (λ bytes rows.
+        FailsBy (ClosedRefuses bytes rows options.now)
+        (TableWrites table options.now (Leaves bytes rows)) bytes fault)) }
+
+    // A file and a journal that have a table get it, unless a device fails or memory is refused.
+    ensures accepts { IfBothKnown (P.remaining file) (J.remaining journal) (λ bytes rows.
+        Accepts (TableWrites table options.now (Leaves bytes rows)) result) }
+
+    // The file is judged first, whatever is known of the journal.
+    ensures file { IfSome (P.remaining file) (λ bytes. JudgesFile bytes result) }
+
+    // A fault writes nothing, unless it is the writer's.
+    ensures unchanged { IfErr result (λ fault. fault ≢ AppFault.Write → writer.new ≡ writer.old) }
+
+    // Out of memory is one fault.
+    ensures merged { IfErr result (λ fault. merged fault ≡ fault) }
+{
+    let election = closed_ballots(alloc, file, journal)?;
+    let made = table_text(rt, alloc, &election, options, table);
+    drop(election);
+    let text = made?;
+    write_out(writer, text.as_slice())
+}
+
 /// This table of an election, counted with these options.
 fn table_text<T: Threads + Sync>(
     rt: &T,
@@ -75,7 +123,7 @@ fn table_text<T: Threads + Sync>(
     options: &CountOptions,
     table: Table,
 ) -> Result<Vec<u8>, CountFault>
-    ensures ok { IfOk result (λ text. IsTableOf table election.now options.now text.items) }
+    ensures ok { IfOk result (λ text. IsTableOf table options.now election.now text.items) }
     ensures fault { IfErr result (IsCountFault election.now options.now) }
 {
     let mut rows = RowsWriter::start(alloc);
@@ -98,7 +146,7 @@ fn put_counted<T: Threads + Sync>(
     table: Table,
 ) -> Result<(), CountFault>
     ensures ok { OnOk result ((text : List ℕ)
-        × IsTableOf table election.now options.now text × (rows.new.text ≡ rows.old.text ++ text)) }
+        × IsTableOf table options.now election.now text × (rows.new.text ≡ rows.old.text ++ text)) }
     ensures fault { IfErr result (IsCountFault election.now options.now) }
 {
     // What is true of every election is true of its reasons.

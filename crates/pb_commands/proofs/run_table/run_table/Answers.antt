@@ -1,5 +1,7 @@
 use Rattle.pb_commands.proofs.Accepted.{refused_by_reader, stays_merged}
 use Rattle.pb_commands.proofs.TableAccepted.{accepted_by_count, accepted_by_reader, refused_by_count}
+use Rattle.pb_read.specs.StandsFor.{StandsFor}
+use Rattle.pb_rows.specs.Reading.{records_of}
 use Rattle.pb_commands.specs.Counted.{CountRefuses}
 use Rattle.pb_commands.specs.Tabled.{TableWrites}
 use Rattle.pb_commands.specs.declared.fault.AppFault.TheVariants.{Read, Count}
@@ -7,7 +9,7 @@ use Rattle.pb_commands.proofs.run_table.run_table.Goals as goal
 
 pub returns-in_err-election-clause-fault : goal.returns-in_err-election-clause-fault
 returns-in_err-election-clause-fault g c =
-    refused_by_reader (λ bytes. CountRefuses c.args.options.now) (λ bytes. TableWrites c.args.table bytes c.args.options.now) _ c.in_err-election.field-0.0 _
+    refused_by_reader (λ bytes. CountRefuses c.args.options.now) (λ bytes. TableWrites c.args.table c.args.options.now (StandsFor (records_of bytes))) _ c.in_err-election.field-0.0 _
     c.from_residual.ensures.1 c.in_err-election.ensures.fault
 
 pub returns-in_err-election-clause-merged : goal.returns-in_err-election-clause-merged

@@ -1,0 +1,125 @@
+-- What the tables of a count tell, and that they agree with its report.
+use Rattle.std.proofs.Common.{◌≡◌, ◌≢◌, ℕ, ◌+◌, ◌-◌, ◌<◌, ◌≤◌, List, [], ◌∷◌, length, get_or, map, true, false, Some, None, refl, sym, ◌∙◌, ap, subst, inl, inr, arith}
+use Rattle.std.specs.Prelude.{◌==◌, All, count_by, slice_get, slice_index, sum, sum_by}
+use Rattle.std.specs.List.{AllZip, range_with_len}
+use Rattle.std.proofs.lemmas.Bool.{cases_lt, eq-eqb, lt-ltb, ne_eqb, true≢false}
+use Rattle.std.proofs.lemmas.List.{get_or_default, length-map}
+use Rattle.std.proofs.lemmas.List.FromFn.{fill_by_all}
+use Rattle.std.proofs.lemmas.List.Sums.{fails_before_first, position_or_len_is, sum-map, sum_by-cons}
+use Rattle.std.proofs.lemmas.Option.{none-some, same_Some, slice_get_past, slice_get_read}
+use Rattle.pb_core.specs.Election.{ElectionView, IsElection}
+use Rattle.pb_price.specs.Price.{total_rest}
+use Rattle.pb_price.specs.Supporters.{SupportView, cost_at, support_of, supporters_at}
+use Rattle.pb_reasons.proofs.Told.{elected_has_round}
+use Rattle.pb_reasons.specs.Reasons.{CanBeTold, all_payments, ending_of, paid_for, project_reason, round_of, voter_reason}
+use Rattle.pb_reasons.specs.declared.project_reason.Ending.TheVariants as ending
+use Rattle.pb_reasons.specs.declared.project_reason.Lost.{Lost}
+use Rattle.pb_reasons.specs.declared.project_reason.Won.{Won}
+use Rattle.pb_rounds.proofs.Counted.{is_computed}
+use Rattle.pb_rounds.specs.Count.{spent_on}
+use Rattle.pb_rounds.specs.Counted.{IsCountOf}
+use Rattle.pb_rounds.specs.Outcome.{OutcomeView, Settled, settled}
+use Rattle.pb_rounds.specs.PriceSystem.{PaysFor}
+use Rattle.pb_rounds.specs.Run.{ElectedView, is_elected}
+use Rattle.pb_rounds.specs.declared.options.CountOptions.{CountOptions}
+use Rattle.pb_commands.proofs.ElectedPlaces.{count_elects_projects}
+use Rattle.pb_commands.proofs.Tellable.{count_can_be_told}
+use Rattle.pb_commands.specs.Report.{collected_for}
+
+-- a project that is not elected has no round
+no_round : (elected : List ElectedView) (place : ℕ) → is_elected elected place ≡ false → length elected ≤ round_of elected place
+no_round elected place none = elim (cases_lt (round_of elected place) (length elected)) [
+  | inl less ↦ absurd (true≢false (sym (lt-ltb _ _ less) ∙ sym (elected_has_round elected place) ∙ none))
+  | inr more ↦ more
+]
+
+pub missing_told : (e : ElectionView) (options : CountOptions) (o : OutcomeView) (place : ℕ) → IsElection e → IsCountOf e options o → place < length e.projects → is_elected o.elected place ≡ false
+    → (lost : Lost) × ((project_reason e (settled o) place).ending ≡ ending.Lost lost) × (0 < lost.missing) × (lost.left + lost.missing ≡ cost_at (support_of e) place)
+missing_told e options o place h counted known none =
+    let told = count_can_be_told e options o h counted in
+    let past = no_round o.elected place none in
+    let costs : length (support_of e).costs ≡ length e.projects = simp length-map in
+    let left = total_rest (supporters_at (support_of e) place) o.rests in
+    let short : left < cost_at (support_of e) place = told.price_system.too_expensive place (rw costs known) (λ k d below same.
+    let other = fails_before_first (λ (w : ElectedView). w.place == place) o.elected k d (omega (arith, past, below)) in
+    absurd (true≢false (sym (eq-eqb _ _ same) ∙ other))) in (
+      record { left = left; missing = cost_at (support_of e) place - left },
+      ap (ending_of e (settled o) place) (slice_get_past o.elected (round_of o.elected place) past),
+      omega (arith, short),
+      omega (arith, short),
+    )
+
+pub share_told : (e : ElectionView) (options : CountOptions) (o : OutcomeView) (voter : ℕ) → IsElection e → IsCountOf e options o → voter < length e.voters
+    → (voter_reason e (settled o) voter).paid + (voter_reason e (settled o) voter).left ≡ o.share
+share_told e options o voter h counted known = (count_can_be_told e options o h counted).price_system.endowed voter known
+
+-- the round of an elected project is the one that elected it, since no two of them are the same project
+round_is : (elected : List ElectedView) → ((i j : ℕ) (d : ElectedView) → i < j → j < length elected → (get_or elected i d).place ≢ (get_or elected j d).place)
+    → (round : ℕ) (w : ElectedView) → round < length elected → get_or elected round w ≡ w → round_of elected w.place ≡ round
+round_is elected apart round w below here =
+    position_or_len_is (λ (u : ElectedView). u.place == w.place) elected round w (omega arith)
+    (λ k before. ne_eqb _ _ (λ same. apart k round w before below (same ∙ ap (λ (u : ElectedView). u.place) (sym here))))
+    (λ _. eq-eqb _ _ (ap (λ (u : ElectedView). u.place) here))
+
+read_here : (elected : List ElectedView) (round : ℕ) (w : ElectedView) → slice_get elected round ≡ Some w → (round < length elected) × (get_or elected round w ≡ w)
+read_here elected round w is = elim (cases_lt round (length elected)) [
+  | inl less ↦ (less, same_Some _ _ (sym (slice_get_read elected (length elected) round (get_or elected round w) refl less (get_or_default elected round w (get_or elected round w) less)) ∙ is))
+  | inr more ↦ absurd (none-some _ (sym (slice_get_past elected round more) ∙ is))
+]
+
+pub elected_told : (e : ElectionView) (options : CountOptions) (o : OutcomeView) (round : ℕ) (w : ElectedView) → IsElection e → IsCountOf e options o → slice_get o.elected round ≡ Some w
+    → (won : Won) × ((project_reason e (settled o) w.place).ending ≡ ending.Won won) × (won.round ≡ round + 1) × (won.price ≡ w.price) × (won.collected ≡ w.collected)
+elected_told e options o round w h counted is =
+    let places = count_elects_projects e options (settled o) (is_computed e options o counted) in
+    let here = read_here o.elected round w is in
+    let numbered = round_is o.elected places.apart round w here.0 here.1 in (
+      record { round = round_of o.elected w.place + 1; price = w.price; collected = w.collected; in_full = count_by (λ voter. paid_for e (settled o) w.place voter == w.price) (supporters_at (support_of e) w.place) },
+      ap (ending_of e (settled o) w.place) (ap (slice_get o.elected) numbered ∙ is),
+      ap (λ n. n + 1) numbered,
+      refl,
+      refl,
+    )
+
+-- sums of columns are sums of rows
+sum_by-none : (xs : List ℕ) → sum_by (λ (x : ℕ). 0) xs ≡ 0
+sum_by-none [] = refl
+sum_by-none (x ∷ xs) =
+    let others = sum_by-none xs in
+    omega (arith, sum_by-cons (λ (x : ℕ). 0) x xs, others)
+
+sum_by-both : (f g h : ℕ → ℕ) → ((k : ℕ) → h k ≡ f k + g k) → (xs : List ℕ) → sum_by h xs ≡ sum_by f xs + sum_by g xs
+sum_by-both f g h e [] = refl
+sum_by-both f g h e (x ∷ xs) =
+    let others = sum_by-both f g h e xs in
+    omega (arith, sum_by-cons f x xs, sum_by-cons g x xs, sum_by-cons h x xs, e x, others)
+
+sum_by_place : (xs : List ℕ) (n : ℕ) → length xs ≡ n → sum xs ≡ sum_by (λ k. slice_index xs k) (range_with_len 0 n)
+sum_by_place xs n e =
+    ap sum (fill_by_all (λ k. slice_index xs k) xs n 0 e (λ k below. refl)) ∙ sum-map (λ k. slice_index xs k) (range_with_len 0 n)
+
+columns_sum : (s : SupportView) (rests : List ℕ) (elected : List ElectedView) (rows : List (List ℕ)) → AllZip (PaysFor s rests) elected rows
+    → sum_by (λ v. sum_by (λ row. slice_index row v) rows) (range_with_len 0 s.voters) ≡ collected_for elected
+columns_sum s rests [] [] all = sum_by-none (range_with_len 0 s.voters)
+columns_sum s rests [] (row ∷ rows) all = absurd all
+columns_sum s rests (w ∷ elected) [] all = absurd all
+columns_sum s rests (w ∷ elected) (row ∷ rows) all =
+    let both = sum_by-both (λ v. slice_index row v) (λ v. sum_by (λ row. slice_index row v) rows) (λ v. sum_by (λ row. slice_index row v) (row ∷ rows)) (λ v. sum_by-cons (λ r. slice_index r v) row rows) (range_with_len 0 s.voters) in
+    let first = sum_by_place row s.voters all.0.one_each in
+    let later = columns_sum s rests elected rows all.1 in
+    omega (arith, both, first, later, all.0.collected, sum_by-cons (λ (w : ElectedView). w.collected) w elected)
+
+-- what is spent is collected
+spent_within : (s : SupportView) (rests : List ℕ) (elected : List ElectedView) (rows : List (List ℕ)) → AllZip (PaysFor s rests) elected rows → spent_on s elected ≤ collected_for elected
+spent_within s rests [] [] all = omega arith
+spent_within s rests [] (row ∷ rows) all = absurd all
+spent_within s rests (w ∷ elected) [] all = absurd all
+spent_within s rests (w ∷ elected) (row ∷ rows) all =
+    omega (arith, spent_within s rests elected rows all.1, all.0.covered, sum_by-cons (λ (w : ElectedView). w.collected) w elected, sum_by-cons (λ (w : ElectedView). cost_at s w.place) w elected)
+
+pub paid_told : (e : ElectionView) (options : CountOptions) (o : OutcomeView) → IsElection e → IsCountOf e options o
+    → sum_by (λ voter. (voter_reason e (settled o) voter).paid) (range_with_len 0 (length e.voters)) ≡ spent_on (support_of e) o.elected + (collected_for o.elected - spent_on (support_of e) o.elected)
+paid_told e options o h counted =
+    let told = count_can_be_told e options o h counted in
+    let all = columns_sum (support_of e) o.rests o.elected (all_payments e (settled o)) told.price_system.paid in
+    let within = spent_within (support_of e) o.rests o.elected (all_payments e (settled o)) told.price_system.paid in
+    all ∙ omega (arith, within)

@@ -1,0 +1,63 @@
+// The ballots that the journal of a shut desk leaves.
+
+ghost use Rattle.std.specs.Prelude.{◌≡◌, Err, IfErr, IfOk, IfSome, true};
+ghost use Rattle.pb_core.specs.Election.{ElectionView};
+ghost use Rattle.pb_desk.specs.Desk.{closed_election, standing_of};
+ghost use Rattle.pb_read.specs.StandsFor.{StandsFor};
+ghost use Rattle.pb_rows.specs.Reading.{records_of};
+ghost use Rattle.pb_rounds.specs.declared.options.CountOptions.{CountOptions};
+ghost use Rattle.pb_commands.specs.Closed.{ClosedRefuses, Leaves};
+ghost use Rattle.pb_commands.specs.Ends.{FailsBy, IfBothKnown, IsFromOutside, JudgesFile};
+ghost use Rattle.pb_commands.specs.Fault.{merged};
+
+use crate::fault::AppFault;
+use pb_core::election::Election;
+use pb_desk::{Desk, audit};
+use pb_read::read_pb;
+use pb_script::ROOM;
+use std::alloc::Global;
+use std::io::Read;
+
+/// Reads a .pb file and a journal, and audits the journal: the election whose ballots are those that its shut desk leaves.
+///
+/// The file is refused before the journal, and the journal before an open desk.
+pub(crate) fn closed_ballots<P: Read + Drop, J: Read + Drop>(
+    alloc: Global,
+    file: P,
+    journal: J,
+) -> Result<Election, AppFault>
+    ensures ok { IfOk result (λ e. IfBothKnown (P.remaining file) (J.remaining journal) (λ bytes rows.
+        Leaves bytes rows e)) }
+    ensures stands { IfOk result (λ _. IfSome (P.remaining file) (λ bytes.
+        (e : ElectionView) × StandsFor (records_of bytes) e)) }
+    ensures fault { IfErr result (λ fault. IfBothKnown (P.remaining file) (J.remaining journal) (λ bytes rows.
+        (options : CountOptions) → FailsBy (ClosedRefuses bytes rows options) (λ _. ⊥) bytes fault)) }
+    ensures accepts { IfErr result (λ fault. IfBothKnown (P.remaining file) (J.remaining journal) (λ bytes rows.
+        (e : ElectionView) → Leaves bytes rows e → IsFromOutside fault)) }
+    ensures file { IfErr result (λ fault. IfSome (P.remaining file) (λ bytes. JudgesFile bytes (Err fault))) }
+    ensures merged { IfErr result (λ fault. merged fault ≡ fault) }
+{
+    let election = read_pb(alloc, file)?;
+    let desk = audit(alloc, election, ROOM, journal)?;
+    if desk.is_shut() {
+        left_by(desk)
+    } else {
+        drop(desk);
+        Err(AppFault::OpenDesk)
+    }
+}
+
+/// The election whose ballots a shut desk leaves.
+fn left_by(desk: Desk) -> Result<Election, AppFault>
+    requires { (standing_of desk).is_shut ≡ true }
+    ensures ok { IfOk result (λ e. e ≡ closed_election desk) }
+    ensures fault { IfErr result (λ fault. fault ≡ AppFault.Memory) }
+{
+    match desk.into_election() {
+        Ok(election) => Ok(election),
+        Err(fault) => {
+            drop(fault);
+            Err(AppFault::Memory)
+        }
+    }
+}
