@@ -17,5 +17,5 @@ pub mod table;
 mod voters_table;
 
 pub use fault::AppFault;
-pub use fault_line::BAD_ARGUMENTS;
+pub use fault_line::{BAD_ARGUMENTS, write_bad_row};
 pub use table::Table;
