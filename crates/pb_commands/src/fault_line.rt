@@ -3,6 +3,7 @@
 ghost use Rattle.std.specs.Prelude.{◌≡◌, ◌++◌, OnOk, codes, map};
 ghost use Rattle.std.specs.Io.KnownBytes.{Appends};
 ghost use Rattle.pb_commands.specs.Fault.{fields_of, line, merged, numbered, read_status, status_of};
+ghost use Rattle.pb_script.specs.declared.script_fault.ScriptFault.TheVariants.{BadRow};
 
 use crate::fault::AppFault;
 use itoa::Buffer;
@@ -68,6 +69,14 @@ fn read_status(number: u32) -> u8
     ensures { result ≡ read_status number }
 {
     if number == 1 { NO_DEVICE } else { REFUSED }
+}
+
+/// Writes the line of a row of a script that has not the form. The rows have their numbers from 1.
+pub fn write_bad_row<W: Write>(writer: &mut W, row: u64) -> io::Result<()>
+    ensures { OnOk result (Appends (W.contents writer.old) (W.contents writer.new)
+        (line (fields_of (AppFault.Script (BadRow row))))) }
+{
+    write_numbered(writer, "script", 2, "BadRow", row)
 }
 
 /// Writes the line of a numbered fault, with its record or row.

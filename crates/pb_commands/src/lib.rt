@@ -20,5 +20,5 @@ pub mod table_laws;
 mod voters_table;
 
 pub use fault::AppFault;
-pub use fault_line::BAD_ARGUMENTS;
+pub use fault_line::{BAD_ARGUMENTS, write_bad_row};
 pub use table::Table;

@@ -137,8 +137,8 @@ fn put_ballots<T: Threads + Sync>(
     }
 }
 
-/// Writes the row of a desk.
-fn put_entries(rows: &mut RowsWriter, desk: &Desk) -> Result<(), NoMemory>
+/// Writes the row of a desk: how many entries its journal has, and whether it is shut.
+pub fn put_entries(rows: &mut RowsWriter, desk: &Desk) -> Result<(), NoMemory>
     ensures { OnOk result (rows.new.text ≡ rows.old.text ++ text_of_row (entries_row desk.now)) }
 {
     let mut digits = Buffer::new();

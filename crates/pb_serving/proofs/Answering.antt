@@ -1,0 +1,241 @@
+-- The answers to rows of the input, batch by batch.
+use Rattle.std.proofs.Common.{◌≡◌, ◌∙◌, ℕ, suc, ◌+◌, List, [], ◌∷◌, ◌++◌, length, map, take, Option, Some, None, IfSome, IfErr, OnOk, Result, Ok, Err, refl, sym, ap, subst, arith, append_assoc, length-append}
+use Rattle.std.specs.List.{AllZip, filter_map}
+use Rattle.std.specs.Io.KnownBytes.{Appends}
+use Rattle.std.proofs.KnownBytes.{Appends-nil, Appends-trans}
+use Rattle.std.proofs.lemmas.List.{append-nil, append_cancel_left, take_at}
+use Rattle.std.proofs.lemmas.List.Elements.{filter_map-append}
+use Rattle.pb_core.specs.Request.{EntryView}
+use Rattle.pb_core.specs.declared.answer.Answer.{Answer}
+use Rattle.pb_desk.specs.Replay.{most_clerks}
+use Rattle.pb_desk.specs.Rows.{journal_text, row_of, rows_from}
+use Rattle.pb_desk.specs.declared.version.Version.TheVariants.{One}
+use Rattle.pb_durable.specs.DurableDesk.{entries_of}
+use Rattle.pb_durable.specs.declared.asked.Asked.{Asked}
+use Rattle.pb_rows.proofs.RowsText.{text_of_rows-append}
+use Rattle.pb_rows.specs.Reading.{Fields}
+use Rattle.pb_rows.specs.Writing.{text_of_row, text_of_rows}
+use Rattle.pb_script.specs.Script.{HasScriptForm}
+use Rattle.pb_script.specs.ScriptReading.{HaveGone, NoneLeft}
+use Rattle.pb_script.specs.declared.script_fault.ScriptFault.TheVariants.{BadRow}
+use Rattle.pb_commands.specs.Fault.{fields_of, line}
+use Rattle.pb_commands.specs.declared.fault.AppFault.TheVariants.{Script}
+use Rattle.pb_serving.specs.Answered.{answers_from, Answers, Becomes}
+use Rattle.pb_serving.specs.Batch.{Asks}
+
+abbrev pub added : List (Option EntryView) → List EntryView
+added became = filter_map (λ x. x) became
+
+rows_from-append : (n : ℕ) (a b : List EntryView) → rows_from n (a ++ b) ≡ rows_from n a ++ rows_from (n + length a) b
+unfolding rows_from
+rows_from-append n [] b = ap (λ (k : ℕ). rows_from k b) (omega arith)
+rows_from-append n (x ∷ a) b =
+    ap (λ (l : List Fields). row_of n x ∷ l) (rows_from-append (suc n) a b ∙ ap (λ (k : ℕ). rows_from (suc n) a ++ rows_from k b) (omega arith))
+
+-- the last rows of a journal's text are those of its last entries
+pub said_rows : (before after more : List EntryView) (rows : List ℕ) (n : ℕ) → n ≡ length before → after ≡ before ++ more
+    → journal_text One (take n after) ++ rows ≡ journal_text One after → rows ≡ text_of_rows (rows_from (length before + 1) more)
+said_rows before after more rows n count grown is =
+    append_cancel_left (text_of_rows (rows_from 1 before)) rows (text_of_rows (rows_from (length before + 1) more))
+    (ap (λ (l : List EntryView). journal_text One l ++ rows) (sym front) ∙ is ∙ ap (λ (l : List EntryView). journal_text One l) grown
+    ∙ ap text_of_rows (rows_from-append 1 before more ∙ ap (λ (k : ℕ). rows_from 1 before ++ rows_from k more) (omega arith))
+    ∙ text_of_rows-append (rows_from 1 before) (rows_from (length before + 1) more))
+  where
+    front : take n after ≡ before
+    front = ap (λ (l : List EntryView). take n l) grown ∙ take_at before more n (sym count)
+
+added-some : (entries : List EntryView) → added (map Some entries) ≡ entries
+added-some [] = refl
+added-some (x ∷ entries) = ap (λ (l : List EntryView). x ∷ l) (added-some entries)
+
+answers-some : (entry row : ℕ) (entries : List EntryView) → answers_from entry row (map Some entries) ≡ text_of_rows (rows_from entry entries)
+unfolding rows_from text_of_rows
+answers-some entry row [] = refl
+answers-some entry row (x ∷ entries) = ap (λ (l : List ℕ). text_of_row (row_of entry x) ++ l) (answers-some (suc entry) (suc row) entries)
+
+answers-append : (entry row : ℕ) (a b : List (Option EntryView)) → answers_from entry row (a ++ b) ≡ answers_from entry row a ++ answers_from (entry + length (added a)) (row + length a) b
+answers-append entry row [] b = let same : entry + 0 ≡ entry = omega arith in let here : row + 0 ≡ row = omega arith in rw (same, here) refl
+answers-append entry row (None ∷ a) b =
+    let said = line (fields_of (Script (BadRow row))) in
+    let at : suc row + length a ≡ row + length (None ∷ a) = omega arith in
+    ap (λ (l : List ℕ). said ++ l) (answers-append entry (suc row) a b)
+    ∙ sym (append_assoc said (answers_from entry (suc row) a) (answers_from (entry + length (added a)) (suc row + length a) b))
+    ∙ ap (λ (k : ℕ). (said ++ answers_from entry (suc row) a) ++ answers_from (entry + length (added a)) k b) at
+answers-append entry row (Some x ∷ a) b =
+    let said = text_of_row (row_of entry x) in
+    let at : suc row + length a ≡ row + length (Some x ∷ a) = omega arith in
+    let next : suc entry + length (added a) ≡ entry + length (x ∷ added a) = omega arith in
+    ap (λ (l : List ℕ). said ++ l) (answers-append (suc entry) (suc row) a b)
+    ∙ sym (append_assoc said (answers_from (suc entry) (suc row) a) (answers_from (suc entry + length (added a)) (suc row + length a) b))
+    ∙ ap (λ (k : ℕ). (said ++ answers_from (suc entry) (suc row) a) ++ answers_from (suc entry + length (added a)) k b) at
+    ∙ ap (λ (k : ℕ). (said ++ answers_from (suc entry) (suc row) a) ++ answers_from k (row + length (Some x ∷ a)) b) next
+
+zip-append : {X Y : Type 0} (R : X → Y → Type 0) (xs more : List X) (ys others : List Y) → AllZip R xs ys → AllZip R more others → AllZip R (xs ++ more) (ys ++ others)
+zip-append R [] more [] others f g = g
+zip-append R [] more (y ∷ ys) others f g = absurd f
+zip-append R (x ∷ xs) more [] others f g = absurd f
+zip-append R (x ∷ xs) more (y ∷ ys) others f g = (f.0, zip-append R xs more ys others f.1 g)
+
+pub zip-length : {X Y : Type 0} (R : X → Y → Type 0) (xs : List X) (ys : List Y) → AllZip R xs ys → length xs ≡ length ys
+zip-length R [] [] f = refl
+zip-length R [] (y ∷ ys) f = absurd f
+zip-length R (x ∷ xs) [] f = absurd f
+zip-length R (x ∷ xs) (y ∷ ys) f = ap suc (zip-length R xs ys f.1)
+
+-- rows that ask this become its entries
+pub asks_become : (rows : List Fields) (asks : List Asked) (answers : List Answer) → AllZip Asks rows asks → length answers ≡ length asks → AllZip Becomes rows (map Some (entries_of asks answers))
+asks_become [] [] answers each same = tt
+asks_become [] (a ∷ asks) answers each same = absurd each
+asks_become (row ∷ rows) [] answers each same = absurd each
+asks_become (row ∷ rows) (a ∷ asks) [] each same = absurd (omega (arith, same))
+asks_become (row ∷ rows) (a ∷ asks) (x ∷ answers) each same = (each.0, asks_become rows asks answers each.1 (omega (arith, same)))
+
+pub length-entries : (requests : List Asked) (answers : List Answer) → length answers ≡ length requests → length (entries_of requests answers) ≡ length requests
+length-entries [] answers same = refl
+length-entries (r ∷ requests) [] same = absurd (omega (arith, same))
+length-entries (r ∷ requests) (x ∷ answers) same = ap suc (length-entries requests answers (omega (arith, same)))
+
+gone-append : (all left after : Option (List Fields)) (gone rows : List Fields) → HaveGone all gone left → HaveGone left rows after → HaveGone all (gone ++ rows) after
+gone-append None left after gone rows first second = tt
+gone-append (Some all) None after gone rows first second = absurd first
+gone-append (Some all) (Some left) None gone rows first second = absurd second
+gone-append (Some all) (Some left) (Some after) gone rows first second =
+    first ∙ ap (λ (l : List Fields). gone ++ l) second ∙ sym (append_assoc gone rows after)
+
+-- what was left between some records and the one behind them
+pub gone_mid : (left after : Option (List Fields)) (rows : List Fields) (row : Fields) → HaveGone left (rows ++ row ∷ []) after
+    → (mid : Option (List Fields)) × HaveGone left rows mid × HaveGone mid (row ∷ []) after
+gone_mid None after rows row gone = (None, tt, tt)
+gone_mid (Some all) None rows row gone = absurd gone
+gone_mid (Some all) (Some rest) rows row gone = (Some (row ∷ rest), gone ∙ append_assoc rows (row ∷ []) rest, refl)
+
+-- how far a run has come: these rows were read and answered
+pub record Progress (all left : Option (List Fields)) (old now : List EntryView) (before after : Option (List ℕ)) (row bad : ℕ) : Type 0 where
+  pub gone : List Fields
+  pub became : List (Option EntryView)
+  pub have_gone : HaveGone all gone left
+  pub each : AllZip Becomes gone became
+  pub journal : now ≡ old ++ added became
+  pub said : Appends before after (answers_from (length old + 1) 1 became)
+  pub row_is : length became ≡ row
+  pub bad_is : bad + length now ≡ row + length old
+
+none_gone : (all : Option (List Fields)) → HaveGone all [] all
+none_gone None = tt
+none_gone (Some rows) = refl
+
+pub started : (all : Option (List Fields)) (old : List EntryView) (before : Option (List ℕ)) → Progress all all old old before before 0 0
+started all old before = record {
+  gone = [];
+  became = [];
+  have_gone = none_gone all;
+  each = tt;
+  journal = sym (append-nil old);
+  said = Appends-nil before;
+  row_is = refl;
+  bad_is = refl;
+}
+
+-- a batch more
+module _ (all left mid : Option (List Fields)) (old journal now : List EntryView) (before after later : Option (List ℕ)) (row bad : ℕ) where
+  pub batch_more : (rows : List Fields) (asks : List Asked) (answers : List Answer) → Progress all left old journal before after row bad → HaveGone left rows mid → AllZip Asks rows asks
+      → length answers ≡ length asks → now ≡ journal ++ entries_of asks answers → Appends after later (text_of_rows (rows_from (length journal + 1) (entries_of asks answers)))
+      → Progress all mid old now before later (row + length asks) bad
+  batch_more rows asks answers p goes each same grown said =
+      let entries = entries_of asks answers in
+      let size = ap length p.journal ∙ length-append old (added p.became) in
+      let entry : length old + 1 + length (added p.became) ≡ length journal + 1 = omega (arith, size) in
+      let count = length-entries asks answers same in
+      let text : answers_from (length old + 1) 1 p.became ++ text_of_rows (rows_from (length journal + 1) entries) ≡ answers_from (length old + 1) 1 (p.became ++ map Some entries) =
+      ap (λ (l : List ℕ). answers_from (length old + 1) 1 p.became ++ l) (sym (answers-some (length journal + 1) (1 + length p.became) entries) ∙ ap (λ (k : ℕ). answers_from k (1 + length p.became) (map Some entries)) (sym entry))
+      ∙ sym (answers-append (length old + 1) 1 p.became (map Some entries)) in
+      let grows = ap length grown ∙ length-append journal entries in
+      let known = p.row_is in
+      let sums = p.bad_is in
+      record {
+        gone = p.gone ++ rows;
+        became = p.became ++ map Some entries;
+        have_gone = gone-append all left mid p.gone rows p.have_gone goes;
+        each = zip-append Becomes p.gone rows p.became (map Some entries) p.each (asks_become rows asks answers each same);
+        journal = grown ∙ ap (λ (l : List EntryView). l ++ entries) p.journal ∙ append_assoc old (added p.became) entries
+            ∙ ap (λ (l : List EntryView). old ++ (added p.became ++ l)) (sym (added-some entries)) ∙ ap (λ (l : List EntryView). old ++ l) (sym (filter_map-append (λ (x : Option EntryView). x) p.became (map Some entries)));
+        said = subst (Appends before later) text (Appends-trans before after later _ _ p.said said);
+        row_is = length-append p.became (map Some entries) ∙ omega (arith, known, count, sizes entries);
+        bad_is = omega (arith, sums, grows, count);
+      }
+    where
+      sizes : (l : List EntryView) → length (map Some l) ≡ length l
+      sizes [] = refl
+      sizes (x ∷ l) = ap suc (sizes l)
+
+  -- a row that has not the form
+  pub bad_more : (fields : Fields) → Progress all left old journal before after row bad → HaveGone left (fields ∷ []) mid → ¬ HasScriptForm most_clerks fields
+      → Appends after later (line (fields_of (Script (BadRow (row + 1))))) → Progress all mid old journal before later (row + 1) (bad + 1)
+  bad_more fields p goes none said =
+      let known = p.row_is in
+      let sums = p.bad_is in
+      let here : 1 + length p.became ≡ row + 1 = omega (arith, known) in
+      let alone : answers_from (length old + 1 + length (added p.became)) (row + 1) (None ∷ []) ≡ line (fields_of (Script (BadRow (row + 1)))) = append-nil _ in
+      let text : answers_from (length old + 1) 1 p.became ++ line (fields_of (Script (BadRow (row + 1)))) ≡ answers_from (length old + 1) 1 (p.became ++ None ∷ []) =
+      ap (λ (l : List ℕ). answers_from (length old + 1) 1 p.became ++ l) (sym alone ∙ ap (λ (k : ℕ). answers_from (length old + 1 + length (added p.became)) k (None ∷ [])) (sym here))
+      ∙ sym (answers-append (length old + 1) 1 p.became (None ∷ [])) in
+      record {
+        gone = p.gone ++ fields ∷ [];
+        became = p.became ++ None ∷ [];
+        have_gone = gone-append all left mid p.gone (fields ∷ []) p.have_gone goes;
+        each = zip-append Becomes p.gone (fields ∷ []) p.became (None ∷ []) p.each (none, tt);
+        journal = p.journal ∙ ap (λ (l : List EntryView). old ++ l) (sym (append-nil (added p.became)) ∙ sym (filter_map-append (λ (x : Option EntryView). x) p.became (None ∷ [])));
+        said = subst (Appends before later) text (Appends-trans before after later _ _ p.said said);
+        row_is = length-append p.became (None ∷ []) ∙ omega (arith, known);
+        bad_is = omega (arith, sums);
+      }
+
+-- the same, by other names
+pub moved : (all left : Option (List Fields)) (old now : List EntryView) (before after later : Option (List ℕ)) (row bad row_now bad_now : ℕ) → later ≡ after → row_now ≡ row → bad_now ≡ bad
+    → Progress all left old now before after row bad → Progress all left old now before later row_now bad_now
+moved all left old now before after later row bad row_now bad_now writer rows bads p =
+    subst (λ (w : Option (List ℕ)). Progress all left old now before w row_now bad_now) (sym writer)
+    (subst (λ (r : ℕ). Progress all left old now before after r bad_now) (sym rows) (subst (λ (b : ℕ). Progress all left old now before after row b) (sym bads) p))
+
+-- all rows were answered
+pub done : (all left : Option (List Fields)) (old now : List EntryView) (before after : Option (List ℕ)) (row bad : ℕ) → Progress all left old now before after row bad → NoneLeft left
+    → IfSome all (λ records. (text : List ℕ) × Answers records old now text × Appends before after text × (bad + length now ≡ length records + length old))
+done None left old now before after row bad p none = tt
+done (Some records) None old now before after row bad p none = absurd p.have_gone
+done (Some records) (Some (fields ∷ rest)) old now before after row bad p none = absurd none
+done (Some records) (Some []) old now before after row bad p none =
+    let all : records ≡ p.gone = p.have_gone ∙ append-nil p.gone in
+    let sums = p.bad_is in
+    let known = p.row_is in
+    let size = zip-length Becomes p.gone p.became p.each in (
+      answers_from (length old + 1) 1 p.became,
+      record { became = p.became; each = subst (λ (r : List Fields). AllZip Becomes r p.became) (sym all) p.each; journal = p.journal; text_is = refl },
+      p.said,
+      omega (arith, sums, known, size, ap length all),
+    )
+
+-- the first rows were answered
+pub halted : (X : List EntryView → Type 0) (all left : Option (List Fields)) (old now : List EntryView) (before after : Option (List ℕ)) (row bad : ℕ)
+    → Progress all left old now before after row bad → X now
+    → IfSome all (λ records. (first rest : List Fields) × (text : List ℕ) × (kept : List EntryView) × (records ≡ first ++ rest) × Answers first old kept text × Appends before after text × X kept)
+halted X None left old now before after row bad p here = tt
+halted X (Some records) None old now before after row bad p here = absurd p.have_gone
+halted X (Some records) (Some rest) old now before after row bad p here = (
+  p.gone,
+  rest,
+  answers_from (length old + 1) 1 p.became,
+  now,
+  p.have_gone,
+  record { became = p.became; each = p.each; journal = p.journal; text_is = refl },
+  p.said,
+  here,
+)
+
+-- what follows from what holds of an answer
+pub on_ok : {T E : Type 0} (r : Result T E) (A B : Type 0) → OnOk r A → (A → B) → OnOk r B
+on_ok (Ok x) A B a to = to a
+on_ok (Err e) A B a to = a
+
+pub any_err : {T E : Type 0} (r : Result T E) (P : E → Type 0) → ((e : E) → P e) → IfErr r P
+any_err (Ok x) P all = tt
+any_err (Err e) P all = all e

@@ -1,0 +1,4 @@
+mod Answering
+mod Batches
+mod Saying
+mod Standings

@@ -1,0 +1,88 @@
+use Rattle.std.proofs.Common.{◌≡◌, ◌∙◌, ℕ, List, IfSome, ap, sym, subst}
+use Rattle.std.specs.Io.KnownBytes.{Appends}
+use Rattle.pb_desk.specs.Desk.{DeskView}
+use Rattle.pb_durable.proofs.Openings.{if_err}
+use Rattle.pb_durable.specs.Device.{LeavesOnly}
+use Rattle.pb_serving.specs.Answered.{heading, StandsWithin}
+use Rattle.pb_serving.proofs.Answering.{any_err}
+use Rattle.pb_serving.proofs.Saying.{all_said, answered, stopped, unsaid, HasAnswered}
+use Rattle.pb_rows.specs.Reading.{records_of}
+use Rattle.pb_serving.proofs.Standings.{begins, closes, kept_all, kept_closing}
+use Rattle.pb_serving.proofs.run_serve.run.Goals as goal
+
+pub returns-in_err-opened-clause-stopped : goal.returns-in_err-opened-clause-stopped
+returns-in_err-opened-clause-stopped g c =
+    let old = c.args.desk.now in
+    let before = g.W.Write.contents c.args.writer.now in
+    let head = heading c.args.torn old.desk in
+    any_err c.from_residual.result _ (λ fault other. unsaid (λ kept. g.D.Device.tells → (f : List ℕ) → g.D.Device.may_leave old.file.device f → StandsWithin old.desk.opening.version kept old.desk.journal f) (g.R.Read.remaining c.args.input) old.desk.journal before head
+    (λ tells f left. kept_all g.D.Device.moment g.D.Device.left_since g.D.Device.seen g.D.Device.may_leave old (c.requires tells) f left))
+
+pub returns-in_err-opened-clause-any_moment : goal.returns-in_err-opened-clause-any_moment
+returns-in_err-opened-clause-any_moment g c = λ tells. begins g.D.Device.moment g.D.Device.left_since g.D.Device.seen g.D.Device.may_leave g.met.D.Device.only_now c.args.desk.now (c.requires tells)
+
+pub returns-in_err-write_out-clause-any_moment : goal.returns-in_err-write_out-clause-any_moment
+returns-in_err-write_out-clause-any_moment g c = λ tells. begins g.D.Device.moment g.D.Device.left_since g.D.Device.seen g.D.Device.may_leave g.met.D.Device.only_now c.args.desk.now (c.requires tells)
+
+pub returns-in_err-bad_rows-clause-stopped : goal.returns-in_err-bad_rows-clause-stopped
+returns-in_err-bad_rows-clause-stopped g c =
+    let old = c.args.desk.now in
+    let before = g.W.Write.contents c.args.writer.now in
+    let head = heading c.args.torn old.desk in
+    let mid = g.W.Write.contents c.write_out.new.writer in
+    let after = g.W.Write.contents c.serve_rows-served.new.writer in
+    let head_is : c.as_slice.result.now ≡ head = c.as_slice.ensures.value ∙ c.in_ok-opened.ensures ∙ ap (λ (d : DeskView). heading c.args.torn d) c.desk.ensures in
+    let opened = subst (Appends before mid) head_is c.in_ok-write_out.ensures.ok in
+    let known = g.R.Read.remaining c.args.input in
+    let left = c.new-rows.result.left in
+    let now = c.serve_rows-served.new.desk in
+    if_err c.from_residual-in_err-bad_rows.result c.in_err-bad_rows.field-0.0 _ c.from_residual-in_err-bad_rows.ensures.1 (λ other.
+    stopped known left c.new-rows.ensures old.desk.journal before mid after head opened (λ kept. g.D.Device.tells → (f : List ℕ) → g.D.Device.may_leave now.file.device f → StandsWithin now.desk.opening.version kept now.desk.journal f) (c.in_err-bad_rows.ensures.stopped other))
+
+pub returns-in_err-close-clause-stopped : goal.returns-in_err-close-clause-stopped
+returns-in_err-close-clause-stopped g c =
+    let old = c.args.desk.now in
+    let before = g.W.Write.contents c.args.writer.now in
+    let head = heading c.args.torn old.desk in
+    let mid = g.W.Write.contents c.write_out.new.writer in
+    let after = g.W.Write.contents c.serve_rows-served.new.writer in
+    let head_is : c.as_slice.result.now ≡ head = c.as_slice.ensures.value ∙ c.in_ok-opened.ensures ∙ ap (λ (d : DeskView). heading c.args.torn d) c.desk.ensures in
+    let opened = subst (Appends before mid) head_is c.in_ok-write_out.ensures.ok in
+    let known = g.R.Read.remaining c.args.input in
+    let left = c.new-rows.result.left in
+    let now = c.serve_rows-served.new.desk in
+    let end = c.close.new.self in
+    any_err c.from_residual-in_err-close.result _ (λ fault other.
+    all_said known left c.new-rows.ensures old.desk.journal before mid after head opened (λ kept. g.D.Device.tells → (f : List ℕ) → g.D.Device.may_leave end.file.device f → StandsWithin end.desk.opening.version kept end.desk.journal f) now.desk.journal c.in_ok-bad_rows.bad_rows
+    (λ tells f here. subst (λ (d : DeskView). StandsWithin d.opening.version now.desk.journal d.journal f) (sym c.close.ensures.desk)
+    (kept_closing g.D.Device.moment g.D.Device.left_since g.D.Device.seen g.D.Device.may_leave g.met.D.Device.counts_now now end.file.device (c.close.ensures.any_moment tells) f here))
+    c.in_ok-bad_rows.ensures.answered)
+
+pub returns-in_err-close-clause-any_moment : goal.returns-in_err-close-clause-any_moment
+returns-in_err-close-clause-any_moment g c = λ tells.
+    let old = c.args.desk.now in
+    subst (λ (d : DeskView). LeavesOnly g.D.Device.moment g.D.Device.left_since old.file.device c.close.new.self.file.device (StandsWithin old.desk.opening.version old.desk.journal d.journal)) (sym c.close.ensures.desk)
+    (closes g.D.Device.moment g.D.Device.left_since g.D.Device.seen g.D.Device.may_leave old c.serve_rows-served.new.desk c.close.new.self.file.device c.in_ok-bad_rows.ensures.grown.0 c.serve_rows-served.ensures.opening c.in_ok-bad_rows.ensures.grown.1
+    (c.serve_rows-served.ensures.any_moment tells) (c.close.ensures.any_moment tells))
+
+pub returns-clause-any_moment : goal.returns-clause-any_moment
+returns-clause-any_moment g c = λ tells.
+    let old = c.args.desk.now in
+    subst (λ (d : DeskView). LeavesOnly g.D.Device.moment g.D.Device.left_since old.file.device c.close.new.self.file.device (StandsWithin old.desk.opening.version old.desk.journal d.journal)) (sym c.close.ensures.desk)
+    (closes g.D.Device.moment g.D.Device.left_since g.D.Device.seen g.D.Device.may_leave old c.serve_rows-served.new.desk c.close.new.self.file.device c.in_ok-bad_rows.ensures.grown.0 c.serve_rows-served.ensures.opening c.in_ok-bad_rows.ensures.grown.1
+    (c.serve_rows-served.ensures.any_moment tells) (c.close.ensures.any_moment tells))
+
+pub returns-clause-answered : goal.returns-clause-answered
+returns-clause-answered g c =
+    let old = c.args.desk.now in
+    let before = g.W.Write.contents c.args.writer.now in
+    let head = heading c.args.torn old.desk in
+    let mid = g.W.Write.contents c.write_out.new.writer in
+    let after = g.W.Write.contents c.serve_rows-served.new.writer in
+    let head_is : c.as_slice.result.now ≡ head = c.as_slice.ensures.value ∙ c.in_ok-opened.ensures ∙ ap (λ (d : DeskView). heading c.args.torn d) c.desk.ensures in
+    let opened = subst (Appends before mid) head_is c.in_ok-write_out.ensures.ok in
+    let known = g.R.Read.remaining c.args.input in
+    let left = c.new-rows.result.left in
+    let now = c.serve_rows-served.new.desk in
+    subst (λ (d : DeskView). IfSome known (λ bytes. HasAnswered old.desk.journal d.journal before after head c.in_ok-bad_rows.bad_rows (records_of bytes))) (sym c.close.ensures.desk)
+    (answered known left c.new-rows.ensures old.desk.journal before mid after head opened now.desk.journal c.in_ok-bad_rows.bad_rows c.in_ok-bad_rows.ensures.answered)

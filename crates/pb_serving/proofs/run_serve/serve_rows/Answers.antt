@@ -1,0 +1,219 @@
+use Rattle.std.proofs.Common.{◌≡◌, ◌∙◌, ◌≤◌, ◌<◌, ◌+◌, ℕ, List, [], ◌++◌, length, Option, refl, sym, ap, subst, arith, append_assoc}
+use Rattle.std.proofs.lemmas.List.{append-nil}
+use Rattle.std.specs.List.{All}
+use Rattle.std.specs.Io.KnownBytes.{Appends}
+use Rattle.pb_core.specs.Request.{EntryView}
+use Rattle.pb_desk.specs.Replay.{most_clerks}
+use Rattle.pb_desk.specs.Rows.{rows_from}
+use Rattle.pb_durable.proofs.Openings.{if_err}
+use Rattle.pb_durable.specs.DurableDesk.{entries_of}
+use Rattle.pb_durable.specs.declared.asked.Asked.{Asked}
+use Rattle.pb_rows.specs.Writing.{text_of_rows}
+use Rattle.pb_serving.specs.Answered.{StandsWithin}
+use Rattle.pb_serving.specs.Batch.{EndsBy}
+use Rattle.pb_serving.specs.declared.batch.BatchEnd.{BatchEnd}
+use Rattle.pb_serving.specs.declared.batch.BatchEnd.TheVariants as end
+use Rattle.pb_serving.proofs.Answering.{any_err, bad_more, batch_more, done, gone_mid, halted, moved, started, Progress}
+use Rattle.pb_serving.proofs.Batches.{asks_clerks}
+use Rattle.pb_serving.proofs.Standings.{begins, goes_on, kept_all, kept_first}
+use Rattle.pb_script.specs.declared.script_fault.ScriptFault.TheVariants.{BadRow}
+use Rattle.pb_commands.specs.Fault.{fields_of, line}
+use Rattle.pb_commands.specs.declared.fault.AppFault.TheVariants.{Script}
+use Rattle.pb_serving.proofs.run_serve.serve_rows.Goals.{in-More, in-Bad+in_ok-say_bad_row-in-Bad}
+use Rattle.pb_serving.proofs.run_serve.serve_rows.Goals as goal
+
+pub loop-init : goal.loop-init
+loop-init g c = record {
+  few = omega arith;
+  fewer = omega arith;
+  opening = refl;
+  durable = c.requires;
+  grown = ([], sym (append-nil c.args.desk.now.desk.journal));
+  progress = started c.args.rows.now.left c.args.desk.now.desk.journal (g.W.Write.contents c.args.writer.now);
+  any_moment = λ tells. begins g.D.Device.moment g.D.Device.left_since g.D.Device.seen g.D.Device.may_leave (g.met.D.Device.only_now) c.args.desk.now (c.requires tells);
+}
+
+pub answer-requires-clause-clerks : goal.answer-requires-clause-clerks
+answer-requires-clause-clerks g c =
+    let batch = c.in_ok-end.ensures.batch in
+    subst (λ (asks : List Asked). All (λ (a : Asked). a.clerk < most_clerks) asks) (sym c.as_slice.ensures.value) (asks_clerks batch.rows _ batch.each)
+
+pub returns-in_err-end-clause-stopped : goal.returns-in_err-end-clause-stopped
+returns-in_err-end-clause-stopped g c =
+    let inv = c.loop.invariant in
+    let old = c.args.desk.now in
+    let mid = c.loop.desk in
+    any_err c.from_residual.result _ (λ fault other. halted (λ kept. g.D.Device.tells → (f : List ℕ) → g.D.Device.may_leave mid.file.device f → StandsWithin mid.desk.opening.version kept mid.desk.journal f)
+    c.args.rows.now.left c.loop.rows.left old.desk.journal mid.desk.journal (g.W.Write.contents c.args.writer.now) (g.W.Write.contents c.loop.writer) c.loop.row c.loop.bad_rows inv.progress
+    (λ tells f left. kept_all g.D.Device.moment g.D.Device.left_since g.D.Device.seen g.D.Device.may_leave mid (inv.durable tells) f left))
+
+pub returns-in_err-answer-clause-stopped : goal.returns-in_err-answer-clause-stopped
+returns-in_err-answer-clause-stopped g c =
+    let inv = c.loop.invariant in
+    let old = c.args.desk.now in
+    let mid = c.loop.desk in
+    let new = c.answer.new.desk in
+    let asked = c.answer.ensures.asked in
+    if_err c.from_residual-in_err-answer.result c.in_err-answer.field-0.0 _ c.from_residual-in_err-answer.ensures.1 (λ other.
+    let same : g.W.Write.contents c.answer.new.writer ≡ g.W.Write.contents c.loop.writer = c.in_err-answer.ensures.unsaid other in
+    let so_far = subst (λ (w : Option (List ℕ)). Progress c.args.rows.now.left c.loop.rows.left old.desk.journal mid.desk.journal (g.W.Write.contents c.args.writer.now) w c.loop.row c.loop.bad_rows) (sym same) inv.progress in
+    halted (λ kept. g.D.Device.tells → (f : List ℕ) → g.D.Device.may_leave new.file.device f → StandsWithin new.desk.opening.version kept new.desk.journal f)
+    c.args.rows.now.left c.loop.rows.left old.desk.journal mid.desk.journal (g.W.Write.contents c.args.writer.now) (g.W.Write.contents c.answer.new.writer) c.loop.row c.loop.bad_rows so_far
+    (λ tells f left. kept_first g.D.Device.moment g.D.Device.left_since g.D.Device.seen g.D.Device.may_leave g.met.D.Device.counts_now mid new (entries_of c.as_slice.result.now asked.0) c.answer.ensures.opening asked.1 (c.answer.ensures.any_moment tells) f left))
+
+pub returns-in_err-answer-clause-any_moment : goal.returns-in_err-answer-clause-any_moment
+returns-in_err-answer-clause-any_moment g c = λ tells.
+    let inv = c.loop.invariant in
+    let old = c.args.desk.now in
+    let mid = c.loop.desk in
+    let asked = c.answer.ensures.asked in
+    goes_on g.D.Device.moment g.D.Device.left_since g.D.Device.seen g.D.Device.may_leave old mid c.answer.new.desk inv.grown.0 (entries_of c.as_slice.result.now asked.0) inv.opening inv.grown.1 asked.1 (inv.any_moment tells) (c.answer.ensures.any_moment tells)
+
+pub returns-in-Over-clause-any_moment : goal.returns-in-Over-clause-any_moment
+returns-in-Over-clause-any_moment g c = λ tells.
+    let inv = c.loop.invariant in
+    let old = c.args.desk.now in
+    let mid = c.loop.desk in
+    let asked = c.answer.ensures.asked in
+    goes_on g.D.Device.moment g.D.Device.left_since g.D.Device.seen g.D.Device.may_leave old mid c.answer.new.desk inv.grown.0 (entries_of c.as_slice.result.now asked.0) inv.opening inv.grown.1 asked.1 (inv.any_moment tells) (c.answer.ensures.any_moment tells)
+
+pub returns-in-ReadFailed-clause-any_moment : goal.returns-in-ReadFailed-clause-any_moment
+returns-in-ReadFailed-clause-any_moment g c = λ tells.
+    let inv = c.loop.invariant in
+    let old = c.args.desk.now in
+    let mid = c.loop.desk in
+    let asked = c.answer.ensures.asked in
+    goes_on g.D.Device.moment g.D.Device.left_since g.D.Device.seen g.D.Device.may_leave old mid c.answer.new.desk inv.grown.0 (entries_of c.as_slice.result.now asked.0) inv.opening inv.grown.1 asked.1 (inv.any_moment tells) (c.answer.ensures.any_moment tells)
+
+pub returns-in_err-say_bad_row-in-Bad-clause-any_moment : goal.returns-in_err-say_bad_row-in-Bad-clause-any_moment
+returns-in_err-say_bad_row-in-Bad-clause-any_moment g c = λ tells.
+    let inv = c.loop.invariant in
+    let old = c.args.desk.now in
+    let mid = c.loop.desk in
+    let asked = c.answer.ensures.asked in
+    goes_on g.D.Device.moment g.D.Device.left_since g.D.Device.seen g.D.Device.may_leave old mid c.answer.new.desk inv.grown.0 (entries_of c.as_slice.result.now asked.0) inv.opening inv.grown.1 asked.1 (inv.any_moment tells) (c.answer.ensures.any_moment tells)
+
+pub returns-in-Over-clause-answered : goal.returns-in-Over-clause-answered
+returns-in-Over-clause-answered g c =
+    let inv = c.loop.invariant in
+    let old = c.args.desk.now in
+    let mid = c.loop.desk in
+    let batch = c.in_ok-end.ensures.batch in
+    let said = c.in_ok-answer.ensures.said in
+    let asks = c.next_batch.new.asks.items in
+    let value = c.as_slice.ensures.value in
+    let grown : c.answer.new.desk.desk.journal ≡ mid.desk.journal ++ entries_of asks said.0 = said.2 ∙ ap (λ (a : List Asked). mid.desk.journal ++ entries_of a said.0) value in
+    let count : length said.0 ≡ length asks = said.1 ∙ ap length value in
+    let text = subst (λ (a : List Asked). Appends (g.W.Write.contents c.loop.writer) (g.W.Write.contents c.answer.new.writer) (text_of_rows (rows_from (length mid.desk.journal + 1) (entries_of a said.0)))) value said.3 in
+    let ends = subst (λ (e : BatchEnd). EndsBy e c.loop.rows.left batch.rows c.next_batch.new.rows.left) c.in-Over.is batch.goes_on in
+    done c.args.rows.now.left ends.0 old.desk.journal c.answer.new.desk.desk.journal (g.W.Write.contents c.args.writer.now) (g.W.Write.contents c.answer.new.writer) (c.loop.row + length asks) c.loop.bad_rows
+    (batch_more c.args.rows.now.left c.loop.rows.left ends.0 old.desk.journal mid.desk.journal c.answer.new.desk.desk.journal
+    (g.W.Write.contents c.args.writer.now) (g.W.Write.contents c.loop.writer) (g.W.Write.contents c.answer.new.writer) c.loop.row c.loop.bad_rows
+    batch.rows asks said.0 inv.progress ends.1 batch.each count grown text) ends.2
+
+pub returns-in-ReadFailed-clause-stopped : goal.returns-in-ReadFailed-clause-stopped
+returns-in-ReadFailed-clause-stopped g c = λ other.
+    let inv = c.loop.invariant in
+    let old = c.args.desk.now in
+    let mid = c.loop.desk in
+    let batch = c.in_ok-end.ensures.batch in
+    let said = c.in_ok-answer.ensures.said in
+    let asks = c.next_batch.new.asks.items in
+    let value = c.as_slice.ensures.value in
+    let grown : c.answer.new.desk.desk.journal ≡ mid.desk.journal ++ entries_of asks said.0 = said.2 ∙ ap (λ (a : List Asked). mid.desk.journal ++ entries_of a said.0) value in
+    let count : length said.0 ≡ length asks = said.1 ∙ ap length value in
+    let text = subst (λ (a : List Asked). Appends (g.W.Write.contents c.loop.writer) (g.W.Write.contents c.answer.new.writer) (text_of_rows (rows_from (length mid.desk.journal + 1) (entries_of a said.0)))) value said.3 in
+    let new = c.answer.new.desk in
+    let ends = subst (λ (e : BatchEnd). EndsBy e c.loop.rows.left batch.rows c.next_batch.new.rows.left) c.in-ReadFailed.is batch.goes_on in
+    let so_far = batch_more c.args.rows.now.left c.loop.rows.left ends.0 old.desk.journal mid.desk.journal c.answer.new.desk.desk.journal
+    (g.W.Write.contents c.args.writer.now) (g.W.Write.contents c.loop.writer) (g.W.Write.contents c.answer.new.writer) c.loop.row c.loop.bad_rows
+    batch.rows asks said.0 inv.progress ends.1 batch.each count grown text in
+    halted (λ kept. g.D.Device.tells → (f : List ℕ) → g.D.Device.may_leave new.file.device f → StandsWithin new.desk.opening.version kept new.desk.journal f)
+    c.args.rows.now.left ends.0 old.desk.journal new.desk.journal (g.W.Write.contents c.args.writer.now) (g.W.Write.contents c.answer.new.writer) (c.loop.row + length asks) c.loop.bad_rows so_far
+    (λ tells f left. kept_all g.D.Device.moment g.D.Device.left_since g.D.Device.seen g.D.Device.may_leave new (c.in_ok-answer.ensures.durable tells) f left)
+
+pub loop-preserved : goal.loop-preserved
+loop-preserved g c =
+    let inv = c.loop.invariant in
+    let old = c.args.desk.now in
+    let mid = c.loop.desk in
+    let batch = c.in_ok-end.ensures.batch in
+    let said = c.in_ok-answer.ensures.said in
+    let asks = c.next_batch.new.asks.items in
+    let value = c.as_slice.ensures.value in
+    let grown : c.answer.new.desk.desk.journal ≡ mid.desk.journal ++ entries_of asks said.0 = said.2 ∙ ap (λ (a : List Asked). mid.desk.journal ++ entries_of a said.0) value in
+    let count : length said.0 ≡ length asks = said.1 ∙ ap length value in
+    let text = subst (λ (a : List Asked). Appends (g.W.Write.contents c.loop.writer) (g.W.Write.contents c.answer.new.writer) (text_of_rows (rows_from (length mid.desk.journal + 1) (entries_of a said.0)))) value said.3 in
+    let new = c.answer.new.desk in
+    let asked = c.answer.ensures.asked in
+    let size : c.len.result ≡ length asks = c.len.ensures ∙ c.next_batch.new.asks.ok.0 in
+    let few : length asks ≤ 4096 = c.next_batch.ensures.few in
+    let before = inv.few in
+    let fewer = inv.fewer in
+    let contents = g.W.Write.contents in
+    let all = c.args.rows.now.left in
+    let left = c.loop.rows.left in
+    let after = c.next_batch.new.rows.left in
+    let start = contents c.args.writer.now in
+    let ends : (e : BatchEnd) → c.in_ok-end.end ≡ e → EndsBy e left batch.rows after = λ e is. subst (λ (x : BatchEnd). EndsBy x left batch.rows after) is batch.goes_on in
+    let opening = c.answer.ensures.opening ∙ inv.opening in
+    let entries : (x : List EntryView) × (new.desk.journal ≡ old.desk.journal ++ x) = (
+      inv.grown.0 ++ entries_of asks said.0,
+      grown ∙ ap (λ (j : List EntryView). j ++ entries_of asks said.0) inv.grown.1 ∙ append_assoc old.desk.journal inv.grown.0 (entries_of asks said.0),
+    ) in
+    elim c.match-end.branch [
+      | in-More w ↦
+          let row = w.row-is in
+          let bad = w.bad_rows-is in
+          record {
+            few = omega (arith, row, size, few, before);
+            fewer = omega (arith, row, bad, size, fewer);
+            opening = opening;
+            durable = λ tells. c.in_ok-answer.ensures.durable tells;
+            grown = entries;
+            progress = moved all after old.desk.journal new.desk.journal start (contents c.answer.new.writer) (contents c.match-end.writer) (c.loop.row + length asks) c.loop.bad_rows c.match-end.row c.match-end.bad_rows
+                (ap contents w.writer-is) (omega (arith, row, size)) bad
+                (batch_more all left after old.desk.journal mid.desk.journal new.desk.journal start (contents c.loop.writer) (contents c.answer.new.writer) c.loop.row c.loop.bad_rows
+                batch.rows asks said.0 inv.progress (ends end.More w.in-More.is) batch.each count grown text);
+            any_moment = λ tells. goes_on g.D.Device.moment g.D.Device.left_since g.D.Device.seen g.D.Device.may_leave old mid new inv.grown.0 (entries_of c.as_slice.result.now asked.0) inv.opening inv.grown.1 asked.1 (inv.any_moment tells) (c.answer.ensures.any_moment tells);
+          }
+      | in-Bad+in_ok-say_bad_row-in-Bad w ↦
+          let row = w.row-is in
+          let bad = w.bad_rows-is in
+          let here = ends end.Bad w.in-Bad.is in
+          let between = gone_mid left after batch.rows here.0 here.2 in
+          let at : c.loop.row + c.len.result + 1 ≡ c.loop.row + length asks + 1 = omega (arith, size) in
+          let line_is = subst (λ (n : ℕ). Appends (contents c.answer.new.writer) (contents w.say_bad_row.new.writer) (line (fields_of (Script (BadRow n))))) at w.in_ok-say_bad_row-in-Bad.ensures.ok in
+          record {
+            few = omega (arith, row, size, few, before);
+            fewer = omega (arith, row, bad, size, fewer);
+            opening = opening;
+            durable = λ tells. c.in_ok-answer.ensures.durable tells;
+            grown = entries;
+            progress = moved all after old.desk.journal new.desk.journal start (contents w.say_bad_row.new.writer) (contents c.match-end.writer) (c.loop.row + length asks + 1) (c.loop.bad_rows + 1) c.match-end.row c.match-end.bad_rows
+                (ap contents w.writer-is) (omega (arith, row, size)) bad
+                (bad_more all between.0 after old.desk.journal new.desk.journal new.desk.journal start (contents c.answer.new.writer) (contents w.say_bad_row.new.writer) (c.loop.row + length asks) c.loop.bad_rows
+                here.0
+                (batch_more all left between.0 old.desk.journal mid.desk.journal new.desk.journal start (contents c.loop.writer) (contents c.answer.new.writer) c.loop.row c.loop.bad_rows
+                batch.rows asks said.0 inv.progress between.1 batch.each count grown text)
+                between.2 here.1 line_is);
+            any_moment = λ tells. goes_on g.D.Device.moment g.D.Device.left_since g.D.Device.seen g.D.Device.may_leave old mid new inv.grown.0 (entries_of c.as_slice.result.now asked.0) inv.opening inv.grown.1 asked.1 (inv.any_moment tells) (c.answer.ensures.any_moment tells);
+          }
+    ]
+
+pub returns-clause-stopped : goal.returns-clause-stopped
+returns-clause-stopped g c = λ other.
+    let inv = c.loop.invariant in
+    let old = c.args.desk.now in
+    let mid = c.loop.desk in
+    halted (λ kept. g.D.Device.tells → (f : List ℕ) → g.D.Device.may_leave mid.file.device f → StandsWithin mid.desk.opening.version kept mid.desk.journal f)
+    c.args.rows.now.left c.loop.rows.left old.desk.journal mid.desk.journal (g.W.Write.contents c.args.writer.now) (g.W.Write.contents c.loop.writer) c.loop.row c.loop.bad_rows inv.progress
+    (λ tells f left. kept_all g.D.Device.moment g.D.Device.left_since g.D.Device.seen g.D.Device.may_leave mid (inv.durable tells) f left)
+
+pub returns-in-Over-clause-grown : goal.returns-in-Over-clause-grown
+returns-in-Over-clause-grown g c =
+    let inv = c.loop.invariant in
+    let old = c.args.desk.now in
+    let asked = c.answer.ensures.asked in
+    let entries = entries_of c.as_slice.result.now asked.0 in
+    (inv.grown.0 ++ entries, asked.1 ∙ ap (λ (j : List EntryView). j ++ entries) inv.grown.1 ∙ append_assoc old.desk.journal inv.grown.0 entries)

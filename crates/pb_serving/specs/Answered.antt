@@ -1,0 +1,46 @@
+-- What a run of `serve` says.
+use Rattle.std.specs.Prelude.{◌≡◌, ℕ, suc, ◌+◌, ◌++◌, ◌==◌, List, [], ◌∷◌, Option, Some, None, codes, decimal, filter_map, length, if◌then◌else◌}
+use Rattle.std.specs.List.{AllZip}
+use Rattle.pb_core.specs.Request.{EntryView}
+use Rattle.pb_desk.specs.Desk.{DeskView}
+use Rattle.pb_desk.specs.Replay.{most_clerks}
+use Rattle.pb_desk.specs.Rows.{journal_text, row_of}
+use Rattle.pb_desk.specs.declared.version.Version.{Version}
+use Rattle.pb_durable.specs.JournalFile.{StandsFor}
+use Rattle.pb_rows.specs.Reading.{Fields}
+use Rattle.pb_rows.specs.Writing.{text_of_row}
+use Rattle.pb_script.specs.Script.{HasScriptForm, IsScriptRow}
+use Rattle.pb_script.specs.declared.script_fault.ScriptFault.TheVariants.{BadRow}
+use Rattle.pb_commands.specs.Audited.{entries_row}
+use Rattle.pb_commands.specs.Fault.{fields_of, line}
+use Rattle.pb_commands.specs.declared.fault.AppFault.TheVariants.{Script}
+
+-- what is said first: how many bytes were cut off the journal, where there were any, and the row of its desk
+abbrev pub heading : ℕ → DeskView → List ℕ
+heading torn d =
+    (if torn == 0 then [] else text_of_row (codes "torn" ∷ decimal torn ∷ [])) ++ text_of_row (entries_row d)
+
+-- a row of the input asks what this entry has; or it has not the form
+abbrev pub Becomes : Fields → Option EntryView → Type 0
+Becomes row None = ¬ HasScriptForm most_clerks row
+Becomes row (Some x) = IsScriptRow most_clerks row (record { clerk = x.clerk; request = x.request })
+
+-- what is said to the rows that became these, where the next entry and the next row have these numbers
+abbrev pub answers_from : ℕ → ℕ → List (Option EntryView) → List ℕ
+answers_from entry row [] = []
+answers_from entry row (None ∷ more) = line (fields_of (Script (BadRow row))) ++ answers_from entry (suc row) more
+answers_from entry row (Some x ∷ more) = text_of_row (row_of entry x) ++ answers_from (suc entry) (suc row) more
+
+-- these rows of the input were answered by this text, and their entries came to the journal
+pub record Answers (rows : List Fields) (before after : List EntryView) (text : List ℕ) : Type 0 where
+  pub became : List (Option EntryView)
+  pub each : AllZip Becomes rows became
+  pub journal : after ≡ before ++ filter_map (λ x. x) became
+  pub text_is : text ≡ answers_from (length before + 1) 1 became
+
+-- the file stands for a journal that begins with the first of these journals, and is a first part of the second
+pub record StandsWithin (version : Version) (first last : List EntryView) (file : List ℕ) : Type 0 where
+  pub more : List EntryView
+  pub rest : List EntryView
+  pub stands : StandsFor (journal_text version (first ++ more)) file
+  pub last_is : last ≡ (first ++ more) ++ rest
