@@ -1,4 +1,4 @@
--- The outcome of a count can be printed.
+-- The sums of the outcome of a count are amounts of 64 bits.
 use Rattle.std.proofs.Common.{◌≡◌, ℕ, suc, ◌+◌, ◌<◌, ◌≤◌, List, [], ◌∷◌, length, Some, arith}
 use Rattle.std.specs.Prelude.{All, sum_by}
 use Rattle.std.specs.List.{AllZip}
@@ -12,8 +12,7 @@ use Rattle.pb_rounds.specs.Outcome.{OutcomeView, settled}
 use Rattle.pb_rounds.specs.PriceSystem.{HasPriceSystem, PaysFor}
 use Rattle.pb_rounds.specs.Run.{ElectedView}
 use Rattle.pb_rounds.specs.declared.options.CountOptions.{CountOptions}
-use Rattle.pb_commands.specs.Printable.{IsPrintable}
-use Rattle.pb_commands.specs.Report.{collected_for}
+use Rattle.pb_reasons.specs.Totals.{collected_for}
 use Rattle.pb_commands.proofs.ElectedPlaces.{count_elects_projects}
 
 -- a known project has at most as many supporters as there are voters
@@ -42,16 +41,15 @@ collected_is_little_more s rests projects most few (w ∷ elected) (row ∷ paym
       sum_by-cons (λ (v : ElectedView). most) w elected,
     )
 
-pub count_is_printable : (e : ElectionView) (options : CountOptions) (o : OutcomeView) → IsElection e
+-- what the elected of a count cost together, and what was paid for them, are below the bound of 64 bits
+pub sums_are_amounts : (e : ElectionView) (options : CountOptions) (o : OutcomeView) → IsElection e
     → count_of e options ≡ Some (settled o) → spent_on (support_of e) o.elected ≤ e.budget → HasPriceSystem (support_of e) o.share o.elected o.rests
-    → IsPrintable e o.elected
-count_is_printable e options o is_election counted within prices =
+    → (spent_on (support_of e) o.elected < 2 ^ 64) × (collected_for o.elected < 2 ^ 64)
+sums_are_amounts e options o is_election counted within prices =
     let places = count_elects_projects e options (settled o) counted in
     let more = collected_is_little_more (support_of e) o.rests (length e.projects) (length e.voters) (few_supporters e) o.elected prices.payments places.known prices.explain.paid in
     let slack = sum_by-le (λ (w : ElectedView). length e.voters) (length e.voters) o.elected (λ k d below. omega arith) in
-    let product = mul-le-mul places.few is_election.few_voters in
-    record {
-      known = places.known;
-      spent = omega (arith, is_election.budget_bounded);
-      collected = omega (arith, is_election.budget_bounded);
-    }
+    let product = mul-le-mul places.few is_election.few_voters in (
+      omega (arith, is_election.budget_bounded),
+      omega (arith, is_election.budget_bounded),
+    )

@@ -10,7 +10,8 @@ use Rattle.pb_reasons.specs.declared.project_reason.ProjectReason.{ProjectReason
 use Rattle.pb_rounds.specs.Outcome.{Settled}
 use Rattle.pb_rows.specs.Reading.{Fields}
 use Rattle.pb_rows.specs.Writing.{text_of_row, text_of_rows}
-use Rattle.pb_commands.proofs.ReportSums.{cost_at-known, id_at-known}
+use Rattle.pb_commands.proofs.ReportSums.{id_at-known}
+use Rattle.pb_reasons.proofs.WinnerSums.{cost_at-known}
 use Rattle.pb_commands.proofs.RowsGrown.{none_grown, row_grown}
 use Rattle.pb_commands.specs.Report.{id_at}
 use Rattle.pb_commands.specs.Tables.{ending_fields, name_at, project_row, reason_fields, voter_row}

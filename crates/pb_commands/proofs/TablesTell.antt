@@ -24,7 +24,7 @@ use Rattle.pb_rounds.specs.Run.{ElectedView, is_elected}
 use Rattle.pb_rounds.specs.declared.options.CountOptions.{CountOptions}
 use Rattle.pb_commands.proofs.ElectedPlaces.{count_elects_projects}
 use Rattle.pb_commands.proofs.Tellable.{count_can_be_told}
-use Rattle.pb_commands.specs.Report.{collected_for}
+use Rattle.pb_reasons.specs.Totals.{collected_for}
 
 -- a project that is not elected has no round
 no_round : (elected : List ElectedView) (place : ℕ) → is_elected elected place ≡ false → length elected ≤ round_of elected place

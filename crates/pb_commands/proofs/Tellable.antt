@@ -10,15 +10,19 @@ use Rattle.pb_rounds.specs.Outcome.{OutcomeView, settled, settled_by}
 use Rattle.pb_rounds.specs.Run.{RunView, outcome_of}
 use Rattle.pb_rounds.specs.declared.options.CountOptions.{CountOptions}
 use Rattle.pb_commands.proofs.ElectedPlaces.{count_elects_projects}
+use Rattle.pb_commands.proofs.Printables.{sums_are_amounts}
 
 pub count_can_be_told : (e : ElectionView) (options : CountOptions) (o : OutcomeView) → IsElection e → IsCountOf e options o → CanBeTold e (settled o)
 count_can_be_told e options o h counted =
     let places = count_elects_projects e options (settled o) (is_computed e options o counted) in
+    let sums = sums_are_amounts e options o h (is_computed e options o counted) counted.within_budget counted.price_system in
     let support = IsSupport-support_of e h in
     let run : settled o ≡ settled_by o.share o.raised (outcome_of options.measure e o.share) = ap (λ (run : RunView). settled_by o.share o.raised run) counted.run_is in
     record {
       known = places.known;
       few = places.few;
       one_each = settled_has_rests options.measure e support o.share o.raised o run;
+      spent = sums.0;
+      collected = sums.1;
       price_system = settled_is_paid_in_turn options.measure e support o.share o.raised o run;
     }

@@ -1,5 +1,4 @@
 pub mod Report
-pub mod Printable
 pub mod Tables
 pub mod Tabled
 pub mod Fault

@@ -1,9 +1,10 @@
 -- The report of a count.
-use Rattle.std.specs.Prelude.{ℕ, ◌-◌, List, [], ◌∷◌, ◌++◌, codes, decimal, length, map, sum_by, slice_index_or}
+use Rattle.std.specs.Prelude.{ℕ, List, [], ◌∷◌, ◌++◌, codes, decimal, length, map, slice_index_or}
 use Rattle.pb_core.specs.Election.{ElectionView, project_ids}
 use Rattle.pb_core.specs.MoneyText.{money_text}
 use Rattle.pb_price.specs.Supporters.{cost_at, support_of}
-use Rattle.pb_rounds.specs.Count.{spent_on}
+use Rattle.pb_reasons.specs.Totals.{totals_of}
+use Rattle.pb_reasons.specs.declared.totals.Totals.{Totals}
 use Rattle.pb_rounds.specs.Outcome.{Settled}
 use Rattle.pb_rounds.specs.Run.{ElectedView}
 use Rattle.pb_rows.specs.Reading.{Fields}
@@ -24,16 +25,12 @@ abbrev pub elected_row : ElectionView → ElectedView → Fields
 elected_row e w =
     codes "elected" ∷ id_at e w.place ∷ money_text (cost_at (support_of e) w.place) ∷ money_text w.price ∷ []
 
--- what was paid for the elected together
-abbrev pub collected_for : List ElectedView → ℕ
-collected_for elected = sum_by (λ w. w.collected) elected
-
 -- the rows below: what the elected cost together, and what was paid beyond that
-abbrev pub closing_rows : ElectionView → List ElectedView → List Fields
-closing_rows e elected =
-    (codes "spent" ∷ money_text (spent_on (support_of e) elected) ∷ [])
-    ∷ (codes "surplus" ∷ money_text (collected_for elected - spent_on (support_of e) elected) ∷ []) ∷ []
+abbrev pub closing_rows : Totals → List Fields
+closing_rows totals =
+    (codes "spent" ∷ money_text totals.spent ∷ []) ∷ (codes "surplus" ∷ money_text totals.surplus ∷ []) ∷ []
 
 -- the report of a count, as text: the elected stand in order of election
 unfoldable pub report_of : ElectionView → Settled → List ℕ
-report_of e o = text_of_rows (opening_rows e o ++ (map (elected_row e) o.elected ++ closing_rows e o.elected))
+report_of e o =
+    text_of_rows (opening_rows e o ++ (map (elected_row e) o.elected ++ closing_rows (totals_of e o.elected)))

@@ -1,18 +1,17 @@
 // The report of a count.
 
-ghost use Rattle.std.specs.Prelude.{◌≡◌, ◌<◌, ◌^◌, ◌++◌, ◌∷◌, [], All, OnOk, codes, decimal, length, map};
+ghost use Rattle.std.specs.Prelude.{◌≡◌, ◌<◌, ◌++◌, ◌∷◌, [], All, OnOk, codes, decimal, length, map};
 ghost use Rattle.pb_core.specs.MoneyText.{money_text};
-ghost use Rattle.pb_price.specs.Supporters.{support_of};
-ghost use Rattle.pb_rounds.specs.Count.{spent_on};
+ghost use Rattle.pb_reasons.specs.Reasons.{CanBeTold};
 ghost use Rattle.pb_rounds.specs.Outcome.{settled};
 ghost use Rattle.pb_rows.specs.Writing.{text_of_row, text_of_rows};
-ghost use Rattle.pb_commands.specs.Report.{closing_rows, collected_for, elected_row, opening_rows, report_of};
-ghost use Rattle.pb_commands.specs.Printable.{IsPrintable};
+ghost use Rattle.pb_commands.specs.Report.{closing_rows, elected_row, opening_rows, report_of};
 
 use itoa::Buffer;
 use pb_core::election::Election;
 use pb_core::money::Money;
 use pb_core::no_memory::NoMemory;
+use pb_reasons::Totals;
 use pb_rounds::outcome::{Elected, Outcome};
 use pb_rows::RowsWriter;
 use std::alloc::Global;
@@ -26,12 +25,12 @@ pub(crate) fn put_report(
     election: &Election,
     outcome: &Outcome,
 ) -> Result<(), NoMemory>
-    requires { IsPrintable election.now outcome.now.elected }
+    requires { CanBeTold election.now (settled outcome.now) }
     ensures { OnOk result (rows.new.text ≡ rows.old.text ++ report_of election.now (settled outcome.now)) }
 {
     put_opening(rows, alloc, election, outcome)?;
     put_elected(rows, alloc, election, outcome.elected.as_slice())?;
-    put_closing(rows, alloc, election, outcome.elected.as_slice())?;
+    put_closing(rows, alloc, Totals::of(election, outcome))?;
     Ok(())
 }
 
@@ -74,43 +73,12 @@ fn put_elected(
 }
 
 /// The sums below.
-fn put_closing(
-    rows: &mut RowsWriter,
-    alloc: Global,
-    election: &Election,
-    elected: &[Elected],
-) -> Result<(), NoMemory>
-    requires { IsPrintable election.now elected.now }
-    ensures { OnOk result (rows.new.text ≡ rows.old.text
-        ++ text_of_rows (closing_rows election.now elected.now)) }
+fn put_closing(rows: &mut RowsWriter, alloc: Global, totals: Totals) -> Result<(), NoMemory>
+    ensures { OnOk result (rows.new.text ≡ rows.old.text ++ text_of_rows (closing_rows totals)) }
 {
-    let spent = spent_for(election, elected);
-    let surplus = collected_for(elected).saturating_sub(spent);
-    put_amount(rows, alloc, "spent", Money(spent))?;
-    put_amount(rows, alloc, "surplus", Money(surplus))?;
+    put_amount(rows, alloc, "spent", totals.spent)?;
+    put_amount(rows, alloc, "surplus", totals.surplus)?;
     Ok(())
-}
-
-/// What the elected cost together, in hundredths.
-fn spent_for(election: &Election, elected: &[Elected]) -> u64
-    requires known { All (λ w. w.place < length election.now.projects) elected.now }
-    requires fits { spent_on (support_of election.now) elected.now < 2 ^ 64 }
-    ensures { result ≡ spent_on (support_of election.now) elected.now }
-{
-    let projects = election.projects();
-    let mut spent = 0;
-    for winner in elected {
-        spent += projects[winner.place as usize].cost().0;
-    }
-    spent
-}
-
-/// What was paid for the elected together, in hundredths.
-fn collected_for(elected: &[Elected]) -> u64
-    requires { collected_for elected.now < 2 ^ 64 }
-    ensures { result ≡ collected_for elected.now }
-{
-    elected.iter().map(|winner| winner.collected.0).sum()
 }
 
 /// A row of a name and an amount.

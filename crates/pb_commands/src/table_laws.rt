@@ -13,7 +13,7 @@ ghost use Rattle.pb_rounds.specs.Counted.{IsCountOf};
 ghost use Rattle.pb_rounds.specs.Outcome.{OutcomeView, settled};
 ghost use Rattle.pb_rounds.specs.Run.{ElectedView, is_elected};
 ghost use Rattle.pb_rounds.specs.declared.options.CountOptions.{CountOptions};
-ghost use Rattle.pb_commands.specs.Report.{collected_for};
+ghost use Rattle.pb_reasons.specs.Totals.{collected_for};
 
 /// What the two tables of a count tell: a project that is not elected lacks something, and each voter has paid what is
 /// not left of the share. They agree with the report: the projects that it names as elected are so in the table of

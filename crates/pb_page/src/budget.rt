@@ -22,18 +22,6 @@ pub(crate) fn word(number: u64, one: &'static str, many: &'static str) -> &'stat
     if number == 1 { one } else { many }
 }
 
-/// What the elected cost together. The sum never reaches the bound: it is within the budget.
-pub(crate) fn spent_for(election: &Election, elected: &[Elected]) -> Money
-    requires { All (λ w. w.place < length election.now.projects) elected.now }
-{
-    let projects = election.projects();
-    let mut spent: u64 = 0;
-    for winner in elected {
-        spent = spent.saturating_add(projects[winner.place as usize].cost().0);
-    }
-    Money(spent)
-}
-
 /// The head of a page: what it is about.
 pub(crate) fn put_head(page: &mut Page, alloc: Global, title: &str) -> Result<(), NoMemory> {
     page.put(alloc, Part::Head, &[Value::Text(title), Value::Text(title)])
@@ -44,14 +32,11 @@ pub(crate) fn put_summary(
     page: &mut Page,
     alloc: Global,
     election: &Election,
-    elected: &[Elected],
-) -> Result<(), NoMemory>
-    requires { All (λ w. w.place < length election.now.projects) elected.now }
-{
+    winners: u64,
+    spent: Money,
+) -> Result<(), NoMemory> {
     let voters = election.voters().len() as u64;
     let projects = election.projects().len() as u64;
-    let winners = elected.len() as u64;
-    let spent = spent_for(election, elected);
     let left = Money(election.budget().0.saturating_sub(spent.0));
     page.put(
         alloc,
@@ -76,11 +61,11 @@ pub(crate) fn put_budget(
     alloc: Global,
     election: &Election,
     elected: &[Elected],
+    spent: Money,
 ) -> Result<(), NoMemory>
     requires { All (λ w. w.place < length election.now.projects) elected.now }
 {
     let budget = election.budget();
-    let spent = spent_for(election, elected);
     let left = Money(budget.0.saturating_sub(spent.0));
     page.put(
         alloc,

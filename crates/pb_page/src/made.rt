@@ -15,7 +15,7 @@ use crate::winners::put_winners;
 use crate::written_page::Page;
 use pb_core::election::Election;
 use pb_core::no_memory::NoMemory;
-use pb_reasons::Reasons;
+use pb_reasons::{Reasons, Totals};
 use pb_rounds::outcome::Outcome;
 use std::alloc::Global;
 
@@ -58,8 +58,9 @@ fn put_all(
 {
     let elected = outcome.elected.as_slice();
     put_head(page, alloc, facts.title)?;
-    put_summary(page, alloc, election, elected)?;
-    put_budget(page, alloc, election, elected)?;
+    let spent = Totals::of(election, outcome).spent;
+    put_summary(page, alloc, election, elected.len() as u64, spent)?;
+    put_budget(page, alloc, election, elected, spent)?;
     put_winners(page, alloc, election, outcome, reasons, elected)?;
     put_others(page, alloc, election, outcome, reasons)?;
     put_voters(page, alloc, election, elected)?;

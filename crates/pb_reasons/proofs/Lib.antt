@@ -3,3 +3,4 @@ pub mod Found
 pub mod Paying
 pub mod Reasoned
 pub mod VoterTold
+pub mod WinnerSums

@@ -1,6 +1,6 @@
 -- What reasons tell, from what they keep.
-use Rattle.std.proofs.Common.{◌≡◌, ◌≢◌, ℕ, ◌+◌, ◌-◌, ◌<◌, ◌≤◌, List, [], ◌∷◌, ◌++◌, length, get_or, take, map, true, false, cond, ltb, Some, None, refl, sym, ◌∙◌, ap, subst, arith}
-use Rattle.std.specs.Prelude.{◌==◌, All, count_by, filter, slice_index, slice_index_or, nat_lt, slice_get, sum_by, replicate}
+use Rattle.std.proofs.Common.{◌≡◌, ℕ, ◌+◌, ◌-◌, ◌<◌, ◌≤◌, List, [], ◌∷◌, ◌++◌, length, get_or, take, map, true, cond, Some, None, refl, sym, ◌∙◌, ap, subst, arith}
+use Rattle.std.specs.Prelude.{◌==◌, All, count_by, filter, slice_index, slice_index_or, nat_lt, slice_get, replicate}
 use Rattle.std.specs.List.Sorted.{IsStrictlyIncreasing}
 use Rattle.std.proofs.lemmas.Bool.{cond-true, eq-eqb, lt-ltb, true≢false}
 use Rattle.std.proofs.lemmas.List.{get_or-map, get_or_default, get_or_past, length-map, map_more, append-nil}
@@ -11,7 +11,6 @@ use Rattle.pb_core.specs.Election.{ElectionView, ProjectView}
 use Rattle.pb_price.specs.Supporters.{IsSupport, cost_at, support_of, supporters_at}
 use Rattle.pb_price.specs.Price.{total_rest}
 use Rattle.pb_rounds.specs.Outcome.{Settled}
-use Rattle.pb_rounds.specs.Payments.{paid_in_turn}
 use Rattle.pb_rounds.specs.Run.{ElectedView, is_listed}
 use Rattle.pb_rounds.proofs.Listed.{listed_from_contains, rises_within}
 use Rattle.pb_rounds.proofs.Collected.{length-rises}
@@ -36,6 +35,10 @@ full_count due paid price (v ∷ supporters) same =
 module _ (e : ElectionView) (o : Settled) (r : ReasonsView) (own : AreReasons e o r) where
   as_many_costs : length (support_of e).costs ≡ length e.projects
   as_many_costs = simp length-map
+
+  -- the place of a project has supporters
+  pub has_place : (place : ℕ) → place < length e.projects → place < length r.supporters.costs
+  has_place place known = rw (own.supporters, as_many_costs) known
 
   pub as_many_rows : length r.paid ≡ length o.elected
   as_many_rows = ap length own.paid ∙ length-paid_by_supporters (support_of e) (replicate (length e.voters) o.share) o.elected

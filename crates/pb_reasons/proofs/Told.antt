@@ -1,12 +1,12 @@
 -- Rounds, and what was paid in them.
-use Rattle.std.proofs.Common.{◌≡◌, ◌≢◌, ℕ, zero, suc, ◌+◌, ◌<◌, ◌≤◌, List, [], ◌∷◌, length, get_or, map, min, set, drop, true, false, cond, ltb, refl, sym, ◌∙◌, ap, inl, inr, arith}
-use Rattle.std.specs.Prelude.{◌==◌, All, not, slice_index, replicate}
-use Rattle.std.specs.List.{position_or_len, prefix_len}
+use Rattle.std.proofs.Common.{◌≡◌, ℕ, zero, suc, ◌+◌, ◌<◌, ◌≤◌, List, [], ◌∷◌, length, get_or, map, min, set, drop, true, false, cond, ltb, refl, sym, ◌∙◌, ap, inl, inr, arith}
+use Rattle.std.specs.Prelude.{◌==◌, not, slice_index, replicate}
+use Rattle.std.specs.List.{position_or_len}
 use Rattle.std.proofs.lemmas.Bool.{cases_eq, cases_lt, eq-eqb, ne_eqb, eqb-true, lt-ltb, le-ltb}
 use Rattle.std.proofs.lemmas.List.{get_or-replicate, get_or-set_same, get_or-set_other, length-set}
 use Rattle.std.proofs.lemmas.List.Sums.{passes_at_first, prefix_len-drop_yes, prefix_len-drop_no, prefix_len-drop_all}
 use Rattle.pb_price.specs.Supporters.{SupportView, supporters_at}
-use Rattle.pb_rounds.specs.Payments.{paid_in_turn, payments_of}
+use Rattle.pb_rounds.specs.Payments.{paid_in_turn}
 use Rattle.pb_rounds.specs.Run.{ElectedView, charged, is_elected, is_listed}
 use Rattle.pb_rounds.proofs.Charged.{payment_at}
 use Rattle.pb_reasons.specs.Reasons.{round_of}

@@ -1,14 +1,14 @@
 -- What a voter's ballot came to, place by place.
-use Rattle.std.proofs.Common.{◌≡◌, ℕ, ◌+◌, ◌-◌, ◌<◌, ◌≤◌, List, [], ◌∷◌, ◌++◌, length, get_or, take, map, cond, refl, sym, ◌∙◌, ap, subst, arith}
+use Rattle.std.proofs.Common.{◌≡◌, ℕ, ◌+◌, ◌-◌, ◌<◌, ◌≤◌, List, [], length, get_or, take, map, refl, sym, ◌∙◌, ap, arith}
 use Rattle.std.specs.Prelude.{All, count_by, if◌then◌else◌, slice_index, sum_by}
 use Rattle.std.proofs.lemmas.Bool.{le-ltb, lt-ltb}
 use Rattle.std.proofs.lemmas.List.{get_or_default, length-take-le}
 use Rattle.std.proofs.lemmas.List.Sums.{count_by-le-length, count_by_more_no, count_by_more_yes}
 use Rattle.pb_core.specs.Election.{ElectionView}
-use Rattle.pb_price.specs.Supporters.{ballot_at, support_of, supporters_at}
+use Rattle.pb_price.specs.Supporters.{ballot_at, supporters_at}
 use Rattle.pb_rounds.specs.Outcome.{Settled}
 use Rattle.pb_rounds.specs.Run.{is_elected, is_listed}
-use Rattle.pb_reasons.specs.Reasons.{AreReasons, CanBeTold, ReasonsView, VoterReasonView, all_payments, paid_for, round_of, voter_reason}
+use Rattle.pb_reasons.specs.Reasons.{AreReasons, CanBeTold, ReasonsView, all_payments, paid_for, round_of, voter_reason}
 use Rattle.pb_reasons.specs.declared.payment.Payment.{Payment}
 use Rattle.pb_reasons.proofs.Told.{elected_has_round}
 use Rattle.pb_reasons.proofs.Reasoned.{IsListing, amount_is_paid, as_many_rows, few_amounts, nothing_paid, round_read}

@@ -1,14 +1,16 @@
 -- Why an outcome is as it is, project by project and voter by voter.
-use Rattle.std.specs.Prelude.{◌≡◌, ℕ, ◌+◌, ◌-◌, ◌<◌, ◌≤◌, ◌==◌, List, [], All, Option, Some, None, count_by, filter, length, map, nat_lt, replicate, slice_get, slice_index, slice_index_or, sum_by}
+use Rattle.std.specs.Prelude.{◌≡◌, ℕ, ◌+◌, ◌-◌, ◌<◌, ◌≤◌, ◌^◌, ◌==◌, List, [], All, Option, Some, None, count_by, filter, length, map, nat_lt, replicate, slice_get, slice_index, slice_index_or, sum_by}
 use Rattle.std.specs.List.{position_or_len}
 use Rattle.pb_core.specs.Election.{ElectionView}
 use Rattle.pb_price.specs.Price.{total_rest}
 use Rattle.pb_price.specs.Supporters.{SupportView, ballot_at, cost_at, support_of, supporters_at}
+use Rattle.pb_rounds.specs.Count.{spent_on}
 use Rattle.pb_rounds.specs.Outcome.{Settled}
 use Rattle.pb_rounds.specs.Payments.{paid_in_turn}
 use Rattle.pb_rounds.specs.PriceSystem.{IsPriceSystem}
 use Rattle.pb_rounds.specs.Run.{ElectedView, is_elected}
 use Rattle.pb_reasons.specs.Replay.{paid_by_supporters}
+use Rattle.pb_reasons.specs.Totals.{collected_for}
 use Rattle.pb_reasons.specs.declared.payment.Payment.{Payment}
 use Rattle.pb_reasons.specs.declared.project_reason.Ending.{Ending}
 use Rattle.pb_reasons.specs.declared.project_reason.Ending.TheVariants.{Won, Lost}
@@ -70,11 +72,13 @@ voter_reason e o voter =
           (map (λ place. record { place = place; amount = paid_for e o place voter }) ballot);
     }
 
--- an outcome that can be told: its payments are a price system of it
+-- an outcome that can be told: its payments are a price system of it, and its sums are amounts of 64 bits
 pub record CanBeTold (e : ElectionView) (o : Settled) : Type 0 where
   pub known : All (λ w. w.place < length e.projects) o.elected
   pub few : length o.elected ≤ length e.projects
   pub one_each : length o.rests ≡ length e.voters
+  pub spent : spent_on (support_of e) o.elected < 2 ^ 64
+  pub collected : collected_for o.elected < 2 ^ 64
   pub price_system : IsPriceSystem (support_of e) o.share o.elected o.rests (all_payments e o)
 
 -- the number of each project's round

@@ -9,9 +9,11 @@ pub mod project_reason;
 pub mod reasons;
 mod replay;
 mod rounds;
+pub mod totals;
 pub mod voter_reason;
 
 pub use payment::Payment;
 pub use project_reason::{Ending, Lost, ProjectReason, Won};
 pub use reasons::Reasons;
+pub use totals::Totals;
 pub use voter_reason::VoterReason;

@@ -1,7 +1,8 @@
 use Rattle.std.proofs.Common.{ap}
 use Rattle.pb_rounds.specs.Run.{ElectedView}
 use Rattle.pb_commands.proofs.RowsGrown.{none_grown}
-use Rattle.pb_commands.proofs.ReportSums.{elected_grown, the_winner}
+use Rattle.pb_commands.proofs.ReportSums.{elected_grown}
+use Rattle.pb_reasons.proofs.WinnerSums.{the_winner}
 use Rattle.pb_commands.proofs.report.put_elected.Goals as goal
 
 pub loop-winner-init : goal.loop-winner-init

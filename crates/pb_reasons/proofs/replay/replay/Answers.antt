@@ -1,5 +1,4 @@
-use Rattle.std.proofs.Common.{◌≡◌, ◌<◌, ◌++◌, take, drop, length, get_or, List, ℕ, refl, sym, ◌∙◌, ap, arith}
-use Rattle.std.specs.Prelude.{replicate}
+use Rattle.std.proofs.Common.{◌≡◌, drop, length, ◌∙◌, ap, arith}
 use Rattle.pb_rounds.specs.Run.{ElectedView, charged}
 use Rattle.pb_price.specs.Supporters.{supporters_at}
 use Rattle.pb_rounds.proofs.Charged.{length-charged}

@@ -2,11 +2,16 @@ use Rattle.std.proofs.Common.{◌≡◌, ◌<◌, ◌≤◌, [], length, get_or,
 use Rattle.std.proofs.lemmas.List.{get_or_default}
 use Rattle.pb_price.specs.Supporters.{support_of, supporters_at}
 use Rattle.pb_rounds.specs.Outcome.{OutcomeView, settled}
-use Rattle.pb_reasons.specs.Reasons.{AreReasons, ReasonsView, round_of}
+use Rattle.pb_reasons.specs.Reasons.{AreReasons}
 use Rattle.pb_reasons.specs.declared.project_reason.Ending.TheVariants.{Won, Lost}
-use Rattle.pb_reasons.proofs.Reasoned.{as_many_rows, cost_read, few_amounts, few_projects, few_support, project_lost, project_won, round_read, too_short}
+use Rattle.pb_reasons.proofs.Reasoned.{as_many_rows, cost_read, few_amounts, few_projects, few_support, has_place, project_lost, project_won, round_read, too_short}
 use Rattle.pb_reasons.proofs.reasons.Reasons.project.Goals as goal
 use Rattle.pb_reasons.proofs.reasons.Reasons.project.Goals.{then-round-len, else-round-len}
+
+pub of-supporters-requires : goal.of-supporters-requires
+of-supporters-requires c =
+    let own = subst (AreReasons c.args.election.now (settled c.args.outcome.now)) (sym c.self.view_is) c.requires.own in
+    has_place c.args.election.now (settled c.args.outcome.now) _ own c.args.place c.requires.known
 
 pub index-requires : goal.index-requires
 index-requires c =

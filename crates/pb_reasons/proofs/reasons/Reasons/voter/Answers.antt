@@ -1,11 +1,10 @@
-use Rattle.std.proofs.Common.{◌≡◌, ◌-◌, ◌<◌, ◌≤◌, length, get_or, take, subst, sym, ap, ◌∙◌, arith, refl}
-use Rattle.std.specs.Prelude.{count_by, slice_index}
+use Rattle.std.proofs.Common.{◌≡◌, ◌-◌, ◌<◌, ◌≤◌, length, take, subst, sym, ap, ◌∙◌, arith}
+use Rattle.std.specs.Prelude.{slice_index}
 use Rattle.std.proofs.lemmas.List.{get_or_default, take_all}
 use Rattle.pb_price.proofs.BuiltLists.{ballot_known, ballot_read}
 use Rattle.pb_rounds.specs.Outcome.{OutcomeView, settled}
-use Rattle.pb_rounds.specs.Run.{is_elected}
 use Rattle.pb_reasons.specs.Reasons.{AreReasons, paid_for}
-use Rattle.pb_reasons.proofs.Reasoned.{IsListing, few_places, listing_more, listing_same}
+use Rattle.pb_reasons.proofs.Reasoned.{few_places, has_place, listing_more, listing_same}
 use Rattle.pb_reasons.proofs.VoterTold.{IsStep, few_counted, one_amount_each, paid_is_share, step_elected, step_other, voter_told}
 use Rattle.pb_reasons.proofs.reasons.Reasons.voter.Goals as goal
 use Rattle.pb_reasons.proofs.reasons.Reasons.voter.Goals.{then-round-len, else-round-len, then-amount-gt0+in_ok-push, else-amount-gt0}
@@ -23,6 +22,17 @@ overflow_add-elected c =
       c.voters.ensures.is_election.few_projects,
       few_counted (settled c.args.outcome.now) ballot c.loop-place.place-index c.loop-place.elected c.loop-place-test.true c.loop-place.invariant.elected,
     )
+
+pub of-requires : goal.of-requires
+of-requires c =
+    let e = c.args.election.now in
+    let o = settled c.args.outcome.now in
+    let own = subst (AreReasons e o) (sym c.self.view_is) c.requires.own in
+    let ballot = c.places-ballot.result.now in
+    let read = ballot_read e c.voters.result.now c.args.voter c.index-voters-voter.result ballot c.voters.ensures.voters (rw c.voters.ensures.voters c.requires.known)
+    c.index-voters-voter.is (c.places-ballot.ensures.places ∙ ap (λ v. v.ballot) c.owner.view_is) in
+    let known = ballot_known e c.args.voter ballot c.voters.ensures.is_election c.requires.known read in
+    has_place e o _ own _ (known c.loop-place.place-index 0 c.loop-place-test.true)
 
 pub amount_of-requires-clause-one_each : goal.amount_of-requires-clause-one_each
 amount_of-requires-clause-one_each c =

@@ -1,6 +1,6 @@
 use Rattle.std.proofs.Common.{◌≡◌, ◌∙◌, arith}
-use Rattle.pb_commands.proofs.ReportSums.{spent_more, spent_more_le, the_winner}
-use Rattle.pb_commands.proofs.report.spent_for.Goals as goal
+use Rattle.pb_reasons.proofs.WinnerSums.{spent_more, spent_more_le, the_winner}
+use Rattle.pb_reasons.proofs.totals.spent_for.Goals as goal
 
 pub overflow_add-spent : goal.overflow_add-spent
 overflow_add-spent c =
