@@ -18,7 +18,6 @@ use Rattle.pb_desk.specs.Rows.{rows_of}
 use Rattle.pb_commands.proofs.Accepted.{given_fault, read_from_outside, reader_fails}
 use Rattle.pb_commands.proofs.AuditAccepted.{IsAudited, desk_of, journal_from_outside, one_desk}
 use Rattle.pb_commands.proofs.AuditWritten.{IsElectionFile, audit_judges, reader_judges}
-use Rattle.pb_commands.specs.Audited.{IsDeskOf}
 use Rattle.pb_commands.specs.Closed.{ClosedRefuses, Leaves}
 use Rattle.pb_commands.specs.Ends.{FailsBy, IfBothKnown, IsFromOutside, JudgesFile}
 use Rattle.pb_commands.specs.Fault.{merged}

@@ -1,5 +1,5 @@
 -- The outcome of a count can be told.
-use Rattle.std.proofs.Common.{◌≡◌, length, ap}
+use Rattle.std.proofs.Common.{◌≡◌, ap}
 use Rattle.pb_core.specs.Election.{ElectionView, IsElection}
 use Rattle.pb_price.proofs.SupporterLists.{IsSupport-support_of}
 use Rattle.pb_reasons.specs.Reasons.{CanBeTold}

@@ -1,4 +1,4 @@
-use Rattle.std.proofs.Common.{◌≡◌, ◌<◌, ◌++◌, ◌∙◌, ap, length}
+use Rattle.std.proofs.Common.{◌<◌, ◌++◌, ◌∙◌, ap, length}
 use Rattle.pb_core.specs.Election.{VoterView}
 use Rattle.pb_rounds.specs.Outcome.{settled}
 use Rattle.pb_rows.specs.Writing.{text_of_row}
