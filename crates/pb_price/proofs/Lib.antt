@@ -1,3 +1,4 @@
+pub mod Bounds
 pub mod BuiltLists
 pub mod ClaimSteps
 pub mod CommonRests

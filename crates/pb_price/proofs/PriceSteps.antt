@@ -1,13 +1,13 @@
 -- The price in steps: from a payment below the price to a higher one that is not above it.
-use Rattle.std.proofs.Common.{◌≡◌, ℕ, suc, ◌+◌, ◌-◌, ◌*◌, ◌/◌, ◌%◌, ◌<◌, ◌≤◌, min, cond, List, [], ◌∷◌, length, Some, refl, sym, ap, subst, ◌∙◌, inl, inr, arith}
+use Rattle.std.proofs.Common.{◌≡◌, ℕ, suc, ◌+◌, ◌-◌, ◌*◌, ◌/◌, ◌%◌, ◌<◌, ◌≤◌, min, cond, List, [], ◌∷◌, length, refl, sym, ap, subst, ◌∙◌, inl, inr, arith}
 use Rattle.std.proofs.Math.Nat.{mul-le-mul_left, mul-le-mul_right}
 use Rattle.std.specs.Prelude.{nat_lt, slice_index}
 use Rattle.std.proofs.lemmas.Bool.{cases_lt, lt-ltb, le-ltb}
 use Rattle.std.proofs.lemmas.Grind.{div_ceil_times}
 use Rattle.std.proofs.lemmas.List.Sums.{sum_by-cons, sum_by-le, count_by-le-length}
 use Rattle.pb_price.specs.Payment.{payers_above}
-use Rattle.pb_price.specs.Price.{paid_at, total_rest, price_of}
-use Rattle.pb_price.proofs.Payments.{paid_at_rises, pays_all_or_one, price_from_least}
+use Rattle.pb_price.specs.Price.{paid_at, total_rest}
+use Rattle.pb_price.proofs.Payments.{paid_at_rises, pays_all_or_one}
 
 one_pays : (rest p d : ℕ) → min rest (p + d) ≤ min rest p + cond (nat_lt p rest) 1 0 * d
 one_pays rest p d = elim (cases_lt p rest) [
@@ -135,21 +135,6 @@ steps_below supporters rests cost p m same some short =
           let few = count_by-le-length (λ v. nat_lt p (slice_index rests v)) supporters in
           omega (arith, pays step, bounds.1, few, same);
     }
-
--- the first payment that covers is the price
-pub price_found : (supporters list rests : List ℕ) (cost named p total : ℕ) → list ≡ supporters → named ≡ cost
-    → IsBelowPrice list rests named p → total ≡ paid_at list rests p → named ≤ total
-    → Some p ≡ price_of supporters rests cost
-price_found supporters list rests cost named p total l n below same covers =
-    rw (← l, ← n)
-    (sym (price_from_least list rests named p (record { covers = omega (arith, same, covers); least = below.least })))
-
--- there is none where nobody could pay more
-pub none_found : (supporters list rests : List ℕ) (cost named p total payers : ℕ) → list ≡ supporters → named ≡ cost
-    → total ≡ paid_at list rests p → payers ≡ payers_above list rests p → total < named → payers ≡ 0
-    → total_rest supporters rests < cost
-none_found supporters list rests cost named p total payers l n same above short none =
-    rw (← l, ← n) (omega (arith, all_paid list rests p (sym above ∙ none), same, short))
 
 -- without supporters there is nothing
 pub no_supporter : (supporters list rests : List ℕ) (cost : ℕ) → list ≡ supporters → length list ≡ 0 → 0 < cost

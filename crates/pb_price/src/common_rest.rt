@@ -49,7 +49,7 @@ pub(crate) fn price_by<A: Allocator>(
 
 /// The price where each voter has this share left: the cost divided by the number of supporters, rounded up, unless that
 /// is more than the share.
-fn price_at_share<A: Allocator>(
+pub fn price_at_share<A: Allocator>(
     supporters: &Supporters<A>,
     share: Money,
     place: u32,

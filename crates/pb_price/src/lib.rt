@@ -19,8 +19,9 @@ mod voter_list;
 mod worker;
 
 pub use all_prices::{is_worker_count, price_all};
+pub use common_rest::price_at_share;
 pub use gate::{Gate, NoGate};
 pub use price_fault::PriceFault;
-pub use steps::price_in_steps;
+pub use steps::{next_bound, price_in_steps};
 pub use supporters::Supporters;
 pub use tally::Tally;

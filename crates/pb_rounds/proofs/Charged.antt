@@ -1,6 +1,6 @@
 -- What each voter pays for an elected project, and the rests afterwards.
-use Rattle.std.proofs.Common.{sum_by, ◌≡◌, ℕ, ◌+◌, ◌-◌, ◌≤◌, min, List, [], ◌∷◌, length, map, Bool, true, false, cond, refl, ◌∙◌, ap, inl, inr, arith}
-use Rattle.std.specs.Prelude.{sum, slice_index, if◌then◌else◌}
+use Rattle.std.proofs.Common.{sum_by, ◌≡◌, ℕ, ◌+◌, ◌-◌, ◌≤◌, min, List, [], ◌∷◌, length, Bool, true, false, cond, refl, ◌∙◌, ap, inl, inr, arith}
+use Rattle.std.specs.Prelude.{sum, slice_index}
 use Rattle.std.specs.List.{range_with_len}
 use Rattle.std.proofs.lemmas.Bool.{cases_lt}
 use Rattle.std.proofs.lemmas.List.{get_or_past}

@@ -1,3 +1,6 @@
+pub mod BetweenShares
+pub mod BoundQueue
+pub mod TrialRounds
 pub mod Progress
 pub mod QueueLists
 pub mod QueueRound

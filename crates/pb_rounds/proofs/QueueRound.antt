@@ -38,7 +38,7 @@ turned : (a b : Bid) → is_before b a ≡ is_gt (bid_cmp a b)
 turned a b = ap is_lt (bid_cmp-total.antisymm b a) ∙ lt_reversed (bid_cmp a b)
 
 -- a is at most b, b is at most c
-at_most_chain : (a b c : Bid) → is_before b a ≡ false → is_before c b ≡ false → is_before c a ≡ false
+pub at_most_chain : (a b c : Bid) → is_before b a ≡ false → is_before c b ≡ false → is_before c a ≡ false
 at_most_chain a b c first second =
     turned a c ∙ upto bid_cmp-total a b c (sym (turned a b) ∙ first) (sym (turned b c) ∙ second)
 
@@ -48,14 +48,14 @@ not_gt_from_lt Equal e = refl
 not_gt_from_lt Greater e = absurd (true≢false (sym e))
 
 -- what comes before is at most
-at_most_from_before : (a b : Bid) → is_before a b ≡ true → is_before b a ≡ false
+pub at_most_from_before : (a b : Bid) → is_before a b ≡ true → is_before b a ≡ false
 at_most_from_before a b e = turned a b ∙ not_gt_from_lt (bid_cmp a b) e
 
 first_greater : (o p : Ordering) → o ≡ Greater → is_lt (ordering_then o p) ≡ false
 first_greater o p e = ap (λ r. is_lt (ordering_then r p)) e
 
 -- a project's bid at a smaller price is at most its bid at a larger one
-at_most_by_price : (m : Measure) (s : SupportView) (place p q : ℕ) → q ≤ p → is_before (bid m s place p) (bid m s place q) ≡ false
+pub at_most_by_price : (m : Measure) (s : SupportView) (place p q : ℕ) → q ≤ p → is_before (bid m s place p) (bid m s place q) ≡ false
 at_most_by_price m s place p q h = elim (cases_eq q p) [
   | inl same ↦ ap (λ n. is_before (bid m s place p) (bid m s place n)) same ∙ not_before_itself (bid m s place p)
   | inr other ↦

@@ -1,5 +1,7 @@
+pub mod Between
 pub mod Bid
 pub mod BidOrder
+pub mod Bounds
 pub mod Cheapest
 pub mod Completed
 pub mod Count

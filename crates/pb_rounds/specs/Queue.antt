@@ -1,15 +1,9 @@
 -- The queue of stale prices as the code keeps it. Only clauses of private functions speak of it.
-use Rattle.std.specs.Prelude.{◌≡◌, ◌≢◌, ℕ, Bool, true, false, Option, Some, None, List, [], ◌∷◌, ◌++◌, ◌<◌, ◌≤◌, ◌⊎◌, MatchOption, map, length, nat_lt, slice_index_or}
-use Rattle.std.specs.Option.{option_map_or}
+use Rattle.std.specs.Prelude.{◌≡◌, ◌≢◌, ℕ, Bool, true, false, Option, Some, None, List, [], ◌∷◌, ◌++◌, ◌<◌, ◌≤◌, ◌⊎◌, map, length, slice_index_or}
 use Rattle.pb_price.specs.Supporters.{SupportView}
 use Rattle.pb_rounds.specs.Bid.{Bid, is_before, first_least}
-use Rattle.pb_rounds.specs.Count.{spent_on}
-use Rattle.pb_rounds.specs.Outcome.{OutcomeView, settled, settled_by}
-use Rattle.pb_rounds.specs.PricingRecord.{HasPricing}
-use Rattle.pb_rounds.specs.Run.{ElectedView, bid, bids_at, is_elected, run_of}
+use Rattle.pb_rounds.specs.Run.{ElectedView, bid, bids_at, is_elected}
 use Rattle.pb_rounds.specs.declared.measure.Measure.{Measure}
-use Rattle.pb_rounds.specs.declared.run_end.RunEnd.{RunEnd}
-use Rattle.pb_rounds.specs.declared.run_end.RunEnd.TheVariants.{Whole, OverLimit}
 
 -- x is an element of the list
 abbrev pub IsIn : {X : Type 0} → X → List X → Type 0
@@ -79,23 +73,3 @@ pub record AreMarked (s : SupportView) (elected : List ElectedView) (marks : Lis
   pub one_each : length marks ≡ length s.costs
   pub marked : (place : ℕ) → place < length s.costs
       → slice_index_or marks place false ≡ is_elected elected place
-
--- a whole run: its outcome, its pricing record, the marks of the elected and what they cost
-pub record IsWholeRun (m : Measure) (s : SupportView) (workers share raised : ℕ) (o : OutcomeView)
-    (marks : List Bool) (spent : ℕ) : Type 0 where
-  pub settled_is : settled o ≡ settled_by share raised (run_of m s share)
-  pub priced : HasPricing m s workers share o.priced
-  pub marked : AreMarked s o.elected marks
-  pub spent_is : spent ≡ spent_on s o.elected
-
--- what is spent is more than the limit, where there is one
-abbrev pub is_above : Option ℕ → ℕ → Bool
-is_above limit spent = option_map_or (λ money. nat_lt money spent) limit false
-
--- how a run ended: whole and within the limit, or with elected that cost more than it, as those of the whole run do
-abbrev pub IsRunEnd : RunEnd → Measure → SupportView → ℕ → Option ℕ → ℕ → ℕ → OutcomeView → List Bool → ℕ
-    → Type 0
-IsRunEnd Whole m s workers limit share raised o marks spent =
-    IsWholeRun m s workers share raised o marks spent × (is_above limit spent ≡ false)
-IsRunEnd OverLimit m s workers limit share raised o marks spent =
-    MatchOption limit ⊥ (λ money. money < spent_on s (run_of m s share).elected)

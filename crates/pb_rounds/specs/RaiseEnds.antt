@@ -1,5 +1,5 @@
 -- What the outcome of a raise is to its completion. Only clauses of private functions speak of it.
-use Rattle.std.specs.Prelude.{◌≡◌, ◌≢◌, ℕ, ◌≤◌, IfOk, Result, Some, true, false}
+use Rattle.std.specs.Prelude.{◌≡◌, ◌≢◌, ℕ, List, ◌≤◌, IfOk, Result, Some, true, false}
 use Rattle.pb_core.specs.Election.{ElectionView}
 use Rattle.pb_price.specs.PriceFault.{is_worker_count}
 use Rattle.pb_price.specs.Supporters.{SupportView, IsSupport, support_of}
@@ -7,7 +7,7 @@ use Rattle.pb_rounds.specs.Count.{add1_of, is_exhausted, is_over, share_after}
 use Rattle.pb_rounds.specs.CountFault.{largest_step, most_raises}
 use Rattle.pb_rounds.specs.Outcome.{OutcomeView, settled, settled_by}
 use Rattle.pb_rounds.specs.PricingRecord.{HasPricing}
-use Rattle.pb_rounds.specs.Run.{run_of}
+use Rattle.pb_rounds.specs.Run.{ElectedView, run_of}
 use Rattle.pb_rounds.specs.declared.measure.Measure.{Measure}
 use Rattle.pb_rounds.specs.declared.raise_end.RaiseEnd.{RaiseEnd}
 use Rattle.pb_rounds.specs.declared.raise_end.RaiseEnd.TheVariants.{GoesOn, Exhausted, Over}
@@ -22,10 +22,18 @@ IsRaiseEnd m s budget share Exhausted =
     × (is_exhausted s budget (run_of m s share).elected ≡ true)
 IsRaiseEnd m s budget share Over = is_over s budget (run_of m s share).elected ≡ true
 
--- where memory was enough, it was found how a run at this share ends
-pub record IsFound {F : Type 0} (m : Measure) (s : SupportView) (budget share : ℕ) (end : Result RaiseEnd F)
+-- how a run at this share ends, and whom it elects, where it is not over
+pub record IsTried (m : Measure) (s : SupportView) (budget share : ℕ) (elected : List ElectedView) (end : RaiseEnd)
     : Type 0 where
-  pub found : IfOk end (IsRaiseEnd m s budget share)
+  pub is_support : IsSupport s
+  pub ends : IsRaiseEnd m s budget share end
+  pub elected_are : end ≢ Over → elected ≡ (run_of m s share).elected
+
+-- where memory was enough, it was found how a run at this share ends
+pub record IsFound {F : Type 0} (m : Measure) (s : SupportView) (budget share : ℕ) (elected : List ElectedView)
+    (end : Result RaiseEnd F)
+    : Type 0 where
+  pub found : IfOk end (IsTried m s budget share elected)
 
 -- what an election can be completed with: the numbers are within their ranges, and the supporters are the election's own
 pub record CanComplete (e : ElectionView) (workers : ℕ) (s : SupportView) (step raises : ℕ) : Type 0 where
@@ -40,13 +48,6 @@ pub record IsOutcomeAt (m : Measure) (s : SupportView) (workers share raised : �
   pub settled_is : settled o ≡ settled_by share raised (run_of m s share)
   pub priced : HasPricing m s workers share o.priced
   pub is_support : IsSupport s
-
--- how a run at this share, after this many raises, ends, and the outcome that it leaves where it is not over
-pub record IsTried (m : Measure) (s : SupportView) (workers budget share raised : ℕ) (o : OutcomeView)
-    (end : RaiseEnd) : Type 0 where
-  pub is_support : IsSupport s
-  pub ends : IsRaiseEnd m s budget share end
-  pub outcome_is : end ≢ Over → IsOutcomeAt m s workers share raised o
 
 -- the outcome in which a completion by raises ends
 pub record IsCompletion (m : Measure) (e : ElectionView) (workers step limit : ℕ) (o : OutcomeView)

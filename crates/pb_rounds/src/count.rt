@@ -14,15 +14,13 @@ ghost use Rattle.pb_rounds.specs.RaiseEnds.{CanComplete, IsCompletion, IsOutcome
 ghost use Rattle.pb_rounds.specs.Run.{outcome_of};
 
 use crate::count_fault::CountFault;
-use crate::in_turn::{complete_in_turn, end_in_turn};
 use crate::measure::Measure;
 use crate::options::{Completion, CountOptions, LARGEST_STEP, MOST_RAISES};
 use crate::outcome::Outcome;
 use crate::pricing::Pricing;
 use crate::reach::{raised_share, raises_with_room};
 use crate::run::whole_run;
-use crate::side_by_side::complete_side_by_side;
-use crate::trial::Trial;
+use crate::side_by_side::complete_by_trials;
 use pb_core::election::Election;
 use pb_core::money::Money;
 use pb_core::no_memory::NoMemory;
@@ -199,23 +197,5 @@ fn complete<R: Threads + Sync, G: Gate, A: Allocator + Copy + Send + Sync, B: Al
     let budget = election.budget();
     let opening = opening_share(election);
     let first = raises_with_room(pricing.supporters, budget, opening, step, max_raises);
-    let end = end_in_turn(pricing.workers, first, max_raises);
-    let mut outcome = Outcome::unfilled(pricing.alloc);
-    let mut trial = Trial::new(pricing.alloc);
-    let ended = complete_in_turn(
-        pricing,
-        election,
-        step,
-        first,
-        end,
-        &mut trial,
-        &mut outcome,
-    );
-    drop(trial);
-    let decided = ended?;
-    if decided {
-        return Ok(outcome);
-    }
-    drop(outcome);
-    complete_side_by_side(pricing, election, step, max_raises, end)
+    complete_by_trials(pricing, election, step, max_raises, first)
 }

@@ -1,21 +1,22 @@
 //! The Method of Equal Shares in rounds (Peters, Pierczynski and Skowron 2021), and its completion by raising everyone's share.
 #![tactic(auto)]
 
+mod bounds;
 pub mod count;
 pub mod count_fault;
-mod in_turn;
+mod jump;
 pub mod key;
 pub mod laws;
 pub mod measure;
 pub mod options;
 pub mod outcome;
+mod pace;
 mod pricing;
 mod queue;
 mod raise_end;
 mod reach;
 mod round;
 mod run;
-mod run_end;
 mod side_by_side;
 mod standing;
 mod trial;

@@ -1,4 +1,4 @@
-ghost use Rattle.std.specs.Prelude.{◌≡◌, ◌<◌, All, length, true};
+ghost use Rattle.std.specs.Prelude.{◌≡◌, ◌<◌, ◌≤◌, All, length, true};
 ghost use Rattle.pb_price.specs.PriceFault.{is_worker_count};
 ghost use Rattle.pb_rounds.specs.Threads.{workers_for};
 
@@ -8,6 +8,9 @@ use std::alloc::Allocator;
 
 /// How many approvals are worth a thread.
 const APPROVALS_A_THREAD: u64 = 100_000;
+
+/// How many approvals of an election are worth trials in threads of their own.
+const APPROVALS_A_TRIAL: u64 = 50_000;
 
 /// What all rounds of a count price by.
 #[derive(Drop)]
@@ -38,4 +41,20 @@ pub(crate) fn workers_for<A: Allocator>(
     }
     let threads = 1 + approvals / APPROVALS_A_THREAD;
     threads.min(u64::from(workers)) as u32
+}
+
+/// How many of the workers try raises side by side: all, unless a trial takes no longer than starting a thread.
+pub(crate) fn workers_for_trials<A: Allocator>(workers: u32, supporters: &Supporters<A>) -> u32
+    requires { is_worker_count workers ≡ true }
+    ensures { (0 < result) × (result ≤ workers) }
+{
+    let mut approvals: u64 = 0;
+    for place in 0..supporters.projects() {
+        approvals = approvals.saturating_add(supporters.of(place).len() as u64);
+    }
+    if approvals < APPROVALS_A_TRIAL {
+        1
+    } else {
+        workers
+    }
 }

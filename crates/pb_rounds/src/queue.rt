@@ -26,7 +26,10 @@ pub(crate) fn fill<A: Allocator + Clone, B: Allocator>(
 }
 
 /// Takes the head of the queue out, unless there is none, or the best that was priced in this round comes before it.
-fn take_head<A: Allocator>(queue: &mut BTreeSet<Key, A>, best: &Option<Key>) -> Option<Key>
+pub(crate) fn take_head<A: Allocator>(
+    queue: &mut BTreeSet<Key, A>,
+    best: &Option<Key>,
+) -> Option<Key>
     ensures { MatchOption result
         (IsDone best.now queue.old.keys × (queue.new.keys ≡ queue.old.keys))
         (λ head. (queue.old.keys ≡ head ∷ queue.new.keys) × IsTaken best.now head) }

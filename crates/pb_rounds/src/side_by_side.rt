@@ -1,16 +1,18 @@
-//! Completion with several workers: raises are tried side by side, each by a run of one worker.
+//! Completion by raises that are tried, side by side where there are several workers, until one decides.
 
-ghost use Rattle.std.specs.Prelude.{◌≡◌, ◌+◌, ◌*◌, ◌<◌, ◌≤◌, ℕ, None, length, slice_index_or, Some, IfOk, IfErr, MatchOption, OnOk, ⊤, false};
+ghost use Rattle.std.specs.Prelude.{◌≡◌, ◌+◌, ◌*◌, ◌<◌, ◌≤◌, ℕ, None, length, slice_index_or, Some, IfOk, IfErr, MatchOption, OnOk, ⊤, false, ◌-◌, true};
 ghost use Rattle.pb_core.specs.Money.{largest_money};
-ghost use Rattle.pb_rounds.specs.Count.{add1_of, is_decisive, IsCompletionFault};
+ghost use Rattle.pb_rounds.specs.Count.{add1_of, elected_after, is_decisive, IsCompletionFault};
 ghost use Rattle.pb_rounds.specs.CountFault.{largest_step, most_raises};
 ghost use Rattle.pb_rounds.specs.RaiseEnds.{CanComplete, IsCompletion, IsFound};
 ghost use Rattle.pb_rounds.specs.Threads.{group_size};
 
 use crate::count::{opening_share, outcome_after};
 use crate::count_fault::CountFault;
+use crate::jump::keeps;
 use crate::outcome::Outcome;
-use crate::pricing::Pricing;
+use crate::pace::Pace;
+use crate::pricing::{Pricing, workers_for_trials};
 use crate::raise_end::RaiseEnd;
 use crate::reach::raised_share;
 use crate::trial::Trial;
@@ -19,7 +21,11 @@ use pb_core::money::Money;
 use pb_core::no_memory::NoMemory;
 use pb_price::gate::Gate;
 use std::alloc::Allocator;
+use std::mem::swap;
 use std::thread::{self, Threads};
+
+/// The most jumps after one group, which no count comes near: each second one at least goes further than all before it.
+const MOST_JUMPS: u32 = 1_000;
 
 /// Raises that are tried side by side, from this number of raises on.
 #[derive(Drop)]
@@ -32,24 +38,17 @@ struct Group<'a, R, G, A: Allocator> {
 }
 
 impl<'a, R: Threads + Sync, G: Gate, A: Allocator + Copy + Send + Sync> Group<'a, R, G, A> {
-    /// Tries the raise at this place of the group, by a run of one worker.
+    /// Tries the raise at this place of the group.
     fn try_raise(&self, i: usize, trial: &mut Trial<A>)
         requires opening { self.now.opening ≤ largest_money }
         requires raised { self.now.next + i ≤ most_raises }
         requires step { self.now.step ≤ largest_step }
         ensures { IsFound self.now.pricing.now.measure self.now.pricing.now.supporters.now self.now.budget
-            (self.now.opening + (self.now.next + i) * self.now.step) trial.new.end }
+            (self.now.opening + (self.now.next + i) * self.now.step) trial.new.outcome.elected trial.new.end }
     {
-        let alone = Pricing {
-            rt: self.pricing.rt,
-            gate: self.pricing.gate,
-            alloc: self.pricing.alloc,
-            workers: 1,
-            measure: self.pricing.measure,
-            supporters: self.pricing.supporters,
-        };
         let share = raised_share(self.opening, self.next + i as u32, self.step);
-        let end = trial.end_of(&alone, self.budget, share, 0);
+        let (measure, supporters) = (self.pricing.measure, self.pricing.supporters);
+        let end = trial.end_of(measure, supporters, self.budget, share);
         trial.end = end;
     }
 }
@@ -65,20 +64,22 @@ fn try_group<R: Threads + Sync, G: Gate, A: Allocator + Copy + Send + Sync>(
     ensures len { length trials.new.items ≡ length trials.old.items }
     ensures ends { (i : ℕ) (d : _) → i < length trials.old.items
         → IsFound group.now.pricing.now.measure group.now.pricing.now.supporters.now group.now.budget
-        (group.now.opening + (group.now.next + i) * group.now.step) (slice_index_or trials.new.items i d).end }
+        (group.now.opening + (group.now.next + i) * group.now.step)
+        (slice_index_or trials.new.items i d).outcome.elected (slice_index_or trials.new.items i d).end }
 {
     let try_one = |i: usize, trial: &mut [Trial<A>]|
         requires { (length trial.now ≡ 1) × (group.now.opening ≤ largest_money)
             × (group.now.step ≤ largest_step) × (group.now.next + i ≤ most_raises) }
         ensures { (d : _) → IsFound group.entry.now.pricing.now.measure group.entry.now.pricing.now.supporters.now
             group.entry.now.budget (group.entry.now.opening + (group.entry.now.next + i) * group.entry.now.step)
-            (slice_index_or trial.exit.now 0 d).end }
+            (slice_index_or trial.exit.now 0 d).outcome.elected (slice_index_or trial.exit.now 0 d).end }
     { group.try_raise(i, &mut trial[0]) };
     thread::for_each_chunk_mut(group.pricing.rt, trials.as_mut_slice(), 1, &try_one);
 }
 
 /// Tries raises side by side, one for each trial, from this number of raises on, none before which decides: how many raises
 /// the completion decides on, where one of these decides. The first of them that does counts, whatever the later ones say.
+/// Where none does, the last trial has whom the last of these raises elects.
 fn try_raises<R: Threads + Sync, G: Gate, A: Allocator + Copy + Send + Sync, B: Allocator>(
     pricing: &Pricing<R, G, A>,
     election: &Election<B>,
@@ -88,7 +89,7 @@ fn try_raises<R: Threads + Sync, G: Gate, A: Allocator + Copy + Send + Sync, B: 
     next: u32,
 ) -> Result<Option<u32>, NoMemory>
     requires given { CanComplete election.now pricing.now.workers pricing.now.supporters.now step max_raises }
-    requires some { (0 < next) × (0 < length trials.old.items) }
+    requires some { 0 < length trials.old.items }
     requires few { next + length trials.old.items ≤ max_raises + 1 }
     requires tried { (raises : ℕ) → raises < next
         → is_decisive pricing.now.measure election.now step raises ≡ false }
@@ -98,6 +99,9 @@ fn try_raises<R: Threads + Sync, G: Gate, A: Allocator + Copy + Send + Sync, B: 
         → is_decisive pricing.now.measure election.now step raises ≡ false)
         (λ raises. (raises ≤ max_raises)
         × (add1_of pricing.now.measure election.now step max_raises ≡ Some raises))) }
+    ensures last { IfOk result (λ found. (d : _) → found ≡ None
+        → (slice_index_or trials.new.items (length trials.old.items - 1) d).outcome.elected
+        ≡ elected_after pricing.now.measure election.now step (next + length trials.old.items - 1)) }
 {
     let group = Group {
         pricing,
@@ -153,19 +157,106 @@ fn resize<A: Allocator + Copy>(
     Ok(())
 }
 
-/// How many raises the completion decides on, from this number on, none before which decides. They are tried in groups that
-/// grow until each worker has a raise, or each processor where those are fewer.
-fn decide_side_by_side<R: Threads + Sync, G: Gate, A: Allocator + Copy + Send + Sync, B: Allocator>(
+/// Whether every raise from this number on up to the target elects what the last one tried elected, so that none of them decides
+/// as that did not. Then the last trial has whom the target elects.
+fn jump<R: Threads + Sync, G: Gate, A: Allocator + Copy + Send + Sync, B: Allocator>(
     pricing: &Pricing<R, G, A>,
     election: &Election<B>,
-    trials: &mut Vec<Trial<A>, A>,
+    step: Money,
+    last: &mut Trial<A>,
+    ahead: &mut Trial<A>,
+    next: u32,
+    target: u32,
+) -> Result<bool, NoMemory>
+    requires given { CanComplete election.now pricing.now.workers pricing.now.supporters.now step target }
+    requires next { (0 < next) × (next ≤ target) }
+    requires tried { (raises : ℕ) → raises < next
+        → is_decisive pricing.now.measure election.now step raises ≡ false }
+    requires last { last.old.outcome.elected
+        ≡ elected_after pricing.now.measure election.now step (next - 1) }
+    ensures decided { IfOk result (λ jumped. jumped ≡ true → (raises : ℕ) → raises < target + 1
+        → is_decisive pricing.now.measure election.now step raises ≡ false) }
+    ensures last { IfOk result (λ jumped. jumped ≡ true → last.new.outcome.elected
+        ≡ elected_after pricing.now.measure election.now step target) }
+    ensures stays { IfOk result (λ jumped. jumped ≡ false
+        → last.new.outcome.elected ≡ last.old.outcome.elected) }
+{
+    let share = raised_share(opening_share(election), target, step);
+    let elected = last.outcome.elected.as_slice();
+    let (measure, supporters) = (pricing.measure, pricing.supporters);
+    let (queue, outcome) = (&mut ahead.queue, &mut ahead.outcome);
+    let keeps = keeps(measure, supporters, share, elected, queue, outcome)?;
+    if keeps {
+        swap(&mut last.outcome, &mut ahead.outcome);
+    }
+    Ok(keeps)
+}
+
+/// Jumps ahead from the last raise that was tried, as far as that goes: the number of raises that is tried next, none before
+/// which decides.
+fn jump_ahead<R: Threads + Sync, G: Gate, A: Allocator + Copy + Send + Sync, B: Allocator>(
+    pricing: &Pricing<R, G, A>,
+    election: &Election<B>,
+    step: Money,
+    max_raises: u32,
+    last: &mut Trial<A>,
+    ahead: &mut Trial<A>,
+    pace: &mut Pace,
+    from: u32,
+) -> Result<u32, NoMemory>
+    requires given { CanComplete election.now pricing.now.workers pricing.now.supporters.now step max_raises }
+    requires from { (0 < from) × (from ≤ max_raises + 1) }
+    requires tried { (raises : ℕ) → raises < from
+        → is_decisive pricing.now.measure election.now step raises ≡ false }
+    requires last { last.old.outcome.elected
+        ≡ elected_after pricing.now.measure election.now step (from - 1) }
+    ensures range { IfOk result (λ next. (from ≤ next) × (next ≤ max_raises + 1)) }
+    ensures tried { IfOk result (λ next. (raises : ℕ) → raises < next
+        → is_decisive pricing.now.measure election.now step raises ≡ false) }
+{
+    let mut next = from;
+    if !pace.is_due(last.spent) {
+        return Ok(next);
+    }
+    for _ in 0..MOST_JUMPS {
+        let target = pace.target(next, max_raises);
+        if target <= next {
+            return Ok(next);
+        }
+        if jump(pricing, election, step, last, ahead, next, target)? {
+            next = target + 1;
+            pace.won();
+        } else if !pace.lost() {
+            return Ok(next);
+        }
+    }
+    Ok(next)
+}
+
+/// What a completion by raises uses again from raise to raise.
+#[derive(Drop)]
+struct Team<A: Allocator> {
+    /// A trial for each raise of a group.
+    trials: Vec<Trial<A>, A>,
+    /// The trial that jumps ahead.
+    ahead: Trial<A>,
+    pace: Pace,
+}
+
+/// How many raises the completion decides on, from this number on, none before which decides. They are tried in groups that
+/// grow until each worker has a raise, or each processor where those are fewer. After each group raises are jumped over, as far
+/// as they elect the same.
+fn decide<R: Threads + Sync, G: Gate, A: Allocator + Copy + Send + Sync, B: Allocator>(
+    pricing: &Pricing<R, G, A>,
+    election: &Election<B>,
+    team: &mut Team<A>,
     step: Money,
     max_raises: u32,
     from: u32,
 ) -> Result<Option<u32>, NoMemory>
     requires given { CanComplete election.now pricing.now.workers pricing.now.supporters.now step max_raises }
-    requires from { (0 < from) × (from ≤ max_raises + 1) }
-    requires few { length trials.old.items ≤ 64 }
+    requires from { from ≤ max_raises + 1 }
+    requires few { length team.old.trials.items ≤ 64 }
     requires tried { (raises : ℕ) → raises < from
         → is_decisive pricing.now.measure election.now step raises ≡ false }
     ensures { IfOk result (λ found.
@@ -173,22 +264,33 @@ fn decide_side_by_side<R: Threads + Sync, G: Gate, A: Allocator + Copy + Send + 
         × MatchOption found ⊤ (λ raises. raises ≤ max_raises)) }
 {
     let processors = processors(pricing.rt);
+    let workers = workers_for_trials(pricing.workers, pricing.supporters);
     let mut next = from;
     while next <= max_raises {
         let left = max_raises + 1 - next;
-        resize(pricing.alloc, trials, pricing.workers, processors, left)?;
-        let found = try_raises(pricing, election, trials, step, max_raises, next)?;
+        resize(pricing.alloc, &mut team.trials, workers, processors, left)?;
+        let found = try_raises(pricing, election, &mut team.trials, step, max_raises, next)?;
         if let Some(raises) = found {
             return Ok(Some(raises));
         }
-        next += trials.len() as u32;
+        let count = team.trials.len();
+        next = jump_ahead(
+            pricing,
+            election,
+            step,
+            max_raises,
+            &mut team.trials[count - 1],
+            &mut team.ahead,
+            &mut team.pace,
+            next + count as u32,
+        )?;
     }
     Ok(None)
 }
 
 /// Completes by raises from this number on, none before which decides. The raise that is answered is run once more, with all
 /// workers.
-pub(crate) fn complete_side_by_side<
+pub(crate) fn complete_by_trials<
     R: Threads + Sync,
     G: Gate,
     A: Allocator + Copy + Send + Sync,
@@ -201,16 +303,20 @@ pub(crate) fn complete_side_by_side<
     from: u32,
 ) -> Result<Outcome<A>, CountFault>
     requires given { CanComplete election.now pricing.now.workers pricing.now.supporters.now step max_raises }
-    requires from { (0 < from) × (from ≤ max_raises + 1) }
+    requires from { from ≤ max_raises + 1 }
     requires tried { (raises : ℕ) → raises < from
         → is_decisive pricing.now.measure election.now step raises ≡ false }
     ensures completed { IfOk result
         (IsCompletion pricing.now.measure election.now pricing.now.workers step max_raises) }
     ensures faults { IfErr result (IsCompletionFault pricing.now.measure election.now step max_raises) }
 {
-    let mut trials = Vec::new(pricing.alloc);
-    let found = decide_side_by_side(pricing, election, &mut trials, step, max_raises, from);
-    drop(trials);
+    let mut team = Team {
+        trials: Vec::new(pricing.alloc),
+        ahead: Trial::new(pricing.alloc),
+        pace: Pace::new(),
+    };
+    let found = decide(pricing, election, &mut team, step, max_raises, from);
+    drop(team);
     match found? {
         Some(raises) => Ok(outcome_after(pricing, election, step, raises)?),
         None => Err(CountFault::RaisesSpent),

@@ -1,12 +1,35 @@
-ghost use Rattle.std.specs.Prelude.{◌≡◌, ◌<◌, List, length, nat_le, nat_lt, ◌&&◌};
+//! Which projects are elected, and whether another could be added.
+
+ghost use Rattle.std.specs.Prelude.{◌≡◌, ◌<◌, List, OnOk, false, length, nat_le, nat_lt, replicate, slice_set, true, ◌&&◌};
 ghost use Rattle.pb_price.specs.Supporters.{supporters_at, cost_at};
 ghost use Rattle.pb_rounds.specs.Count.{spent_on, is_exhausted};
 ghost use Rattle.pb_rounds.specs.Queue.{AreMarked};
 ghost use Rattle.pb_rounds.specs.Run.{ElectedView};
 
 use pb_core::money::Money;
+use pb_core::no_memory::NoMemory;
 use pb_price::supporters::Supporters;
 use std::alloc::Allocator;
+
+/// A mark for each project, in place of what the list held: none is elected.
+pub(crate) fn clear_marks<A: Allocator>(
+    marks: &mut Vec<bool, A>,
+    projects: u32,
+) -> Result<(), NoMemory>
+    ensures { OnOk result (marks.new.items ≡ replicate projects false) }
+{
+    marks.clear();
+    marks.resize(projects as usize, false)?;
+    Ok(())
+}
+
+/// Marks the project at this place.
+pub(crate) fn mark<A: Allocator>(marks: &mut Vec<bool, A>, place: u32)
+    requires { place < length marks.old.items }
+    ensures { marks.new.items ≡ slice_set marks.old.items place true }
+{
+    marks[place as usize] = true;
+}
 
 /// Whether this project has a supporter and costs at most this much.
 fn is_affordable<A: Allocator>(supporters: &Supporters<A>, place: u32, money: u128) -> bool

@@ -1,26 +1,35 @@
-//! A trial of one raise after the other: how each ends.
+//! A trial of a raise: only how the run at its share ends, and whom it elects.
 
-ghost use Rattle.std.specs.Prelude.{◌≡◌, ◌+◌, ◌*◌, ◌≤◌, IfOk, true};
+ghost use Rattle.std.specs.Prelude.{◌≡◌, ◌≤◌, [], length, replicate, IfOk, OnOk};
 ghost use Rattle.pb_price.specs.Price.{largest_share};
-ghost use Rattle.pb_price.specs.PriceFault.{is_worker_count};
+ghost use Rattle.pb_price.specs.Supporters.{IsSupport};
+ghost use Rattle.pb_rounds.specs.Bounds.{IsOpening};
 ghost use Rattle.pb_rounds.specs.RaiseEnds.{IsTried};
 
+use crate::bounds::{fill_opening, next_best};
+use crate::key::Key;
+use crate::measure::Measure;
 use crate::outcome::Outcome;
-use crate::pricing::Pricing;
 use crate::raise_end::RaiseEnd;
-use crate::run::Run;
-use crate::run_end::RunEnd;
+use crate::round::elect;
+use crate::run::open;
+use crate::standing::{clear_marks, is_exhausted, mark};
 use pb_core::money::Money;
 use pb_core::no_memory::NoMemory;
-use pb_price::gate::Gate;
+use pb_price::supporters::Supporters;
 use std::alloc::{Allocator, Global};
-use std::thread::Threads;
+use std::collections::BTreeSet;
 
 /// A trial of one raise after the other, with what it uses again from raise to raise.
 #[derive(Drop)]
 pub(crate) struct Trial<A: Allocator = Global> {
-    pub(crate) run: Run<A>,
-    /// The outcome of the last raise that was tried, unless that was over.
+    /// The projects that may still be paid, each with a lower bound of its price.
+    pub(crate) queue: BTreeSet<Key, A>,
+    /// For each project whether it is elected.
+    marks: Vec<bool, A>,
+    /// What the elected cost together, in hundredths.
+    pub(crate) spent: u128,
+    /// The share, whom it elects, and the rests. No prices are counted.
     pub(crate) outcome: Outcome<A>,
     /// How a worker's last raise ended.
     pub(crate) end: Result<RaiseEnd, NoMemory>,
@@ -32,36 +41,94 @@ impl<A: Allocator> Trial<A> {
         A: Copy,
     {
         Trial {
-            run: Run::new(alloc),
+            queue: BTreeSet::new(alloc),
+            marks: Vec::new(alloc),
+            spent: 0,
             outcome: Outcome::unfilled(alloc),
             end: Ok(RaiseEnd::GoesOn),
         }
     }
 
-    /// How the raise to this share ends, which is this many raises from the opening share.
-    pub(crate) fn end_of<R: Threads + Sync, G: Gate>(
+    /// How a run at this share ends, and whom it elects, unless it is over.
+    pub(crate) fn end_of(
         &mut self,
-        pricing: &Pricing<R, G, A>,
+        measure: Measure,
+        supporters: &Supporters<A>,
         budget: Money,
         share: Money,
-        raised: u32,
     ) -> Result<RaiseEnd, NoMemory>
     where
-        A: Copy + Send + Sync,
-        requires share { share ≤ largest_share }
-        requires workers { is_worker_count pricing.now.workers ≡ true }
-        ensures { IfOk result (IsTried pricing.now.measure pricing.now.supporters.now pricing.now.workers
-            budget share raised self.new.outcome) }
+        A: Copy,
+        requires { share ≤ largest_share }
+        ensures { IfOk result (IsTried measure supporters.now budget share self.new.outcome.elected) }
     {
+        let mut spent = 0;
+        let (queue, marks) = (&mut self.queue, &mut self.marks);
         let outcome = &mut self.outcome;
-        let end = self.run.run(pricing, share, raised, Some(budget), outcome)?;
-        match end {
-            RunEnd::OverLimit => return Ok(RaiseEnd::Over),
-            RunEnd::Whole => {}
-        }
-        if self.run.is_exhausted(pricing.supporters, budget) {
-            return Ok(RaiseEnd::Exhausted);
-        }
-        Ok(RaiseEnd::GoesOn)
+        let end = end_at(
+            measure, supporters, budget, share, queue, marks, &mut spent, outcome,
+        )?;
+        self.spent = spent;
+        Ok(end)
     }
+}
+
+/// Begins a run at this share: the queue has who can be paid, nobody is elected, and every rest is the share.
+pub(crate) fn start<A: Allocator + Copy>(
+    measure: Measure,
+    supporters: &Supporters<A>,
+    share: Money,
+    queue: &mut BTreeSet<Key, A>,
+    outcome: &mut Outcome<A>,
+) -> Result<(), NoMemory>
+    requires { share ≤ largest_share }
+    ensures support { OnOk result (IsSupport supporters.now) }
+    ensures queue { OnOk result
+        (IsOpening measure supporters.now share (length supporters.now.costs) queue.new.keys) }
+    ensures outcome { OnOk result (outcome.new
+        ≡ record {
+          share = share;
+          raised = 0;
+          elected = [];
+          rests = replicate supporters.now.voters share;
+          priced = [];
+        }) }
+{
+    fill_opening(queue, measure, supporters, share)?;
+    open(outcome, share, 0, supporters.voters())?;
+    Ok(())
+}
+
+/// How a run at this share ends, and whom it elects, into an outcome whose lists are used again. It goes no further once the
+/// elected cost more than the budget. `spent` becomes what they cost together, in hundredths.
+fn end_at<A: Allocator + Copy>(
+    measure: Measure,
+    supporters: &Supporters<A>,
+    budget: Money,
+    share: Money,
+    queue: &mut BTreeSet<Key, A>,
+    marks: &mut Vec<bool, A>,
+    spent: &mut u128,
+    outcome: &mut Outcome<A>,
+) -> Result<RaiseEnd, NoMemory>
+    requires { share ≤ largest_share }
+    ensures { IfOk result (IsTried measure supporters.now budget share outcome.new.elected) }
+{
+    start(measure, supporters, share, queue, outcome)?;
+    clear_marks(marks, supporters.projects())?;
+    let mut sum: u128 = 0;
+    while let Some(best) = next_best(supporters, outcome.rests.as_slice(), &None, queue)? {
+        elect(supporters, best, outcome)?;
+        let place = best.place();
+        mark(marks, place);
+        sum += u128::from(supporters.cost(place).0);
+        *spent = sum;
+        if sum > u128::from(budget.0) {
+            return Ok(RaiseEnd::Over);
+        }
+    }
+    if is_exhausted(supporters, budget, sum, marks.as_slice()) {
+        return Ok(RaiseEnd::Exhausted);
+    }
+    Ok(RaiseEnd::GoesOn)
 }

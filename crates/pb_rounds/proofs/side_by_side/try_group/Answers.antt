@@ -19,6 +19,6 @@ returns-clause-ends g c i d below =
     let v = c.args.group.now.pricing.now.supporters.now in
     let budget = c.args.group.now.budget in
     let left : get_or chunk.after_call.now 0 d ≡ get_or c.for_each_chunk_mut.new.s i d = ap (λ k. get_or chunk.after_call.now k d) (sym first) ∙ chunk.new_element in
-    subst (λ ts. IsFound m v budget (c.args.group.now.opening + (c.args.group.now.next + i) * c.args.group.now.step) (get_or ts i d).end) (sym same)
-    (subst (λ t. IsFound m v budget (c.args.group.now.opening + (c.args.group.now.next + i) * c.args.group.now.step) t.end) left
-    (subst (λ k. IsFound m v budget (c.args.group.now.opening + (c.args.group.now.next + k) * c.args.group.now.step) (get_or chunk.after_call.now 0 d).end) at (chunk.call d)))
+    subst (λ ts. IsFound m v budget (c.args.group.now.opening + (c.args.group.now.next + i) * c.args.group.now.step) (get_or ts i d).outcome.elected (get_or ts i d).end) (sym same)
+    (subst (λ t. IsFound m v budget (c.args.group.now.opening + (c.args.group.now.next + i) * c.args.group.now.step) t.outcome.elected t.end) left
+    (subst (λ k. IsFound m v budget (c.args.group.now.opening + (c.args.group.now.next + k) * c.args.group.now.step) (get_or chunk.after_call.now 0 d).outcome.elected (get_or chunk.after_call.now 0 d).end) at (chunk.call d)))

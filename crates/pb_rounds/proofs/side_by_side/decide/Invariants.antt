@@ -1,12 +1,11 @@
 use Rattle.std.proofs.Common.{◌≡◌, ℕ, ◌+◌, ◌-◌, ◌<◌, ◌≤◌, false, length}
 use Rattle.pb_rounds.specs.Count.{is_decisive}
-use Rattle.pb_rounds.proofs.side_by_side.decide_side_by_side.Given as goal
+use Rattle.pb_rounds.proofs.side_by_side.decide.Given as goal
 
 abbrev pub invariant-loop-next : goal.invariant-loop-next
 invariant-loop-next g l = record {
-  some : 0 < l.next;
   within : l.next ≤ l.max_raises + 1;
-  few : length l.trials.items ≤ 64;
+  few : length l.team.trials.items ≤ 64;
   tried : (raises : ℕ) → raises < l.next → is_decisive l.pricing.measure l.election l.step raises ≡ false;
 }
 

@@ -1,6 +1,6 @@
 use Rattle.std.proofs.Common.{◌∙◌}
 use Rattle.pb_rounds.proofs.Completing.{completion_at}
-use Rattle.pb_rounds.proofs.side_by_side.complete_side_by_side.Goals as goal
+use Rattle.pb_rounds.proofs.side_by_side.complete_by_trials.Goals as goal
 
 pub returns-in_ok-outcome_after-in-Some-clause-completed : goal.returns-in_ok-outcome_after-in-Some-clause-completed
 returns-in_ok-outcome_after-in-Some-clause-completed g c =

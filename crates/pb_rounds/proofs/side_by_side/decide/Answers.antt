@@ -1,6 +1,6 @@
 use Rattle.std.proofs.Common.{arith}
 use Rattle.pb_rounds.proofs.Completing.{raises_spent}
-use Rattle.pb_rounds.proofs.side_by_side.decide_side_by_side.Goals as goal
+use Rattle.pb_rounds.proofs.side_by_side.decide.Goals as goal
 
 pub returns : goal.returns
 returns g c = (

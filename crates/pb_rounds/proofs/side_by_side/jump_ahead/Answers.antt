@@ -1,0 +1,39 @@
+use Rattle.std.proofs.Common.{◌≡◌, ◌-◌, ◌∙◌, ap, arith}
+use Rattle.pb_rounds.specs.Count.{elected_after}
+use Rattle.pb_rounds.proofs.side_by_side.jump_ahead.Goals.{then-branch, else-branch+else-not-lost}
+use Rattle.pb_rounds.proofs.side_by_side.jump_ahead.Goals as goal
+
+pub jump-requires-clause-given : goal.jump-requires-clause-given
+jump-requires-clause-given g c κs within = record {
+  few_workers = c.requires.given.few_workers;
+  small_step = c.requires.given.small_step;
+  few_raises = omega (arith, c.requires.given.few_raises, c.target-target.ensures);
+  own_supporters = c.requires.given.own_supporters;
+}
+
+pub overflow_add-next : goal.overflow_add-next
+overflow_add-next g c = omega (arith, c.requires.given.few_raises, c.target-target.ensures)
+
+pub loop-preserved : goal.loop-preserved
+loop-preserved g c =
+    let elected = elected_after c.args.pricing.now.measure c.args.election.now c.args.step in
+    elim c.if-branch.branch [
+      | then-branch w ↦
+          let here : c.target-target.result ≡ c.if-branch.next - 1 = omega (arith, w.next-is) in
+          record {
+            from = omega (arith, c.loop.invariant.from, c.if-target-next.false, w.next-is);
+            some = omega (arith, w.next-is);
+            within = omega (arith, c.target-target.ensures, w.next-is);
+            tried = λ raises below. c.in_ok-jump.ensures.decided w.if-branch.true raises (omega (arith, below, w.next-is));
+            last = c.in_ok-jump.ensures.last w.if-branch.true ∙ ap elected here;
+          }
+      | else-branch+else-not-lost w ↦
+          let here : c.loop.next - 1 ≡ c.if-branch.next - 1 = omega (arith, w.next-is) in
+          record {
+            from = omega (arith, c.loop.invariant.from, w.next-is);
+            some = omega (arith, c.loop.invariant.some, w.next-is);
+            within = omega (arith, c.loop.invariant.within, w.next-is);
+            tried = λ raises below. c.loop.invariant.tried raises (omega (arith, below, w.next-is));
+            last = c.in_ok-jump.ensures.stays w.if-branch.false ∙ c.loop.invariant.last ∙ ap elected here;
+          }
+    ]

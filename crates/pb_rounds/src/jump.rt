@@ -1,0 +1,81 @@
+//! Jumps over raises that elect the same projects as the last one that was tried.
+
+ghost use Rattle.std.specs.Prelude.{◌≡◌, ◌≤◌, ℕ, List, IfOk, length, replicate, true};
+ghost use Rattle.std.specs.List.{range_with_len};
+ghost use Rattle.pb_price.specs.Price.{AreRests, largest_share};
+ghost use Rattle.pb_price.specs.Supporters.{IsSupport};
+ghost use Rattle.pb_rounds.specs.Between.{KeepsElecting};
+ghost use Rattle.pb_rounds.specs.Bounds.{Follows, HasBounds};
+ghost use Rattle.pb_rounds.specs.Run.{run_of};
+ghost use Rattle.pb_rounds.specs.declared.measure.Measure.{Measure};
+
+use crate::bounds::next_best;
+use crate::key::Key;
+use crate::measure::Measure;
+use crate::outcome::{Elected, Outcome};
+use crate::round::elect;
+use crate::trial::start;
+use pb_core::money::Money;
+use pb_core::no_memory::NoMemory;
+use pb_price::supporters::Supporters;
+use std::alloc::Allocator;
+use std::collections::BTreeSet;
+
+/// Whether the projects that a smaller share elects are elected at this share too, and at every share in between: at each round of
+/// this share the project elected last time is the best, and no other left comes before or beside the price that it had at
+/// the smaller share; at the end nobody is left who can be paid. Then the outcome has whom this share elects.
+pub(crate) fn keeps<A: Allocator + Copy>(
+    measure: Measure,
+    supporters: &Supporters<A>,
+    share: Money,
+    last: &[Elected],
+    queue: &mut BTreeSet<Key, A>,
+    outcome: &mut Outcome<A>,
+) -> Result<bool, NoMemory>
+    requires { share ≤ largest_share }
+    ensures keeps { IfOk result (λ keeps. keeps ≡ true → KeepsElecting measure supporters.now last.now
+        (replicate supporters.now.voters share) (range_with_len 0 (length supporters.now.costs))) }
+    ensures elected { IfOk result (λ keeps. keeps ≡ true
+        → outcome.new.elected ≡ (run_of measure supporters.now share).elected) }
+{
+    start(measure, supporters, share, queue, outcome)?;
+    for elected in last {
+        if !follows(supporters, elected, queue, outcome)? {
+            return Ok(false);
+        }
+    }
+    let more = next_best(supporters, outcome.rests.as_slice(), &None, queue)?;
+    Ok(more.is_none())
+}
+
+/// Whether this round elects the project that was elected at a smaller share, while no other comes before or beside its price
+/// there. Then its supporters pay.
+fn follows<A: Allocator + Copy>(
+    supporters: &Supporters<A>,
+    last: &Elected,
+    queue: &mut BTreeSet<Key, A>,
+    outcome: &mut Outcome<A>,
+) -> Result<bool, NoMemory>
+    requires support { IsSupport supporters.now }
+    requires rests { AreRests supporters.now.voters outcome.old.rests }
+    requires bounds { (m : Measure) × (left : List ℕ)
+        × HasBounds m supporters.now outcome.old.rests left queue.old.keys }
+    ensures { (m : Measure) (left : List ℕ) → HasBounds m supporters.now outcome.old.rests left queue.old.keys
+        → IfOk result (λ follows. follows ≡ true
+        → Follows m supporters.now left last.now outcome.old outcome.new queue.new.keys) }
+{
+    let rests = outcome.rests.as_slice();
+    let Some(best) = next_best(supporters, rests, &None, queue)? else {
+        return Ok(false);
+    };
+    if best.place() != last.place {
+        return Ok(false);
+    }
+    let limit = Some(Key::new(last.price, best.weight(), best.place()));
+    let other = next_best(supporters, rests, &limit, queue)?;
+    if other.is_some() {
+        return Ok(false);
+    }
+    elect(supporters, best, outcome)?;
+    Ok(true)
+}
