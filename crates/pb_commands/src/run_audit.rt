@@ -13,6 +13,7 @@ use crate::run_count::{finished, put_count, write_out};
 use itoa::Buffer;
 use pb_core::no_memory::NoMemory;
 use pb_desk::{Desk, audit};
+use pb_price::gate::{Gate, NoGate};
 use pb_read::read_pb;
 use pb_rounds::count_fault::CountFault;
 use pb_rounds::options::CountOptions;
@@ -58,24 +59,59 @@ pub fn run_audit<T: Threads + Sync, P: Read + Drop, J: Read + Drop, W: Write>(
     // Out of memory is one fault.
     ensures merged { IfErr result (λ fault. merged fault ≡ fault) }
 {
+    run_audit_watched(rt, alloc, file, journal, &NoGate, writer, options)
+}
+
+/// The same, and the gate is told of raises before they are tried.
+pub fn run_audit_watched<T: Threads + Sync, P: Read + Drop, J: Read + Drop, G: Gate, W: Write>(
+    rt: &T,
+    alloc: Global,
+    file: P,
+    journal: J,
+    gate: &G,
+    writer: &mut W,
+    options: &CountOptions,
+) -> Result<(), AppFault>
+    // Where the bytes of both readers are known, they alone and the options decide what is written,
+    ensures ok { OnOk result (IfBothKnown (P.remaining file) (J.remaining journal) (λ bytes rows.
+        HasWritten (AuditWrites bytes rows options.now) (W.contents writer.old) (W.contents writer.new))) }
+
+    // and which fault comes.
+    ensures fault { IfErr result (λ fault. IfBothKnown (P.remaining file) (J.remaining journal) (λ bytes rows.
+        FailsBy (AuditRefuses bytes rows options.now) (AuditWrites bytes rows options.now) bytes fault)) }
+
+    // A file and a journal that have a text get it, unless a device fails or memory is refused.
+    ensures accepts { IfBothKnown (P.remaining file) (J.remaining journal) (λ bytes rows.
+        Accepts (AuditWrites bytes rows options.now) result) }
+
+    // The file is judged first, whatever is known of the journal.
+    ensures file { IfSome (P.remaining file) (λ bytes. JudgesFile bytes result) }
+
+    // A fault writes nothing, unless it is the writer's.
+    ensures unchanged { IfErr result (λ fault. fault ≢ AppFault.Write → writer.new ≡ writer.old) }
+
+    // Out of memory is one fault.
+    ensures merged { IfErr result (λ fault. merged fault ≡ fault) }
+{
     let election = read_pb(alloc, file)?;
     let desk = audit(alloc, election, ROOM, journal)?;
-    let text = desk_text(rt, alloc, desk, options)?;
+    let text = desk_text(rt, alloc, desk, gate, options)?;
     write_out(writer, text.as_slice())
 }
 
 /// What is said of a desk.
-fn desk_text<T: Threads + Sync>(
+fn desk_text<T: Threads + Sync, G: Gate>(
     rt: &T,
     alloc: Global,
     desk: Desk,
+    gate: &G,
     options: &CountOptions,
 ) -> Result<Vec<u8>, CountFault>
     ensures ok { IfOk result (λ text. IsTextOf desk options.now text.items) }
     ensures fault { IfErr result (IsRefusedDesk desk options.now) }
 {
     let mut rows = RowsWriter::start(alloc);
-    match put_desk(rt, alloc, &mut rows, desk, options) {
+    match put_desk(rt, alloc, &mut rows, desk, gate, options) {
         Ok(()) => finished(rows),
         Err(fault) => {
             drop(rows);
@@ -85,11 +121,12 @@ fn desk_text<T: Threads + Sync>(
 }
 
 /// Writes what is said of a desk.
-fn put_desk<T: Threads + Sync>(
+fn put_desk<T: Threads + Sync, G: Gate>(
     rt: &T,
     alloc: Global,
     rows: &mut RowsWriter,
     desk: Desk,
+    gate: &G,
     options: &CountOptions,
 ) -> Result<(), CountFault>
     ensures ok { OnOk result ((text : List ℕ)
@@ -104,7 +141,7 @@ fn put_desk<T: Threads + Sync>(
         }
     }
     if desk.is_shut() {
-        put_ballots(rt, alloc, rows, desk, options)
+        put_ballots(rt, alloc, rows, desk, gate, options)
     } else {
         drop(desk);
         Ok(())
@@ -112,11 +149,12 @@ fn put_desk<T: Threads + Sync>(
 }
 
 /// Writes the report of the ballots that the journal of a shut desk leaves.
-fn put_ballots<T: Threads + Sync>(
+fn put_ballots<T: Threads + Sync, G: Gate>(
     rt: &T,
     alloc: Global,
     rows: &mut RowsWriter,
     desk: Desk,
+    gate: &G,
     options: &CountOptions,
 ) -> Result<(), CountFault>
     requires { (standing_of desk).is_shut ≡ true }
@@ -126,7 +164,7 @@ fn put_ballots<T: Threads + Sync>(
 {
     match desk.into_election() {
         Ok(election) => {
-            let put = put_count(rt, alloc, rows, &election, options);
+            let put = put_count(rt, alloc, rows, &election, gate, options);
             drop(election);
             put
         }

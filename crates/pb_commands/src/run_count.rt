@@ -11,8 +11,9 @@ ghost use Rattle.pb_commands.specs.Fault.{merged};
 use crate::fault::AppFault;
 use crate::report::put_report;
 use pb_core::election::Election;
+use pb_price::gate::{Gate, NoGate};
 use pb_read::read_pb;
-use pb_rounds::count::count;
+use pb_rounds::count::count_watched;
 use pb_rounds::count_fault::CountFault;
 use pb_rounds::options::CountOptions;
 use pb_rows::RowsWriter;
@@ -49,25 +50,55 @@ pub fn run_count<T: Threads + Sync, R: Read + Drop, W: Write>(
     // Out of memory is one fault.
     ensures merged { IfErr result (λ fault. merged fault ≡ fault) }
 {
+    run_count_watched(rt, alloc, reader, &NoGate, writer, options)
+}
+
+/// The same, and the gate is told of raises before they are tried.
+pub fn run_count_watched<T: Threads + Sync, R: Read + Drop, G: Gate, W: Write>(
+    rt: &T,
+    alloc: Global,
+    reader: R,
+    gate: &G,
+    writer: &mut W,
+    options: &CountOptions,
+) -> Result<(), AppFault>
+    // Where the reader's bytes are known, they alone and the options decide what is written,
+    ensures ok { OnOk result (IfSome (R.remaining reader) (λ bytes.
+        HasWritten (CountWrites bytes options.now) (W.contents writer.old) (W.contents writer.new))) }
+
+    // and which fault comes.
+    ensures fault { IfErr result (λ fault. IfSome (R.remaining reader) (λ bytes.
+        FailsBy (CountRefuses options.now) (CountWrites bytes options.now) bytes fault)) }
+
+    // A file that has a report gets it, unless a device fails or memory is refused.
+    ensures accepts { IfSome (R.remaining reader) (λ bytes. Accepts (CountWrites bytes options.now) result) }
+
+    // A fault writes nothing, unless it is the writer's.
+    ensures unchanged { IfErr result (λ fault. fault ≢ AppFault.Write → writer.new ≡ writer.old) }
+
+    // Out of memory is one fault.
+    ensures merged { IfErr result (λ fault. merged fault ≡ fault) }
+{
     let election = read_pb(alloc, reader)?;
-    let report = report_text(rt, alloc, &election, options);
+    let report = report_text(rt, alloc, &election, gate, options);
     drop(election);
     let text = report?;
     write_out(writer, text.as_slice())
 }
 
 /// The report of an election, counted with these options.
-fn report_text<T: Threads + Sync>(
+fn report_text<T: Threads + Sync, G: Gate>(
     rt: &T,
     alloc: Global,
     election: &Election,
+    gate: &G,
     options: &CountOptions,
 ) -> Result<Vec<u8>, CountFault>
     ensures ok { IfOk result (λ text. IsReportOf election.now options.now text.items) }
     ensures fault { IfErr result (IsCountFault election.now options.now) }
 {
     let mut rows = RowsWriter::start(alloc);
-    match put_count(rt, alloc, &mut rows, election, options) {
+    match put_count(rt, alloc, &mut rows, election, gate, options) {
         Ok(()) => finished(rows),
         Err(fault) => {
             drop(rows);
@@ -88,11 +119,12 @@ pub(crate) fn finished(rows: RowsWriter) -> Result<Vec<u8>, CountFault>
 }
 
 /// Counts an election, and puts the report after the rows that stand there.
-pub(crate) fn put_count<T: Threads + Sync>(
+pub(crate) fn put_count<T: Threads + Sync, G: Gate>(
     rt: &T,
     alloc: Global,
     rows: &mut RowsWriter,
     election: &Election,
+    gate: &G,
     options: &CountOptions,
 ) -> Result<(), CountFault>
     ensures ok { OnOk result ((text : List ℕ)
@@ -101,7 +133,7 @@ pub(crate) fn put_count<T: Threads + Sync>(
 {
     // What is true of every election bounds the sums of its report.
     let _budget = election.budget();
-    let outcome = count(rt, alloc, election, options)?;
+    let outcome = count_watched(rt, alloc, election, options, gate)?;
     put_report(rows, alloc, election, &outcome)?;
     Ok(())
 }

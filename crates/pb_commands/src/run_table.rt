@@ -21,9 +21,10 @@ use crate::table::Table;
 use crate::voters_table::put_voters;
 use pb_core::election::Election;
 use pb_core::no_memory::NoMemory;
+use pb_price::gate::Gate;
 use pb_read::read_pb;
 use pb_reasons::Reasons;
-use pb_rounds::count::count;
+use pb_rounds::count::count_watched;
 use pb_rounds::count_fault::CountFault;
 use pb_rounds::options::CountOptions;
 use pb_rounds::outcome::Outcome;
@@ -38,10 +39,11 @@ use std::thread::Threads;
 /// The file is refused before the options are looked at, and nothing is written but the whole table.
 /// Where the fault is `Write` some of the table may have gone out; on any other fault the writer is as it
 /// was.
-pub fn run_table<T: Threads + Sync, R: Read + Drop, W: Write>(
+pub fn run_table<T: Threads + Sync, R: Read + Drop, G: Gate, W: Write>(
     rt: &T,
     alloc: Global,
     reader: R,
+    gate: &G,
     writer: &mut W,
     options: &CountOptions,
     table: Table,
@@ -65,7 +67,7 @@ pub fn run_table<T: Threads + Sync, R: Read + Drop, W: Write>(
     ensures merged { IfErr result (λ fault. merged fault ≡ fault) }
 {
     let election = read_pb(alloc, reader)?;
-    let made = table_text(rt, alloc, &election, options, table);
+    let made = table_text(rt, alloc, &election, gate, options, table);
     drop(election);
     let text = made?;
     write_out(writer, text.as_slice())
@@ -77,11 +79,12 @@ pub fn run_table<T: Threads + Sync, R: Read + Drop, W: Write>(
 /// The file is refused before the journal, the journal before an open desk, and that before the options. Nothing is
 /// written but the whole table. Where the fault is `Write` some of the table may have gone out; on any other fault the
 /// writer is as it was.
-pub fn run_closed_table<T: Threads + Sync, P: Read + Drop, J: Read + Drop, W: Write>(
+pub fn run_closed_table<T: Threads + Sync, P: Read + Drop, J: Read + Drop, G: Gate, W: Write>(
     rt: &T,
     alloc: Global,
     file: P,
     journal: J,
+    gate: &G,
     writer: &mut W,
     options: &CountOptions,
     table: Table,
@@ -109,17 +112,18 @@ pub fn run_closed_table<T: Threads + Sync, P: Read + Drop, J: Read + Drop, W: Wr
     ensures merged { IfErr result (λ fault. merged fault ≡ fault) }
 {
     let election = closed_ballots(alloc, file, journal)?;
-    let made = table_text(rt, alloc, &election, options, table);
+    let made = table_text(rt, alloc, &election, gate, options, table);
     drop(election);
     let text = made?;
     write_out(writer, text.as_slice())
 }
 
 /// This table of an election, counted with these options.
-fn table_text<T: Threads + Sync>(
+fn table_text<T: Threads + Sync, G: Gate>(
     rt: &T,
     alloc: Global,
     election: &Election,
+    gate: &G,
     options: &CountOptions,
     table: Table,
 ) -> Result<Vec<u8>, CountFault>
@@ -127,7 +131,7 @@ fn table_text<T: Threads + Sync>(
     ensures fault { IfErr result (IsCountFault election.now options.now) }
 {
     let mut rows = RowsWriter::start(alloc);
-    match put_counted(rt, alloc, &mut rows, election, options, table) {
+    match put_counted(rt, alloc, &mut rows, election, gate, options, table) {
         Ok(()) => finished(rows),
         Err(fault) => {
             drop(rows);
@@ -137,11 +141,12 @@ fn table_text<T: Threads + Sync>(
 }
 
 /// Counts an election, and puts this table after the rows that stand there.
-fn put_counted<T: Threads + Sync>(
+fn put_counted<T: Threads + Sync, G: Gate>(
     rt: &T,
     alloc: Global,
     rows: &mut RowsWriter,
     election: &Election,
+    gate: &G,
     options: &CountOptions,
     table: Table,
 ) -> Result<(), CountFault>
@@ -151,7 +156,7 @@ fn put_counted<T: Threads + Sync>(
 {
     // What is true of every election is true of its reasons.
     let _budget = election.budget();
-    let outcome = count(rt, alloc, election, options)?;
+    let outcome = count_watched(rt, alloc, election, options, gate)?;
     put_outcome(rows, alloc, election, &outcome, table)?;
     Ok(())
 }

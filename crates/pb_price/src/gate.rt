@@ -1,7 +1,12 @@
-/// Called by a worker that has a piece of work, before it does the work: a test can hold the worker there.
+use pb_core::money::Money;
+
+/// Told how far work has come, while it is done: a test can hold a worker there, and a program can show what it is told.
 pub trait Gate: Sync {
-    /// The worker is at this piece. Both are numbered from 0.
+    /// The worker has this piece of work, and has not done it yet. Both are numbered from 0.
     fn at(&self, worker: u32, piece: u32);
+
+    /// The outcome after so many raises is tried next, at this share in hundredths. The thread that counts says so.
+    fn raised(&self, _raises: u32, _share: Money) {}
 }
 
 /// The gate that lets every worker through at once.

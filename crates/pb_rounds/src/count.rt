@@ -125,19 +125,37 @@ where
     // what is answered
     ensures counted { IfOk result (IsCountOf election.now options.now) }
 {
-    if let Some(fault) = refusal_of(options) {
-        return Err(fault);
-    }
-    let supporters = Supporters::build(alloc, election)?;
-    count_in_range(rt, alloc, election, options, &supporters)
+    count_watched(rt, alloc, election, options, &NoGate)
 }
 
-/// Counts an election, whose supporters these are, with options that are in their ranges.
-fn count_in_range<R: Threads + Sync, A: Allocator + Copy + Send + Sync, B: Allocator>(
+/// The same, and the gate is told of raises before they are tried.
+pub fn count_watched<R: Threads + Sync, G: Gate, A: Allocator + Send + Sync, B: Allocator>(
     rt: &R,
     alloc: A,
     election: &Election<B>,
     options: &CountOptions,
+    gate: &G,
+) -> Result<Outcome<A>, CountFault>
+where
+    A: Copy,
+    ensures refused { MatchOption (refusal_of options.now) ⊤ (λ fault. result ≡ Err fault) }
+    ensures faults { IfErr result (IsCountFault election.now options.now) }
+    ensures counted { IfOk result (IsCountOf election.now options.now) }
+{
+    if let Some(fault) = refusal_of(options) {
+        return Err(fault);
+    }
+    let supporters = Supporters::build(alloc, election)?;
+    count_in_range(rt, alloc, election, options, gate, &supporters)
+}
+
+/// Counts an election, whose supporters these are, with options that are in their ranges.
+fn count_in_range<R: Threads + Sync, G: Gate, A: Allocator + Copy + Send + Sync, B: Allocator>(
+    rt: &R,
+    alloc: A,
+    election: &Election<B>,
+    options: &CountOptions,
+    gate: &G,
     supporters: &Supporters<A>,
 ) -> Result<Outcome<A>, CountFault>
     requires in_range { refusal_of options.now ≡ None }
@@ -147,7 +165,7 @@ fn count_in_range<R: Threads + Sync, A: Allocator + Copy + Send + Sync, B: Alloc
 {
     let pricing = Pricing {
         rt,
-        gate: &NoGate,
+        gate,
         alloc,
         workers: options.workers,
         measure: options.measure,

@@ -268,6 +268,8 @@ fn decide<R: Threads + Sync, G: Gate, A: Allocator + Copy + Send + Sync, B: Allo
     let mut next = from;
     while next <= max_raises {
         let left = max_raises + 1 - next;
+        let share = raised_share(opening_share(election), next, step);
+        pricing.gate.raised(next, share);
         resize(pricing.alloc, &mut team.trials, workers, processors, left)?;
         let found = try_raises(pricing, election, &mut team.trials, step, max_raises, next)?;
         if let Some(raises) = found {

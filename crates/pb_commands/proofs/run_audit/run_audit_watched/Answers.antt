@@ -3,7 +3,7 @@ use Rattle.pb_commands.proofs.AuditAccepted.{audited_by_desk, audited_by_journal
 use Rattle.pb_commands.proofs.AuditWritten.{audit_written, judged_by_audit, judged_by_count, judged_by_reader, judged_by_writer, refused_by_desk, refused_by_journal, write_fails}
 use Rattle.pb_commands.specs.Audited.{AuditRefuses, AuditWrites}
 use Rattle.pb_commands.specs.declared.fault.AppFault.TheVariants.{Read, Audit, Count}
-use Rattle.pb_commands.proofs.run_audit.run_audit.Goals as goal
+use Rattle.pb_commands.proofs.run_audit.run_audit_watched.Goals as goal
 
 pub returns-in_err-election-clause-fault : goal.returns-in_err-election-clause-fault
 returns-in_err-election-clause-fault g c =

@@ -1,4 +1,4 @@
-use Rattle.pb_rounds.proofs.count.count.Goals as goal
+use Rattle.pb_rounds.proofs.count.count_watched.Goals as goal
 
 pub returns-clause-faults : goal.returns-clause-faults
 returns-clause-faults g c = c.count_in_range.ensures.faults
