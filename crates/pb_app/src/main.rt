@@ -3,7 +3,10 @@
 #![tactic(auto)]
 
 mod counted;
+mod digested;
+mod digests;
 mod output;
+mod page;
 mod perform;
 mod progress;
 mod words;

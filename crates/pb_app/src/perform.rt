@@ -1,9 +1,11 @@
 // What the command line asks for, done on real files.
 
 use crate::counted::Counted;
+use crate::digests::audit_digested;
 use crate::output::Output;
+use crate::page::page;
 use crate::progress::{Progress, Shown};
-use pb_command_line::{Asked, Ballots, Source, Task};
+use pb_command_line::{Asked, AuditWish, Ballots, Source, Task};
 use pb_commands::run_audit::run_audit;
 use pb_commands::run_check::run_check;
 use pb_commands::run_count::run_count;
@@ -78,15 +80,25 @@ where
             writer,
             progress,
         ),
+        Task::Page(ballots, options, title) => page(rt, ballots, options, title, writer, progress),
         Task::Check(source) => check(rt, source, writer, faults, progress),
         Task::Desk(source, script, clerks, shuts) => {
             serve(rt, source, script, *clerks, *shuts, writer, progress)
         }
-        Task::Audit(source, journal, options, false) => {
-            audit(rt, source, journal, options, writer, tally, progress)
-        }
-        Task::Audit(source, journal, options, true) => {
+        Task::Audit(
+            source,
+            journal,
+            options,
+            AuditWish {
+                shut,
+                digests: true,
+            },
+        ) => audit_digested(rt, source, journal, options, *shut, writer, tally, progress),
+        Task::Audit(source, journal, options, AuditWish { shut: true, .. }) => {
             audit_shut(rt, source, journal, options, writer, tally, progress)
+        }
+        Task::Audit(source, journal, options, _) => {
+            audit(rt, source, journal, options, writer, tally, progress)
         }
     }
 }
@@ -368,7 +380,7 @@ fn pass_shut<W: Write>(text: &[u8], writer: &mut W) -> Result<(), AppFault> {
 }
 
 /// Whether the first row of an audit's text, `entries;N;open` or `entries;N;shut`, is that of an open desk.
-fn says_open(text: &[u8]) -> bool {
+pub(crate) fn says_open(text: &[u8]) -> bool {
     match text.split(|byte| *byte == b'\n').next() {
         Some(row) => row.ends_with(b";open"),
         None => false,
@@ -376,7 +388,7 @@ fn says_open(text: &[u8]) -> bool {
 }
 
 /// Opens the file with this number on the command line, from 1.
-fn open<R: Files>(rt: &R, path: &str, number: u32) -> Result<R::File, AppFault> {
+pub(crate) fn open<R: Files>(rt: &R, path: &str, number: u32) -> Result<R::File, AppFault> {
     match fs::open(rt, path) {
         Ok(file) => Ok(file),
         Err(error) if error.kind() == io::ErrorKind::OutOfMemory => Err(AppFault::Memory),

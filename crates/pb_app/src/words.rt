@@ -71,7 +71,7 @@ fn words_of<R: Files + AllocGlobal>(
 fn paths_of<'a>(task: &Task<'a>) -> (Option<&'a str>, Option<&'a str>) {
     match task {
         Task::Count(file, _) | Task::Check(file) => (file.path(), None),
-        Task::Projects(ballots, _) | Task::Voters(ballots, _) => (
+        Task::Projects(ballots, _) | Task::Voters(ballots, _) | Task::Page(ballots, ..) => (
             ballots.file.path(),
             ballots.journal_path(),
         ),
@@ -92,6 +92,7 @@ fn options_of(task: &Task<'_>) -> CountOptions {
         Task::Count(_, options)
         | Task::Projects(_, options)
         | Task::Voters(_, options)
+        | Task::Page(_, options, _)
         | Task::Audit(_, _, options, _) => *options,
         Task::Desk(..) | Task::Check(_) => CountOptions::standard(),
     }
@@ -117,7 +118,8 @@ pub(crate) fn say_tally<R: Eprint + AllocGlobal>(
     audited: &Tally,
 ) {
     match task {
-        Task::Count(..) | Task::Projects(..) | Task::Voters(..) | Task::Check(_) => {}
+        Task::Count(..) | Task::Projects(..) | Task::Voters(..) | Task::Page(..) | Task::Check(_) =>
+            {}
         Task::Desk(..) => say_words(rt, written.words(rt.alloc(), "entries written")),
         Task::Audit(..) => say_words(rt, audited.words(rt.alloc(), "entries audited")),
     }

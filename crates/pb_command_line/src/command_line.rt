@@ -1,6 +1,6 @@
 // The commands and options that the program knows, and what parsed arguments ask for.
 
-use crate::task::{Asked, Ballots, Source, Task};
+use crate::task::{Asked, AuditWish, Ballots, Source, Task};
 use clap::{Arg, ArgAction, ArgMatches, Command, value_parser};
 use pb_core::money::Money;
 use pb_rounds::measure::Measure;
@@ -46,6 +46,8 @@ enum Takes {
     Number(&'static str),
     /// The name of a measure.
     Measure,
+    /// A text, which its help calls so.
+    Text(&'static str),
     /// Nothing: it is given or not.
     Nothing,
 }
@@ -171,6 +173,23 @@ const PROGRESS: Argument = Argument {
     help: "Shows how far it has come on standard error, also where that is no terminal",
 };
 
+/// Whether digests stand before a report.
+const DIGESTS: Argument = Argument {
+    name: "digests",
+    takes: Takes::Nothing,
+    help: "Prints the SHA-256 of the file's bytes and of the journal's first",
+};
+
+/// What a page is about.
+const TITLE: Argument = Argument {
+    name: "title",
+    takes: Takes::Text("TEXT"),
+    help: "What was voted on, as the page says it [default: Participatory budgeting]",
+};
+
+/// What a page is about where it is not said.
+const NO_TITLE: &str = "Participatory budgeting";
+
 /// The commands that the program knows.
 const COMMANDS: &[CommandForm] = &[
     CommandForm {
@@ -195,6 +214,14 @@ const COMMANDS: &[CommandForm] = &[
         ],
     },
     CommandForm {
+        name: "page",
+        about: "Counts a .pb file, and prints the result as a web page that people look at",
+        arguments: &[
+            ELECTION, LEFT_BY, TITLE, WORKERS, STEP, RAISES, PLAIN, MEASURE, OUTPUT, QUIET,
+            PROGRESS,
+        ],
+    },
+    CommandForm {
         name: "check",
         about: "Lists all that is wrong with a .pb file, and what is probably not meant",
         arguments: &[ELECTION, OUTPUT, QUIET, PROGRESS],
@@ -216,6 +243,7 @@ const COMMANDS: &[CommandForm] = &[
             PLAIN,
             MEASURE,
             REQUIRE_SHUT,
+            DIGESTS,
             OUTPUT,
             QUIET,
             PROGRESS,
@@ -297,6 +325,10 @@ fn made<'a>(alloc: Global, argument: &Argument) -> Arg<'a> {
             .value_name("MEASURE")
             .value_parser(MEASURES)
             .action(ArgAction::Set),
+        Takes::Text(name) => arg
+            .long(argument.name)
+            .value_name(name)
+            .action(ArgAction::Set),
         Takes::Nothing => arg.long(argument.name).action(ArgAction::SetTrue),
     }
 }
@@ -324,6 +356,11 @@ fn task_of<'a>(name: &str, given: &ArgMatches<'a>) -> Task<'a> {
         "count" => Task::Count(file, options_of(given)),
         "projects" => Task::Projects(ballots_of(given, file), options_of(given)),
         "voters" => Task::Voters(ballots_of(given, file), options_of(given)),
+        "page" => Task::Page(
+            ballots_of(given, file),
+            options_of(given),
+            given.get_str("title").unwrap_or(NO_TITLE),
+        ),
         "check" => Task::Check(file),
         "desk" => Task::Desk(
             file,
@@ -335,7 +372,10 @@ fn task_of<'a>(name: &str, given: &ArgMatches<'a>) -> Task<'a> {
             file,
             source_of(given, "JOURNAL"),
             options_of(given),
-            given.get_flag("require-shut"),
+            AuditWish {
+                shut: given.get_flag("require-shut"),
+                digests: given.get_flag("digests"),
+            },
         ),
     }
 }

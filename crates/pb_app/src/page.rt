@@ -1,0 +1,209 @@
+// The command `page`: a result that people look at.
+
+ghost use Rattle.std.specs.Prelude.{◌≡◌, IfErr, IfOk, OnOk};
+ghost use Rattle.pb_rounds.specs.Counted.{IsCountFault};
+ghost use Rattle.pb_commands.specs.Ends.{HasWritten};
+ghost use Rattle.pb_page.specs.Page.{IsPage};
+
+use crate::digested::{Digested, hex_of};
+use crate::perform::open;
+use crate::progress::{Progress, Shown};
+use pb_command_line::{Ballots, Source as Given};
+use pb_commands::{AppFault, closed_ballots};
+use pb_core::election::Election;
+use pb_page::{Facts, Source, page_of};
+use pb_read::read_pb;
+use pb_rounds::count::count;
+use pb_rounds::count_fault::CountFault;
+use pb_rounds::options::CountOptions;
+use sha2::{Digest, Sha256};
+use std::alloc::Global;
+use std::io::{Read, Write};
+use std::path::Path;
+use std::rt::{Clock, Files};
+use std::thread::Threads;
+
+/// What standard input is called.
+const INPUT: &str = "standard input";
+
+/// Counts these ballots, and writes the page of the outcome. What refuses it, and when, is as for the tables.
+pub(crate) fn page<R, W: Write>(
+    rt: &R,
+    ballots: &Ballots<'_>,
+    options: &CountOptions,
+    title: &str,
+    writer: &mut W,
+    progress: &Progress<'_, R>,
+) -> Result<(), AppFault>
+where
+    R: Files + Input + Print + Eprint + Clock + AllocGlobal + Threads + Sync,
+{
+    match ballots.file {
+        Given::Input => {
+            let file = Shown::new(rt.reader(), progress);
+            page_from(rt, file, ballots, options, title, writer, progress)
+        }
+        Given::File(path) => {
+            let file = Shown::new(open(rt, path, 1)?, progress);
+            page_from(rt, file, ballots, options, title, writer, progress)
+        }
+    }
+}
+
+/// The same, where a reader gives the .pb file.
+fn page_from<R, P: Read + Drop, W: Write>(
+    rt: &R,
+    file: P,
+    ballots: &Ballots<'_>,
+    options: &CountOptions,
+    title: &str,
+    writer: &mut W,
+    progress: &Progress<'_, R>,
+) -> Result<(), AppFault>
+where
+    R: Files + Input + Print + Eprint + Clock + AllocGlobal + Threads + Sync,
+{
+    let path = match ballots.journal {
+        None => return page_of_file(rt, file, ballots, options, title, writer),
+        Some(Given::Input) => {
+            let journal = Shown::new(rt.reader(), progress);
+            return page_of_both(rt, file, journal, ballots, options, title, writer);
+        }
+        Some(Given::File(path)) => path,
+    };
+    match open(rt, path, 2) {
+        Ok(journal) => {
+            let journal = Shown::new(journal, progress);
+            page_of_both(rt, file, journal, ballots, options, title, writer)
+        }
+        Err(fault) => {
+            drop(file);
+            Err(fault)
+        }
+    }
+}
+
+/// Writes the page of the file's own ballots.
+fn page_of_file<R, P: Read + Drop, W: Write>(
+    rt: &R,
+    file: P,
+    ballots: &Ballots<'_>,
+    options: &CountOptions,
+    title: &str,
+    writer: &mut W,
+) -> Result<(), AppFault>
+where
+    R: Print + AllocGlobal + Threads + Sync,
+{
+    let alloc = rt.alloc();
+    let mut hasher = Sha256::new();
+    let election = read_pb(alloc, Digested::new(file, &mut hasher))?;
+    let digest = hex_of(alloc, hasher)?;
+    let facts = Facts {
+        title,
+        file: Source {
+            name: name_of(&ballots.file),
+            digest: digest.as_str(),
+        },
+        journal: None,
+        options: *options,
+    };
+    let written = write_page(rt, &election, &facts, writer);
+    drop(digest);
+    drop(election);
+    written
+}
+
+/// Writes the page of the ballots that a journal leaves.
+fn page_of_both<R, P: Read + Drop, J: Read + Drop, W: Write>(
+    rt: &R,
+    file: P,
+    journal: J,
+    ballots: &Ballots<'_>,
+    options: &CountOptions,
+    title: &str,
+    writer: &mut W,
+) -> Result<(), AppFault>
+where
+    R: Print + AllocGlobal + Threads + Sync,
+{
+    let alloc = rt.alloc();
+    let mut of_file = Sha256::new();
+    let mut of_journal = Sha256::new();
+    let file = Digested::new(file, &mut of_file);
+    let journal = Digested::new(journal, &mut of_journal);
+    let election = closed_ballots(alloc, file, journal)?;
+    let file_digest = hex_of(alloc, of_file)?;
+    let journal_digest = hex_of(alloc, of_journal)?;
+    let facts = Facts {
+        title,
+        file: Source {
+            name: name_of(&ballots.file),
+            digest: file_digest.as_str(),
+        },
+        journal: match &ballots.journal {
+            Some(given) => Some(Source {
+                name: name_of(given),
+                digest: journal_digest.as_str(),
+            }),
+            None => None,
+        },
+        options: *options,
+    };
+    let written = write_page(rt, &election, &facts, writer);
+    drop(journal_digest);
+    drop(file_digest);
+    drop(election);
+    written
+}
+
+/// Counts an election with the options of these facts, and writes the page of the outcome.
+fn write_page<R, W: Write>(
+    rt: &R,
+    election: &Election,
+    facts: &Facts,
+    writer: &mut W,
+) -> Result<(), AppFault>
+where
+    R: Print + AllocGlobal + Threads + Sync,
+{
+    let text = page_text(rt, rt.alloc(), election, facts)?;
+    write_whole(writer, text.as_slice())
+}
+
+/// The page of an election, counted with the options of these facts: nothing in it is markup but the program's own
+/// pieces. What refuses it is what refuses the count.
+fn page_text<T: Threads + Sync>(
+    rt: &T,
+    alloc: Global,
+    election: &Election,
+    facts: &Facts,
+) -> Result<Vec<u8>, CountFault>
+    ensures ok { IfOk result (λ text. IsPage text.items) }
+    ensures fault { IfErr result (IsCountFault election.now facts.now.options) }
+{
+    // What is true of every election is true of its reasons.
+    let _budget = election.budget();
+    let outcome = count(rt, alloc, election, &facts.options)?;
+    Ok(page_of(alloc, election, &outcome, facts)?)
+}
+
+/// Writes the whole page, and sees that it leaves the writer.
+fn write_whole<W: Write>(writer: &mut W, text: &[u8]) -> Result<(), AppFault>
+    requires { IsPage text.now }
+    ensures ok { OnOk result (HasWritten IsPage (W.contents writer.old) (W.contents writer.new)) }
+    ensures fault { IfErr result (λ fault. fault ≡ AppFault.Write) }
+{
+    if writer.write_all(text).is_err() || writer.flush().is_err() {
+        return Err(AppFault::Write);
+    }
+    Ok(())
+}
+
+/// The name of a text that is read, without its folders.
+fn name_of<'a>(given: &Given<'a>) -> &'a str {
+    match given.path() {
+        Some(path) => Path::new(path).file_name().unwrap_or(path),
+        None => INPUT,
+    }
+}
