@@ -1,5 +1,5 @@
 """A browser without a window, led through a pipe by the DevTools protocol."""
-import base64, json, os, shutil, subprocess, tempfile
+import base64, collections, json, os, shutil, subprocess, tempfile
 
 NAMES = ['chromium', 'chromium-browser', 'google-chrome']
 
@@ -97,6 +97,11 @@ class Browser:
         if 'exceptionDetails' in found:
             raise SystemExit(f"looking failed: {found['exceptionDetails']['exception'].get('description')}")
         return found['result']['value']
+
+    def roles(self):
+        """How often each role stands in what a screen reader gets."""
+        nodes = self.call('Accessibility.getFullAXTree')['nodes']
+        return collections.Counter(node['role']['value'] for node in nodes if not node['ignored'])
 
     def picture(self, path):
         """Writes the whole page as a picture."""

@@ -27,11 +27,11 @@ use std::thread::Threads;
 const INPUT: &str = "standard input";
 
 /// Counts these ballots, and writes the page of the outcome. What refuses it, and when, is as for the tables.
-pub(crate) fn page<R, W: Write>(
+pub(crate) fn page<'a, R, W: Write>(
     rt: &R,
-    ballots: &Ballots<'_>,
+    ballots: &Ballots<'a>,
     options: &CountOptions,
-    title: &str,
+    title: &'a str,
     writer: &mut W,
     progress: &Progress<'_, R>,
 ) -> Result<(), AppFault>
@@ -51,12 +51,12 @@ where
 }
 
 /// The same, where a reader gives the .pb file.
-fn page_from<R, P: Read + Drop, W: Write>(
+fn page_from<'a, R, P: Read + Drop, W: Write>(
     rt: &R,
     file: P,
-    ballots: &Ballots<'_>,
+    ballots: &Ballots<'a>,
     options: &CountOptions,
-    title: &str,
+    title: &'a str,
     writer: &mut W,
     progress: &Progress<'_, R>,
 ) -> Result<(), AppFault>
@@ -84,12 +84,12 @@ where
 }
 
 /// Writes the page of the file's own ballots.
-fn page_of_file<R, P: Read + Drop, W: Write>(
+fn page_of_file<'a, R, P: Read + Drop, W: Write>(
     rt: &R,
     file: P,
-    ballots: &Ballots<'_>,
+    ballots: &Ballots<'a>,
     options: &CountOptions,
-    title: &str,
+    title: &'a str,
     writer: &mut W,
 ) -> Result<(), AppFault>
 where
@@ -115,13 +115,13 @@ where
 }
 
 /// Writes the page of the ballots that a journal leaves.
-fn page_of_both<R, P: Read + Drop, J: Read + Drop, W: Write>(
+fn page_of_both<'a, R, P: Read + Drop, J: Read + Drop, W: Write>(
     rt: &R,
     file: P,
     journal: J,
-    ballots: &Ballots<'_>,
+    ballots: &Ballots<'a>,
     options: &CountOptions,
-    title: &str,
+    title: &'a str,
     writer: &mut W,
 ) -> Result<(), AppFault>
 where
