@@ -26,6 +26,15 @@ use std::thread::Threads;
 /// What standard input is called.
 const INPUT: &str = "standard input";
 
+/// An election that was read, and the SHA-256 of the bytes that it was read from, in hexadecimal.
+#[derive(Drop)]
+struct Contents {
+    election: Election,
+    file: String,
+    /// That of the journal, if there is one.
+    journal: Option<String>,
+}
+
 /// Counts these ballots, and writes the page of the outcome. What refuses it, and when, is as for the tables.
 pub(crate) fn page<'a, R, W: Write>(
     rt: &R,
@@ -63,111 +72,83 @@ fn page_from<'a, R, P: Read + Drop, W: Write>(
 where
     R: Files + Input + Print + Eprint + Clock + AllocGlobal + Threads + Sync,
 {
-    let path = match ballots.journal {
-        None => return page_of_file(rt, file, ballots, options, title, writer),
-        Some(Given::Input) => {
-            let journal = Shown::new(rt.reader(), progress);
-            return page_of_both(rt, file, journal, ballots, options, title, writer);
-        }
-        Some(Given::File(path)) => path,
-    };
-    match open(rt, path, 2) {
-        Ok(journal) => {
-            let journal = Shown::new(journal, progress);
-            page_of_both(rt, file, journal, ballots, options, title, writer)
-        }
-        Err(fault) => {
-            drop(file);
-            Err(fault)
-        }
-    }
-}
-
-/// Writes the page of the file's own ballots.
-fn page_of_file<'a, R, P: Read + Drop, W: Write>(
-    rt: &R,
-    file: P,
-    ballots: &Ballots<'a>,
-    options: &CountOptions,
-    title: &'a str,
-    writer: &mut W,
-) -> Result<(), AppFault>
-where
-    R: Print + AllocGlobal + Threads + Sync,
-{
     let alloc = rt.alloc();
-    let mut hasher = Sha256::new();
-    let election = read_pb(alloc, Digested::new(file, &mut hasher))?;
-    let digest = hex_of(alloc, hasher)?;
-    let facts = Facts {
-        title,
-        file: Source {
-            name: name_of(&ballots.file),
-            digest: digest.as_str(),
+    let read = match ballots.journal {
+        None => read_file(alloc, file)?,
+        Some(Given::Input) => read_both(alloc, file, Shown::new(rt.reader(), progress))?,
+        Some(Given::File(path)) => match open(rt, path, 2) {
+            Ok(journal) => read_both(alloc, file, Shown::new(journal, progress))?,
+            Err(fault) => {
+                drop(file);
+                return Err(fault);
+            }
         },
-        journal: None,
-        options: *options,
     };
-    let written = write_page(rt, &election, &facts, writer);
-    drop(digest);
-    drop(election);
+    let written = write_page(rt, &read, ballots, options, title, writer);
+    drop(read);
     written
 }
 
-/// Writes the page of the ballots that a journal leaves.
-fn page_of_both<'a, R, P: Read + Drop, J: Read + Drop, W: Write>(
-    rt: &R,
+/// Reads the file's own ballots.
+fn read_file<P: Read + Drop>(alloc: Global, file: P) -> Result<Contents, AppFault> {
+    let mut hasher = Sha256::new();
+    let election = read_pb(alloc, Digested::new(file, &mut hasher))?;
+    Ok(Contents {
+        election,
+        file: hex_of(alloc, hasher)?,
+        journal: None,
+    })
+}
+
+/// Reads the ballots that a journal leaves.
+fn read_both<P: Read + Drop, J: Read + Drop>(
+    alloc: Global,
     file: P,
     journal: J,
-    ballots: &Ballots<'a>,
-    options: &CountOptions,
-    title: &'a str,
-    writer: &mut W,
-) -> Result<(), AppFault>
-where
-    R: Print + AllocGlobal + Threads + Sync,
-{
-    let alloc = rt.alloc();
+) -> Result<Contents, AppFault> {
     let mut of_file = Sha256::new();
     let mut of_journal = Sha256::new();
     let file = Digested::new(file, &mut of_file);
     let journal = Digested::new(journal, &mut of_journal);
     let election = closed_ballots(alloc, file, journal)?;
-    let file_digest = hex_of(alloc, of_file)?;
-    let journal_digest = hex_of(alloc, of_journal)?;
-    let facts = Facts {
-        title,
-        file: Source {
-            name: name_of(&ballots.file),
-            digest: file_digest.as_str(),
-        },
-        journal: match &ballots.journal {
-            Some(given) => Some(Source {
-                name: name_of(given),
-                digest: journal_digest.as_str(),
-            }),
-            None => None,
-        },
-        options: *options,
-    };
-    let written = write_page(rt, &election, &facts, writer);
-    drop(journal_digest);
-    drop(file_digest);
-    drop(election);
-    written
+    let file = hex_of(alloc, of_file)?;
+    let journal = hex_of(alloc, of_journal)?;
+    Ok(Contents {
+        election,
+        file,
+        journal: Some(journal),
+    })
 }
 
-/// Counts an election with the options of these facts, and writes the page of the outcome.
-fn write_page<R, W: Write>(
+/// Counts what was read, and writes the page of the outcome.
+fn write_page<'a, R, W: Write>(
     rt: &R,
-    election: &Election,
-    facts: &Facts,
+    read: &'a Contents,
+    ballots: &Ballots<'a>,
+    options: &CountOptions,
+    title: &'a str,
     writer: &mut W,
 ) -> Result<(), AppFault>
 where
     R: Print + AllocGlobal + Threads + Sync,
 {
-    let text = page_text(rt, rt.alloc(), election, facts)?;
+    let journal = match (&ballots.journal, &read.journal) {
+        (Some(given), Some(digest)) => Some(Source {
+            name: name_of(given),
+            digest: digest.as_str(),
+        }),
+        _ => None,
+    };
+    let facts = Facts {
+        title,
+        file: Source {
+            name: name_of(&ballots.file),
+            digest: read.file.as_str(),
+        },
+        journal,
+        options: *options,
+    };
+    let text = page_text(rt, rt.alloc(), &read.election, &facts)?;
     write_whole(writer, text.as_slice())
 }
 
