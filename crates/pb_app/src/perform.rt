@@ -3,6 +3,7 @@
 use crate::counted::Counted;
 use crate::output::Output;
 use crate::progress::{Progress, Shown};
+use crate::serve;
 use pb_command_line::{Asked, Ballots, Source, Task};
 use pb_commands::run_audit::run_audit;
 use pb_commands::run_check::run_check;
@@ -16,10 +17,38 @@ use pb_rounds::options::CountOptions;
 use pb_words::Tally;
 use pb_words::warnings::Warnings;
 use std::alloc::Global;
-use std::io::{Read, Write};
+use std::fs::File;
+use std::io::{Error, Read, Write};
 use std::rt::{Clock, Files};
 use std::thread::Threads;
 use std::{fs, io, mem};
+
+/// Why a run ends without a result.
+#[derive(Clone, Copy)]
+pub(crate) enum Refusal {
+    /// The runs of the commands say why.
+    Fault(AppFault),
+    /// Another run serves the journal.
+    Locked,
+    /// The journal could not be opened or made, for this reason.
+    NoJournal(Error),
+    /// The journal is legal, and not spelled as a desk spells it.
+    Spelling,
+    /// The journal could not be written, synced or cut, for this reason.
+    Journal(Error),
+    /// What is cut off the journal could not be kept beside it, for this reason.
+    Beside(Error),
+    /// An answer could not be written; what it answers stands.
+    Unanswered,
+    /// All rows were answered; so many were not of the form.
+    BadRows(u64),
+}
+
+impl From<AppFault> for Refusal {
+    fn from(fault: AppFault) -> Refusal {
+        Refusal::Fault(fault)
+    }
+}
 
 /// Does what the arguments ask for, and writes the result to its place. Files are opened, in their order, before any
 /// is read. The tally takes the entries of a journal that is audited, and `faults` those of a file that is checked.
@@ -30,21 +59,21 @@ pub(crate) fn perform<R>(
     tally: &mut Tally,
     faults: &mut Vec<ReadFault>,
     progress: &Progress<'_, R>,
-) -> Result<(), AppFault>
+) -> Result<(), Refusal>
 where
-    R: Files + Input + Print + Eprint + Clock + AllocGlobal + Threads + Sync,
+    R: Files<File = File> + Input + Print + Eprint + Clock + AllocGlobal + Threads + Sync,
 {
     match run(rt, &asked.task, output, tally, faults, progress) {
         Ok(()) => match output.finish() {
             Ok(()) => Ok(()),
             Err(error) => {
                 output.failure = Some(error);
-                Err(AppFault::Write)
+                Err(Refusal::Fault(AppFault::Write))
             }
         },
-        Err(fault) => {
+        Err(refusal) => {
             output.give_up();
-            Err(fault)
+            Err(refusal)
         }
     }
 }
@@ -56,12 +85,12 @@ fn run<R, W: Write>(
     tally: &mut Tally,
     faults: &mut Vec<ReadFault>,
     progress: &Progress<'_, R>,
-) -> Result<(), AppFault>
+) -> Result<(), Refusal>
 where
-    R: Files + Input + Print + Eprint + Clock + AllocGlobal + Threads + Sync,
+    R: Files<File = File> + Input + Print + Eprint + Clock + AllocGlobal + Threads + Sync,
 {
     match task {
-        Task::Count(source, options) => count(rt, source, options, writer, progress),
+        Task::Count(source, options) => count(rt, source, options, writer, progress)?,
         Task::Projects(ballots, options) => tell(
             rt,
             ballots,
@@ -69,7 +98,7 @@ where
             Table::Projects,
             writer,
             progress,
-        ),
+        )?,
         Task::Voters(ballots, options) => tell(
             rt,
             ballots,
@@ -77,18 +106,20 @@ where
             Table::Voters,
             writer,
             progress,
-        ),
-        Task::Check(source) => check(rt, source, writer, faults, progress),
+        )?,
+        Task::Check(source) => check(rt, source, writer, faults, progress)?,
         Task::Desk(source, script, clerks, shuts) => {
-            serve(rt, source, script, *clerks, *shuts, writer, progress)
+            serve(rt, source, script, *clerks, *shuts, writer, progress)?
         }
         Task::Audit(source, journal, options, false) => {
-            audit(rt, source, journal, options, writer, tally, progress)
+            audit(rt, source, journal, options, writer, tally, progress)?
         }
         Task::Audit(source, journal, options, true) => {
-            audit_shut(rt, source, journal, options, writer, tally, progress)
+            audit_shut(rt, source, journal, options, writer, tally, progress)?
         }
+        Task::Serve(file, journal) => return serve::serve(rt, file, journal, writer),
     }
+    Ok(())
 }
 
 /// Counts a .pb file.
@@ -376,7 +407,7 @@ fn says_open(text: &[u8]) -> bool {
 }
 
 /// Opens the file with this number on the command line, from 1.
-fn open<R: Files>(rt: &R, path: &str, number: u32) -> Result<R::File, AppFault> {
+pub(crate) fn open<R: Files>(rt: &R, path: &str, number: u32) -> Result<R::File, AppFault> {
     match fs::open(rt, path) {
         Ok(file) => Ok(file),
         Err(error) if error.kind() == io::ErrorKind::OutOfMemory => Err(AppFault::Memory),

@@ -55,6 +55,8 @@ pub enum Task<'a> {
     Desk(Source<'a>, Source<'a>, u32, bool),
     /// An audit of a journal on a .pb file; where the last is true an open desk is refused.
     Audit(Source<'a>, Source<'a>, CountOptions, bool),
+    /// A desk of the .pb file with the first path, whose journal is the file with the second; standard input asks.
+    Serve(&'a str, &'a str),
 }
 
 /// What the arguments ask for, and where the result goes.
