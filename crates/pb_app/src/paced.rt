@@ -1,5 +1,7 @@
 // Standard input, handed out a row at a time.
 
+ghost use Rattle.std.specs.Prelude.{◌≤◌, length};
+
 use pb_serving::Pace;
 use std::alloc::{AllocError, Global};
 use std::cell::Cell;
@@ -108,7 +110,9 @@ impl<'a, P: Read + Drop> Paced<'a, P> {
     }
 
     /// Hands out the row that goes on, or all of it that is there.
-    fn hand_out(&mut self, buf: &mut [u8]) -> usize {
+    fn hand_out(&mut self, buf: &mut [u8]) -> usize
+        ensures { result ≤ length buf.new }
+    {
         let rest = self.rest();
         let row = row_length(self.place, rest).unwrap_or(rest.len());
         let count = row.min(rest.len()).min(buf.len());
