@@ -26,12 +26,30 @@ Examples:
   pb_app count city.pb --step 1000 --output city.report
   pb_app desk city.pb requests.script --clerks 2 --output city.journal
   pb_app audit city.pb city.journal --require-shut
+  pb_app serve city.pb city.journal < requests.script
 
 Statuses: 0 the result is written whole, 1 a file, script, journal or count is refused, 2 the arguments are
 refused, 3 a device failed or memory was refused. A refusal is one line on standard output, for programs; words for
 people stand on standard error.
 
 The formats, and what to do about each fault: docs/formats.md. What a count does: docs/counting.md.";
+
+/// What stands below the arguments of `serve`.
+const AFTER_SERVE: &str =
+    "Standard input has a request a row, as a script has them: clerk;request;voter;places. Each row is answered by its row of
+the journal, once that is on the disk; a row of another form is answered by fault;script;2;BadRow;I, and changes
+nothing. The first rows say how many bytes were cut off the journal's end and kept in JOURNAL.torn (torn;BYTES), if any,
+and how many entries it has (entries;N;open or entries;N;shut).
+
+Examples:
+  pb_app serve city.pb city.journal
+  pb_app serve city.pb city.journal < requests.script > answers
+  pb_app serve city.pb city.journal < /dev/null
+
+Statuses: 0, and 1 where a row was not of the form or FILE or JOURNAL is refused; 2 the arguments are refused; 3 a device
+failed, memory was refused, or another serve has JOURNAL (fault;locked;2).
+
+An office's days with it: docs/office.md.";
 
 /// What an argument of a command takes.
 #[derive(Clone, Copy)]
@@ -87,6 +105,20 @@ const JOURNAL: Argument = Argument {
     name: "JOURNAL",
     takes: Takes::Path,
     help: "The journal of a desk that opened with it; - is standard input",
+};
+
+/// The file whose desk stands on a disk.
+const SERVED: Argument = Argument {
+    name: "FILE",
+    takes: Takes::Path,
+    help: "The election, a .pb file with approval votes",
+};
+
+/// The file that a desk stands on.
+const DURABLE: Argument = Argument {
+    name: "JOURNAL",
+    takes: Takes::Path,
+    help: "The file of the desk's journal, which goes on where it ends; it is made where it is not there",
 };
 
 /// The journal whose desk leaves the ballots.
@@ -249,7 +281,20 @@ const COMMANDS: &[CommandForm] = &[
             PROGRESS,
         ],
     },
+    CommandForm {
+        name: "serve",
+        about: "Serves standard input's requests on the desk of a .pb file, whose journal stands in a file",
+        arguments: &[SERVED, DURABLE],
+    },
 ];
+
+/// What stands below the arguments of the command with this name.
+fn notes_of(name: &str) -> Option<&'static str> {
+    match name {
+        "serve" => Some(AFTER_SERVE),
+        _ => None,
+    }
+}
 
 /// The command line that the program reads.
 pub(crate) fn command_line<'a>(alloc: Global) -> Result<Command<'a>, AllocError> {
@@ -275,7 +320,10 @@ fn with_command<'a>(
     program: Command<'a>,
     form: &CommandForm,
 ) -> Result<Command<'a>, AllocError> {
-    let command = Command::new(alloc, form.name).about(form.about);
+    let mut command = Command::new(alloc, form.name).about(form.about);
+    if let Some(notes) = notes_of(form.name) {
+        command = command.after_help(notes);
+    }
     match with_arguments(alloc, command, form.arguments) {
         Ok(command) => program.subcommand(command),
         Err(refused) => {
@@ -368,6 +416,7 @@ fn task_of<'a>(name: &str, given: &ArgMatches<'a>) -> Task<'a> {
             given.get_one("clerks").unwrap_or(1),
             given.get_flag("shut"),
         ),
+        "serve" => Task::Serve(path_of(given, "FILE"), path_of(given, "JOURNAL")),
         _ => Task::Audit(
             file,
             source_of(given, "JOURNAL"),

@@ -57,6 +57,8 @@ pub enum Task<'a> {
     Desk(Source<'a>, Source<'a>, u32, bool),
     /// An audit of a journal on a .pb file.
     Audit(Source<'a>, Source<'a>, CountOptions, AuditWish),
+    /// A desk of the .pb file with the first path, whose journal is the file with the second; standard input asks.
+    Serve(&'a str, &'a str),
 }
 
 /// What is asked of an audit beside its report.
