@@ -3,24 +3,40 @@
 #![tactic(auto)]
 
 mod counted;
+mod digested;
+mod digests;
 mod output;
+mod paced;
+mod page;
 mod perform;
 mod progress;
+mod serve;
 mod words;
 
 use crate::output::Output;
-use crate::perform::perform;
+use crate::perform::{Refusal, perform};
 use crate::progress::Progress;
 use pb_command_line::parse::parse;
 use pb_command_line::{Asked, Parsed};
 use pb_commands::{AppFault, BAD_ARGUMENTS};
 use pb_read::ReadFault;
+use pb_serving::ServingFault;
 use pb_words::Tally;
-use std::io::IsTerminal;
+use std::fs::File;
+use std::io::{IsTerminal, Write};
 use std::process::ExitCode;
 use std::rt::{Clock, Env, Files};
 use std::thread::Threads;
 use std::{env, io};
+
+/// The line of a journal that another run serves.
+const LOCKED: &[u8] = b"fault;locked;2\n";
+
+/// The status where a row was not of the form.
+const BAD_ROWS: u8 = 1;
+
+/// The status of a journal that another run serves.
+const NOT_READY: u8 = 3;
 
 /// Which streams are terminals.
 #[derive(Clone, Copy)]
@@ -40,17 +56,10 @@ fn main(rt: HostRuntime) -> ExitCode {
     }
 }
 
-/// Writes a fault's line to standard output, and answers the status.
-fn write_fault<R: Print>(rt: &R, fault: AppFault) -> u8 {
-    // Where the line can't be written either, the status alone tells.
-    let _ = fault.write_line(&mut io::writer(rt));
-    fault.status()
-}
-
 /// Reads the arguments, and does what they ask for.
 fn run<R>(rt: &R, terminals: Terminals) -> Result<ExitCode, AppFault>
 where
-    R: Env + Files + Input + Print + Eprint + Clock + AllocGlobal + Threads + Sync,
+    R: Env + Files<File = File> + Input + Print + Eprint + Clock + AllocGlobal + Threads + Sync,
 {
     let arguments: Vec<String> = match env::args(rt) {
         Ok(arguments) => arguments.collect(rt.alloc())?,
@@ -70,7 +79,7 @@ where
 /// Does what these arguments ask for.
 fn obey<R>(rt: &R, arguments: &[String], shows: bool) -> Result<ExitCode, AppFault>
 where
-    R: Files + Input + Print + Eprint + Clock + AllocGlobal + Threads + Sync,
+    R: Files<File = File> + Input + Print + Eprint + Clock + AllocGlobal + Threads + Sync,
 {
     match parse(rt, rt.alloc(), arguments) {
         Ok(Parsed::Asks(asked)) => Ok(done(rt, &asked, shows)),
@@ -87,7 +96,7 @@ where
 /// Does a task, and says on standard error what came of it.
 fn done<R>(rt: &R, asked: &Asked<'_>, shows: bool) -> ExitCode
 where
-    R: Files + Input + Print + Eprint + Clock + AllocGlobal + Threads + Sync,
+    R: Files<File = File> + Input + Print + Eprint + Clock + AllocGlobal + Threads + Sync,
 {
     let mut output = Output::new(rt, asked.output);
     let mut audited = Tally::new();
@@ -101,9 +110,12 @@ where
             words::say_faults(rt, &asked.task, faults.as_slice());
             status_of(faults.as_slice())
         }
-        Err(fault) => {
-            let status = write_fault(rt, fault);
-            words::say_refusal(rt, asked, &fault, output.failure.as_ref(), &audited);
+        Err(refusal) => {
+            if let Refusal::BadRows(_) = refusal {
+                words::say_tally(rt, &asked.task, &output.tally, &audited);
+            }
+            let status = write_line(rt, &refusal);
+            words::say_refusal(rt, asked, &refusal, output.failure.as_ref(), &audited);
             status
         }
     };
@@ -118,4 +130,32 @@ fn status_of(faults: &[ReadFault]) -> u8 {
         Some(fault) => AppFault::Read(*fault).status(),
         None => 0,
     }
+}
+
+/// Writes the line of a refusal to standard output, and answers the status.
+fn write_line<R: Print>(rt: &R, refusal: &Refusal) -> u8 {
+    match refusal {
+        Refusal::Fault(fault) => write_fault(rt, *fault),
+        Refusal::NoJournal(_) => write_fault(rt, AppFault::Open(2)),
+        Refusal::Journal(_) | Refusal::Beside(_) | Refusal::Unanswered => {
+            write_fault(rt, AppFault::Write)
+        }
+        Refusal::Spelling => {
+            let _ = ServingFault::Spelling.write_line(&mut io::writer(rt));
+            ServingFault::Spelling.status()
+        }
+        Refusal::Locked => {
+            let _ = io::writer(rt).write_all(LOCKED);
+            NOT_READY
+        }
+        // Each of them has its line already.
+        Refusal::BadRows(_) => BAD_ROWS,
+    }
+}
+
+/// Writes the line of a fault to standard output, and answers the status.
+fn write_fault<R: Print>(rt: &R, fault: AppFault) -> u8 {
+    // Where the line can't be written either, the status alone tells.
+    let _ = fault.write_line(&mut io::writer(rt));
+    fault.status()
 }

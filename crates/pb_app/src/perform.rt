@@ -1,9 +1,12 @@
 // What the command line asks for, done on real files.
 
 use crate::counted::Counted;
+use crate::digests::audit_digested;
 use crate::output::Output;
+use crate::page::page;
 use crate::progress::{Progress, Shown};
-use pb_command_line::{Asked, Ballots, Source, Task};
+use crate::serve;
+use pb_command_line::{Asked, AuditWish, Ballots, Source, Task};
 use pb_commands::run_audit::run_audit;
 use pb_commands::run_check::run_check;
 use pb_commands::run_count::run_count;
@@ -16,10 +19,38 @@ use pb_rounds::options::CountOptions;
 use pb_words::Tally;
 use pb_words::warnings::Warnings;
 use std::alloc::Global;
-use std::io::{Read, Write};
+use std::fs::File;
+use std::io::{Error, Read, Write};
 use std::rt::{Clock, Files};
 use std::thread::Threads;
 use std::{fs, io, mem};
+
+/// Why a run ends without a result.
+#[derive(Clone, Copy)]
+pub(crate) enum Refusal {
+    /// The runs of the commands say why.
+    Fault(AppFault),
+    /// Another run serves the journal.
+    Locked,
+    /// The journal could not be opened or made, for this reason.
+    NoJournal(Error),
+    /// The journal is legal, and not spelled as a desk spells it.
+    Spelling,
+    /// The journal could not be written, synced or cut, for this reason.
+    Journal(Error),
+    /// What is cut off the journal could not be kept beside it, for this reason.
+    Beside(Error),
+    /// An answer could not be written; what it answers stands.
+    Unanswered,
+    /// All rows were answered; so many were not of the form.
+    BadRows(u64),
+}
+
+impl From<AppFault> for Refusal {
+    fn from(fault: AppFault) -> Refusal {
+        Refusal::Fault(fault)
+    }
+}
 
 /// Does what the arguments ask for, and writes the result to its place. Files are opened, in their order, before any
 /// is read. The tally takes the entries of a journal that is audited, and `faults` those of a file that is checked.
@@ -30,21 +61,21 @@ pub(crate) fn perform<R>(
     tally: &mut Tally,
     faults: &mut Vec<ReadFault>,
     progress: &Progress<'_, R>,
-) -> Result<(), AppFault>
+) -> Result<(), Refusal>
 where
-    R: Files + Input + Print + Eprint + Clock + AllocGlobal + Threads + Sync,
+    R: Files<File = File> + Input + Print + Eprint + Clock + AllocGlobal + Threads + Sync,
 {
     match run(rt, &asked.task, output, tally, faults, progress) {
         Ok(()) => match output.finish() {
             Ok(()) => Ok(()),
             Err(error) => {
                 output.failure = Some(error);
-                Err(AppFault::Write)
+                Err(Refusal::Fault(AppFault::Write))
             }
         },
-        Err(fault) => {
+        Err(refusal) => {
             output.give_up();
-            Err(fault)
+            Err(refusal)
         }
     }
 }
@@ -56,12 +87,12 @@ fn run<R, W: Write>(
     tally: &mut Tally,
     faults: &mut Vec<ReadFault>,
     progress: &Progress<'_, R>,
-) -> Result<(), AppFault>
+) -> Result<(), Refusal>
 where
-    R: Files + Input + Print + Eprint + Clock + AllocGlobal + Threads + Sync,
+    R: Files<File = File> + Input + Print + Eprint + Clock + AllocGlobal + Threads + Sync,
 {
     match task {
-        Task::Count(source, options) => count(rt, source, options, writer, progress),
+        Task::Count(source, options) => count(rt, source, options, writer, progress)?,
         Task::Projects(ballots, options) => tell(
             rt,
             ballots,
@@ -69,7 +100,7 @@ where
             Table::Projects,
             writer,
             progress,
-        ),
+        )?,
         Task::Voters(ballots, options) => tell(
             rt,
             ballots,
@@ -77,18 +108,18 @@ where
             Table::Voters,
             writer,
             progress,
-        ),
-        Task::Check(source) => check(rt, source, writer, faults, progress),
+        )?,
+        Task::Page(ballots, options, title) => page(rt, ballots, options, title, writer, progress)?,
+        Task::Check(source) => check(rt, source, writer, faults, progress)?,
         Task::Desk(source, script, clerks, shuts) => {
-            serve(rt, source, script, *clerks, *shuts, writer, progress)
+            serve(rt, source, script, *clerks, *shuts, writer, progress)?
         }
-        Task::Audit(source, journal, options, false) => {
-            audit(rt, source, journal, options, writer, tally, progress)
+        Task::Audit(source, journal, options, wish) => {
+            audit_as(rt, source, journal, options, wish, writer, tally, progress)?
         }
-        Task::Audit(source, journal, options, true) => {
-            audit_shut(rt, source, journal, options, writer, tally, progress)
-        }
+        Task::Serve(file, journal) => return serve::serve(rt, file, journal, writer),
     }
+    Ok(())
 }
 
 /// Counts a .pb file.
@@ -273,6 +304,32 @@ where
     }
 }
 
+/// Audits a journal on a .pb file, and does what is wished beside.
+fn audit_as<R, W: Write>(
+    rt: &R,
+    source: &Source<'_>,
+    journal: &Source<'_>,
+    options: &CountOptions,
+    wish: &AuditWish,
+    writer: &mut W,
+    tally: &mut Tally,
+    progress: &Progress<'_, R>,
+) -> Result<(), AppFault>
+where
+    R: Files + Input + Print + Eprint + Clock + AllocGlobal + Threads + Sync,
+{
+    match wish {
+        AuditWish {
+            shut,
+            digests: true,
+        } => audit_digested(rt, source, journal, options, *shut, writer, tally, progress),
+        AuditWish { shut: true, .. } => {
+            audit_shut(rt, source, journal, options, writer, tally, progress)
+        }
+        _ => audit(rt, source, journal, options, writer, tally, progress),
+    }
+}
+
 /// Audits a journal on a .pb file.
 fn audit<R, W: Write>(
     rt: &R,
@@ -368,7 +425,7 @@ fn pass_shut<W: Write>(text: &[u8], writer: &mut W) -> Result<(), AppFault> {
 }
 
 /// Whether the first row of an audit's text, `entries;N;open` or `entries;N;shut`, is that of an open desk.
-fn says_open(text: &[u8]) -> bool {
+pub(crate) fn says_open(text: &[u8]) -> bool {
     match text.split(|byte| *byte == b'\n').next() {
         Some(row) => row.ends_with(b";open"),
         None => false,
@@ -376,7 +433,7 @@ fn says_open(text: &[u8]) -> bool {
 }
 
 /// Opens the file with this number on the command line, from 1.
-fn open<R: Files>(rt: &R, path: &str, number: u32) -> Result<R::File, AppFault> {
+pub(crate) fn open<R: Files>(rt: &R, path: &str, number: u32) -> Result<R::File, AppFault> {
     match fs::open(rt, path) {
         Ok(file) => Ok(file),
         Err(error) if error.kind() == io::ErrorKind::OutOfMemory => Err(AppFault::Memory),

@@ -1,15 +1,20 @@
 // What is said on standard error, beside what programs read.
 
+use crate::perform::Refusal;
 use pb_command_line::{Asked, Source, Task};
 use pb_commands::AppFault;
+use pb_desk::desk::MOST_CLERKS;
 use pb_read::ReadFault;
 use pb_rounds::options::CountOptions;
 use pb_words::count_words::count_words;
 use pb_words::journal_words::seen_words;
 use pb_words::read_words::{list_words, read_words};
 use pb_words::script_words::script_words;
+use pb_words::serve_words::{
+    bad_rows_words, locked_words, spelling_words, unanswered_words, unkept_words, unopened_words,
+};
 use pb_words::{Tally, mistaken_words, open_words, write_words};
-use std::alloc::AllocError;
+use std::alloc::{AllocError, Global};
 use std::fs;
 use std::io::Error;
 use std::rt::Files;
@@ -31,14 +36,36 @@ For more: pb_app --help
 pub(crate) fn say_refusal<R: Files + Eprint + AllocGlobal>(
     rt: &R,
     asked: &Asked<'_>,
-    fault: &AppFault,
+    refusal: &Refusal,
     failure: Option<&Error>,
     audited: &Tally,
 ) {
-    match fault {
-        AppFault::OpenDesk => say(rt, OPEN_DESK),
-        AppFault::Memory => say(rt, NO_MEMORY),
-        fault => say_words(rt, words_of(rt, asked, fault, failure, audited)),
+    match refusal {
+        Refusal::Fault(AppFault::OpenDesk) => say(rt, OPEN_DESK),
+        Refusal::Fault(AppFault::Memory) => say(rt, NO_MEMORY),
+        Refusal::Fault(fault) => say_words(rt, words_of(rt, asked, fault, failure, audited)),
+        Refusal::Unanswered => say_words(rt, unanswered_words(rt.alloc(), failure)),
+        _ => say_words(rt, words_of_serve(rt.alloc(), &asked.task, refusal)),
+    }
+}
+
+/// Words where a desk does not stand on its journal, or has not taken each row.
+fn words_of_serve(alloc: Global, task: &Task<'_>, refusal: &Refusal) -> Result<String, AllocError> {
+    let (_, second) = paths_of(task);
+    let path = second.unwrap_or("-");
+    match refusal {
+        Refusal::Locked => locked_words(alloc, path),
+        Refusal::NoJournal(reason) => unopened_words(alloc, path, reason),
+        Refusal::Spelling => spelling_words(alloc, path),
+        Refusal::Journal(reason) => unkept_words(alloc, path, reason),
+        Refusal::Beside(reason) => {
+            let torn = format!(in alloc; "{path}.torn")?;
+            let words = unkept_words(alloc, torn.as_str(), reason);
+            drop(torn);
+            words
+        }
+        Refusal::BadRows(rows) => bad_rows_words(alloc, *rows),
+        Refusal::Unanswered | Refusal::Fault(_) => Err(AllocError),
     }
 }
 
@@ -54,6 +81,9 @@ fn words_of<R: Files + AllocGlobal>(
     let (first, second) = paths_of(&asked.task);
     match fault {
         AppFault::Read(fault) => read_words(rt, alloc, first, fault),
+        AppFault::Script(fault) if is_serve(&asked.task) => {
+            script_words(rt, alloc, None, Some(*fault), clerks_of(&asked.task))
+        }
         AppFault::Script(fault) => {
             script_words(rt, alloc, second, Some(*fault), clerks_of(&asked.task))
         }
@@ -71,18 +101,27 @@ fn words_of<R: Files + AllocGlobal>(
 fn paths_of<'a>(task: &Task<'a>) -> (Option<&'a str>, Option<&'a str>) {
     match task {
         Task::Count(file, _) | Task::Check(file) => (file.path(), None),
-        Task::Projects(ballots, _) | Task::Voters(ballots, _) => (
+        Task::Projects(ballots, _) | Task::Voters(ballots, _) | Task::Page(ballots, ..) => (
             ballots.file.path(),
             ballots.journal_path(),
         ),
         Task::Desk(file, script, ..) => (file.path(), script.path()),
         Task::Audit(file, journal, ..) => (file.path(), journal.path()),
+        Task::Serve(file, journal) => (Some(*file), Some(*journal)),
+    }
+}
+
+fn is_serve(task: &Task<'_>) -> bool {
+    match task {
+        Task::Serve(..) => true,
+        _ => false,
     }
 }
 
 fn clerks_of(task: &Task<'_>) -> u32 {
     match task {
         Task::Desk(_, _, clerks, _) => *clerks,
+        Task::Serve(..) => MOST_CLERKS,
         _ => 1,
     }
 }
@@ -92,8 +131,9 @@ fn options_of(task: &Task<'_>) -> CountOptions {
         Task::Count(_, options)
         | Task::Projects(_, options)
         | Task::Voters(_, options)
+        | Task::Page(_, options, _)
         | Task::Audit(_, _, options, _) => *options,
-        Task::Desk(..) | Task::Check(_) => CountOptions::standard(),
+        Task::Desk(..) | Task::Serve(..) | Task::Check(_) => CountOptions::standard(),
     }
 }
 
@@ -117,8 +157,11 @@ pub(crate) fn say_tally<R: Eprint + AllocGlobal>(
     audited: &Tally,
 ) {
     match task {
-        Task::Count(..) | Task::Projects(..) | Task::Voters(..) | Task::Check(_) => {}
-        Task::Desk(..) => say_words(rt, written.words(rt.alloc(), "entries written")),
+        Task::Count(..) | Task::Projects(..) | Task::Voters(..) | Task::Page(..) | Task::Check(_) =>
+            {}
+        Task::Desk(..) | Task::Serve(..) => {
+            say_words(rt, written.words(rt.alloc(), "entries written"))
+        }
         Task::Audit(..) => say_words(rt, audited.words(rt.alloc(), "entries audited")),
     }
 }

@@ -1,6 +1,6 @@
 // The commands and options that the program knows, and what parsed arguments ask for.
 
-use crate::task::{Asked, Ballots, Source, Task};
+use crate::task::{Asked, AuditWish, Ballots, Source, Task};
 use clap::{Arg, ArgAction, ArgMatches, Command, value_parser};
 use pb_core::money::Money;
 use pb_rounds::measure::Measure;
@@ -26,12 +26,30 @@ Examples:
   pb_app count city.pb --step 1000 --output city.report
   pb_app desk city.pb requests.script --clerks 2 --output city.journal
   pb_app audit city.pb city.journal --require-shut
+  pb_app serve city.pb city.journal < requests.script
 
 Statuses: 0 the result is written whole, 1 a file, script, journal or count is refused, 2 the arguments are
 refused, 3 a device failed or memory was refused. A refusal is one line on standard output, for programs; words for
 people stand on standard error.
 
 The formats, and what to do about each fault: docs/formats.md. What a count does: docs/counting.md.";
+
+/// What stands below the arguments of `serve`.
+const AFTER_SERVE: &str =
+    "Standard input has a request a row, as a script has them: clerk;request;voter;places. Each row is answered by its row of
+the journal, once that is on the disk; a row of another form is answered by fault;script;2;BadRow;I, and changes
+nothing. The first rows say how many bytes were cut off the journal's end and kept in JOURNAL.torn (torn;BYTES), if any,
+and how many entries it has (entries;N;open or entries;N;shut).
+
+Examples:
+  pb_app serve city.pb city.journal
+  pb_app serve city.pb city.journal < requests.script > answers
+  pb_app serve city.pb city.journal < /dev/null
+
+Statuses: 0, and 1 where a row was not of the form or FILE or JOURNAL is refused; 2 the arguments are refused; 3 a device
+failed, memory was refused, or another serve has JOURNAL (fault;locked;2).
+
+An office's days with it: docs/office.md.";
 
 /// What an argument of a command takes.
 #[derive(Clone, Copy)]
@@ -46,6 +64,8 @@ enum Takes {
     Number(&'static str),
     /// The name of a measure.
     Measure,
+    /// A text, which its help calls so.
+    Text(&'static str),
     /// Nothing: it is given or not.
     Nothing,
 }
@@ -85,6 +105,20 @@ const JOURNAL: Argument = Argument {
     name: "JOURNAL",
     takes: Takes::Path,
     help: "The journal of a desk that opened with it; - is standard input",
+};
+
+/// The file whose desk stands on a disk.
+const SERVED: Argument = Argument {
+    name: "FILE",
+    takes: Takes::Path,
+    help: "The election, a .pb file with approval votes",
+};
+
+/// The file that a desk stands on.
+const DURABLE: Argument = Argument {
+    name: "JOURNAL",
+    takes: Takes::Path,
+    help: "The file of the desk's journal, which goes on where it ends; it is made where it is not there",
 };
 
 /// The journal whose desk leaves the ballots.
@@ -171,6 +205,23 @@ const PROGRESS: Argument = Argument {
     help: "Shows how far it has come on standard error, also where that is no terminal",
 };
 
+/// Whether digests stand before a report.
+const DIGESTS: Argument = Argument {
+    name: "digests",
+    takes: Takes::Nothing,
+    help: "Prints the SHA-256 of the file's bytes and of the journal's first",
+};
+
+/// What a page is about.
+const TITLE: Argument = Argument {
+    name: "title",
+    takes: Takes::Text("TEXT"),
+    help: "What was voted on, as the page says it [default: Participatory budgeting]",
+};
+
+/// What a page is about where it is not said.
+const NO_TITLE: &str = "Participatory budgeting";
+
 /// The commands that the program knows.
 const COMMANDS: &[CommandForm] = &[
     CommandForm {
@@ -195,6 +246,14 @@ const COMMANDS: &[CommandForm] = &[
         ],
     },
     CommandForm {
+        name: "page",
+        about: "Counts a .pb file, and prints the result as a web page that people look at",
+        arguments: &[
+            ELECTION, LEFT_BY, TITLE, WORKERS, STEP, RAISES, PLAIN, MEASURE, OUTPUT, QUIET,
+            PROGRESS,
+        ],
+    },
+    CommandForm {
         name: "check",
         about: "Lists all that is wrong with a .pb file, and what is probably not meant",
         arguments: &[ELECTION, OUTPUT, QUIET, PROGRESS],
@@ -216,12 +275,26 @@ const COMMANDS: &[CommandForm] = &[
             PLAIN,
             MEASURE,
             REQUIRE_SHUT,
+            DIGESTS,
             OUTPUT,
             QUIET,
             PROGRESS,
         ],
     },
+    CommandForm {
+        name: "serve",
+        about: "Serves standard input's requests on the desk of a .pb file, whose journal stands in a file",
+        arguments: &[SERVED, DURABLE],
+    },
 ];
+
+/// What stands below the arguments of the command with this name.
+fn notes_of(name: &str) -> Option<&'static str> {
+    match name {
+        "serve" => Some(AFTER_SERVE),
+        _ => None,
+    }
+}
 
 /// The command line that the program reads.
 pub(crate) fn command_line<'a>(alloc: Global) -> Result<Command<'a>, AllocError> {
@@ -247,7 +320,10 @@ fn with_command<'a>(
     program: Command<'a>,
     form: &CommandForm,
 ) -> Result<Command<'a>, AllocError> {
-    let command = Command::new(alloc, form.name).about(form.about);
+    let mut command = Command::new(alloc, form.name).about(form.about);
+    if let Some(notes) = notes_of(form.name) {
+        command = command.after_help(notes);
+    }
     match with_arguments(alloc, command, form.arguments) {
         Ok(command) => program.subcommand(command),
         Err(refused) => {
@@ -297,6 +373,10 @@ fn made<'a>(alloc: Global, argument: &Argument) -> Arg<'a> {
             .value_name("MEASURE")
             .value_parser(MEASURES)
             .action(ArgAction::Set),
+        Takes::Text(name) => arg
+            .long(argument.name)
+            .value_name(name)
+            .action(ArgAction::Set),
         Takes::Nothing => arg.long(argument.name).action(ArgAction::SetTrue),
     }
 }
@@ -324,6 +404,11 @@ fn task_of<'a>(name: &str, given: &ArgMatches<'a>) -> Task<'a> {
         "count" => Task::Count(file, options_of(given)),
         "projects" => Task::Projects(ballots_of(given, file), options_of(given)),
         "voters" => Task::Voters(ballots_of(given, file), options_of(given)),
+        "page" => Task::Page(
+            ballots_of(given, file),
+            options_of(given),
+            given.get_str("title").unwrap_or(NO_TITLE),
+        ),
         "check" => Task::Check(file),
         "desk" => Task::Desk(
             file,
@@ -331,11 +416,15 @@ fn task_of<'a>(name: &str, given: &ArgMatches<'a>) -> Task<'a> {
             given.get_one("clerks").unwrap_or(1),
             given.get_flag("shut"),
         ),
+        "serve" => Task::Serve(path_of(given, "FILE"), path_of(given, "JOURNAL")),
         _ => Task::Audit(
             file,
             source_of(given, "JOURNAL"),
             options_of(given),
-            given.get_flag("require-shut"),
+            AuditWish {
+                shut: given.get_flag("require-shut"),
+                digests: given.get_flag("digests"),
+            },
         ),
     }
 }

@@ -31,6 +31,9 @@ pub fn parse<'a, R: Print + Eprint>(
         Ok(matches) => {
             let asked = asked_by(&matches);
             drop(matches);
+            if let Some(name) = needs_path(&asked.task) {
+                return Ok(Parsed::Ends(refuse_input(rt, name)));
+            }
             match read_twice(&asked.task) {
                 Some(name) => Ok(Parsed::Ends(refuse_twice(rt, name))),
                 None => Ok(Parsed::Asks(asked)),
@@ -49,7 +52,9 @@ fn read_twice(task: &Task<'_>) -> Option<&'static str> {
     match task {
         Task::Desk(Source::Input, Source::Input, ..) => Some("SCRIPT"),
         Task::Audit(Source::Input, Source::Input, ..) => Some("JOURNAL"),
-        Task::Projects(ballots, _) | Task::Voters(ballots, _) => ballots_read_twice(ballots),
+        Task::Projects(ballots, _) | Task::Voters(ballots, _) | Task::Page(ballots, ..) => {
+            ballots_read_twice(ballots)
+        }
         _ => None,
     }
 }
@@ -60,6 +65,23 @@ fn ballots_read_twice(ballots: &Ballots<'_>) -> Option<&'static str> {
         (Source::Input, Some(Source::Input)) => Some("JOURNAL"),
         _ => None,
     }
+}
+
+/// The argument that is standard input where the requests stand there, if it is.
+fn needs_path(task: &Task<'_>) -> Option<&'static str> {
+    match task {
+        Task::Serve("-", _) => Some("FILE"),
+        Task::Serve(_, "-") => Some("JOURNAL"),
+        _ => None,
+    }
+}
+
+/// Refuses arguments of which this one is standard input, where the requests stand there.
+fn refuse_input<R: Eprint>(rt: &R, name: &str) -> u8 {
+    let _ = eprintln!(rt;
+        "error: {name} is standard input (-), which has the requests: name a file"
+    );
+    BAD_ARGUMENTS
 }
 
 /// Refuses arguments of which FILE and this one are standard input.

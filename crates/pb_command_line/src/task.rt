@@ -49,12 +49,25 @@ pub enum Task<'a> {
     Projects(Ballots<'a>, CountOptions),
     /// The voters of a count of these ballots: who paid.
     Voters(Ballots<'a>, CountOptions),
+    /// The page of a count of these ballots, with this title.
+    Page(Ballots<'a>, CountOptions, &'a str),
     /// A check of a .pb file.
     Check(Source<'a>),
     /// A run of the desk of a .pb file: this many clerks serve a script, and then the desk is shut, or not.
     Desk(Source<'a>, Source<'a>, u32, bool),
-    /// An audit of a journal on a .pb file; where the last is true an open desk is refused.
-    Audit(Source<'a>, Source<'a>, CountOptions, bool),
+    /// An audit of a journal on a .pb file.
+    Audit(Source<'a>, Source<'a>, CountOptions, AuditWish),
+    /// A desk of the .pb file with the first path, whose journal is the file with the second; standard input asks.
+    Serve(&'a str, &'a str),
+}
+
+/// What is asked of an audit beside its report.
+#[derive(Clone, Copy)]
+pub struct AuditWish {
+    /// An open desk is refused.
+    pub shut: bool,
+    /// The digests of what was read stand before the report.
+    pub digests: bool,
 }
 
 /// What the arguments ask for, and where the result goes.

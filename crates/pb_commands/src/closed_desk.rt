@@ -21,7 +21,7 @@ use std::io::Read;
 /// Reads a .pb file and a journal, and audits the journal: the election whose ballots are those that its shut desk leaves.
 ///
 /// The file is refused before the journal, and the journal before an open desk.
-pub(crate) fn closed_ballots<P: Read + Drop, J: Read + Drop>(
+pub fn closed_ballots<P: Read + Drop, J: Read + Drop>(
     alloc: Global,
     file: P,
     journal: J,

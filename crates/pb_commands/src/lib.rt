@@ -19,6 +19,7 @@ pub mod table;
 pub mod table_laws;
 mod voters_table;
 
+pub use closed_desk::closed_ballots;
 pub use fault::AppFault;
 pub use fault_line::{BAD_ARGUMENTS, write_bad_row};
 pub use table::Table;

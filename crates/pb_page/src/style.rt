@@ -67,17 +67,18 @@ pre { margin: .5rem 0; padding: .75rem; background: var(--track); border-radius:
   .wide th, .wide td { display: block; padding: .15rem 0; border: 0; }
   .wide tbody th { grid-column: 1 / -1; grid-row: 1; padding-bottom: .35rem; }
   .wide td { grid-column: 1 / -1; display: flex; justify-content: space-between; gap: 1rem; }
-  .wide td::before { content: attr(data-label); color: var(--soft); font-size: .9rem; text-align: start; }
+  .wide td::before { content: attr(data-label); content: attr(data-label) / ''; color: var(--soft); font-size: .9rem; text-align: start; }
 }
 @media print {
   :root {
     --paper: #ffffff; --ink: #000000; --soft: #444444; --line: #bbbbbb; --track: #eeeeee;
     --won: #0a6b4b; --won-too: #2f8f6d; --lost: #8a4a06; --many: #2b559c;
   }
-  body { padding: 0; max-width: none; font-size: 10pt; }
-  .wide thead .n { width: 6rem; }
-  h2 { break-after: avoid; }
-  tr, figure, pre { break-inside: avoid; }
+  html { font-size: 10pt; }
+  body { padding: 0; max-width: none; }
+  h2, caption { break-after: avoid; }
+  tbody tr:first-child, pre { break-before: avoid; }
+  tr, figure, pre, dl, li { break-inside: avoid; }
   svg { print-color-adjust: exact; -webkit-print-color-adjust: exact; }
 }
 </style>

@@ -22,6 +22,7 @@ mod row_form;
 mod rows;
 pub mod script_words;
 mod seen;
+pub mod serve_words;
 mod tally;
 mod walk;
 pub mod warnings;

@@ -1,0 +1,190 @@
+// The command `page`: a result that people look at.
+
+ghost use Rattle.std.specs.Prelude.{◌≡◌, IfErr, IfOk, OnOk};
+ghost use Rattle.pb_rounds.specs.Counted.{IsCountFault};
+ghost use Rattle.pb_commands.specs.Ends.{HasWritten};
+ghost use Rattle.pb_page.specs.Page.{IsPage};
+
+use crate::digested::{Digested, hex_of};
+use crate::perform::open;
+use crate::progress::{Progress, Shown};
+use pb_command_line::{Ballots, Source as Given};
+use pb_commands::{AppFault, closed_ballots};
+use pb_core::election::Election;
+use pb_page::{Facts, Source, page_of};
+use pb_read::read_pb;
+use pb_rounds::count::count;
+use pb_rounds::count_fault::CountFault;
+use pb_rounds::options::CountOptions;
+use sha2::{Digest, Sha256};
+use std::alloc::Global;
+use std::io::{Read, Write};
+use std::path::Path;
+use std::rt::{Clock, Files};
+use std::thread::Threads;
+
+/// What standard input is called.
+const INPUT: &str = "standard input";
+
+/// An election that was read, and the SHA-256 of the bytes that it was read from, in hexadecimal.
+#[derive(Drop)]
+struct Contents {
+    election: Election,
+    file: String,
+    /// That of the journal, if there is one.
+    journal: Option<String>,
+}
+
+/// Counts these ballots, and writes the page of the outcome. What refuses it, and when, is as for the tables.
+pub(crate) fn page<'a, R, W: Write>(
+    rt: &R,
+    ballots: &Ballots<'a>,
+    options: &CountOptions,
+    title: &'a str,
+    writer: &mut W,
+    progress: &Progress<'_, R>,
+) -> Result<(), AppFault>
+where
+    R: Files + Input + Print + Eprint + Clock + AllocGlobal + Threads + Sync,
+{
+    match ballots.file {
+        Given::Input => {
+            let file = Shown::new(rt.reader(), progress);
+            page_from(rt, file, ballots, options, title, writer, progress)
+        }
+        Given::File(path) => {
+            let file = Shown::new(open(rt, path, 1)?, progress);
+            page_from(rt, file, ballots, options, title, writer, progress)
+        }
+    }
+}
+
+/// The same, where a reader gives the .pb file.
+fn page_from<'a, R, P: Read + Drop, W: Write>(
+    rt: &R,
+    file: P,
+    ballots: &Ballots<'a>,
+    options: &CountOptions,
+    title: &'a str,
+    writer: &mut W,
+    progress: &Progress<'_, R>,
+) -> Result<(), AppFault>
+where
+    R: Files + Input + Print + Eprint + Clock + AllocGlobal + Threads + Sync,
+{
+    let alloc = rt.alloc();
+    let read = match ballots.journal {
+        None => read_file(alloc, file)?,
+        Some(Given::Input) => read_both(alloc, file, Shown::new(rt.reader(), progress))?,
+        Some(Given::File(path)) => match open(rt, path, 2) {
+            Ok(journal) => read_both(alloc, file, Shown::new(journal, progress))?,
+            Err(fault) => {
+                drop(file);
+                return Err(fault);
+            }
+        },
+    };
+    let written = write_page(rt, &read, ballots, options, title, writer);
+    drop(read);
+    written
+}
+
+/// Reads the file's own ballots.
+fn read_file<P: Read + Drop>(alloc: Global, file: P) -> Result<Contents, AppFault> {
+    let mut hasher = Sha256::new();
+    let election = read_pb(alloc, Digested::new(file, &mut hasher))?;
+    Ok(Contents {
+        election,
+        file: hex_of(alloc, hasher)?,
+        journal: None,
+    })
+}
+
+/// Reads the ballots that a journal leaves.
+fn read_both<P: Read + Drop, J: Read + Drop>(
+    alloc: Global,
+    file: P,
+    journal: J,
+) -> Result<Contents, AppFault> {
+    let mut of_file = Sha256::new();
+    let mut of_journal = Sha256::new();
+    let file = Digested::new(file, &mut of_file);
+    let journal = Digested::new(journal, &mut of_journal);
+    let election = closed_ballots(alloc, file, journal)?;
+    let file = hex_of(alloc, of_file)?;
+    let journal = hex_of(alloc, of_journal)?;
+    Ok(Contents {
+        election,
+        file,
+        journal: Some(journal),
+    })
+}
+
+/// Counts what was read, and writes the page of the outcome.
+fn write_page<'a, R, W: Write>(
+    rt: &R,
+    read: &'a Contents,
+    ballots: &Ballots<'a>,
+    options: &CountOptions,
+    title: &'a str,
+    writer: &mut W,
+) -> Result<(), AppFault>
+where
+    R: Print + AllocGlobal + Threads + Sync,
+{
+    let journal = match (&ballots.journal, &read.journal) {
+        (Some(given), Some(digest)) => Some(Source {
+            name: name_of(given),
+            digest: digest.as_str(),
+        }),
+        _ => None,
+    };
+    let facts = Facts {
+        title,
+        file: Source {
+            name: name_of(&ballots.file),
+            digest: read.file.as_str(),
+        },
+        journal,
+        options: *options,
+    };
+    let text = page_text(rt, rt.alloc(), &read.election, &facts)?;
+    write_whole(writer, text.as_slice())
+}
+
+/// The page of an election, counted with the options of these facts: nothing in it is markup but the program's own
+/// pieces. What refuses it is what refuses the count.
+fn page_text<T: Threads + Sync>(
+    rt: &T,
+    alloc: Global,
+    election: &Election,
+    facts: &Facts,
+) -> Result<Vec<u8>, CountFault>
+    ensures ok { IfOk result (λ text. IsPage text.items) }
+    ensures fault { IfErr result (IsCountFault election.now facts.now.options) }
+{
+    // What is true of every election is true of its reasons.
+    let _budget = election.budget();
+    let outcome = count(rt, alloc, election, &facts.options)?;
+    Ok(page_of(alloc, election, &outcome, facts)?)
+}
+
+/// Writes the whole page, and sees that it leaves the writer.
+fn write_whole<W: Write>(writer: &mut W, text: &[u8]) -> Result<(), AppFault>
+    requires { IsPage text.now }
+    ensures ok { OnOk result (HasWritten IsPage (W.contents writer.old) (W.contents writer.new)) }
+    ensures fault { IfErr result (λ fault. fault ≡ AppFault.Write) }
+{
+    if writer.write_all(text).is_err() || writer.flush().is_err() {
+        return Err(AppFault::Write);
+    }
+    Ok(())
+}
+
+/// The name of a text that is read, without its folders.
+fn name_of<'a>(given: &Given<'a>) -> &'a str {
+    match given.path() {
+        Some(path) => Path::new(path).file_name().unwrap_or(path),
+        None => INPUT,
+    }
+}

@@ -1,0 +1,212 @@
+// Requests that are answered as they come in: when the answers leave, and how often the journal is synced.
+
+ghost use Rattle.std.specs.Prelude.{[]};
+
+use crate::checks::{THREE_VOTERS, same};
+use pb_durable::{Device, DeviceFault, DurableDesk, JournalFile, Opened, open};
+use pb_read::read_pb;
+use pb_serving::run_serve::run_serve;
+use pb_serving::{Always, Pace};
+use std::alloc::Global;
+use std::cell::Cell;
+use std::io::{Read, Result, Write};
+use std::process::Abort;
+
+/// A row of each kind: one that is done, one that has not the form, and one that is refused.
+const ROWS: [&str; 3] = ["0;cast;v4;0\n", "0;cast\n", "0;cast;v4;1\n"];
+
+/// Rows that are all at hand, and what is said of them.
+const AT_HAND: &str = "0;cast;v4;0\n1;cast;v5;1\n0;cast;v4;1\n";
+
+const ANSWERS: &str =
+    "torn;7\nentries;0;open\n1;0;cast;v4;0;done\n2;1;cast;v5;1;done\n3;0;cast;v4;1;already-cast\n";
+
+/// What both ends of a run see.
+#[derive(Drop)]
+struct Seen {
+    /// How many rows were typed.
+    typed: Cell<usize>,
+    /// How many lines were flushed.
+    shown: Cell<usize>,
+    /// Whether a row was waited for while an answer was held back.
+    late: Cell<bool>,
+    /// How often the journal was synced.
+    syncs: Cell<usize>,
+}
+
+impl Seen {
+    fn new() -> Seen {
+        Seen {
+            typed: Cell::new(0),
+            shown: Cell::new(0),
+            late: Cell::new(false),
+            syncs: Cell::new(0),
+        }
+    }
+}
+
+/// A clerk who waits for the answer to each row.
+#[derive(Drop)]
+struct Clerk<'a> {
+    seen: &'a Seen,
+    /// What is typed and not yet read.
+    rest: &'static [u8],
+}
+
+impl Read for Clerk<'_> {
+    fn read(&mut self, buf: &mut [u8]) -> Result<usize> {
+        if self.rest.is_empty() {
+            let typed = self.seen.typed.get();
+            // The first line is that of the desk.
+            if self.seen.shown.get() != typed.wrapping_add(1) {
+                self.seen.late.set(true);
+            }
+            let Some(row) = ROWS.get(typed) else {
+                return Ok(0);
+            };
+            self.seen.typed.set(typed.wrapping_add(1));
+            self.rest = row.as_bytes();
+        }
+        let (first, rest) = self.rest.split_at(self.rest.len().min(buf.len()));
+        buf[..first.len()].copy_from_slice(first);
+        self.rest = rest;
+        Ok(first.len())
+    }
+}
+
+/// The pace of a clerk who types a row at a time.
+struct Never;
+
+impl Pace for Never {
+    fn has_row(&self) -> bool {
+        false
+    }
+}
+
+/// A screen that shows lines once they are flushed.
+#[derive(Drop)]
+struct Screen<'a> {
+    seen: &'a Seen,
+    lines: usize,
+}
+
+impl Write for Screen<'_> {
+    fn write(&mut self, buf: &[u8]) -> Result<usize> {
+        for byte in buf {
+            if *byte == b'\n' {
+                self.lines = self.lines.wrapping_add(1);
+            }
+        }
+        Ok(buf.len())
+    }
+
+    fn flush(&mut self) -> Result<()> {
+        self.seen.shown.set(self.lines);
+        Ok(())
+    }
+}
+
+/// A disk that counts its syncs, and claims nothing.
+#[derive(Drop)]
+struct Disk<'a> {
+    seen: &'a Seen,
+    bytes: Vec<u8>,
+}
+
+impl Device for Disk<'_> {
+    ghost tells = { ⊥ };
+
+    ghost seen = { λ _. [] };
+
+    ghost may_leave = { λ _ _. ⊥ };
+
+    ghost moment = { λ _. 0 };
+
+    ghost left_since = { λ _ _ _. ⊥ };
+
+    ghost failures = { λ _. 0 };
+
+    ghost counts_now = { λ d t c le now. now };
+
+    ghost only_now = { λ d c left. left };
+
+    fn read(&mut self, alloc: Global) -> std::result::Result<Vec<u8>, DeviceFault> {
+        Ok(self.bytes.to_vec(alloc)?)
+    }
+
+    fn write_at(&mut self, at: usize, bytes: &[u8]) -> std::result::Result<(), DeviceFault> {
+        let mut place = at;
+        for byte in bytes {
+            match self.bytes.get_mut(place) {
+                Some(old) => *old = *byte,
+                None => self.bytes.push(*byte)?,
+            }
+            place = place.wrapping_add(1);
+        }
+        Ok(())
+    }
+
+    fn cut(&mut self, len: usize) -> std::result::Result<(), DeviceFault> {
+        self.bytes.truncate(len);
+        Ok(())
+    }
+
+    fn sync(&mut self) -> std::result::Result<(), DeviceFault> {
+        self.seen.syncs.set(self.seen.syncs.get().wrapping_add(1));
+        Ok(())
+    }
+}
+
+/// The desk of the three voters on a disk with these bytes, and how many of them were cut off.
+fn opened<'a>(
+    rt: &impl Abort,
+    alloc: Global,
+    seen: &'a Seen,
+    bytes: &str,
+) -> (DurableDesk<Disk<'a>>, usize) {
+    let bytes = bytes.as_bytes().to_vec(alloc).expect(rt, "memory");
+    let mut file = JournalFile::on(alloc, Disk { seen, bytes });
+    let election = read_pb(alloc, THREE_VOTERS.as_bytes()).expect(rt, "an election");
+    let mut beside = Vec::new(alloc);
+    let found = open(alloc, &mut file, election, 10, &mut beside).expect(rt, "a journal");
+    let Opened { desk, torn } = found;
+    same(rt, beside.len(), torn, "bytes kept beside");
+    drop(beside);
+    (DurableDesk::on(desk, file), torn)
+}
+
+/// Each row is waited for only once all before it are answered on the screen.
+#[test]
+fn no_answer_is_held_back(rt: HostRuntime) {
+    let seen = Seen::new();
+    let (mut desk, torn) = opened(&rt, rt.alloc(), &seen, "");
+    let mut screen = Screen {
+        seen: &seen,
+        lines: 0,
+    };
+    let input = Clerk {
+        seen: &seen,
+        rest: b"",
+    };
+    let bad_rows = run_serve(rt.alloc(), &mut desk, torn, input, &Never, &mut screen);
+    drop(desk);
+    same(&rt, bad_rows, Ok(1), "rows not of the form");
+    same(&rt, seen.late.get(), false, "a row waited for");
+    same(&rt, seen.shown.get(), 4, "lines");
+}
+
+/// What is at hand is served together: two syncs for all of it, and one where the journal is closed.
+#[test]
+fn rows_at_hand_share_their_syncs(rt: HostRuntime) {
+    let seen = Seen::new();
+    let (mut desk, torn) = opened(&rt, rt.alloc(), &seen, "journal;2\n\ngarbage");
+    seen.syncs.set(0);
+    let mut text = Vec::new(rt.alloc());
+    let input = AT_HAND.as_bytes();
+    let bad_rows = run_serve(rt.alloc(), &mut desk, torn, input, &Always, &mut text);
+    drop(desk);
+    same(&rt, bad_rows, Ok(0), "rows not of the form");
+    same(&rt, seen.syncs.get(), 3, "syncs");
+    same(&rt, text.as_slice() == ANSWERS.as_bytes(), true, "answers");
+    drop(text);
+}

@@ -1,0 +1,84 @@
+//! Words for a desk that stands on a file: why it does not, and which rows it did not take.
+
+use crate::words::Words;
+use std::alloc::{AllocError, Global};
+use std::io::Error;
+
+/// Words for a journal that another run serves.
+pub fn locked_words(alloc: Global, path: &str) -> Result<String, AllocError> {
+    told(
+        alloc,
+        path,
+        ": another run serves this journal.\nWait until it has ended, or hand your rows to it.\n",
+    )
+}
+
+/// Words for a journal that could not be opened or made, for this reason.
+pub fn unopened_words(alloc: Global, path: &str, reason: &Error) -> Result<String, AllocError> {
+    failed(
+        alloc,
+        path,
+        reason,
+        "Name a file in a folder that is there, and that you may read and write.\n",
+    )
+}
+
+/// Words for a journal, or what is kept beside it, that could not be written, synced or cut, for this reason.
+pub fn unkept_words(alloc: Global, path: &str, reason: &Error) -> Result<String, AllocError> {
+    failed(
+        alloc,
+        path,
+        reason,
+        "What was answered stands. Look for a full or failing disk; then run `serve` again, and send the rows that have no answer.\n",
+    )
+}
+
+/// Words for an answer that could not be written, for this reason.
+pub fn unanswered_words(alloc: Global, reason: Option<&Error>) -> Result<String, AllocError> {
+    let mut out = Words::new(alloc);
+    out.put("standard output");
+    match reason {
+        Some(error) => out.put_error(error),
+        None => out.put(": an answer could not be written.\n"),
+    }
+    out.put("What was served stands in the journal, with its answer or without.\n");
+    out.finish()
+}
+
+/// Words for a journal that is legal, and not spelled as a desk spells it.
+pub fn spelling_words(alloc: Global, path: &str) -> Result<String, AllocError> {
+    told(
+        alloc,
+        path,
+        ": its rows are legal, and not spelled as a desk spells them: with other line ends, needless quotation marks, or a byte order mark.\nIt was left as it is. Get the desk's own copy.\n",
+    )
+}
+
+/// Words for so many rows that were not of the form.
+pub fn bad_rows_words(alloc: Global, rows: u64) -> Result<String, AllocError> {
+    let mut out = Words::new(alloc);
+    out.put_number(rows);
+    out.put(if rows == 1 {
+        " row was not of the form clerk;request;voter;places, and changed nothing.\n"
+    } else {
+        " rows were not of the form clerk;request;voter;places, and changed nothing.\n"
+    });
+    out.finish()
+}
+
+/// The path, and a text.
+fn told(alloc: Global, path: &str, text: &str) -> Result<String, AllocError> {
+    let mut out = Words::new(alloc);
+    out.put_name(Some(path));
+    out.put(text);
+    out.finish()
+}
+
+/// The path, why a call on it failed, and what to do.
+fn failed(alloc: Global, path: &str, reason: &Error, remedy: &str) -> Result<String, AllocError> {
+    let mut out = Words::new(alloc);
+    out.put_name(Some(path));
+    out.put_error(reason);
+    out.put(remedy);
+    out.finish()
+}

@@ -1,0 +1,64 @@
+// What there is to see in a page: an expression, whose value tools/look_at_page judges.
+(() => {
+  const text = element => element && element.textContent;
+  const rows = section => [...document.querySelectorAll(`${section} tbody tr`)].map(row => [...row.cells].map(
+    cell => (cell.querySelector('bdi') || cell.firstChild || cell).textContent));
+  const widths = selector => [...document.querySelectorAll(selector)].map(rect => Number(rect.getAttribute('width')));
+  const channel = value => value <= 0.03928 ? value / 12.92 : ((value + 0.055) / 1.055) ** 2.4;
+  const light = ([red, green, blue]) => 0.2126 * channel(red / 255) + 0.7152 * channel(green / 255) + 0.0722 * channel(blue / 255);
+  const colour = value => value.match(/[\d.]+/g).map(Number);
+  const paper = element => {
+    for (; element; element = element.parentElement) {
+      const found = colour(getComputedStyle(element).backgroundColor);
+      if (found.length === 3 || found[3] > 0) return found;
+    }
+    return [255, 255, 255];
+  };
+  const contrast = element => {
+    const [low, high] = [light(colour(getComputedStyle(element).color)), light(paper(element))].sort((a, b) => a - b);
+    return (high + 0.05) / (low + 0.05);
+  };
+  // Each piece of text that is shown, with the box that it has to stay in.
+  const shown = [];
+  const walker = document.createTreeWalker(document.body, NodeFilter.SHOW_TEXT);
+  while (walker.nextNode()) {
+    const node = walker.currentNode, parent = node.parentElement;
+    if (!node.data.trim() || parent.closest('svg') || parent.closest('thead') && getComputedStyle(parent.closest('thead')).position === 'absolute') continue;
+    shown.push(node);
+  }
+  const box = element => {
+    while (getComputedStyle(element).display.startsWith('inline')) element = element.parentElement;
+    return element.getBoundingClientRect();
+  };
+  const leaves = node => {
+    const range = document.createRange(), bounds = box(node.parentElement);
+    range.selectNodeContents(node);
+    return [...range.getClientRects()].some(it => it.width > 0 && (it.left < bounds.left - 1 || it.right > bounds.right + 1
+      || it.top < bounds.top - 3 || it.bottom > bounds.bottom + 3 || it.right > innerWidth + 1 || it.left < -1));
+  };
+  return {
+    language: document.documentElement.lang,
+    title: document.title,
+    heading: text(document.querySelector('h1')),
+    headings: [...document.querySelectorAll('h1, h2, h3, h4, h5, h6')].map(it => Number(it.tagName[1])),
+    lead: [...document.querySelectorAll('.lead')].map(text),
+    winners: rows('.won'),
+    others: rows('.lost'),
+    voters: rows('.many'),
+    got: (document.querySelector('.many p') || { textContent: '' }).textContent,
+    blocks: [...document.querySelectorAll('.budget rect')].map(it => [it.getAttribute('x'), it.getAttribute('width'), text(it)]),
+    bars: { won: widths('.won .bar rect'), lost: widths('.lost .bar rect'), many: widths('.many .bar rect') },
+    sentences: [...document.querySelectorAll('ol li')].map(text),
+    digests: [...document.querySelectorAll('dd code')].map(text),
+    command: text(document.querySelector('pre')),
+    directions: [...document.querySelectorAll('bdi, h1')].every(it => it.getAttribute('dir') === 'auto'),
+    tables: [...document.querySelectorAll('table')].every(it => it.caption && it.caption.textContent.trim()
+      && [...it.querySelectorAll('thead th')].every(th => th.scope === 'col') && [...it.rows].slice(1).every(row => row.querySelector('th[scope=row]'))),
+    scripts: document.querySelectorAll('script, iframe, object, embed, img, link:not([rel=icon])').length,
+    handlers: [...document.querySelectorAll('*')].flatMap(it => [...it.attributes]).filter(it => it.name.startsWith('on') || /^\s*javascript:/i.test(it.value)).length,
+    elements: [...new Set([...document.querySelectorAll('body *')].map(it => it.localName))].sort(),
+    wide: document.documentElement.scrollWidth > innerWidth,
+    leaving: shown.filter(leaves).map(it => it.data.slice(0, 60)),
+    faint: shown.filter(it => contrast(it.parentElement) < 4.5).map(it => `${it.data.trim().slice(0, 40)} ${contrast(it.parentElement).toFixed(2)}`),
+  };
+})()
