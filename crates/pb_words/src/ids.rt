@@ -112,6 +112,18 @@ impl Ids {
         ""
     }
 
+    /// Whether a piece of a vote is ids of projects that blanks separate.
+    pub(crate) fn are_apart_by_blanks(&self, piece: &str) -> bool {
+        let mut count = 0u64;
+        for id in piece.split_whitespace() {
+            if self.projects.get(id).is_none() {
+                return false;
+            }
+            count = count.saturating_add(1);
+        }
+        count > 1
+    }
+
     /// The place in `names` of the id that is nearest to this one, if one is near: it differs in case alone, or in at
     /// most a third of the characters. It is looked for a limited number of times.
     pub(crate) fn nearest(&mut self, id: &str) -> Result<Option<usize>, AllocError> {

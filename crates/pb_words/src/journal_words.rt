@@ -5,7 +5,7 @@ use crate::file_words::put_reading_failed;
 use crate::journal_form::{EDITED, complaint_of};
 use crate::journal_state::{Told, answer_at, opening_of, standing_at};
 use crate::place::{Text, put_number_place, put_place, put_quotes, put_subject};
-use crate::row_form::Complaint;
+use crate::row_form::{Complaint, put_fields};
 use crate::rows::{Mark, rows_from, rows_of};
 use crate::tally::Tally;
 use crate::words::Words;
@@ -165,9 +165,8 @@ fn put_version(out: &mut Words, row: &ByteRecord) {
 /// Puts which condition a row breaks.
 fn put_bad_row(out: &mut Words, row: &ByteRecord) {
     if row.len() != 6 && place_of_no_text(row).is_none() {
-        out.put(": the row has ");
-        out.put_number(row.len() as u64);
-        return out.put_all(&[" fields, and 6 are due.\n", EDITED, "\n"]);
+        put_fields(out, row, ", and 6 are due.\n");
+        return out.put_all(&[EDITED, "\n"]);
     }
     match complaint_of(row) {
         Some(complaint) => Complaint {

@@ -3,7 +3,7 @@
 use crate::fields::{bytes_at, column_of, other_separator, place_of_no_text, text_at};
 use crate::file_words::put_reading_failed;
 use crate::looks::looks_of;
-use crate::meta_words::{put_missing_key, put_separator, put_value_words};
+use crate::meta_words::{put_late_meta, put_missing_key, put_separator, put_value_words};
 use crate::place::{Text, line_of, put_number_place, put_place, put_quotes, put_subject};
 use crate::read_rules::rule_of;
 use crate::rows::{Mark, rows_of};
@@ -17,6 +17,16 @@ use std::rt::Files;
 
 /// What to do about a vote for a project that was left out.
 const MEND_PROJECT: &str = "Mend the project's row; the vote may then stand as it is.";
+
+/// What to do about a vote whose ids blanks separate.
+const NO_BLANKS: &str = "The vote has blanks where `,` is due: write `,` between two ids.";
+
+/// What to do about a row that is one field in quotes.
+const NO_QUOTES: &str = "Quotation marks make the whole row one field: take them out.";
+
+/// What to do about the column names of VOTES among the projects.
+const NO_VOTES: &str =
+    "These are the column names of VOTES: put the section's head, VOTES, on a line before them.";
 
 /// What was found where a fault stands.
 #[derive(Clone, Copy)]
@@ -156,19 +166,18 @@ fn put_found<R: Files>(
             put_repeated(rt, out, text, walk, found)
         }
         ReadKind::UnknownProject => {
-            if put_unknown(rt, out, text, walk, found) {
-                remedy = MEND_PROJECT;
-            }
+            remedy = put_unknown(rt, out, text, walk, found);
         }
         _ => put_record(out, found, &walk.rows.row),
     }
-    put_remedy(rt, out, text, found, &walk.rows.row, remedy);
+    put_remedy(rt, alloc, out, text, found, &walk.rows.row, remedy);
     true
 }
 
 /// Puts what to do about a record.
 fn put_remedy<R: Files>(
     rt: &R,
+    alloc: Global,
     out: &mut Words,
     text: &Text<'_>,
     found: &Found,
@@ -178,13 +187,34 @@ fn put_remedy<R: Files>(
     if put_quotes(rt, out, text, found.mark) {
         return;
     }
+    if found.seen.stage == Stage::Start
+        && found.kind == ReadKind::NoSection
+        && put_late_meta(rt, alloc, out, text, found.mark)
+    {
+        return;
+    }
     let separator = match found.kind {
         ReadKind::NoSection | ReadKind::MissingColumn => other_separator(row),
         _ => None,
     };
     match separator {
         Some(separator) => put_separator(out, separator),
-        None => out.put_all(&[remedy, "\n"]),
+        None => out.put_all(&[row_remedy(found, row).unwrap_or(remedy), "\n"]),
+    }
+}
+
+/// What to do about a row that is in another form than rows have, or in the wrong section.
+fn row_remedy(found: &Found, row: &ByteRecord) -> Option<&'static str> {
+    let is_project = found.seen.stage == Stage::Rows(Section::Projects);
+    if is_project && column_of(row, Section::Votes.id_column()).is_some() {
+        Some(NO_VOTES)
+    } else if found.kind == ReadKind::MissingField
+        && row.len() == 1
+        && bytes_at(row, 0).contains(&b';')
+    {
+        Some(NO_QUOTES)
+    } else {
+        None
     }
 }
 
@@ -300,14 +330,14 @@ fn put_repeated<R: Files>(
     }
 }
 
-/// Puts which id no project has, and the nearest one, or where that project was left out; answers whether it was.
+/// Puts which id no project has, and the nearest one, or where that project was left out; answers what to do.
 fn put_unknown<R: Files>(
     rt: &R,
     out: &mut Words,
     text: &Text<'_>,
     walk: &mut Walk<R::File>,
     found: &Found,
-) -> bool {
+) -> &'static str {
     out.put(", column vote");
     put_subject(out, "voter", found.seen.id(&walk.rows.row));
     out.put(": ");
@@ -317,9 +347,13 @@ fn put_unknown<R: Files>(
         out.put(" is the id of a project that was left out, on line ");
         out.put_number(line_of(rt, text, mark));
         out.put(".\n");
-        return true;
+        return MEND_PROJECT;
     }
     out.put(" is the id of no project");
+    if walk.ids.are_apart_by_blanks(unknown) {
+        out.put(".\n");
+        return NO_BLANKS;
+    }
     match walk.ids.nearest(unknown) {
         Ok(Some(place)) => {
             out.put("; the nearest is ");
@@ -329,7 +363,7 @@ fn put_unknown<R: Files>(
         Err(_) => out.fail(),
     }
     out.put(".\n");
-    false
+    rule_of(found.kind).remedy
 }
 
 /// Puts what is missing at the end of the file.

@@ -31,6 +31,14 @@ impl<'r> Complaint<'r> {
     }
 }
 
+/// Puts how many fields a row has, and how many are due.
+pub(crate) fn put_fields(out: &mut Words, row: &ByteRecord, due: &str) {
+    let count = row.len() as u64;
+    out.put(": the row has ");
+    out.put_number(count);
+    out.put_all(&[if count == 1 { " field" } else { " fields" }, due]);
+}
+
 /// A row's fields, as far as they are known to be text.
 #[derive(Clone, Copy)]
 pub(crate) struct RowForm<'r> {
