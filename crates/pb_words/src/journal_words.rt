@@ -5,7 +5,7 @@ use crate::file_words::put_reading_failed;
 use crate::journal_form::{EDITED, complaint_of};
 use crate::journal_state::{Told, answer_at, opening_of, standing_at};
 use crate::place::{Text, put_number_place, put_place, put_quotes, put_subject};
-use crate::row_form::{Complaint, put_fields};
+use crate::row_form::put_fields;
 use crate::rows::{Mark, rows_from, rows_of};
 use crate::tally::Tally;
 use crate::words::Words;
@@ -169,11 +169,7 @@ fn put_bad_row(out: &mut Words, row: &ByteRecord) {
         return out.put_all(&[EDITED, "\n"]);
     }
     match complaint_of(row) {
-        Some(complaint) => Complaint {
-            remedy: EDITED,
-            ..complaint
-        }
-        .put(out),
+        Some(complaint) => complaint.put(out, EDITED),
         None => out.put(": the row is refused.\n"),
     }
 }
@@ -211,14 +207,12 @@ fn put_wrong_answer<R: Files>(
 }
 
 fn put_told(out: &mut Words, told: &Told) {
-    out.put_all(&[", and the desk answers `", told.answer]);
-    if let Some(place) = told.place {
-        out.put_number(place);
-    }
-    out.put_all(&["`: ", told.why]);
-    if let Some(number) = told.number {
-        out.put_number(number);
-    }
+    out.put(", and the desk answers `");
+    out.put(told.answer);
+    out.put_some(told.place);
+    out.put("`: ");
+    out.put(told.why);
+    out.put_some(told.number);
     out.put(".\n")
 }
 

@@ -19,15 +19,17 @@ pub(crate) struct Complaint<'r> {
 }
 
 impl<'r> Complaint<'r> {
-    /// Puts the complaint behind the place of its row.
-    pub(crate) fn put(&self, out: &mut Words) {
-        out.put_all(&[", field ", self.field, ": "]);
+    /// Puts the complaint behind the place of its row, and what to do.
+    pub(crate) fn put(&self, out: &mut Words, remedy: &str) {
+        out.put(", field ");
+        out.put(self.field);
+        out.put(": ");
         out.put_quoted(self.value);
         out.put(self.rule);
-        if let Some(number) = self.number {
-            out.put_number(number);
-        }
-        out.put_all(&[".\n", self.remedy, "\n"]);
+        out.put_some(self.number);
+        out.put(".\n");
+        out.put(remedy);
+        out.put("\n")
     }
 }
 

@@ -107,7 +107,7 @@ fn put_row_words(out: &mut Words, row: &ByteRecord, clerks: u32) {
         };
     }
     match complaint_of(row, clerks.min(64)) {
-        Some(complaint) => complaint.put(out),
+        Some(complaint) => complaint.put(out, complaint.remedy),
         None => out.put(": the row is refused.\n"),
     }
 }
