@@ -63,12 +63,7 @@ pub(crate) fn put_range(out: &mut Words, option: &str, value: u64, range: &str) 
 }
 
 /// Puts that the raises were spent, and what would decide.
-fn put_spent(
-    out: &mut Words,
-    path: Option<&str>,
-    options: &CountOptions,
-    budget: Option<Money>,
-) {
+fn put_spent(out: &mut Words, path: Option<&str>, options: &CountOptions, budget: Option<Money>) {
     out.put_name(path);
     out.put(": no share decides within ");
     out.put_number(u64::from(options.max_raises));

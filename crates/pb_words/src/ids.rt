@@ -7,6 +7,7 @@ use csv::ByteRecord;
 use pb_ids::IdTable;
 use pb_read::{ReadFault, ReadKind};
 use std::alloc::{AllocError, Global};
+use std::cell::Cell;
 use strsim::levenshtein;
 
 /// Ids longer than this many bytes are not compared.
@@ -27,7 +28,7 @@ pub(crate) struct Ids {
     marks: Vec<Mark>,
     /// The ids of the projects that were not left out.
     names: Vec<String>,
-    compared: u32,
+    compared: Cell<u32>,
 }
 
 impl Ids {
@@ -43,7 +44,7 @@ impl Ids {
             voters: IdTable::new(alloc),
             marks: Vec::new(alloc),
             names: Vec::new(alloc),
-            compared: 0,
+            compared: Cell::new(0),
         }
     }
 
@@ -126,11 +127,12 @@ impl Ids {
 
     /// The place in `names` of the id that is nearest to this one, if one is near: it differs in case alone, or in at
     /// most a third of the characters. It is looked for a limited number of times.
-    pub(crate) fn nearest(&mut self, id: &str) -> Result<Option<usize>, AllocError> {
-        if self.compared >= MOST_COMPARED {
+    pub(crate) fn nearest(&self, id: &str) -> Result<Option<usize>, AllocError> {
+        let compared = self.compared.get();
+        if compared >= MOST_COMPARED {
             return Ok(None);
         }
-        self.compared += 1;
+        self.compared.set(compared.saturating_add(1));
         nearest(self.alloc, self.names.as_slice(), id)
     }
 

@@ -2,7 +2,7 @@
 
 use crate::fields::{other_separator, text_at};
 use crate::place::{Text, line_of, put_place};
-use crate::read_rules::rule_of;
+use crate::read_rules::{put_broken, rule_of};
 use crate::rows::{Mark, Rows, rows_of};
 use crate::seen::{Section, Seen};
 use crate::words::Words;
@@ -10,6 +10,12 @@ use pb_read::ReadKind;
 use std::alloc::Global;
 use std::io::Read;
 use std::rt::Files;
+
+/// What to do where META has no budget.
+const ADD_BUDGET: &str = "Add the row that is missing, as `budget;5000`.\n";
+
+/// What to do where META has no vote type.
+const ADD_VOTE_TYPE: &str = "Add the row that is missing, as `vote_type;approval`.\n";
 
 /// META's head is looked for in so many records after a first one that is none.
 const MOST_BEFORE_META: u64 = 1_000;
@@ -41,14 +47,20 @@ pub(crate) fn put_value_words<R: Files>(
     };
     let is_there = rows.advance_to(mark.record);
     if is_there {
-        let rule = rule_of(kind);
         put_place(rt, out, text, mark);
-        out.put_all(&[", key ", key, ": "]);
-        out.put_quoted(text_at(&rows.row, 1).as_bytes());
-        out.put_all(&[rule.broken, rule.remedy, "\n"]);
+        put_value(out, key, kind, text_at(&rows.row, 1));
     }
     drop(rows);
     is_there
+}
+
+fn put_value(out: &mut Words, key: &str, kind: ReadKind, value: &str) {
+    out.put(", key ");
+    out.put(key);
+    out.put(": ");
+    put_broken(out, kind, value.as_bytes());
+    out.put(rule_of(kind).remedy);
+    out.put("\n")
 }
 
 /// Puts which key META lacks, and what to do.
@@ -61,15 +73,17 @@ pub(crate) fn put_missing_key<R: Files>(
     mark: Mark,
 ) {
     put_place(rt, out, text, mark);
-    let (key, row) = if seen.budget.is_none() {
-        ("budget", "budget;5000")
-    } else {
-        ("vote_type", "vote_type;approval")
-    };
-    out.put_all(&[": META ends here without the key `", key, "`.\n"]);
+    let lacks_budget = seen.budget.is_none();
+    out.put(": META ends here without the key `");
+    out.put(if lacks_budget { "budget" } else { "vote_type" });
+    out.put("`.\n");
     match separator_at(rt, alloc, text, seen.last) {
         Some(separator) => put_separator(out, separator),
-        None => out.put_all(&["Add the row that is missing, as `", row, "`.\n"]),
+        None => out.put(if lacks_budget {
+            ADD_BUDGET
+        } else {
+            ADD_VOTE_TYPE
+        }),
     }
 }
 

@@ -156,9 +156,6 @@ fn scan<F: Read>(file: &mut F, line: u64) -> Span {
 fn take_all(span: &mut Span, bytes: &[u8]) -> bool {
     for byte in bytes {
         span.take(*byte);
-        if span.is_done() {
-            return true;
-        }
     }
-    false
+    span.is_done()
 }
