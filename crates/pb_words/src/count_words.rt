@@ -4,6 +4,7 @@ use crate::fields::text_at;
 use crate::rows::{Rows, rows_of};
 use crate::seen::{Section, Seen, Stage};
 use crate::words::Words;
+use csv::ByteRecord;
 use pb_core::money::Money;
 use pb_rounds::count_fault::CountFault;
 use pb_rounds::options::{CountOptions, LARGEST_STEP, MOST_RAISES};
@@ -70,14 +71,18 @@ fn put_spent(out: &mut Words, path: Option<&str>, options: &CountOptions, budget
     out.put(" raises of ");
     put_amount(out, options.step);
     out.put(".\n");
-    match sure_step(options.max_raises, budget) {
-        Some(step) => put_sure_step(out, step),
-        None => out.put("Allow more raises, or a larger step.\n"),
-    }
+    put_remedy(out, sure_step(options.max_raises, budget));
     if options.max_raises == MOST_RAISES {
         out.put("More raises can't help: 1000000 is the most that `--raises` can be.\n");
     }
     out.put("The rules of the vote should say which step and how many raises hold.\n")
+}
+
+fn put_remedy(out: &mut Words, sure: Option<Money>) {
+    match sure {
+        Some(step) => put_sure_step(out, step),
+        None => out.put("Allow more raises, or a larger step.\n"),
+    }
 }
 
 /// The least step by which this many raises give each voter the whole budget; none where no raise is
@@ -127,13 +132,18 @@ fn read_budget<F: Read>(rows: &mut Rows<F>) -> Option<Money> {
         if !rows.advance() || seen.stage == Stage::Header(Section::Projects) {
             break;
         }
-        if seen.stage == Stage::Rows(Section::Meta)
-            && text_at(&rows.row, 0).eq_ignore_ascii_case("budget")
-        {
-            budget = Money::read(text_at(&rows.row, 1)).ok();
-        }
+        budget = budget_after(budget, &seen, &rows.row);
         let mark = rows.mark();
         seen.take(&rows.row, mark);
     }
     budget
+}
+
+/// The budget after a further record.
+fn budget_after(before: Option<Money>, seen: &Seen, row: &ByteRecord) -> Option<Money> {
+    if seen.stage == Stage::Rows(Section::Meta) && text_at(row, 0).eq_ignore_ascii_case("budget") {
+        Money::read(text_at(row, 1)).ok()
+    } else {
+        before
+    }
 }

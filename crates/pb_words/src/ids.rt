@@ -60,25 +60,48 @@ impl Ids {
         if id.is_empty() || is_blank(row) || Section::headed_by(row).is_some() {
             return Ok(());
         }
-        let place = u32::try_from(self.marks.len()).unwrap_or(u32::MAX);
         match seen.stage {
-            Stage::Rows(Section::Projects) if self.keeps_projects && is_left_out => {
-                if self.left_out.get(id).is_none() {
-                    self.left_out.insert(self.alloc, id, place)?;
-                    self.marks.push(mark)?;
+            Stage::Rows(Section::Projects) if self.keeps_projects => {
+                if is_left_out {
+                    self.keep_left_out(id, mark)
+                } else {
+                    self.keep_project(id, mark)
                 }
             }
-            Stage::Rows(Section::Projects) if self.keeps_projects => {
-                self.projects.insert(self.alloc, id, place)?;
-                self.marks.push(mark)?;
-                self.names.push(String::from_str(self.alloc, id)?)?;
-            }
             Stage::Rows(Section::Votes) if self.keeps_voters && !is_left_out => {
-                self.voters.insert(self.alloc, id, place)?;
-                self.marks.push(mark)?;
+                self.keep_voter(id, mark)
             }
-            _ => {}
+            _ => Ok(()),
         }
+    }
+
+    /// The place in `marks` that is next.
+    fn next_place(&self) -> u32 {
+        u32::try_from(self.marks.len()).unwrap_or(u32::MAX)
+    }
+
+    fn keep_left_out(&mut self, id: &str, mark: Mark) -> Result<(), AllocError> {
+        if self.left_out.get(id).is_some() {
+            return Ok(());
+        }
+        let place = self.next_place();
+        self.left_out.insert(self.alloc, id, place)?;
+        self.marks.push(mark)?;
+        Ok(())
+    }
+
+    fn keep_project(&mut self, id: &str, mark: Mark) -> Result<(), AllocError> {
+        let place = self.next_place();
+        self.projects.insert(self.alloc, id, place)?;
+        self.marks.push(mark)?;
+        self.names.push(String::from_str(self.alloc, id)?)?;
+        Ok(())
+    }
+
+    fn keep_voter(&mut self, id: &str, mark: Mark) -> Result<(), AllocError> {
+        let place = self.next_place();
+        self.voters.insert(self.alloc, id, place)?;
+        self.marks.push(mark)?;
         Ok(())
     }
 

@@ -159,14 +159,19 @@ fn put_version(out: &mut Words, row: &ByteRecord) {
     out.put(": the version ");
     out.put_quoted(bytes_at(row, 1));
     out.put(" is none that there is; `journal;2` is due.\n");
-    out.put_all(&[EDITED, "\n"])
+    put_edited(out)
+}
+
+fn put_edited(out: &mut Words) {
+    out.put(EDITED);
+    out.put("\n")
 }
 
 /// Puts which condition a row breaks.
 fn put_bad_row(out: &mut Words, row: &ByteRecord) {
     if row.len() != 6 && place_of_no_text(row).is_none() {
         put_fields(out, row, ", and 6 are due.\n");
-        return out.put_all(&[EDITED, "\n"]);
+        return put_edited(out);
     }
     match complaint_of(row) {
         Some(complaint) => complaint.put(out, EDITED),

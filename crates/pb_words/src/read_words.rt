@@ -14,6 +14,7 @@ use crate::words::Words;
 use csv::ByteRecord;
 use pb_read::{ReadFault, ReadKind};
 use std::alloc::{AllocError, Global};
+use std::io::Read;
 use std::rt::Files;
 
 /// What to do about a vote for a project that was left out.
@@ -116,18 +117,33 @@ fn put_fault<R: Files>(
     if put_looks(rt, out, text, fault.kind) {
         return;
     }
-    let Ok(is_record) = walk.go_to(u64::from(fault.at)) else {
-        return out.fail();
-    };
-    let found = Found {
-        kind: fault.kind,
+    match walk.go_to(u64::from(fault.at)) {
+        Ok(true) => put_here(rt, alloc, out, text, walk, fault),
+        Ok(false) => put_end(rt, out, text, &found_at(walk, fault.kind, false)),
+        Err(_) => out.fail(),
+    }
+}
+
+/// What was found where a walk has come, at a record or at the end.
+fn found_at<F: Read>(walk: &Walk<F>, kind: ReadKind, is_record: bool) -> Found {
+    Found {
+        kind,
         seen: walk.seen,
         section: walk.seen.section(),
         mark: walk.mark(is_record),
-    };
-    if !is_record {
-        return put_end(rt, out, text, &found);
     }
+}
+
+/// Puts what is said of a fault of the record that was read last, and leaves the record out.
+fn put_here<R: Files>(
+    rt: &R,
+    alloc: Global,
+    out: &mut Words,
+    text: &Text<'_>,
+    walk: &mut Walk<R::File>,
+    fault: ReadFault,
+) {
+    let found = found_at(walk, fault.kind, true);
     if !put_found(rt, alloc, out, text, walk, &found) {
         put_unread(rt, out, text, fault);
     }
@@ -325,16 +341,20 @@ fn put_repeated<R: Files>(
     found: &Found,
 ) {
     let id = found.seen.id(&walk.rows.row);
-    out.put_all(&[", column ", found.section.id_column(), ": "]);
+    out.put(", column ");
+    out.put(found.section.id_column());
+    out.put(": ");
     out.put_quoted(id.as_bytes());
     match walk.ids.first(found.section, id) {
-        Some(first) => {
-            out.put(" stood first on line ");
-            out.put_number(line_of(rt, text, first));
-            out.put(".\n");
-        }
+        Some(first) => put_first(out, line_of(rt, text, first)),
         None => out.put(" stood in an earlier row.\n"),
     }
+}
+
+fn put_first(out: &mut Words, line: u64) {
+    out.put(" stood first on line ");
+    out.put_number(line);
+    out.put(".\n")
 }
 
 /// Puts which id no project has, and the nearest one, or where that project was left out; answers what to do.
