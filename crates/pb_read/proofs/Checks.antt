@@ -14,7 +14,7 @@ use Rattle.pb_read.proofs.Tracking.{cut_short, ended, explained, first_at, track
 use Rattle.pb_read.specs.Checking.{EndsAt, Going, IsGoing, IsRefusal, IsVerdict, Judges, JudgesEnd, JudgesRow, LeadsTo, LeftHas, NextHas, text_fault}
 use Rattle.pb_read.proofs.Uniqueness.{refused_from_outside}
 use Rattle.pb_read.specs.FirstFault.{IsFaultAt, IsFromOutside, IsReachedAt}
-use Rattle.pb_read.specs.Listed.{AreListed, is_of_row, without}
+use Rattle.pb_read.specs.Listed.{AreListed, is_of_row, may_be_of_row, without}
 use Rattle.pb_read.specs.Machine.{Explains, Position, lowest_kind, row_fault, start}
 use Rattle.pb_read.specs.Progresses.{EndsWith}
 use Rattle.pb_read.specs.Rows.{trimmed}
@@ -54,22 +54,23 @@ fault_left now left kept p kinds.NoMemory come few has = cut_short now left kept
 fault_left now left kept p kind come few has = fault_here now left kept p _ come few has
 
 -- one more record is taken out
-leads_push : (out : ℕ) (records : List Fields) (faults : List ReadFault) (fault : ReadFault) (now : List Fields) (n : ℕ) → LeadsTo out records faults now → n ≡ out + length faults → n < fault.at → IsFaultAt now fault.kind (fault.at - n) →
+leads_push : (out : ℕ) (records : List Fields) (faults : List ReadFault) (fault : ReadFault) (now : List Fields) (n : ℕ) → LeadsTo out records faults now → n ≡ out + length faults → n < fault.at → IsFaultAt now fault.kind (fault.at - n) → may_be_of_row fault.kind ≡ true →
     LeadsTo out records (faults ++ fault ∷ []) (without (fault.at - n) now)
-leads_push out records [] fault now n leads same after is =
+leads_push out records [] fault now n leads same after is of_row =
     let at_start : n ≡ out = omega (arith, same) in (
       omega (arith, after, at_start),
       subst (λ (x : List Fields). IsFaultAt x fault.kind (fault.at - out)) (sym leads) (subst (λ m. IsFaultAt now fault.kind (fault.at - m)) at_start is),
+      of_row,
       λ i. without (fault.at - sym at_start i) (leads i),
     )
-leads_push out records (first ∷ more) fault now n leads same after is =
-    (leads.0, leads.1, leads_push (out + 1) (without (first.at - out) records) more fault now n leads.2 (omega (arith, same)) after is)
+leads_push out records (first ∷ more) fault now n leads same after is of_row =
+    (leads.0, leads.1, leads.2, leads_push (out + 1) (without (first.at - out) records) more fault now n leads.3 (omega (arith, same)) after is of_row)
 
 -- no fault is left
 listed_all : (out : ℕ) (records : List Fields) (faults : List ReadFault) (now : List Fields) (e : ElectionView) → LeadsTo out records faults now → StandsFor now e → AreListed out records faults
 listed_all out records [] now e leads stands = (e, subst (λ x. StandsFor x e) (sym leads) stands)
 listed_all out records (first ∷ more) now e leads stands =
-    (leads.0, leads.1, inr (listed_all (out + 1) (without (first.at - out) records) more now e leads.2 stands))
+    (leads.0, leads.1, inr (leads.2, listed_all (out + 1) (without (first.at - out) records) more now e leads.3 stands))
 
 -- the last fault that is listed
 listed_end : (out : ℕ) (records : List Fields) (faults : List ReadFault) (fault : ReadFault) (now : List Fields) (n : ℕ) → LeadsTo out records faults now → n ≡ out + length faults → n < fault.at → IsFaultAt now fault.kind (fault.at - n) →
@@ -81,7 +82,7 @@ listed_end out records [] fault now n leads same after is may =
       inl (refl, ⊎_elim (λ kind. inl kind) (λ last. inr (sym at_start ∙ last)) may),
     )
 listed_end out records (first ∷ more) fault now n leads same after is may =
-    (leads.0, leads.1, inr (listed_end (out + 1) (without (first.at - out) records) more fault now n leads.2 (omega (arith, same)) after is may))
+    (leads.0, leads.1, inr (leads.2, listed_end (out + 1) (without (first.at - out) records) more fault now n leads.3 (omega (arith, same)) after is may))
 
 pub going_start : (all : Option (List Fields)) → IsGoing all all 0 [] start
 going_start None = tt
@@ -120,7 +121,7 @@ going_leaves (Some all) (Some (next ∷ rest)) after done kept faults p q kind g
     record {
       now = without (done + 1 - length faults) going.now;
       kept = going.kept;
-      leads = leads_push 0 all faults fault going.now (length faults) going.leads (omega arith) (omega (arith, going.done_is)) here;
+      leads = leads_push 0 all faults fault going.now (length faults) going.leads (omega arith) (omega (arith, going.done_is)) here judged.2;
       done_is = omega (arith, going.done_is, length-append faults one);
       few = going.few;
       tracks = subst (λ l. Tracks (Some (without (done + 1 - length faults) going.now)) l going.kept q) (sym judged.0.0) come;
@@ -179,7 +180,7 @@ pub refusal_judged : (q p : Position) (found : Option ReadKind) (kind : ReadKind
 refusal_judged q p found kind Passes said stays refusal = absurd refusal
 refusal_judged q p found kind Done said stays refusal = absurd refusal
 refusal_judged q p found kind (LeavesOut other) said stays refusal =
-    (explained_unless kind found said refusal.1 ∙ ap (λ k. Some k) (sym refusal.0), stays refusal.1)
+    (explained_unless kind found said refusal.1 ∙ ap (λ k. Some k) (sym refusal.0), stays refusal.1, ap may_be_of_row refusal.0 ∙ refusal.2)
 refusal_judged q p found kind (Ends other) said stays refusal =
     (subst (λ k. EndsAt k found) (sym refusal.0) (ends_at kind found said), ap is_of_row refusal.0 ∙ refusal.1)
 
@@ -198,7 +199,7 @@ no_text_lowest kept p next rest none =
 next_judged : (kept : ℕ) (next : Fields) (rest : List Fields) (after : Option (List Fields)) (p q : Position) (verdict : Verdict) → after ≡ Some rest → IsVerdict (lowest_kind kept p (next ∷ rest)) p q verdict → Judges kept (Some (next ∷ rest)) after p q verdict
 next_judged kept next rest after p q Passes goes judged = absurd judged
 next_judged kept next rest after p q Done goes judged = absurd judged
-next_judged kept next rest after p q (LeavesOut kind) goes judged = ((goes, judged.0), judged.1)
+next_judged kept next rest after p q (LeavesOut kind) goes judged = ((goes, judged.0), judged.1, judged.2)
 next_judged kept next rest after p q (Ends kind) goes judged = (left_has kind judged.0, judged.1)
   where
     left_has : (k : ReadKind) → EndsAt k (lowest_kind kept p (next ∷ rest)) → LeftHas kept (Some (next ∷ rest)) p k
@@ -210,7 +211,7 @@ next_judged kept next rest after p q (Ends kind) goes judged = (left_has kind ju
 unknown_judged : (kept : ℕ) (after : Option (List Fields)) (p q : Position) (found : Option ReadKind) (verdict : Verdict) → IsVerdict found p q verdict → Judges kept None after p q verdict
 unknown_judged kept after p q found Passes judged = absurd judged
 unknown_judged kept after p q found Done judged = absurd judged
-unknown_judged kept after p q found (LeavesOut kind) judged = (tt, judged.1)
+unknown_judged kept after p q found (LeavesOut kind) judged = (tt, judged.1, judged.2)
 unknown_judged kept after p q found (Ends kind) judged = (left_has kind, judged.1)
   where
     left_has : (k : ReadKind) → LeftHas kept None p k

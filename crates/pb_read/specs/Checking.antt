@@ -4,7 +4,7 @@ use Rattle.csv.specs.Records.{AllText}
 use Rattle.pb_core.specs.Election.{ElectionView}
 use Rattle.pb_rows.specs.Reading.{Fields, IsNext}
 use Rattle.pb_read.specs.FirstFault.{IsFaultAt}
-use Rattle.pb_read.specs.Listed.{is_of_row, without}
+use Rattle.pb_read.specs.Listed.{is_of_row, may_be_of_row, without}
 use Rattle.pb_read.specs.Machine.{Position, advance, lowest_kind, row_fault}
 use Rattle.pb_read.specs.Progresses.{EndsWith}
 use Rattle.pb_read.specs.Stages.{next_row, the_end}
@@ -30,7 +30,7 @@ text_fault kept p row = if kept == most_records then Some TooManyRecords else ro
 
 -- what comes of a fault of this kind
 abbrev pub IsRefusal : ReadKind → Verdict → Type 0
-IsRefusal kind (LeavesOut other) = (other ≡ kind) × (kind ≢ NoMemory)
+IsRefusal kind (LeavesOut other) = (other ≡ kind) × (kind ≢ NoMemory) × (may_be_of_row kind ≡ true)
 IsRefusal kind (Ends other) = (other ≡ kind) × (is_of_row kind ≡ false)
 IsRefusal kind verdict = ⊥
 
@@ -42,7 +42,7 @@ EndsAt kind found = found ≡ Some kind
 
 -- a verdict on what comes next at a position, by the lowest kind that applies there
 abbrev pub IsVerdict : Option ReadKind → Position → Position → Verdict → Type 0
-IsVerdict found p q (LeavesOut kind) = (found ≡ Some kind) × (q ≡ p)
+IsVerdict found p q (LeavesOut kind) = (found ≡ Some kind) × (q ≡ p) × (may_be_of_row kind ≡ true)
 IsVerdict found p q (Ends kind) = EndsAt kind found × (is_of_row kind ≡ false)
 IsVerdict found p q verdict = ⊥
 
@@ -70,7 +70,8 @@ abbrev pub Judges :
     ℕ → Option (List Fields) → Option (List Fields) → Position → Position → Verdict → Type 0
 Judges kept left after p q Passes =
     (row : Fields) × IsNextRow left after true row × JudgesRow kept row p q Passes
-Judges kept left after p q (LeavesOut kind) = NextHas kept left after p kind × (q ≡ p)
+Judges kept left after p q (LeavesOut kind) =
+    NextHas kept left after p kind × (q ≡ p) × (may_be_of_row kind ≡ true)
 Judges kept left after p q (Ends kind) = LeftHas kept left p kind × (is_of_row kind ≡ false)
 Judges kept left after p q Done = IfSome left (λ records. records ≡ []) × ((e : ElectionView) × EndsWith p e)
 
@@ -91,7 +92,7 @@ abbrev pub LeadsTo : ℕ → List Fields → List ReadFault → List Fields → 
 LeadsTo out records [] now = records ≡ now
 LeadsTo out records (fault ∷ more) now =
     (out < fault.at) × IsFaultAt records fault.kind (fault.at - out)
-    × LeadsTo (out + 1) (without (fault.at - out) records) more now
+    × (may_be_of_row fault.kind ≡ true) × LeadsTo (out + 1) (without (fault.at - out) records) more now
 
 -- this many records were read, and these faults listed
 pub record Going (all : List Fields) (left : Option (List Fields)) (done : ℕ) (faults : List ReadFault)

@@ -3,7 +3,7 @@
 ghost use Rattle.std.specs.Prelude.{◌≡◌, [], None, IfOk, IfSome, OnOk};
 ghost use Rattle.pb_rows.specs.Reading.{records_of};
 ghost use Rattle.pb_read.specs.Checking.{GoesOn, IsGoing, IsRefusal, Judges, JudgesEnd, JudgesRow};
-ghost use Rattle.pb_read.specs.Listed.{AreListed, is_of_row};
+ghost use Rattle.pb_read.specs.Listed.{AreListed, is_of_row, may_be_of_row};
 ghost use Rattle.pb_read.specs.Progresses.{IsReady, place_of};
 ghost use Rattle.pb_read.specs.StandsFor.{opening};
 ghost use Rattle.pb_read.specs.declared.progress.Stage.TheVariants.{Start};
@@ -225,7 +225,7 @@ impl Check {
     {
         match kind {
             ReadKind::NoMemory => Verdict::Ends(kind),
-            _ if is_of_row(kind) || (self.progress.is_in_rows() && is_of_record(kind)) => {
+            _ if is_of_row(kind) || (self.progress.is_in_rows() && may_be_of_row(kind)) => {
                 Verdict::LeavesOut(kind)
             }
             _ => Verdict::Ends(kind),
@@ -241,10 +241,10 @@ fn is_of_row(kind: ReadKind) -> bool
     number == 8 || (14 <= number && number <= 20)
 }
 
-/// Whether rows of PROJECTS and VOTES have a fault of this kind, besides others.
-fn is_of_record(kind: ReadKind) -> bool {
-    matches!(
-        kind,
-        ReadKind::NotText | ReadKind::BadMoney | ReadKind::MoneyTooFine | ReadKind::MoneyTooLarge
-    )
+/// Whether rows of PROJECTS and VOTES have a fault of this kind, besides others or alone.
+fn may_be_of_row(kind: ReadKind) -> bool
+    ensures { result ≡ may_be_of_row kind }
+{
+    let number = kind.number();
+    is_of_row(kind) || number == 2 || (11 <= number && number <= 13)
 }

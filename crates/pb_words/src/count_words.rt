@@ -4,6 +4,7 @@ use crate::fields::text_at;
 use crate::rows::{Rows, rows_of};
 use crate::seen::{Section, Seen, Stage};
 use crate::words::Words;
+use csv::ByteRecord;
 use pb_core::money::Money;
 use pb_rounds::count_fault::CountFault;
 use pb_rounds::options::{CountOptions, LARGEST_STEP, MOST_RAISES};
@@ -21,62 +22,67 @@ pub fn count_words<R: Files>(
 ) -> Result<String, AllocError> {
     let mut out = Words::new(alloc);
     match fault {
-        CountFault::WorkerCount => {
-            put_range(&mut out, "workers", u64::from(options.workers), "1 to 64")
-        }
-        CountFault::StepRange => put_range(&mut out, "step", options.step.0, "1 to 1000000000"),
-        CountFault::RaisesRange => put_range(
-            &mut out,
-            "raises",
-            u64::from(options.max_raises),
-            "0 to 1000000",
-        ),
         CountFault::RaisesSpent => {
             let budget = budget_of(rt, alloc, path);
-            put_spent(alloc, &mut out, path, options, budget)
+            put_spent(&mut out, path, options, budget)
         }
-        CountFault::NoMemory => out.put("Memory was refused.\n"),
+        fault => put_option(&mut out, fault, options),
     }
     out.finish()
 }
 
+/// Puts which option a count refuses.
+fn put_option(out: &mut Words, fault: CountFault, options: &CountOptions) {
+    match fault {
+        CountFault::WorkerCount => {
+            put_range(out, "workers", u64::from(options.workers), "1 to 64")
+        }
+        CountFault::StepRange => put_range(out, "step", options.step.0, "1 to 1000000000"),
+        CountFault::RaisesRange => put_range(
+            out,
+            "raises",
+            u64::from(options.max_raises),
+            "0 to 1000000",
+        ),
+        CountFault::RaisesSpent | CountFault::NoMemory => out.put("Memory was refused.\n"),
+    }
+}
+
 /// Puts that an option is out of its range.
 pub(crate) fn put_range(out: &mut Words, option: &str, value: u64, range: &str) {
-    out.put_all(&["option --", option, ": "]);
+    out.put("option --");
+    out.put(option);
+    out.put(": ");
     out.put_number(value);
-    out.put_all(&[
-        " is not ",
-        range,
-        ".\nGive `--",
-        option,
-        "` a value from ",
-        range,
-        ".\n",
-    ])
+    out.put(" is not ");
+    out.put(range);
+    out.put(".\nGive `--");
+    out.put(option);
+    out.put("` a value from ");
+    out.put(range);
+    out.put(".\n")
 }
 
 /// Puts that the raises were spent, and what would decide.
-fn put_spent(
-    alloc: Global,
-    out: &mut Words,
-    path: Option<&str>,
-    options: &CountOptions,
-    budget: Option<Money>,
-) {
+fn put_spent(out: &mut Words, path: Option<&str>, options: &CountOptions, budget: Option<Money>) {
     out.put_name(path);
     out.put(": no share decides within ");
     out.put_number(u64::from(options.max_raises));
     out.put(" raises of ");
-    put_amount(alloc, out, options.step);
+    put_amount(out, options.step);
     out.put(".\n");
-    match sure_step(options.max_raises, budget) {
-        Some(step) => put_sure_step(alloc, out, step),
-        None => out.put("Allow more raises, or a larger step.\n"),
-    }
+    put_remedy(out, sure_step(options.max_raises, budget));
     if options.max_raises == MOST_RAISES {
         out.put("More raises can't help: 1000000 is the most that `--raises` can be.\n");
     }
     out.put("The rules of the vote should say which step and how many raises hold.\n")
+}
+
+fn put_remedy(out: &mut Words, sure: Option<Money>) {
+    match sure {
+        Some(step) => put_sure_step(out, step),
+        None => out.put("Allow more raises, or a larger step.\n"),
+    }
 }
 
 /// The least step by which this many raises give each voter the whole budget; none where no raise is
@@ -94,23 +100,20 @@ fn sure_step(max_raises: u32, budget: Option<Money>) -> Option<Money> {
     Some(Money(step))
 }
 
-fn put_sure_step(alloc: Global, out: &mut Words, step: Money) {
+fn put_sure_step(out: &mut Words, step: Money) {
     out.put("With `--step ");
     out.put_number(step.0);
     out.put("` (hundredths: ");
-    put_amount(alloc, out, step);
+    put_amount(out, step);
     out.put(") the last raise gives each voter the whole budget, and that decides.\n")
 }
 
 /// Puts an amount in units.
-fn put_amount(alloc: Global, out: &mut Words, amount: Money) {
-    match amount.text(alloc) {
-        Ok(text) => {
-            out.put(text.as_str());
-            drop(text);
-        }
-        Err(_) => out.fail(),
-    }
+fn put_amount(out: &mut Words, amount: Money) {
+    let hundredths = amount.0 % 100;
+    out.put_number(amount.0 / 100);
+    out.put(if hundredths < 10 { ".0" } else { "." });
+    out.put_number(hundredths)
 }
 
 /// The budget of the file with this path, where it can be read again.
@@ -129,13 +132,18 @@ fn read_budget<F: Read>(rows: &mut Rows<F>) -> Option<Money> {
         if !rows.advance() || seen.stage == Stage::Header(Section::Projects) {
             break;
         }
-        if seen.stage == Stage::Rows(Section::Meta)
-            && text_at(&rows.row, 0).eq_ignore_ascii_case("budget")
-        {
-            budget = Money::read(text_at(&rows.row, 1)).ok();
-        }
+        budget = budget_after(budget, &seen, &rows.row);
         let mark = rows.mark();
         seen.take(&rows.row, mark);
     }
     budget
+}
+
+/// The budget after a further record.
+fn budget_after(before: Option<Money>, seen: &Seen, row: &ByteRecord) -> Option<Money> {
+    if seen.stage == Stage::Rows(Section::Meta) && text_at(row, 0).eq_ignore_ascii_case("budget") {
+        Money::read(text_at(row, 1)).ok()
+    } else {
+        before
+    }
 }

@@ -7,6 +7,7 @@ use csv::ByteRecord;
 use pb_ids::IdTable;
 use pb_read::{ReadFault, ReadKind};
 use std::alloc::{AllocError, Global};
+use std::cell::Cell;
 use strsim::levenshtein;
 
 /// Ids longer than this many bytes are not compared.
@@ -27,7 +28,7 @@ pub(crate) struct Ids {
     marks: Vec<Mark>,
     /// The ids of the projects that were not left out.
     names: Vec<String>,
-    compared: u32,
+    compared: Cell<u32>,
 }
 
 impl Ids {
@@ -43,7 +44,7 @@ impl Ids {
             voters: IdTable::new(alloc),
             marks: Vec::new(alloc),
             names: Vec::new(alloc),
-            compared: 0,
+            compared: Cell::new(0),
         }
     }
 
@@ -59,25 +60,48 @@ impl Ids {
         if id.is_empty() || is_blank(row) || Section::headed_by(row).is_some() {
             return Ok(());
         }
-        let place = u32::try_from(self.marks.len()).unwrap_or(u32::MAX);
         match seen.stage {
-            Stage::Rows(Section::Projects) if self.keeps_projects && is_left_out => {
-                if self.left_out.get(id).is_none() {
-                    self.left_out.insert(self.alloc, id, place)?;
-                    self.marks.push(mark)?;
+            Stage::Rows(Section::Projects) if self.keeps_projects => {
+                if is_left_out {
+                    self.keep_left_out(id, mark)
+                } else {
+                    self.keep_project(id, mark)
                 }
             }
-            Stage::Rows(Section::Projects) if self.keeps_projects => {
-                self.projects.insert(self.alloc, id, place)?;
-                self.marks.push(mark)?;
-                self.names.push(String::from_str(self.alloc, id)?)?;
-            }
             Stage::Rows(Section::Votes) if self.keeps_voters && !is_left_out => {
-                self.voters.insert(self.alloc, id, place)?;
-                self.marks.push(mark)?;
+                self.keep_voter(id, mark)
             }
-            _ => {}
+            _ => Ok(()),
         }
+    }
+
+    /// The place in `marks` that is next.
+    fn next_place(&self) -> u32 {
+        u32::try_from(self.marks.len()).unwrap_or(u32::MAX)
+    }
+
+    fn keep_left_out(&mut self, id: &str, mark: Mark) -> Result<(), AllocError> {
+        if self.left_out.get(id).is_some() {
+            return Ok(());
+        }
+        let place = self.next_place();
+        self.left_out.insert(self.alloc, id, place)?;
+        self.marks.push(mark)?;
+        Ok(())
+    }
+
+    fn keep_project(&mut self, id: &str, mark: Mark) -> Result<(), AllocError> {
+        let place = self.next_place();
+        self.projects.insert(self.alloc, id, place)?;
+        self.marks.push(mark)?;
+        self.names.push(String::from_str(self.alloc, id)?)?;
+        Ok(())
+    }
+
+    fn keep_voter(&mut self, id: &str, mark: Mark) -> Result<(), AllocError> {
+        let place = self.next_place();
+        self.voters.insert(self.alloc, id, place)?;
+        self.marks.push(mark)?;
         Ok(())
     }
 
@@ -112,13 +136,26 @@ impl Ids {
         ""
     }
 
+    /// Whether a piece of a vote is ids of projects that blanks separate.
+    pub(crate) fn are_apart_by_blanks(&self, piece: &str) -> bool {
+        let mut count = 0u64;
+        for id in piece.split_whitespace() {
+            if self.projects.get(id).is_none() {
+                return false;
+            }
+            count = count.saturating_add(1);
+        }
+        count > 1
+    }
+
     /// The place in `names` of the id that is nearest to this one, if one is near: it differs in case alone, or in at
     /// most a third of the characters. It is looked for a limited number of times.
-    pub(crate) fn nearest(&mut self, id: &str) -> Result<Option<usize>, AllocError> {
-        if self.compared >= MOST_COMPARED {
+    pub(crate) fn nearest(&self, id: &str) -> Result<Option<usize>, AllocError> {
+        let compared = self.compared.get();
+        if compared >= MOST_COMPARED {
             return Ok(None);
         }
-        self.compared += 1;
+        self.compared.set(compared.saturating_add(1));
         nearest(self.alloc, self.names.as_slice(), id)
     }
 

@@ -5,7 +5,7 @@ use crate::file_words::put_reading_failed;
 use crate::journal_form::{EDITED, complaint_of};
 use crate::journal_state::{Told, answer_at, opening_of, standing_at};
 use crate::place::{Text, put_number_place, put_place, put_quotes, put_subject};
-use crate::row_form::Complaint;
+use crate::row_form::put_fields;
 use crate::rows::{Mark, rows_from, rows_of};
 use crate::tally::Tally;
 use crate::words::Words;
@@ -159,22 +159,22 @@ fn put_version(out: &mut Words, row: &ByteRecord) {
     out.put(": the version ");
     out.put_quoted(bytes_at(row, 1));
     out.put(" is none that there is; `journal;2` is due.\n");
-    out.put_all(&[EDITED, "\n"])
+    put_edited(out)
+}
+
+fn put_edited(out: &mut Words) {
+    out.put(EDITED);
+    out.put("\n")
 }
 
 /// Puts which condition a row breaks.
 fn put_bad_row(out: &mut Words, row: &ByteRecord) {
     if row.len() != 6 && place_of_no_text(row).is_none() {
-        out.put(": the row has ");
-        out.put_number(row.len() as u64);
-        return out.put_all(&[" fields, and 6 are due.\n", EDITED, "\n"]);
+        put_fields(out, row, ", and 6 are due.\n");
+        return put_edited(out);
     }
     match complaint_of(row) {
-        Some(complaint) => Complaint {
-            remedy: EDITED,
-            ..complaint
-        }
-        .put(out),
+        Some(complaint) => complaint.put(out, EDITED),
         None => out.put(": the row is refused.\n"),
     }
 }
@@ -212,14 +212,12 @@ fn put_wrong_answer<R: Files>(
 }
 
 fn put_told(out: &mut Words, told: &Told) {
-    out.put_all(&[", and the desk answers `", told.answer]);
-    if let Some(place) = told.place {
-        out.put_number(place);
-    }
-    out.put_all(&["`: ", told.why]);
-    if let Some(number) = told.number {
-        out.put_number(number);
-    }
+    out.put(", and the desk answers `");
+    out.put(told.answer);
+    out.put_some(told.place);
+    out.put("`: ");
+    out.put(told.why);
+    out.put_some(told.number);
     out.put(".\n")
 }
 

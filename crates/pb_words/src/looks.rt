@@ -1,14 +1,26 @@
 // What a file looks like that is none of the program's texts.
 
 use crate::rows::open_again;
+use crate::words::Words;
 use std::io::Read;
 use std::rt::Files;
 
 /// What a file looks like, and what to do with it.
 #[derive(Clone, Copy)]
 pub(crate) struct Looks {
-    pub(crate) what: &'static str,
-    pub(crate) remedy: &'static str,
+    what: &'static str,
+    remedy: &'static str,
+}
+
+impl Looks {
+    /// Puts what the file looks like, and what to do.
+    pub(crate) fn put(&self, out: &mut Words) {
+        out.put(": ");
+        out.put(self.what);
+        out.put(".\n");
+        out.put(self.remedy);
+        out.put("\n")
+    }
 }
 
 /// What the file with this path looks like by its first bytes; none where they say nothing.

@@ -1,15 +1,24 @@
-// Words for what is judged at the head of PROJECTS: the values of META.
+// Words for META: its values, which are judged at the head of PROJECTS, and its head.
 
 use crate::fields::{other_separator, text_at};
-use crate::place::{Text, put_place};
-use crate::read_rules::rule_of;
+use crate::place::{Text, line_of, put_place};
+use crate::read_rules::{put_broken, rule_of};
 use crate::rows::{Mark, Rows, rows_of};
-use crate::seen::Seen;
+use crate::seen::{Section, Seen};
 use crate::words::Words;
 use pb_read::ReadKind;
 use std::alloc::Global;
 use std::io::Read;
 use std::rt::Files;
+
+/// What to do where META has no budget.
+const ADD_BUDGET: &str = "Add the row that is missing, as `budget;5000`.\n";
+
+/// What to do where META has no vote type.
+const ADD_VOTE_TYPE: &str = "Add the row that is missing, as `vote_type;approval`.\n";
+
+/// META's head is looked for in so many records after a first one that is none.
+const MOST_BEFORE_META: u64 = 1_000;
 
 /// The key of META that a fault at the head of PROJECTS is about, and the row that gave it last.
 fn key_of(kind: ReadKind, seen: &Seen) -> (&'static str, Option<Mark>) {
@@ -38,14 +47,20 @@ pub(crate) fn put_value_words<R: Files>(
     };
     let is_there = rows.advance_to(mark.record);
     if is_there {
-        let rule = rule_of(kind);
         put_place(rt, out, text, mark);
-        out.put_all(&[", key ", key, ": "]);
-        out.put_quoted(text_at(&rows.row, 1).as_bytes());
-        out.put_all(&[rule.broken, rule.remedy, "\n"]);
+        put_value(out, key, kind, text_at(&rows.row, 1));
     }
     drop(rows);
     is_there
+}
+
+fn put_value(out: &mut Words, key: &str, kind: ReadKind, value: &str) {
+    out.put(", key ");
+    out.put(key);
+    out.put(": ");
+    put_broken(out, kind, value.as_bytes());
+    out.put(rule_of(kind).remedy);
+    out.put("\n")
 }
 
 /// Puts which key META lacks, and what to do.
@@ -58,15 +73,17 @@ pub(crate) fn put_missing_key<R: Files>(
     mark: Mark,
 ) {
     put_place(rt, out, text, mark);
-    let (key, row) = if seen.budget.is_none() {
-        ("budget", "budget;5000")
-    } else {
-        ("vote_type", "vote_type;approval")
-    };
-    out.put_all(&[": META ends here without the key `", key, "`.\n"]);
+    let lacks_budget = seen.budget.is_none();
+    out.put(": META ends here without the key `");
+    out.put(if lacks_budget { "budget" } else { "vote_type" });
+    out.put("`.\n");
     match separator_at(rt, alloc, text, seen.last) {
         Some(separator) => put_separator(out, separator),
-        None => out.put_all(&["Add the row that is missing, as `", row, "`.\n"]),
+        None => out.put(if lacks_budget {
+            ADD_BUDGET
+        } else {
+            ADD_VOTE_TYPE
+        }),
     }
 }
 
@@ -98,4 +115,44 @@ pub(crate) fn put_separator(out: &mut Words, separator: &str) {
         separator,
         " where `;` is due: save it again with `;` between the fields.\n",
     ]);
+}
+
+/// Puts what to do where META's head stands behind the record with this mark, and answers whether it does.
+pub(crate) fn put_late_meta<R: Files>(
+    rt: &R,
+    alloc: Global,
+    out: &mut Words,
+    text: &Text<'_>,
+    first: Mark,
+) -> bool {
+    let Some(mark) = late_meta(rt, alloc, text, first.record) else {
+        return false;
+    };
+    out.put("META stands on line ");
+    out.put_number(line_of(rt, text, mark));
+    out.put(": take out what stands before it.\n");
+    true
+}
+
+/// Where META's head stands behind the record with this number.
+fn late_meta<R: Files>(rt: &R, alloc: Global, text: &Text<'_>, number: u64) -> Option<Mark> {
+    let mut rows = rows_of(rt, alloc, text.path)?;
+    let mark = late_meta_in(&mut rows, number);
+    drop(rows);
+    mark
+}
+
+fn late_meta_in<F: Read>(rows: &mut Rows<F>, number: u64) -> Option<Mark> {
+    if !rows.advance_to(number) {
+        return None;
+    }
+    for _ in 0..MOST_BEFORE_META {
+        if !rows.advance() {
+            return None;
+        }
+        if Section::headed_by(&rows.row) == Some(Section::Meta) {
+            return Some(rows.mark());
+        }
+    }
+    None
 }

@@ -5,6 +5,11 @@ use crate::rows::Mark;
 use crate::words::Words;
 use std::rt::Files;
 
+/// What is said of a quotation mark that is never closed.
+const UNCLOSED: &str = " and is not closed, so all that follows is one field.
+Close it, or double it where it belongs to the text.
+";
+
 /// The text that words speak of.
 #[derive(Clone, Copy)]
 pub(crate) struct Text<'a> {
@@ -59,19 +64,29 @@ pub(crate) fn put_quotes<R: Files>(rt: &R, out: &mut Words, text: &Text<'_>, mar
 }
 
 fn put_span(out: &mut Words, span: &Span) -> bool {
-    if let Some(opened) = span.unclosed() {
-        out.put("A quotation mark opens on line ");
-        out.put_number(opened);
-        out.put(" and is not closed, so all that follows is one field.\n");
-        out.put("Close it, or double it where it belongs to the text.\n");
-        return true;
+    match span.unclosed() {
+        Some(opened) => {
+            put_opening(out, opened);
+            out.put(UNCLOSED);
+            true
+        }
+        None => {
+            put_over(out, span.over());
+            false
+        }
     }
-    if let Some((opens, closes)) = span.over() {
-        out.put("A quotation mark opens on line ");
-        out.put_number(opens);
+}
+
+fn put_over(out: &mut Words, over: Option<(u64, u64)>) {
+    if let Some((opens, closes)) = over {
+        put_opening(out, opens);
         out.put(" and is closed on line ");
         out.put_number(closes);
-        out.put(", so the lines between are one field.\n");
+        out.put(", so the lines between are one field.\n")
     }
-    false
+}
+
+fn put_opening(out: &mut Words, line: u64) {
+    out.put("A quotation mark opens on line ");
+    out.put_number(line)
 }

@@ -1,7 +1,7 @@
 // The line of the text at which a record begins, and the quotation mark that makes it run over several lines.
 
-use crate::rows::{Mark, open_again};
-use std::io::{Read, Seek, SeekFrom};
+use crate::rows::{Mark, open_at};
+use std::io::Read;
 use std::rt::Files;
 
 /// How far the bytes of a record were looked at.
@@ -128,11 +128,7 @@ fn plain(byte: u8) -> State {
 
 /// What the bytes say of the record with this mark, in a file that is read again.
 pub(crate) fn span_of<R: Files>(rt: &R, path: Option<&str>, mark: Mark) -> Option<Span> {
-    let mut file = open_again(rt, path?)?;
-    if file.seek(SeekFrom::Start(mark.byte)).is_err() {
-        drop(file);
-        return None;
-    }
+    let mut file = open_at(rt, path?, mark.byte)?;
     let span = scan(&mut file, mark.line);
     drop(file);
     Some(span)
@@ -160,9 +156,6 @@ fn scan<F: Read>(file: &mut F, line: u64) -> Span {
 fn take_all(span: &mut Span, bytes: &[u8]) -> bool {
     for byte in bytes {
         span.take(*byte);
-        if span.is_done() {
-            return true;
-        }
     }
-    false
+    span.is_done()
 }

@@ -1,5 +1,6 @@
 // The rule that each fault of a .pb file says is broken, and what to do.
 
+use crate::words::Words;
 use pb_read::ReadKind;
 
 /// What is said of a fault.
@@ -163,4 +164,10 @@ pub(crate) fn rule_of(kind: ReadKind) -> Rule {
         Some(rule) => *rule,
         None => NO_RULE,
     }
+}
+
+/// Puts a value, and the rule of this fault that it breaks.
+pub(crate) fn put_broken(out: &mut Words, kind: ReadKind, value: &[u8]) {
+    out.put_quoted(value);
+    out.put(rule_of(kind).broken)
 }

@@ -2,10 +2,11 @@
 
 use crate::fields::{bytes_at, column_of, other_separator, place_of_no_text, text_at};
 use crate::file_words::put_reading_failed;
+use crate::ids::Ids;
 use crate::looks::looks_of;
-use crate::meta_words::{put_missing_key, put_separator, put_value_words};
+use crate::meta_words::{put_late_meta, put_missing_key, put_separator, put_value_words};
 use crate::place::{Text, line_of, put_number_place, put_place, put_quotes, put_subject};
-use crate::read_rules::rule_of;
+use crate::read_rules::{put_broken, rule_of};
 use crate::rows::{Mark, rows_of};
 use crate::seen::{Section, Seen, Stage};
 use crate::walk::Walk;
@@ -13,10 +14,21 @@ use crate::words::Words;
 use csv::ByteRecord;
 use pb_read::{ReadFault, ReadKind};
 use std::alloc::{AllocError, Global};
+use std::io::Read;
 use std::rt::Files;
 
 /// What to do about a vote for a project that was left out.
 const MEND_PROJECT: &str = "Mend the project's row; the vote may then stand as it is.";
+
+/// What to do about a vote whose ids blanks separate.
+const NO_BLANKS: &str = "The vote has blanks where `,` is due: write `,` between two ids.";
+
+/// What to do about a row that is one field in quotes.
+const NO_QUOTES: &str = "Quotation marks make the whole row one field: take them out.";
+
+/// What to do about the column names of VOTES among the projects.
+const NO_VOTES: &str =
+    "These are the column names of VOTES: put the section's head, VOTES, on a line before them.";
 
 /// What was found where a fault stands.
 #[derive(Clone, Copy)]
@@ -72,12 +84,22 @@ pub fn list_words<R: Files>(
 /// Puts what is said of a fault by itself.
 fn put_unread<R: Files>(rt: &R, out: &mut Words, text: &Text<'_>, fault: ReadFault) {
     let at = u64::from(fault.at);
-    if let (ReadKind::ReadFailed, Some(path)) = (fault.kind, text.path) {
-        return put_reading_failed(rt, out, text, path, at);
+    if fault.kind == ReadKind::ReadFailed {
+        if let Some(path) = text.path {
+            return put_reading_failed(rt, out, text, path, at);
+        }
     }
-    let rule = rule_of(fault.kind);
+    put_alone(out, text, fault.kind, at)
+}
+
+fn put_alone(out: &mut Words, text: &Text<'_>, kind: ReadKind, at: u64) {
+    let rule = rule_of(kind);
     put_number_place(out, text, at);
-    out.put_all(&[": ", rule.rule, ".\n", rule.remedy, "\n"]);
+    out.put(": ");
+    out.put(rule.rule);
+    out.put(".\n");
+    out.put(rule.remedy);
+    out.put("\n")
 }
 
 /// Puts what is said of the next fault of a file that is read again.
@@ -95,18 +117,33 @@ fn put_fault<R: Files>(
     if put_looks(rt, out, text, fault.kind) {
         return;
     }
-    let Ok(is_record) = walk.go_to(u64::from(fault.at)) else {
-        return out.fail();
-    };
-    let found = Found {
-        kind: fault.kind,
+    match walk.go_to(u64::from(fault.at)) {
+        Ok(true) => put_here(rt, alloc, out, text, walk, fault),
+        Ok(false) => put_end(rt, out, text, &found_at(walk, fault.kind, false)),
+        Err(_) => out.fail(),
+    }
+}
+
+/// What was found where a walk has come, at a record or at the end.
+fn found_at<F: Read>(walk: &Walk<F>, kind: ReadKind, is_record: bool) -> Found {
+    Found {
+        kind,
         seen: walk.seen,
         section: walk.seen.section(),
         mark: walk.mark(is_record),
-    };
-    if !is_record {
-        return put_end(rt, out, text, &found);
     }
+}
+
+/// Puts what is said of a fault of the record that was read last, and leaves the record out.
+fn put_here<R: Files>(
+    rt: &R,
+    alloc: Global,
+    out: &mut Words,
+    text: &Text<'_>,
+    walk: &mut Walk<R::File>,
+    fault: ReadFault,
+) {
+    let found = found_at(walk, fault.kind, true);
     if !put_found(rt, alloc, out, text, walk, &found) {
         put_unread(rt, out, text, fault);
     }
@@ -123,7 +160,7 @@ fn put_looks<R: Files>(rt: &R, out: &mut Words, text: &Text<'_>, kind: ReadKind)
     match looks_of(rt, text.path) {
         Some(looks) => {
             out.put_name(text.path);
-            out.put_all(&[": ", looks.what, ".\n", looks.remedy, "\n"]);
+            looks.put(out);
             true
         }
         None => false,
@@ -136,7 +173,7 @@ fn put_found<R: Files>(
     alloc: Global,
     out: &mut Words,
     text: &Text<'_>,
-    walk: &mut Walk<R::File>,
+    walk: &Walk<R::File>,
     found: &Found,
 ) -> bool {
     if found.seen.stage == Stage::Rows(Section::Meta) {
@@ -156,19 +193,18 @@ fn put_found<R: Files>(
             put_repeated(rt, out, text, walk, found)
         }
         ReadKind::UnknownProject => {
-            if put_unknown(rt, out, text, walk, found) {
-                remedy = MEND_PROJECT;
-            }
+            remedy = put_unknown(rt, out, text, walk, found);
         }
         _ => put_record(out, found, &walk.rows.row),
     }
-    put_remedy(rt, out, text, found, &walk.rows.row, remedy);
+    put_remedy(rt, alloc, out, text, found, &walk.rows.row, remedy);
     true
 }
 
 /// Puts what to do about a record.
 fn put_remedy<R: Files>(
     rt: &R,
+    alloc: Global,
     out: &mut Words,
     text: &Text<'_>,
     found: &Found,
@@ -178,13 +214,34 @@ fn put_remedy<R: Files>(
     if put_quotes(rt, out, text, found.mark) {
         return;
     }
+    if found.seen.stage == Stage::Start
+        && found.kind == ReadKind::NoSection
+        && put_late_meta(rt, alloc, out, text, found.mark)
+    {
+        return;
+    }
     let separator = match found.kind {
         ReadKind::NoSection | ReadKind::MissingColumn => other_separator(row),
         _ => None,
     };
     match separator {
         Some(separator) => put_separator(out, separator),
-        None => out.put_all(&[remedy, "\n"]),
+        None => out.put_all(&[row_remedy(found, row).unwrap_or(remedy), "\n"]),
+    }
+}
+
+/// What to do about a row that is in another form than rows have, or in the wrong section.
+fn row_remedy(found: &Found, row: &ByteRecord) -> Option<&'static str> {
+    let is_project = found.seen.stage == Stage::Rows(Section::Projects);
+    if is_project && column_of(row, Section::Votes.id_column()).is_some() {
+        Some(NO_VOTES)
+    } else if found.kind == ReadKind::MissingField
+        && row.len() == 1
+        && bytes_at(row, 0).contains(&b';')
+    {
+        Some(NO_QUOTES)
+    } else {
+        None
     }
 }
 
@@ -197,11 +254,7 @@ fn put_record(out: &mut Words, found: &Found, row: &ByteRecord) {
         ReadKind::SectionOrder => put_head(out, row, order_rule(found.seen.stage)),
         ReadKind::NoHeader => {
             put_head(out, row, " stands where ");
-            out.put_all(&[
-                section.name(),
-                section.of(),
-                " row of column names is due.\n",
-            ]);
+            out.put(header_due(section))
         }
         ReadKind::MissingColumn => put_no_column(out, section, row),
         ReadKind::MissingField => put_short(out, found, row),
@@ -272,11 +325,11 @@ fn put_short(out: &mut Words, found: &Found, row: &ByteRecord) {
 
 /// Puts a value of this column, in the row with this id, and the rule that it breaks.
 fn put_value(out: &mut Words, found: &Found, column: &str, id: &str, value: &str) {
-    out.put_all(&[", column ", column]);
+    out.put(", column ");
+    out.put(column);
     put_subject(out, found.section.subject(), id);
     out.put(": ");
-    out.put_quoted(value.as_bytes());
-    out.put(rule_of(found.kind).broken);
+    put_broken(out, found.kind, value.as_bytes())
 }
 
 /// Puts where a repeated id stood first.
@@ -288,48 +341,71 @@ fn put_repeated<R: Files>(
     found: &Found,
 ) {
     let id = found.seen.id(&walk.rows.row);
-    out.put_all(&[", column ", found.section.id_column(), ": "]);
+    out.put(", column ");
+    out.put(found.section.id_column());
+    out.put(": ");
     out.put_quoted(id.as_bytes());
     match walk.ids.first(found.section, id) {
-        Some(first) => {
-            out.put(" stood first on line ");
-            out.put_number(line_of(rt, text, first));
-            out.put(".\n");
-        }
+        Some(first) => put_first(out, line_of(rt, text, first)),
         None => out.put(" stood in an earlier row.\n"),
     }
 }
 
-/// Puts which id no project has, and the nearest one, or where that project was left out; answers whether it was.
+fn put_first(out: &mut Words, line: u64) {
+    out.put(" stood first on line ");
+    out.put_number(line);
+    out.put(".\n")
+}
+
+/// Puts which id no project has, and the nearest one, or where that project was left out; answers what to do.
 fn put_unknown<R: Files>(
     rt: &R,
     out: &mut Words,
     text: &Text<'_>,
-    walk: &mut Walk<R::File>,
+    walk: &Walk<R::File>,
     found: &Found,
-) -> bool {
+) -> &'static str {
+    let row = &walk.rows.row;
     out.put(", column vote");
-    put_subject(out, "voter", found.seen.id(&walk.rows.row));
+    put_subject(out, "voter", found.seen.id(row));
+    let unknown = walk.ids.unknown_of(found.seen.value(row));
     out.put(": ");
-    let unknown = walk.ids.unknown_of(found.seen.value(&walk.rows.row));
     out.put_quoted(unknown.as_bytes());
-    if let Some(mark) = walk.ids.left_out(unknown) {
-        out.put(" is the id of a project that was left out, on line ");
-        out.put_number(line_of(rt, text, mark));
-        out.put(".\n");
-        return true;
-    }
-    out.put(" is the id of no project");
-    match walk.ids.nearest(unknown) {
-        Ok(Some(place)) => {
-            out.put("; the nearest is ");
-            out.put_quoted(walk.ids.name(place).as_bytes());
+    match walk.ids.left_out(unknown) {
+        Some(mark) => {
+            put_left_out(out, line_of(rt, text, mark));
+            MEND_PROJECT
         }
-        Ok(None) => {}
+        None => put_no_project(out, &walk.ids, unknown),
+    }
+}
+
+fn put_left_out(out: &mut Words, line: u64) {
+    out.put(" is the id of a project that was left out, on line ");
+    out.put_number(line);
+    out.put(".\n")
+}
+
+/// Puts that an id is no project's, and the nearest one; answers what to do.
+fn put_no_project(out: &mut Words, ids: &Ids, unknown: &str) -> &'static str {
+    out.put(" is the id of no project");
+    if ids.are_apart_by_blanks(unknown) {
+        out.put(".\n");
+        return NO_BLANKS;
+    }
+    match ids.nearest(unknown) {
+        Ok(near) => put_near(out, ids, near),
         Err(_) => out.fail(),
     }
-    out.put(".\n");
-    false
+    rule_of(ReadKind::UnknownProject).remedy
+}
+
+fn put_near(out: &mut Words, ids: &Ids, near: Option<usize>) {
+    if let Some(place) = near {
+        out.put("; the nearest is ");
+        out.put_quoted(ids.name(place).as_bytes())
+    }
+    out.put(".\n")
 }
 
 /// Puts what is missing at the end of the file.
@@ -337,27 +413,42 @@ fn put_end<R: Files>(rt: &R, out: &mut Words, text: &Text<'_>, found: &Found) {
     out.put_name(text.path);
     out.put(": the file ends");
     if found.mark.record > 0 {
-        out.put(" after line ");
-        out.put_number(line_of(rt, text, found.mark));
-        out.put(" (record ");
-        out.put_number(found.mark.record);
-        out.put(")");
+        put_last(out, line_of(rt, text, found.mark), found.mark.record)
     }
     out.put(", and ");
-    match found.seen.stage {
-        Stage::Start => out.put("META is due.\n"),
-        Stage::Header(section) => {
-            out.put_all(&[
-                section.name(),
-                section.of(),
-                " row of column names is due.\n",
-            ])
-        }
-        Stage::Rows(Section::Meta) => out.put("PROJECTS is still to come.\n"),
-        Stage::Rows(Section::Projects) => out.put("VOTES is still to come.\n"),
-        Stage::Rows(Section::Votes) => out.put("a record is missing.\n"),
-    }
+    out.put(due_at_end(found.seen.stage));
     if !put_quotes(rt, out, text, found.mark) {
-        out.put_all(&[rule_of(found.kind).remedy, "\n"]);
+        out.put(rule_of(found.kind).remedy);
+        out.put("\n")
+    }
+}
+
+fn put_last(out: &mut Words, line: u64, record: u64) {
+    out.put(" after line ");
+    out.put_number(line);
+    out.put(" (record ");
+    out.put_number(record);
+    out.put(")")
+}
+
+/// What is missing where the file ends.
+fn due_at_end(stage: Stage) -> &'static str {
+    match stage {
+        Stage::Start => "META is due.\n",
+        Stage::Header(section) => header_due(section),
+        Stage::Rows(section) => match section {
+            Section::Meta => "PROJECTS is still to come.\n",
+            Section::Projects => "VOTES is still to come.\n",
+            Section::Votes => "a record is missing.\n",
+        },
+    }
+}
+
+/// What is missing where a section has no row of column names.
+fn header_due(section: Section) -> &'static str {
+    match section {
+        Section::Meta => "META's row of column names is due.\n",
+        Section::Projects => "PROJECTS' row of column names is due.\n",
+        Section::Votes => "VOTES' row of column names is due.\n",
     }
 }

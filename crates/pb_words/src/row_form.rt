@@ -19,16 +19,26 @@ pub(crate) struct Complaint<'r> {
 }
 
 impl<'r> Complaint<'r> {
-    /// Puts the complaint behind the place of its row.
-    pub(crate) fn put(&self, out: &mut Words) {
-        out.put_all(&[", field ", self.field, ": "]);
+    /// Puts the complaint behind the place of its row, and what to do.
+    pub(crate) fn put(&self, out: &mut Words, remedy: &str) {
+        out.put(", field ");
+        out.put(self.field);
+        out.put(": ");
         out.put_quoted(self.value);
         out.put(self.rule);
-        if let Some(number) = self.number {
-            out.put_number(number);
-        }
-        out.put_all(&[".\n", self.remedy, "\n"]);
+        out.put_some(self.number);
+        out.put(".\n");
+        out.put(remedy);
+        out.put("\n")
     }
+}
+
+/// Puts how many fields a row has, and how many are due.
+pub(crate) fn put_fields(out: &mut Words, row: &ByteRecord, due: &str) {
+    let count = row.len() as u64;
+    out.put(": the row has ");
+    out.put_number(count);
+    out.put_all(&[if count == 1 { " field" } else { " fields" }, due]);
 }
 
 /// A row's fields, as far as they are known to be text.

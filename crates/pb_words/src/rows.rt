@@ -102,7 +102,7 @@ pub(crate) fn rows_of<R: Files>(
     alloc: Global,
     path: Option<&str>,
 ) -> Option<Rows<R::File>> {
-    Some(Rows::new(alloc, open_again(rt, path?)?, Mark::start()))
+    rows_from(rt, alloc, path, Mark::start())
 }
 
 /// The records from this mark on.
@@ -112,12 +112,22 @@ pub(crate) fn rows_from<R: Files>(
     path: Option<&str>,
     start: Mark,
 ) -> Option<Rows<R::File>> {
-    let mut file = open_again(rt, path?)?;
-    if file.seek(SeekFrom::Start(start.byte)).is_err() {
-        drop(file);
-        return None;
+    match open_at(rt, path?, start.byte) {
+        Some(file) => Some(Rows::new(alloc, file, start)),
+        None => None,
     }
-    Some(Rows::new(alloc, file, start))
+}
+
+/// Opens a file again, behind so many bytes.
+pub(crate) fn open_at<R: Files>(rt: &R, path: &str, byte: u64) -> Option<R::File> {
+    let mut file = open_again(rt, path)?;
+    match file.seek(SeekFrom::Start(byte)) {
+        Ok(_) => Some(file),
+        Err(_) => {
+            drop(file);
+            None
+        }
+    }
 }
 
 /// Opens a file again. A pipe or a device is not: it has given what it had.

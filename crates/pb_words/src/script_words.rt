@@ -1,11 +1,13 @@
 //! Words for the faults of a script.
 
 use crate::count_words::put_range;
-use crate::fields::place_of_no_text;
+use crate::fields::{other_separator, place_of_no_text};
 use crate::file_words::put_reading_failed;
+use crate::meta_words::put_separator;
 use crate::place::{Text, put_number_place, put_place, put_quotes};
 use crate::row_form::{
-    Complaint, bad_clerk, bad_places, bad_voter, bad_word, form_at, no_text, surplus_places,
+    Complaint, bad_clerk, bad_places, bad_voter, bad_word, form_at, no_text, put_fields,
+    surplus_places,
 };
 use crate::rows::rows_of;
 use crate::words::Words;
@@ -98,14 +100,14 @@ fn put_row<R: Files>(
 /// Puts which condition a row breaks, and what to do.
 fn put_row_words(out: &mut Words, row: &ByteRecord, clerks: u32) {
     if row.len() != 4 && place_of_no_text(row).is_none() {
-        out.put(": the row has ");
-        out.put_number(row.len() as u64);
-        return out.put(
-            " fields, and 4 are due.\nWrite it as CLERK;REQUEST;VOTER;PLACES, with three `;`.\n",
-        );
+        put_fields(out, row, ", and 4 are due.\n");
+        return match other_separator(row) {
+            Some(separator) => put_separator(out, separator),
+            None => out.put("Write it as CLERK;REQUEST;VOTER;PLACES, with three `;`.\n"),
+        };
     }
     match complaint_of(row, clerks.min(64)) {
-        Some(complaint) => complaint.put(out),
+        Some(complaint) => complaint.put(out, complaint.remedy),
         None => out.put(": the row is refused.\n"),
     }
 }

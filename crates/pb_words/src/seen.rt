@@ -36,14 +36,6 @@ impl Section {
         }
     }
 
-    /// What makes its name a genitive.
-    pub(crate) fn of(self) -> &'static str {
-        match self {
-            Section::Meta => "'s",
-            Section::Projects | Section::Votes => "'",
-        }
-    }
-
     /// The column of its rows' ids.
     pub(crate) fn id_column(self) -> &'static str {
         match self {

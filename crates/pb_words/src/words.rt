@@ -61,6 +61,13 @@ impl Words {
         self.put(digits.format(number));
     }
 
+    /// Puts a number, if there is one.
+    pub(crate) fn put_some(&mut self, number: Option<u64>) {
+        if let Some(number) = number {
+            self.put_number(number)
+        }
+    }
+
     /// Puts a value in quotes, cut after 60 characters; three dots after the quotes say that it goes on.
     pub(crate) fn put_quoted(&mut self, value: &[u8]) {
         self.put("\"");
