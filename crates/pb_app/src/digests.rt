@@ -6,7 +6,7 @@ use crate::perform::{open, says_open};
 use crate::progress::{Progress, Shown};
 use pb_command_line::Source;
 use pb_commands::AppFault;
-use pb_commands::run_audit::run_audit;
+use pb_commands::run_audit::run_audit_watched;
 use pb_rounds::options::CountOptions;
 use pb_words::Tally;
 use sha2::{Digest, Sha256};
@@ -91,14 +91,14 @@ where
     let path = match journal {
         Source::Input => {
             let journal = Counted::new(Shown::new(rt.reader(), progress), tally);
-            return audit_both(rt, file, journal, options, report);
+            return audit_both(rt, file, journal, options, report, progress);
         }
         Source::File(path) => path,
     };
     match open(rt, path, 2) {
         Ok(journal) => {
             let journal = Counted::new(Shown::new(journal, progress), tally);
-            audit_both(rt, file, journal, options, report)
+            audit_both(rt, file, journal, options, report, progress)
         }
         Err(fault) => {
             drop(file);
@@ -114,16 +114,17 @@ fn audit_both<R, P: Read + Drop, J: Read + Drop>(
     journal: J,
     options: &CountOptions,
     report: &mut Vec<u8>,
+    progress: &Progress<'_, R>,
 ) -> Result<String, AppFault>
 where
-    R: Print + AllocGlobal + Threads + Sync,
+    R: Print + Eprint + Clock + AllocGlobal + Threads + Sync,
 {
     let alloc = rt.alloc();
     let mut of_file = Sha256::new();
     let mut of_journal = Sha256::new();
     let file = Digested::new(file, &mut of_file);
     let journal = Digested::new(journal, &mut of_journal);
-    match run_audit(rt, alloc, file, journal, report, options) {
+    match run_audit_watched(rt, alloc, file, journal, progress, report, options) {
         Ok(()) => Ok(digest_rows(alloc, of_file, of_journal)?),
         // A text in memory is refused for memory alone.
         Err(AppFault::Write) => Err(AppFault::Memory),

@@ -12,8 +12,9 @@ use pb_command_line::{Ballots, Source as Given};
 use pb_commands::{AppFault, closed_ballots};
 use pb_core::election::Election;
 use pb_page::{Facts, Source, page_of};
+use pb_price::gate::Gate;
 use pb_read::read_pb;
-use pb_rounds::count::count;
+use pb_rounds::count::count_watched;
 use pb_rounds::count_fault::CountFault;
 use pb_rounds::options::CountOptions;
 use sha2::{Digest, Sha256};
@@ -84,7 +85,7 @@ where
             }
         },
     };
-    let written = write_page(rt, &read, ballots, options, title, writer);
+    let written = write_page(rt, &read, ballots, options, title, writer, progress);
     drop(read);
     written
 }
@@ -128,9 +129,10 @@ fn write_page<'a, R, W: Write>(
     options: &CountOptions,
     title: &'a str,
     writer: &mut W,
+    progress: &Progress<'_, R>,
 ) -> Result<(), AppFault>
 where
-    R: Print + AllocGlobal + Threads + Sync,
+    R: Print + Eprint + Clock + AllocGlobal + Threads + Sync,
 {
     let journal = match (&ballots.journal, &read.journal) {
         (Some(given), Some(digest)) => Some(Source {
@@ -148,16 +150,17 @@ where
         journal,
         options: *options,
     };
-    let text = page_text(rt, rt.alloc(), &read.election, &facts)?;
+    let text = page_text(rt, rt.alloc(), &read.election, progress, &facts)?;
     write_whole(writer, text.as_slice())
 }
 
 /// The page of an election, counted with the options of these facts: nothing in it is markup but the program's own
 /// pieces. What refuses it is what refuses the count.
-fn page_text<T: Threads + Sync>(
+fn page_text<T: Threads + Sync, G: Gate>(
     rt: &T,
     alloc: Global,
     election: &Election,
+    gate: &G,
     facts: &Facts,
 ) -> Result<Vec<u8>, CountFault>
     ensures ok { IfOk result (λ text. IsPage text.items) }
@@ -165,7 +168,7 @@ fn page_text<T: Threads + Sync>(
 {
     // What is true of every election is true of its reasons.
     let _budget = election.budget();
-    let outcome = count(rt, alloc, election, &facts.options)?;
+    let outcome = count_watched(rt, alloc, election, &facts.options, gate)?;
     Ok(page_of(alloc, election, &outcome, facts)?)
 }
 

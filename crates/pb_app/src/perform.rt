@@ -7,9 +7,9 @@ use crate::page::page;
 use crate::progress::{Progress, Shown};
 use crate::serve;
 use pb_command_line::{Asked, AuditWish, Ballots, Source, Task};
-use pb_commands::run_audit::run_audit;
+use pb_commands::run_audit::run_audit_watched;
 use pb_commands::run_check::run_check;
-use pb_commands::run_count::run_count;
+use pb_commands::run_count::run_count_watched;
 use pb_commands::run_desk::run_desk;
 use pb_commands::run_table::{run_closed_table, run_table};
 use pb_commands::{AppFault, Table};
@@ -134,16 +134,13 @@ where
     R: Files + Input + Print + Eprint + Clock + AllocGlobal + Threads + Sync,
 {
     match source {
-        Source::Input => run_count(
-            rt,
-            rt.alloc(),
-            Shown::new(rt.reader(), progress),
-            writer,
-            options,
-        ),
+        Source::Input => {
+            let file = Shown::new(rt.reader(), progress);
+            run_count_watched(rt, rt.alloc(), file, progress, writer, options)
+        }
         Source::File(path) => {
             let file = Shown::new(open(rt, path, 1)?, progress);
-            run_count(rt, rt.alloc(), file, writer, options)
+            run_count_watched(rt, rt.alloc(), file, progress, writer, options)
         }
     }
 }
@@ -163,11 +160,11 @@ where
     match ballots.file {
         Source::Input => {
             let file = Shown::new(rt.reader(), progress);
-            tell_from(rt, file, ballots.journal, options, table, writer)
+            tell_from(rt, file, ballots.journal, options, table, writer, progress)
         }
         Source::File(path) => {
             let file = Shown::new(open(rt, path, 1)?, progress);
-            tell_from(rt, file, ballots.journal, options, table, writer)
+            tell_from(rt, file, ballots.journal, options, table, writer, progress)
         }
     }
 }
@@ -180,20 +177,25 @@ fn tell_from<R, P: Read + Drop, W: Write>(
     options: &CountOptions,
     table: Table,
     writer: &mut W,
+    progress: &Progress<'_, R>,
 ) -> Result<(), AppFault>
 where
     R: Files + Input + Print + Eprint + Clock + AllocGlobal + Threads + Sync,
 {
     let alloc = rt.alloc();
     let path = match journal {
-        None => return run_table(rt, alloc, file, writer, options, table),
+        None => return run_table(rt, alloc, file, progress, writer, options, table),
         Some(Source::Input) => {
-            return run_closed_table(rt, alloc, file, rt.reader(), writer, options, table);
+            let journal = Shown::new(rt.reader(), progress);
+            return run_closed_table(rt, alloc, file, journal, progress, writer, options, table);
         }
         Some(Source::File(path)) => path,
     };
     match open(rt, path, 2) {
-        Ok(journal) => run_closed_table(rt, alloc, file, journal, writer, options, table),
+        Ok(journal) => {
+            let journal = Shown::new(journal, progress);
+            run_closed_table(rt, alloc, file, journal, progress, writer, options, table)
+        }
         Err(fault) => {
             drop(file);
             Err(fault)
@@ -372,14 +374,14 @@ where
     let path = match journal {
         Source::Input => {
             let journal = Counted::new(Shown::new(rt.reader(), progress), tally);
-            return run_audit(rt, alloc, file, journal, writer, options);
+            return run_audit_watched(rt, alloc, file, journal, progress, writer, options);
         }
         Source::File(path) => path,
     };
     match open(rt, path, 2) {
         Ok(journal) => {
             let journal = Counted::new(Shown::new(journal, progress), tally);
-            run_audit(rt, alloc, file, journal, writer, options)
+            run_audit_watched(rt, alloc, file, journal, progress, writer, options)
         }
         Err(fault) => {
             drop(file);

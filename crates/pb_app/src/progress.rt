@@ -1,22 +1,25 @@
-// How far reading has come, shown in one line of standard error that is rewritten.
+// How far reading and counting have come, shown in one line of standard error that is rewritten.
 
-use std::cell::Cell;
+use pb_core::money::Money;
+use pb_price::gate::Gate;
 use std::io::{Read, Result};
 use std::rt::Clock;
+use std::sync::atomic::AtomicU64;
+use std::sync::atomic::Ordering::Relaxed;
 use std::time::Instant;
 
 /// After so many milliseconds the line is shown, and then as often.
 const PAUSE: u64 = 1_000;
 
-/// How far reading has come. Nothing is shown of what takes less than a second.
+/// How far reading and counting have come. Nothing is shown of what takes less than a second.
 #[derive(Drop)]
 pub(crate) struct Progress<'a, R> {
     rt: &'a R,
     /// When the work began; none where nothing is shown.
     start: Option<Instant>,
-    lines: Cell<u64>,
+    lines: AtomicU64,
     /// The milliseconds after the start at which the line was shown last.
-    shown: Cell<u64>,
+    shown: AtomicU64,
 }
 
 impl<'a, R: Eprint + Clock> Progress<'a, R> {
@@ -25,33 +28,58 @@ impl<'a, R: Eprint + Clock> Progress<'a, R> {
         Progress {
             rt,
             start: if shows { Instant::now(rt).ok() } else { None },
-            lines: Cell::new(0),
-            shown: Cell::new(0),
+            lines: AtomicU64::new(0),
+            shown: AtomicU64::new(0),
         }
     }
 
     /// Takes bytes that were read; none are the end of a text.
     fn take(&self, bytes: &[u8]) {
-        let Some(start) = self.start else {
+        if self.start.is_none() {
             return;
-        };
+        }
         let ends = bytes.iter().filter(|byte| **byte == b'\n').count() as u64;
-        let lines = self.lines.get().saturating_add(ends);
-        self.lines.set(lines);
+        let lines = self.lines.load(Relaxed).saturating_add(ends);
+        self.lines.store(lines, Relaxed);
+        if self.is_due() {
+            let _ = eprint!(self.rt; "\r{:40}\r{lines} lines read", "");
+        }
+    }
+
+    /// Whether the line is to be shown again, as it is from now on.
+    fn is_due(&self) -> bool {
+        let Some(start) = self.start else {
+            return false;
+        };
         let Ok(elapsed) = start.elapsed(self.rt) else {
-            return;
+            return false;
         };
         let now = elapsed.as_secs().saturating_mul(1_000);
-        if now >= self.shown.get().saturating_add(PAUSE) {
-            self.shown.set(now);
-            let _ = eprint!(self.rt; "\r{lines} lines read");
+        if now < self.shown.load(Relaxed).saturating_add(PAUSE) {
+            return false;
         }
+        self.shown.store(now, Relaxed);
+        true
     }
 
     /// Takes the line away.
     pub(crate) fn clear(&self) {
-        if self.shown.get() > 0 {
-            let _ = eprint!(self.rt; "\r{:32}\r", "");
+        if self.shown.load(Relaxed) > 0 {
+            let _ = eprint!(self.rt; "\r{:40}\r", "");
+        }
+    }
+}
+
+impl<R: Eprint + Clock + Sync> Gate for Progress<'_, R> {
+    fn at(&self, _worker: u32, _piece: u32) {}
+
+    fn raised(&self, raises: u32, share: Money) {
+        if self.is_due() {
+            let (whole, hundredths) = (share.0 / 100, share.0 % 100);
+            let _ = eprint!(self.rt;
+                "\r{:40}\r{raises} raises, share {whole}.{hundredths:02}",
+                ""
+            );
         }
     }
 }
