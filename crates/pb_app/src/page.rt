@@ -12,9 +12,8 @@ use pb_command_line::{Ballots, Source as Given};
 use pb_commands::{AppFault, closed_ballots};
 use pb_core::election::Election;
 use pb_page::{Facts, Source, page_of};
-use pb_price::gate::Gate;
 use pb_read::read_pb;
-use pb_rounds::count::count_watched;
+use pb_rounds::count::count;
 use pb_rounds::count_fault::CountFault;
 use pb_rounds::options::CountOptions;
 use sha2::{Digest, Sha256};
@@ -85,7 +84,7 @@ where
             }
         },
     };
-    let written = write_page(rt, &read, ballots, options, title, writer, progress);
+    let written = write_page(rt, &read, ballots, options, title, writer);
     drop(read);
     written
 }
@@ -129,10 +128,9 @@ fn write_page<'a, R, W: Write>(
     options: &CountOptions,
     title: &'a str,
     writer: &mut W,
-    progress: &Progress<'_, R>,
 ) -> Result<(), AppFault>
 where
-    R: Print + Eprint + Clock + AllocGlobal + Threads + Sync,
+    R: Print + AllocGlobal + Threads + Sync,
 {
     let journal = match (&ballots.journal, &read.journal) {
         (Some(given), Some(digest)) => Some(Source {
@@ -150,17 +148,16 @@ where
         journal,
         options: *options,
     };
-    let text = page_text(rt, rt.alloc(), &read.election, progress, &facts)?;
+    let text = page_text(rt, rt.alloc(), &read.election, &facts)?;
     write_whole(writer, text.as_slice())
 }
 
 /// The page of an election, counted with the options of these facts: nothing in it is markup but the program's own
 /// pieces. What refuses it is what refuses the count.
-fn page_text<T: Threads + Sync, G: Gate>(
+fn page_text<T: Threads + Sync>(
     rt: &T,
     alloc: Global,
     election: &Election,
-    gate: &G,
     facts: &Facts,
 ) -> Result<Vec<u8>, CountFault>
     ensures ok { IfOk result (λ text. IsPage text.items) }
@@ -168,7 +165,7 @@ fn page_text<T: Threads + Sync, G: Gate>(
 {
     // What is true of every election is true of its reasons.
     let _budget = election.budget();
-    let outcome = count_watched(rt, alloc, election, &facts.options, gate)?;
+    let outcome = count(rt, alloc, election, &facts.options)?;
     Ok(page_of(alloc, election, &outcome, facts)?)
 }
 
