@@ -1,5 +1,5 @@
 #!/usr/bin/env python3
-"""Compares what the two tables take for one file with what counting it takes, in one run.
+"""Compares what the two tables and the page take for one file with what counting it takes, in one run.
 
 tables.py PROGRAM FILE RUNS [OPTION..]
 
@@ -13,7 +13,7 @@ import sys
 import tempfile
 
 TOP = pathlib.Path(__file__).resolve().parent.parent
-COMMANDS = ("count", "projects", "voters")
+COMMANDS = ("count", "projects", "voters", "page")
 
 
 def taken(command, output):
