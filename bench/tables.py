@@ -3,11 +3,13 @@
 
 tables.py PROGRAM FILE RUNS [OPTION..]
 
-The options go to each command. Each runs RUNS times, one after the other in turn, and its best counts: seconds of the
-processors, since others may use them too, and the most memory. The tables are checked by tools/recheck.py at the end.
+The options go to each command. Each runs RUNS times, one after the other in turn, and its middle run counts: seconds of
+the processors, since others may use them too, and the most memory. Behind it stand the least and the greatest ratio to
+the count of the same turn. The tables are checked by tools/recheck.py at the end.
 """
 import os
 import pathlib
+import statistics
 import subprocess
 import sys
 import tempfile
@@ -32,12 +34,13 @@ def main():
         tables = {name: pathlib.Path(made) / name for name in COMMANDS}
         rounds = [{name: taken([program, name, path, *options], tables[name]) for name in COMMANDS}
                   for _ in range(int(runs))]
-        best = {name: [min(one[name][part] for one in rounds) for part in (0, 1)] for name in COMMANDS}
+        middle = {name: [statistics.median(one[name][part] for one in rounds) for part in (0, 1)] for name in COMMANDS}
         print(f"{os.path.basename(path)}: {os.path.getsize(path) / 2**20:.0f} MiB, load {os.getloadavg()[0]:.1f}")
         for name in COMMANDS:
             size = tables[name].stat().st_size / 2**20
-            print(f"  {name} {best[name][0]:.2f} s ({best[name][0] / best['count'][0]:.2f} of count), "
-                  f"peak {best[name][1]:.0f} MiB, writes {size:.1f} MiB")
+            ratios = [one[name][0] / one["count"][0] for one in rounds]
+            print(f"  {name} {middle[name][0]:.2f} s ({middle[name][0] / middle['count'][0]:.2f} of count, "
+                  f"{min(ratios):.2f} to {max(ratios):.2f}), peak {middle[name][1]:.0f} MiB, writes {size:.1f} MiB")
         subprocess.run([sys.executable, TOP / "tools" / "recheck.py", path, tables["projects"], tables["voters"]], check=True)
 
 
