@@ -40,22 +40,23 @@ pub gives_terms : (e : ElectionView) (rule : List ℕ) → e.budget ≤ largest_
 unfolding head_of trim_start trim_end chars encode
 gives_terms e rule small limited = go e.max_length limited
   where
-    budget = money_back e.budget small
+    budget : Ok e.budget ≡ money_of (trim (money_text e.budget))
+    budget = sym (money_back e.budget small)
 
     go : (limit : Option ℕ) → ((most : ℕ) → limit ≡ Some most → most ≤ most_projects) → GivesTerms e.budget limit (rows_of (meta_rows (record e { max_length = limit }) rule))
     go None limited = record {
       head = _; header = _; body = _;
       cut = refl;
       opens = refl;
-      plain = (refl, refl, refl, refl, refl, refl, tt);
-      says = λ i. record { budget = Some (budget (~ i)); approval = Some true; max_length = Ok None };
+      plain = (refl, (refl, (refl, (refl, (refl, (refl, tt))))));
+      says = λ i. record { budget = Some (budget i); approval = Some true; max_length = Ok None };
     }
     go (Some most) limited =
-        let back = limit_back most (limited most refl) in
+        let back = sym (limit_back most (limited most refl)) in
         record {
           head = _; header = _; body = _;
           cut = refl;
           opens = refl;
-          plain = (refl, refl, refl, refl, refl, refl, refl, tt);
-          says = λ i. record { budget = Some (budget (~ i)); approval = Some true; max_length = back (~ i) };
+          plain = (refl, (refl, (refl, (refl, (refl, (refl, (refl, tt)))))));
+          says = λ i. record { budget = Some (budget i); approval = Some true; max_length = back i };
         }

@@ -1,6 +1,6 @@
 -- Every election that a file stands for can be written, but for the ids that are refused.
 use Rattle.std.proofs.Common.{◌≡◌, ◌≤◌, ℕ, zero, suc, Bool, true, false, cond, not, List, [], ◌∷◌, ◌++◌, All, Option, Some, None, Result, Ok, Err, refl, ap, sym, ◌∙◌, subst, arith}
-use Rattle.std.specs.Prelude.{nat_le}
+use Rattle.std.specs.Prelude.{codes, nat_le}
 use Rattle.std.specs.List.{AllByRecursion, AllZip}
 use Rattle.std.specs.Option.{option_map_or}
 use Rattle.std.specs.Str.{trim, trim_start, trim_end, chars}
@@ -14,10 +14,10 @@ use Rattle.pb_rows.specs.Reading.{Fields}
 use Rattle.pb_read.proofs.Keeps.{IsTidy, IsTidy-trimmed}
 use Rattle.pb_read.proofs.ListFacts.{AllByRecursion-left, AllByRecursion-right, ok≢err}
 use Rattle.pb_read.specs.Columns.{name_field}
+use Rattle.pb_read.specs.MetaRows.{value_of}
 use Rattle.pb_read.specs.Lengths.{has_length_form, max_length_of}
 use Rattle.pb_read.specs.Rows.{field, is_blank, is_empty, rows_of, trimmed}
 use Rattle.pb_read.specs.StandsFor.{GivesProject, StandsFor}
-use Rattle.pb_read.specs.declared.columns.ProjectColumns.{ProjectColumns}
 use Rattle.pb_read.specs.declared.fault.ReadKind.{ReadKind}
 use Rattle.pb_read.specs.declared.fault.ReadKind.TheVariants.{BadLength}
 use Rattle.pb_export.specs.Export.{IsOfFile}
@@ -38,7 +38,7 @@ name_tidy : (name : Option ℕ) (row : Fields) → IsTidy row → trim (option_m
 name_tidy None row tidy = trim-nil
 name_tidy (Some place) row tidy = tidy place
 
-projects_tidy : (columns : ProjectColumns) (rows : List Fields) (ps : List ProjectView) → AllByRecursion IsTidy rows → AllZip (GivesProject columns) rows ps
+projects_tidy : (columns : _) (rows : List Fields) (ps : List ProjectView) → AllByRecursion IsTidy rows → AllZip (GivesProject columns) rows ps
     → AllByRecursion (λ (p : ProjectView). trim p.id ≡ p.id) ps × AllByRecursion (λ (p : ProjectView). trim p.name ≡ p.name) ps
 projects_tidy columns [] [] tidy gives = (tt, tt)
 projects_tidy columns [] (p ∷ ps) tidy gives = absurd gives
@@ -80,5 +80,5 @@ of_file records e stands =
     record {
       ids = All-from_recursion (λ (p : ProjectView). trim p.id ≡ p.id) e.projects named.0;
       names = All-from_recursion (λ (p : ProjectView). trim p.name ≡ p.name) e.projects named.1;
-      limit = λ most is. limit_of_value _ most (sym (ap (λ meta. meta.max_length) front.3.says) ∙ ap Ok is);
+      limit = λ most is. limit_of_value (value_of (codes "max_length") front.3.body) most (sym (ap (λ meta. meta.max_length) front.3.says) ∙ ap Ok is);
     }

@@ -29,8 +29,8 @@ meta_fields : (e : ElectionView) (rule : List ℕ) → AllByRecursion HasField (
 meta_fields e rule = go e.max_length
   where
     go : (limit : Option ℕ) → AllByRecursion HasField (meta_rows (record e { max_length = limit }) rule) × (length (meta_rows (record e { max_length = limit }) rule) ≤ 8)
-    go None = ((omega arith, omega arith, omega arith, omega arith, omega arith, omega arith, omega arith, tt), omega arith)
-    go (Some most) = ((omega arith, omega arith, omega arith, omega arith, omega arith, omega arith, omega arith, omega arith, tt), omega arith)
+    go None = ((omega arith, (omega arith, (omega arith, (omega arith, (omega arith, (omega arith, (omega arith, tt))))))), omega arith)
+    go (Some most) = ((omega arith, (omega arith, (omega arith, (omega arith, (omega arith, (omega arith, (omega arith, (omega arith, tt)))))))), omega arith)
 
 project_fields : (counts : List ℕ) (selected : List Bool) (place : ℕ) (ps : List ProjectView) → AllByRecursion HasField (projects_from counts selected place ps) × (length (projects_from counts selected place ps) ≡ length ps)
 project_fields counts selected place [] = (tt, refl)
@@ -73,16 +73,16 @@ ballot_pieces ids are (place ∷ ballot) known none =
 
 module _ (e : ElectionView) (rule counts : List ℕ) (selected : List Bool) (is : IsElection e) (of : IsOfFile e) (words : has_section_word e ≡ false) (commas : has_comma_in_vote e ≡ false)
     (texts : AllByRecursion AllText (file_rows e rule counts selected)) where
-  rows : List Fields
+  abbrev rows : List Fields
   rows = file_rows e rule counts selected
 
-  metas : List Fields
+  abbrev metas : List Fields
   metas = meta_rows e rule
 
-  middle : List Fields
+  abbrev middle : List Fields
   middle = projects_rows counts selected e.projects
 
-  last : List Fields
+  abbrev last : List Fields
   last = votes_rows (project_ids e) e.voters
 
   heads : (list_any (λ p. is_section_word p.id) e.projects ≡ false) × (list_any (λ v. is_section_word v.id) e.voters ≡ false)
@@ -124,15 +124,15 @@ module _ (e : ElectionView) (rule counts : List ℕ) (selected : List Bool) (is 
   fields : AllByRecursion HasField rows
   fields =
       AllByRecursion-append HasField (metas ++ middle) last
-      (AllByRecursion-append HasField metas middle (meta_fields e rule).0 (omega arith, omega arith, (project_fields counts selected 0 e.projects).0))
-      (omega arith, omega arith, vote_fields (project_ids e) e.voters)
+      (AllByRecursion-append HasField metas middle (meta_fields e rule).0 (omega arith, (omega arith, (project_fields counts selected 0 e.projects).0)))
+      (omega arith, (omega arith, vote_fields (project_ids e) e.voters))
 
   back : records_of (text_of_rows rows) ≡ rows
   back = records_of-text_of_rows rows (ComeBack-ascii rows (All-from_recursion HasField rows fields) (omega arith))
 
-  gives : GivesAll votes.columns e (rows_of rows)
+  gives : GivesAll (record { voter = 0; vote = 1 }) e (rows_of rows)
   gives = record {
-    project_columns = projects.columns;
+    project_columns = record { id = 0; cost = 1; name = Some 3 };
     parts = (
       rows_of (metas ++ middle),
       rows_of last,
@@ -146,6 +146,6 @@ module _ (e : ElectionView) (rule counts : List ℕ) (selected : List Bool) (is 
   few =
       omega (arith, length-append (metas ++ middle) last, length-append metas middle, (meta_fields e rule).1, (project_fields counts selected 0 e.projects).1, length-map e.voters (vote_row (project_ids e)), is.few_projects, is.few_voters)
 
-  pub stands : StandsFor (records_of (text_of_rows rows)) e
+  pub stands : StandsFor (records_of (text_of_rows (file_rows e rule counts selected))) e
   stands = subst (λ (records : List Fields). StandsFor records e) (sym back)
-      (record { few = few; describes = record { text = texts; columns = votes.columns; rows = gives; is_election = is } })
+      (record { few = few; describes = record { text = texts; columns = record { voter = 0; vote = 1 }; rows = gives; is_election = is } })
