@@ -1,21 +1,16 @@
 -- Rows written one after the other.
-use Rattle.std.proofs.Common.{◌≡◌, ◌<◌, ◌+◌, ℕ, zero, suc, Bool, false, length, get_or, map, take, List, [], ◌∷◌, ◌++◌, append_assoc, append-nil, refl, sym, ◌∙◌, ap, arith}
+use Rattle.std.proofs.Common.{◌≡◌, ◌<◌, ◌+◌, ℕ, zero, suc, Bool, false, length, get_or, take, List, [], ◌∷◌, ◌++◌, append_assoc, append-nil, sym, ◌∙◌, ap, arith}
 use Rattle.std.specs.Prelude.{slice_index, slice_index_or}
-use Rattle.std.specs.List.{AllByRecursion}
-use Rattle.std.proofs.lemmas.List.{map_more, take_more}
 use Rattle.csv.specs.Records.{AllText}
 use Rattle.pb_core.specs.Election.{ProjectView}
 use Rattle.pb_rows.specs.Reading.{Fields}
 use Rattle.pb_rows.specs.Writing.{text_of_row, text_of_rows}
 use Rattle.pb_rows.proofs.RowsText.{text_of_rows-nil, text_of_rows-cons, text_of_rows-append}
 use Rattle.pb_read.proofs.ListFacts.{AllByRecursion-append}
+use Rattle.pb_export.specs.Growing.{Grows}
 use Rattle.pb_export.specs.FileRows.{project_row, projects_from}
 
--- a text that grew by rows that are text
-pub record Grows (rows : List Fields) (old new : List ℕ) : Type 0 where
-  pub text : new ≡ old ++ text_of_rows rows
-  pub are_text : AllByRecursion AllText rows
-
+-- a text to which no row was added
 pub none_grown : (old : List ℕ) → Grows [] old old
 none_grown old = record { text = rw text_of_rows-nil (sym (append-nil old)); are_text = tt }
 

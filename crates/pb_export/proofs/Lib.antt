@@ -6,3 +6,4 @@ pub mod Votes
 pub mod Stands
 pub mod Grown
 pub mod OfFile
+pub mod VoteText

@@ -1,18 +1,16 @@
 -- META, read back.
-use Rattle.std.proofs.Common.{◌≡◌, ◌<◌, ◌≤◌, ◌^◌, ℕ, zero, suc, Bool, true, false, not, List, [], ◌∷◌, ◌++◌, length, codes, decimal, nat_le, Option, Some, None, Ok, refl, ap, sym, ◌∙◌, subst, inl, arith, rules}
+use Rattle.std.proofs.Common.{◌≡◌, ◌<◌, ◌≤◌, ◌^◌, ℕ, true, false, List, [], ◌∷◌, length, decimal, nat_le, Option, Some, None, Ok, refl, ap, sym, ◌∙◌, inl, arith, rules}
 use Rattle.std.specs.Str.{trim, trim_start, trim_end, chars}
 use Rattle.std.proofs.Math.Utf8.{encode}
 use Rattle.std.proofs.lemmas.Fmt.{decimal_is_IsNumeral, decimal_nonempty}
 use Rattle.pb_core.specs.Election.{ElectionView, most_projects}
 use Rattle.pb_core.specs.Money.{largest_money, money_of}
-use Rattle.pb_core.specs.MoneyText.{fraction, has_money_form, money_text, whole_part}
+use Rattle.pb_core.specs.MoneyText.{money_text}
 use Rattle.pb_core.proofs.MoneyBack.{reads_back}
 use Rattle.pb_core.proofs.MoneyParts.{read_parts}
-use Rattle.pb_rows.specs.Reading.{Fields}
-use Rattle.pb_read.specs.Lengths.{has_length_form, max_length_of}
-use Rattle.pb_read.specs.MetaRows.{meta_of}
-use Rattle.pb_read.specs.Rows.{field, head_of, is_empty, rows_of}
-use Rattle.pb_read.specs.StandsFor.{GivesTerms, IsSection}
+use Rattle.pb_read.specs.Lengths.{max_length_of}
+use Rattle.pb_read.specs.Rows.{head_of, is_empty, rows_of}
+use Rattle.pb_read.specs.StandsFor.{GivesTerms}
 use Rattle.pb_export.specs.FileRows.{meta_rows}
 use Rattle.pb_export.proofs.Tidy.{decimal_plain, money_plain, plain_tidy}
 
@@ -45,7 +43,9 @@ gives_terms e rule small limited = go e.max_length limited
 
     go : (limit : Option ℕ) → ((most : ℕ) → limit ≡ Some most → most ≤ most_projects) → GivesTerms e.budget limit (rows_of (meta_rows (record e { max_length = limit }) rule))
     go None limited = record {
-      head = _; header = _; body = _;
+      head = _;
+      header = _;
+      body = _;
       cut = refl;
       opens = refl;
       plain = (refl, (refl, (refl, (refl, (refl, (refl, tt))))));
@@ -54,7 +54,9 @@ gives_terms e rule small limited = go e.max_length limited
     go (Some most) limited =
         let back = sym (limit_back most (limited most refl)) in
         record {
-          head = _; header = _; body = _;
+          head = _;
+          header = _;
+          body = _;
           cut = refl;
           opens = refl;
           plain = (refl, (refl, (refl, (refl, (refl, (refl, (refl, tt)))))));

@@ -1,5 +1,5 @@
 -- Every election that a file stands for can be written, but for the ids that are refused.
-use Rattle.std.proofs.Common.{◌≡◌, ◌≤◌, ℕ, zero, suc, Bool, true, false, cond, not, List, [], ◌∷◌, ◌++◌, All, Option, Some, None, Result, Ok, Err, refl, ap, sym, ◌∙◌, subst, arith}
+use Rattle.std.proofs.Common.{◌≡◌, ◌≤◌, ℕ, Bool, true, false, cond, not, List, [], ◌∷◌, ◌++◌, Option, Some, None, Result, Ok, Err, refl, ap, sym, ◌∙◌, subst, arith}
 use Rattle.std.specs.Prelude.{codes, nat_le}
 use Rattle.std.specs.List.{AllByRecursion, AllZip}
 use Rattle.std.specs.Option.{option_map_or}
@@ -12,8 +12,7 @@ use Rattle.pb_core.specs.Election.{ElectionView, ProjectView, most_projects}
 use Rattle.pb_core.specs.MoneyText.{whole_part}
 use Rattle.pb_rows.specs.Reading.{Fields}
 use Rattle.pb_read.proofs.Keeps.{IsTidy, IsTidy-trimmed}
-use Rattle.pb_read.proofs.ListFacts.{AllByRecursion-left, AllByRecursion-right, ok≢err}
-use Rattle.pb_read.specs.Columns.{name_field}
+use Rattle.pb_read.proofs.ListFacts.{AllByRecursion-left, AllByRecursion-right}
 use Rattle.pb_read.specs.MetaRows.{value_of}
 use Rattle.pb_read.specs.Lengths.{has_length_form, max_length_of}
 use Rattle.pb_read.specs.Rows.{field, is_blank, is_empty, rows_of, trimmed}

@@ -1,5 +1,5 @@
 -- The text of a vote names the ballot that it was written of.
-use Rattle.std.proofs.Common.{◌≡◌, ◌≢◌, ◌<◌, ◌==◌, ◌||◌, ℕ, zero, suc, Bool, true, false, cond, not, List, [], ◌∷◌, ◌++◌, length, map, filter, All, Contains, get_or, refl, ap, sym, ◌∙◌, subst, arith, length-append, ◌↔◌}
+use Rattle.std.proofs.Common.{◌≡◌, ◌≢◌, ◌<◌, ◌==◌, ℕ, true, false, not, List, [], ◌∷◌, ◌++◌, length, map, filter, All, Contains, get_or, refl, ap, sym, ◌∙◌, subst, arith, length-append, ◌↔◌}
 use Rattle.std.specs.List.{AllByRecursion, AllPairs, join_with_byte, list_all, list_any, position_or_len, slice_index_or, slice_split}
 use Rattle.std.specs.Str.{IsUtf8, bytes_eq, chars, skip_leading_whitespace, drop_trailing_whitespace, trim, trim_start, trim_end}
 use Rattle.std.proofs.lemmas.Bool.{and_from, cond-true, false_from_ne_true, or_parts}
@@ -16,7 +16,6 @@ use Rattle.pb_read.specs.Machine.{places_in}
 use Rattle.pb_read.specs.Rows.{is_empty}
 use Rattle.pb_read.specs.Voting.{ballot_of, is_among, names_only, pieces_of}
 use Rattle.pb_export.specs.Export.{has_comma}
-use Rattle.pb_export.specs.FileRows.{vote_text}
 use Rattle.pb_export.proofs.Tidy.{drop-append, plain_text, same_trim, skip-append, trim_same}
 
 -- an id that a vote can name

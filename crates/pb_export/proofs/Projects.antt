@@ -1,5 +1,5 @@
 -- PROJECTS, read back.
-use Rattle.std.proofs.Common.{◌≡◌, ◌≢◌, ◌≤◌, ℕ, suc, Bool, true, false, cond, not, List, [], ◌∷◌, ◌++◌, codes, decimal, Option, Some, None, All, refl, ap, sym, ◌∙◌, subst}
+use Rattle.std.proofs.Common.{◌≡◌, ◌≢◌, ◌≤◌, ℕ, suc, Bool, true, false, not, List, [], ◌∷◌, decimal, Option, Some, None, refl, ap, sym, ◌∙◌}
 use Rattle.std.specs.Prelude.{is_some, slice_index, slice_index_or}
 use Rattle.std.specs.List.{AllByRecursion, AllZip}
 use Rattle.std.specs.Str.{trim, trim_start, trim_end, chars}
@@ -9,8 +9,8 @@ use Rattle.pb_core.specs.Election.{ProjectView}
 use Rattle.pb_core.specs.Money.{largest_money}
 use Rattle.pb_core.specs.MoneyText.{money_text}
 use Rattle.pb_rows.specs.Reading.{Fields}
-use Rattle.pb_read.specs.Rows.{field, head_of, is_blank, is_empty, rows_of, trimmed}
-use Rattle.pb_read.specs.StandsFor.{GivesProject, GivesProjects, IsSection}
+use Rattle.pb_read.specs.Rows.{head_of, is_blank, rows_of, trimmed}
+use Rattle.pb_read.specs.StandsFor.{GivesProject, GivesProjects}
 use Rattle.pb_export.specs.Export.{is_section_word}
 use Rattle.pb_export.specs.FileRows.{project_row, projects_from, projects_rows, selected_text}
 use Rattle.pb_export.proofs.Metas.{money_back}

@@ -1,5 +1,5 @@
 -- What is written of an election stands for it.
-use Rattle.std.proofs.Common.{◌≡◌, ◌≢◌, ◌<◌, ◌≤◌, ◌+◌, ◌||◌, ℕ, suc, Bool, true, false, not, List, [], ◌∷◌, ◌++◌, length, map, filter, All, Option, Some, None, get_or, refl, ap, sym, ◌∙◌, subst, arith, length-append}
+use Rattle.std.proofs.Common.{◌≡◌, ◌≢◌, ◌<◌, ◌≤◌, ℕ, suc, Bool, false, not, List, [], ◌∷◌, ◌++◌, length, map, filter, All, Option, Some, None, get_or, refl, ap, sym, ◌∙◌, subst, arith, length-append}
 use Rattle.std.specs.Prelude.{slice_index_or}
 use Rattle.std.specs.List.{AllByRecursion, list_any}
 use Rattle.std.specs.Str.{IsUtf8, trim}
@@ -14,9 +14,9 @@ use Rattle.pb_rows.specs.Reading.{Fields, records_of}
 use Rattle.pb_rows.specs.Writing.{text_of_rows}
 use Rattle.pb_read.proofs.ListFacts.{AllByRecursion-append, AllByRecursion-left, AllByRecursion-right}
 use Rattle.pb_read.specs.Rows.{is_blank, rows_of, trimmed}
-use Rattle.pb_read.specs.StandsFor.{Describes, GivesAll, StandsFor}
+use Rattle.pb_read.specs.StandsFor.{GivesAll, StandsFor}
 use Rattle.pb_export.specs.Export.{IsOfFile, has_comma, has_comma_in_vote, has_section_word, is_section_word}
-use Rattle.pb_export.specs.FileRows.{file_rows, limit_rows, meta_rows, projects_from, projects_rows, vote_row, votes_rows}
+use Rattle.pb_export.specs.FileRows.{file_rows, meta_rows, projects_from, projects_rows, vote_row, votes_rows}
 use Rattle.pb_export.proofs.Metas.{gives_terms}
 use Rattle.pb_export.proofs.Pieces.{IsPiece}
 use Rattle.pb_export.proofs.Projects as projects

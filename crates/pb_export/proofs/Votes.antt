@@ -1,5 +1,5 @@
 -- VOTES, read back.
-use Rattle.std.proofs.Common.{◌≡◌, ◌≢◌, ◌<◌, ℕ, true, false, List, [], ◌∷◌, codes, length, map, All, Option, Some, None, refl, ap, sym, ◌∙◌}
+use Rattle.std.proofs.Common.{◌≡◌, ◌≢◌, ◌<◌, ℕ, false, List, [], ◌∷◌, length, map, All, None, refl, sym}
 use Rattle.std.specs.Prelude.{slice_index_or}
 use Rattle.std.specs.List.{AllByRecursion, AllZip}
 use Rattle.std.specs.Str.{trim, trim_start, trim_end, chars}
@@ -7,8 +7,8 @@ use Rattle.std.proofs.Math.Utf8.{encode}
 use Rattle.pb_core.specs.Ballot.{IsBallot}
 use Rattle.pb_core.specs.Election.{AreDistinct, VoterView}
 use Rattle.pb_rows.specs.Reading.{Fields}
-use Rattle.pb_read.specs.Rows.{field, head_of, is_blank, rows_of, trimmed}
-use Rattle.pb_read.specs.StandsFor.{GivesVoter, GivesVoters, IsSection}
+use Rattle.pb_read.specs.Rows.{head_of, rows_of, trimmed}
+use Rattle.pb_read.specs.StandsFor.{GivesVoter, GivesVoters}
 use Rattle.pb_export.specs.Export.{is_section_word}
 use Rattle.pb_export.specs.FileRows.{vote_row, vote_text, votes_rows}
 use Rattle.pb_export.proofs.Pieces.{IsPiece, ballot_back, names_back, pieces_back}

@@ -1,5 +1,5 @@
 -- Which elections a file can be written of.
-use Rattle.std.specs.Prelude.{◌≡◌, ◌≤◌, ◌==◌, ◌||◌, ℕ, Bool, true, false, ⊤, All, List, [], ◌∷◌, Option, Some, is_some, slice_index_or}
+use Rattle.std.specs.Prelude.{◌≡◌, ◌≤◌, ◌==◌, ◌||◌, ℕ, Bool, true, false, ⊤, All, List, [], ◌∷◌, Some, is_some, slice_index_or}
 use Rattle.std.specs.List.{list_any}
 use Rattle.std.specs.Str.{trim}
 use Rattle.pb_core.specs.Election.{ElectionView, most_projects, project_ids}

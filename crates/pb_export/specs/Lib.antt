@@ -1,2 +1,3 @@
 pub mod Export
 pub mod FileRows
+pub mod Growing

@@ -1,13 +1,13 @@
 // Elections, written as .pb files.
 
 ghost use Rattle.std.specs.Prelude.{◌≡◌, ◌<◌, ◌++◌, ℕ, All, IfErr, IfOk, OnOk, length, map, string_bytes};
-ghost use Rattle.std.specs.List.{AllByRecursion};
 ghost use Rattle.csv.specs.Records.{AllText};
 ghost use Rattle.pb_core.specs.Election.{project_ids};
 ghost use Rattle.pb_read.specs.StandsFor.{StandsFor};
 ghost use Rattle.pb_rows.specs.Reading.{records_of};
 ghost use Rattle.pb_rows.specs.Writing.{text_of_row, text_of_rows};
 ghost use Rattle.pb_export.specs.Export.{IsExportFault, IsOfFile};
+ghost use Rattle.pb_export.specs.Growing.{Grows};
 ghost use Rattle.pb_export.specs.FileRows.{file_rows, limit_rows, meta_rows, project_row, projects_rows, vote_text, votes_rows};
 
 use crate::export_fault::ExportFault;
@@ -25,11 +25,7 @@ use std::alloc::Global;
 ///
 /// The file is read back as this election. An election that can't be is refused: a section's name as an id first, then a
 /// comma in the id of a project that a ballot approves.
-pub fn write_pb(
-    alloc: Global,
-    election: &Election,
-    told: &Told<'_>,
-) -> Result<Vec<u8>, ExportFault>
+pub fn write_pb(alloc: Global, election: &Election, told: &Told<'_>) -> Result<Vec<u8>, ExportFault>
     requires of_file { IsOfFile election.now }
     requires votes { length told.now.votes.now ≡ length election.now.projects }
     requires selected { length told.now.selected.now ≡ length election.now.projects }
@@ -38,6 +34,8 @@ pub fn write_pb(
         ≡ text_of_rows (file_rows election.now told.now.rule.now told.now.votes.now told.now.selected.now)) }
     ensures fault { IfErr result (IsExportFault election.now) }
 {
+    // What is true of every election holds of what is read back.
+    let _budget = election.budget();
     if has_section_word(election) {
         return Err(ExportFault::SectionWord);
     }
@@ -66,14 +64,14 @@ fn put_file(
 ) -> Result<(), NoMemory>
     requires votes { length told.now.votes.now ≡ length election.now.projects }
     requires selected { length told.now.selected.now ≡ length election.now.projects }
-    ensures text { OnOk result (rows.new.text ≡ rows.old.text
-        ++ text_of_rows (file_rows election.now told.now.rule.now told.now.votes.now told.now.selected.now)) }
-    ensures are_text { OnOk result (AllByRecursion AllText
-        (file_rows election.now told.now.rule.now told.now.votes.now told.now.selected.now)) }
+    ensures { OnOk result
+        (Grows (file_rows election.now told.now.rule.now told.now.votes.now told.now.selected.now)
+        rows.old.text rows.new.text) }
 {
     put_meta(rows, alloc, election, told.rule)?;
     put_projects(rows, alloc, election.projects(), told.votes, told.selected)?;
-    put_votes(rows, alloc, election)
+    put_votes(rows, alloc, election)?;
+    Ok(())
 }
 
 /// Writes META.
@@ -83,8 +81,7 @@ fn put_meta(
     election: &Election,
     rule: &str,
 ) -> Result<(), NoMemory>
-    ensures text { OnOk result (rows.new.text ≡ rows.old.text ++ text_of_rows (meta_rows election.now rule.now)) }
-    ensures are_text { OnOk result (AllByRecursion AllText (meta_rows election.now rule.now)) }
+    ensures { OnOk result (Grows (meta_rows election.now rule.now) rows.old.text rows.new.text) }
 {
     let budget = election.budget().text(alloc)?;
     let mut project_digits = Buffer::new();
@@ -104,7 +101,7 @@ fn put_meta(
 
 /// Writes the row of META on how long a ballot may be, where there is a limit.
 fn put_limit(rows: &mut RowsWriter, max_length: Option<u32>) -> Result<(), NoMemory>
-    ensures { OnOk result (rows.new.text ≡ rows.old.text ++ text_of_rows (limit_rows max_length)) }
+    ensures { OnOk result (Grows (limit_rows max_length) rows.old.text rows.new.text) }
 {
     if let Some(most) = max_length {
         let mut digits = Buffer::new();
@@ -123,9 +120,8 @@ fn put_projects(
 ) -> Result<(), NoMemory>
     requires votes { length votes.now ≡ length projects.now }
     requires selected { length selected.now ≡ length projects.now }
-    ensures text { OnOk result (rows.new.text
-        ≡ rows.old.text ++ text_of_rows (projects_rows votes.now selected.now projects.now)) }
-    ensures are_text { OnOk result (AllByRecursion AllText (projects_rows votes.now selected.now projects.now)) }
+    ensures { OnOk result
+        (Grows (projects_rows votes.now selected.now projects.now) rows.old.text rows.new.text) }
 {
     rows.put_row(&["PROJECTS"])?;
     rows.put_row(&["project_id", "cost", "votes", "name", "selected"])?;
@@ -162,10 +158,8 @@ fn put_project(
 
 /// Writes VOTES.
 fn put_votes(rows: &mut RowsWriter, alloc: Global, election: &Election) -> Result<(), NoMemory>
-    ensures text { OnOk result (rows.new.text
-        ≡ rows.old.text ++ text_of_rows (votes_rows (project_ids election.now) election.now.voters)) }
-    ensures are_text { OnOk result (AllByRecursion AllText
-        (votes_rows (project_ids election.now) election.now.voters)) }
+    ensures { OnOk result
+        (Grows (votes_rows (project_ids election.now) election.now.voters) rows.old.text rows.new.text) }
 {
     rows.put_row(&["VOTES"])?;
     rows.put_row(&["voter_id", "vote"])?;
