@@ -22,7 +22,7 @@ is_some_text : (text : List ℕ) → 0 < length text → is_empty text ≡ false
 is_some_text [] some = absurd (omega (arith, some))
 is_some_text (c ∷ text) some = refl
 
-small_enough : (most : ℕ) → most ≤ most_projects → nat_le most most_projects ≡ true
+pub small_enough : (most : ℕ) → most ≤ most_projects → nat_le most most_projects ≡ true
 small_enough most small = search rules
 
 -- a limit that was written, read

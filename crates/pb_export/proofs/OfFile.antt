@@ -1,11 +1,11 @@
 -- Every election that a file stands for can be written, but for the ids that are refused.
-use Rattle.std.proofs.Common.{◌≡◌, ◌≤◌, ℕ, Bool, true, false, cond, not, List, [], ◌∷◌, ◌++◌, Option, Some, None, Result, Ok, Err, refl, ap, sym, ◌∙◌, subst, arith}
+use Rattle.std.proofs.Common.{◌≡◌, ◌≤◌, ◌&&◌, All, ℕ, Bool, true, false, cond, not, List, [], ◌∷◌, ◌++◌, Option, Some, None, Result, Ok, Err, refl, ap, sym, ◌∙◌, subst, arith}
 use Rattle.std.specs.Prelude.{codes, nat_le}
-use Rattle.std.specs.List.{AllByRecursion, AllZip}
+use Rattle.std.specs.List.{AllByRecursion, AllZip, list_all}
 use Rattle.std.specs.Option.{option_map_or}
 use Rattle.std.specs.Str.{trim, trim_start, trim_end, chars}
 use Rattle.std.specs.Str.Parse.{digits_value}
-use Rattle.std.proofs.lemmas.Bool.{leb-true}
+use Rattle.std.proofs.lemmas.Bool.{and_from, and_parts, leb-true}
 use Rattle.std.proofs.lemmas.List.Elements.{All-from_recursion}
 use Rattle.csv.specs.Records.{AllText}
 use Rattle.pb_core.specs.Election.{ElectionView, ProjectView, most_projects}
@@ -19,7 +19,9 @@ use Rattle.pb_read.specs.Rows.{field, is_blank, is_empty, rows_of, trimmed}
 use Rattle.pb_read.specs.StandsFor.{GivesProject, StandsFor}
 use Rattle.pb_read.specs.declared.fault.ReadKind.{ReadKind}
 use Rattle.pb_read.specs.declared.fault.ReadKind.TheVariants.{BadLength}
-use Rattle.pb_export.specs.Export.{IsOfFile}
+use Rattle.std.proofs.lemmas.Slice.Eq.{bytes_eq-Decides}
+use Rattle.pb_export.proofs.Metas.{small_enough}
+use Rattle.pb_export.specs.Export.{is_of_file, is_small, is_tidy}
 
 rows_tidy : (records : List Fields) → AllByRecursion AllText records → AllByRecursion IsTidy (rows_of records)
 rows_tidy [] texts = tt
@@ -66,8 +68,45 @@ limit_of_value : (value : Option (List ℕ)) (most : ℕ) → option_map_or max_
 limit_of_value None most is = cc is
 limit_of_value (Some text) most is = limit_of_text text most is
 
+-- the same as facts
+pub record IsOfFile (e : ElectionView) : Type 0 where
+  pub ids : All (λ p. trim p.id ≡ p.id) e.projects
+  pub names : All (λ p. trim p.name ≡ p.name) e.projects
+  pub limit : (most : ℕ) → e.max_length ≡ Some most → most ≤ most_projects
+
+tested : (ps : List ProjectView) → AllByRecursion (λ (p : ProjectView). trim p.id ≡ p.id) ps → AllByRecursion (λ (p : ProjectView). trim p.name ≡ p.name) ps → list_all (λ (p : ProjectView). is_tidy p.id && is_tidy p.name) ps ≡ true
+tested [] ids names = refl
+tested (p ∷ ps) ids names =
+    and_from _ _ (and_from _ _ ((bytes_eq-Decides (trim p.id) p.id).1 ids.0) ((bytes_eq-Decides (trim p.name) p.name).1 names.0)) (tested ps ids.1 names.1)
+
+small_tested : (limit : Option ℕ) → ((most : ℕ) → limit ≡ Some most → most ≤ most_projects) → is_small limit ≡ true
+small_tested None limited = refl
+small_tested (Some most) limited = small_enough most (limited most refl)
+
+tidy_parts : (ps : List ProjectView) → list_all (λ (p : ProjectView). is_tidy p.id && is_tidy p.name) ps ≡ true → AllByRecursion (λ (p : ProjectView). trim p.id ≡ p.id) ps × AllByRecursion (λ (p : ProjectView). trim p.name ≡ p.name) ps
+tidy_parts [] are = (tt, tt)
+tidy_parts (p ∷ ps) are =
+    let first = and_parts (is_tidy p.id && is_tidy p.name) (list_all (λ (q : ProjectView). is_tidy q.id && is_tidy q.name) ps) are in
+    let both = and_parts (is_tidy p.id) (is_tidy p.name) first.0 in
+    let rest = tidy_parts ps first.1 in
+    (((bytes_eq-Decides (trim p.id) p.id).0 both.0, rest.0), ((bytes_eq-Decides (trim p.name) p.name).0 both.1, rest.1))
+
+small_limit : (limit : Option ℕ) → is_small limit ≡ true → (most : ℕ) → limit ≡ Some most → most ≤ most_projects
+small_limit None small most is = cc is
+small_limit (Some n) small most is = let same : n ≡ most = cc in omega (arith, leb-true n most_projects small, same)
+
+pub tested_file : (e : ElectionView) → is_of_file e ≡ true → IsOfFile e
+tested_file e is =
+    let parts = and_parts (list_all (λ (p : ProjectView). is_tidy p.id && is_tidy p.name) e.projects) (is_small e.max_length) is in
+    let tidy = tidy_parts e.projects parts.0 in
+    record {
+      ids = All-from_recursion (λ (p : ProjectView). trim p.id ≡ p.id) e.projects tidy.0;
+      names = All-from_recursion (λ (p : ProjectView). trim p.name ≡ p.name) e.projects tidy.1;
+      limit = small_limit e.max_length parts.1;
+    }
+
 -- an election that records stand for is that of a file
-pub of_file : (records : List Fields) (e : ElectionView) → StandsFor records e → IsOfFile e
+pub of_file : (records : List Fields) (e : ElectionView) → StandsFor records e → is_of_file e ≡ true
 of_file records e stands =
     let parts = stands.describes.rows.parts in
     let tidy : AllByRecursion IsTidy (parts.0 ++ parts.1) = subst (AllByRecursion IsTidy) parts.2 (rows_tidy records stands.describes.text) in
@@ -76,8 +115,5 @@ of_file records e stands =
     let front_tidy : AllByRecursion IsTidy (front.0 ++ front.1) = subst (AllByRecursion IsTidy) front.2 (AllByRecursion-left IsTidy parts.0 parts.1 tidy) in
     let section_tidy : AllByRecursion IsTidy (section.head ∷ section.header ∷ section.body) = subst (AllByRecursion IsTidy) section.cut (AllByRecursion-right IsTidy front.0 front.1 front_tidy) in
     let named = projects_tidy stands.describes.rows.project_columns section.body e.projects section_tidy.1.1 section.says.1 in
-    record {
-      ids = All-from_recursion (λ (p : ProjectView). trim p.id ≡ p.id) e.projects named.0;
-      names = All-from_recursion (λ (p : ProjectView). trim p.name ≡ p.name) e.projects named.1;
-      limit = λ most is. limit_of_value (value_of (codes "max_length") front.3.body) most (sym (ap (λ meta. meta.max_length) front.3.says) ∙ ap Ok is);
-    }
+    let limit : (most : ℕ) → e.max_length ≡ Some most → most ≤ most_projects = λ most is. limit_of_value (value_of (codes "max_length") front.3.body) most (sym (ap (λ meta. meta.max_length) front.3.says) ∙ ap Ok is) in
+    and_from _ _ (tested e.projects named.0 named.1) (small_tested e.max_length limit)

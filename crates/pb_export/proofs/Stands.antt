@@ -15,8 +15,9 @@ use Rattle.pb_rows.specs.Writing.{text_of_rows}
 use Rattle.pb_read.proofs.ListFacts.{AllByRecursion-append, AllByRecursion-left, AllByRecursion-right}
 use Rattle.pb_read.specs.Rows.{is_blank, rows_of, trimmed}
 use Rattle.pb_read.specs.StandsFor.{GivesAll, StandsFor}
-use Rattle.pb_export.specs.Export.{IsOfFile, has_comma, has_comma_in_vote, has_section_word, is_section_word}
+use Rattle.pb_export.specs.Export.{has_comma, has_comma_in_vote, has_section_word, is_section_word}
 use Rattle.pb_export.specs.FileRows.{file_rows, meta_rows, projects_from, projects_rows, vote_row, votes_rows}
+use Rattle.pb_export.proofs.OfFile.{IsOfFile}
 use Rattle.pb_export.proofs.Metas.{gives_terms}
 use Rattle.pb_export.proofs.Pieces.{IsPiece}
 use Rattle.pb_export.proofs.Projects as projects

@@ -1,18 +1,24 @@
 -- Which elections a file can be written of.
-use Rattle.std.specs.Prelude.{◌≡◌, ◌≤◌, ◌==◌, ◌||◌, ℕ, Bool, true, false, ⊤, All, List, [], ◌∷◌, Some, is_some, slice_index_or}
-use Rattle.std.specs.List.{list_any}
-use Rattle.std.specs.Str.{trim}
+use Rattle.std.specs.Prelude.{◌≡◌, ◌==◌, ◌&&◌, ◌||◌, ℕ, Bool, true, false, ⊤, List, [], ◌∷◌, Option, None, Some, is_some, nat_le, slice_index_or}
+use Rattle.std.specs.List.{list_all, list_any}
+use Rattle.std.specs.Str.{bytes_eq, trim}
 use Rattle.pb_core.specs.Election.{ElectionView, most_projects, project_ids}
 use Rattle.pb_read.specs.Rows.{head_of}
 use Rattle.pb_export.specs.declared.export_fault.ExportFault.{ExportFault}
-use Rattle.pb_export.specs.declared.export_fault.ExportFault.TheVariants.{SectionWord, CommaInId, NoMemory}
+use Rattle.pb_export.specs.declared.export_fault.ExportFault.TheVariants.{SectionWord, CommaInId, OfNoFile, NoMemory}
 
--- as every election that a file stands for: projects' ids and names have no white space at their ends, and a limit on a
--- ballot's length is at most 10,000
-pub record IsOfFile (e : ElectionView) : Type 0 where
-  pub ids : All (λ p. trim p.id ≡ p.id) e.projects
-  pub names : All (λ p. trim p.name ≡ p.name) e.projects
-  pub limit : (most : ℕ) → e.max_length ≡ Some most → most ≤ most_projects
+-- a text has no white space at its ends
+abbrev pub is_tidy : List ℕ → Bool
+is_tidy text = bytes_eq (trim text) text
+
+-- a limit on a ballot's length that a file can name
+abbrev pub is_small : Option ℕ → Bool
+is_small None = true
+is_small (Some most) = nat_le most most_projects
+
+-- projects' ids and names are tidy, and the limit is small, as in every election that a file stands for
+abbrev pub is_of_file : ElectionView → Bool
+is_of_file e = list_all (λ p. is_tidy p.id && is_tidy p.name) e.projects && is_small e.max_length
 
 -- an id would be read as a section's head
 abbrev pub is_section_word : List ℕ → Bool
@@ -31,8 +37,15 @@ abbrev pub has_comma_in_vote : ElectionView → Bool
 has_comma_in_vote e =
     list_any (λ v. list_any (λ place. has_comma (slice_index_or (project_ids e) place [])) v.ballot) e.voters
 
+-- a file can be written of the election
+pub record CanBeWritten (e : ElectionView) : Type 0 where
+  pub words : has_section_word e ≡ false
+  pub commas : has_comma_in_vote e ≡ false
+  pub of_file : is_of_file e ≡ true
+
 -- what refuses an election
 abbrev pub IsExportFault : ElectionView → ExportFault → Type 0
 IsExportFault e SectionWord = has_section_word e ≡ true
 IsExportFault e CommaInId = (has_section_word e ≡ false) × (has_comma_in_vote e ≡ true)
+IsExportFault e OfNoFile = is_of_file e ≡ false
 IsExportFault e NoMemory = ⊤

@@ -1,7 +1,5 @@
 // Why an election is not exported.
 
-use pb_core::no_memory::NoMemory;
-use std::alloc::AllocError;
 use thiserror::Error;
 
 /// Why an election is not exported: no `.pb` file would be read back as it.
@@ -13,39 +11,40 @@ pub enum ExportFault {
     /// A ballot approves a project whose id has a comma, which no vote can name.
     #[error("a ballot approves a project whose id has a comma")]
     CommaInId,
+    /// A project's id or name has white space at its ends, or the limit on a ballot's length is above 10,000. No file
+    /// stands for such an election.
+    #[error("no file stands for such an election")]
+    OfNoFile,
     /// Out of memory.
     #[error("out of memory")]
     NoMemory,
 }
 
 impl ExportFault {
+    ghost use Rattle.std.specs.Prelude.{◌≡◌};
+    ghost use Rattle.pb_export.specs.ExportFault.{numbered_name};
+
     /// The fault's number.
-    pub fn number(&self) -> u32 {
+    pub fn number(&self) -> u32
+        ensures { result ≡ (numbered_name self.now).0 }
+    {
         match self {
             ExportFault::SectionWord => 1,
             ExportFault::CommaInId => 2,
-            ExportFault::NoMemory => 3,
+            ExportFault::OfNoFile => 3,
+            ExportFault::NoMemory => 4,
         }
     }
 
     /// The fault's name.
-    pub fn name(&self) -> &'static str {
+    pub fn name(&self) -> &'static str
+        ensures { result.now ≡ (numbered_name self.now).1 }
+    {
         match self {
             ExportFault::SectionWord => "SectionWord",
             ExportFault::CommaInId => "CommaInId",
+            ExportFault::OfNoFile => "OfNoFile",
             ExportFault::NoMemory => "NoMemory",
         }
-    }
-}
-
-impl From<NoMemory> for ExportFault {
-    fn from(_refused: NoMemory) -> ExportFault {
-        ExportFault::NoMemory
-    }
-}
-
-impl From<AllocError> for ExportFault {
-    fn from(_refused: AllocError) -> ExportFault {
-        ExportFault::NoMemory
     }
 }

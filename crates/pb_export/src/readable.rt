@@ -1,10 +1,10 @@
 // Whether an election can be read back from a file.
 
-ghost use Rattle.std.specs.Prelude.{◌≡◌, ◌<◌, [], All, length, map, slice_index_or};
-ghost use Rattle.std.specs.List.{list_any};
-ghost use Rattle.pb_export.specs.Export.{has_comma, has_comma_in_vote, has_section_word, is_section_word};
+ghost use Rattle.std.specs.Prelude.{◌≡◌, ◌<◌, ◌&&◌, [], All, length, map, slice_index_or};
+ghost use Rattle.std.specs.List.{list_all, list_any};
+ghost use Rattle.pb_export.specs.Export.{has_comma, has_comma_in_vote, has_section_word, is_of_file, is_section_word, is_small, is_tidy};
 
-use pb_core::election::Election;
+use pb_core::election::{Election, MOST_PROJECTS};
 use pb_core::project::Project;
 use pb_core::voter::Voter;
 
@@ -47,6 +47,42 @@ fn has_voter_word(voters: &[Voter]) -> bool
         }
     }
     false
+}
+
+/// Whether an election is as one that a file stands for.
+pub(crate) fn is_of_file(election: &Election) -> bool
+    ensures { result ≡ is_of_file election.now }
+{
+    are_tidy(election.projects()) && is_small(election.max_length())
+}
+
+/// Whether no id or name of these projects has white space at its ends.
+fn are_tidy(projects: &[Project]) -> bool
+    ensures { result ≡ list_all (λ p. is_tidy p.id && is_tidy p.name) projects.now }
+{
+    for project in projects {
+        if !(is_tidy(project.id()) && is_tidy(project.name())) {
+            return false;
+        }
+    }
+    true
+}
+
+/// Whether a text has no white space at its ends.
+fn is_tidy(text: &str) -> bool
+    ensures { result ≡ is_tidy text.now }
+{
+    text.trim() == text
+}
+
+/// Whether a file can name this limit on a ballot's length.
+fn is_small(max_length: Option<u32>) -> bool
+    ensures { result ≡ is_small max_length }
+{
+    match max_length {
+        Some(most) => most as usize <= MOST_PROJECTS,
+        None => true,
+    }
 }
 
 /// Whether a ballot approves a project whose id has a comma.

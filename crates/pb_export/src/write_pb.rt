@@ -6,12 +6,12 @@ ghost use Rattle.pb_core.specs.Election.{project_ids};
 ghost use Rattle.pb_read.specs.StandsFor.{StandsFor};
 ghost use Rattle.pb_rows.specs.Reading.{records_of};
 ghost use Rattle.pb_rows.specs.Writing.{text_of_row, text_of_rows};
-ghost use Rattle.pb_export.specs.Export.{IsExportFault, IsOfFile};
+ghost use Rattle.pb_export.specs.Export.{CanBeWritten, IsExportFault};
 ghost use Rattle.pb_export.specs.Growing.{Grows};
 ghost use Rattle.pb_export.specs.FileRows.{file_rows, limit_rows, meta_rows, project_row, projects_rows, vote_text, votes_rows};
 
 use crate::export_fault::ExportFault;
-use crate::readable::{has_comma_in_vote, has_section_word};
+use crate::readable::{has_comma_in_vote, has_section_word, is_of_file};
 use crate::told::Told;
 use itoa::Buffer;
 use pb_core::election::Election;
@@ -24,14 +24,14 @@ use std::alloc::Global;
 /// order. What `told` has stands in META's row `rule` and in the columns `votes` and `selected`, which readers pass over.
 ///
 /// The file is read back as this election. An election that can't be is refused: a section's name as an id first, then a
-/// comma in the id of a project that a ballot approves.
+/// comma in the id of a project that a ballot approves, then what no file's election has.
 pub fn write_pb(alloc: Global, election: &Election, told: &Told<'_>) -> Result<Vec<u8>, ExportFault>
-    requires of_file { IsOfFile election.now }
     requires votes { length told.now.votes.now ≡ length election.now.projects }
     requires selected { length told.now.selected.now ≡ length election.now.projects }
     ensures reads_back { IfOk result (λ text. StandsFor (records_of text.items) election.now) }
     ensures text { IfOk result (λ text. text.items
         ≡ text_of_rows (file_rows election.now told.now.rule.now told.now.votes.now told.now.selected.now)) }
+    ensures ok { OnOk result (CanBeWritten election.now) }
     ensures fault { IfErr result (IsExportFault election.now) }
 {
     // What is true of every election holds of what is read back.
@@ -41,6 +41,9 @@ pub fn write_pb(alloc: Global, election: &Election, told: &Told<'_>) -> Result<V
     }
     if has_comma_in_vote(election) {
         return Err(ExportFault::CommaInId);
+    }
+    if !is_of_file(election) {
+        return Err(ExportFault::OfNoFile);
     }
     let mut rows = RowsWriter::start(alloc);
     match put_file(&mut rows, alloc, election, told) {
