@@ -2,6 +2,7 @@
 
 use pb_command_line::{Asked, Source, Task};
 use pb_commands::AppFault;
+use pb_export::ExportFault;
 use pb_read::ReadFault;
 use pb_rounds::options::CountOptions;
 use pb_words::count_words::count_words;
@@ -21,6 +22,14 @@ const NO_MEMORY: &str = "Memory was refused.\nRun again on a machine with more m
 const OPEN_DESK: &str =
     "The desk is still open: no row of the journal shuts it.\nGet the journal that the desk left when it was shut.\n";
 
+/// What is said of an election that has a section's name as an id.
+const SECTION_WORD: &str =
+    "An id is META, PROJECTS or VOTES: in a file its row would begin that section.\nGive that project or voter another id.\n";
+
+/// What is said of an election with a vote that no file can name.
+const COMMA_IN_ID: &str =
+    "A ballot approves a project whose id has a comma, and a file's vote has commas between ids.\nGive that project another id.\n";
+
 /// How the program is used.
 const USAGE: &str = "pb_app counts a participatory budgeting election: pb_app count FILE
 Without a command it counts standard input, which is a terminal here.
@@ -37,6 +46,8 @@ pub(crate) fn say_refusal<R: Files + Eprint + AllocGlobal>(
 ) {
     match fault {
         AppFault::OpenDesk => say(rt, OPEN_DESK),
+        AppFault::Export(ExportFault::SectionWord) => say(rt, SECTION_WORD),
+        AppFault::Export(_) => say(rt, COMMA_IN_ID),
         AppFault::Memory => say(rt, NO_MEMORY),
         fault => say_words(rt, words_of(rt, asked, fault, failure, audited)),
     }
@@ -63,7 +74,7 @@ fn words_of<R: Files + AllocGlobal>(
         AppFault::Open(1) => open_words(rt, alloc, first.unwrap_or("-")),
         AppFault::Open(_) => open_words(rt, alloc, second.unwrap_or("-")),
         AppFault::Write => write_words(alloc, asked.output, failure),
-        AppFault::OpenDesk | AppFault::Memory => Err(AllocError),
+        AppFault::OpenDesk | AppFault::Export(_) | AppFault::Memory => Err(AllocError),
     }
 }
 
@@ -71,7 +82,7 @@ fn words_of<R: Files + AllocGlobal>(
 fn paths_of<'a>(task: &Task<'a>) -> (Option<&'a str>, Option<&'a str>) {
     match task {
         Task::Count(file, _) | Task::Check(file) => (file.path(), None),
-        Task::Projects(ballots, _) | Task::Voters(ballots, _) => (
+        Task::Projects(ballots, _) | Task::Voters(ballots, _) | Task::Export(ballots, _) => (
             ballots.file.path(),
             ballots.journal_path(),
         ),
@@ -92,6 +103,7 @@ fn options_of(task: &Task<'_>) -> CountOptions {
         Task::Count(_, options)
         | Task::Projects(_, options)
         | Task::Voters(_, options)
+        | Task::Export(_, options)
         | Task::Audit(_, _, options, _) => *options,
         Task::Desk(..) | Task::Check(_) => CountOptions::standard(),
     }
@@ -117,7 +129,11 @@ pub(crate) fn say_tally<R: Eprint + AllocGlobal>(
     audited: &Tally,
 ) {
     match task {
-        Task::Count(..) | Task::Projects(..) | Task::Voters(..) | Task::Check(_) => {}
+        Task::Count(..)
+        | Task::Projects(..)
+        | Task::Voters(..)
+        | Task::Export(..)
+        | Task::Check(_) => {}
         Task::Desk(..) => say_words(rt, written.words(rt.alloc(), "entries written")),
         Task::Audit(..) => say_words(rt, audited.words(rt.alloc(), "entries audited")),
     }

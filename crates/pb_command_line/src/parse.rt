@@ -49,7 +49,9 @@ fn read_twice(task: &Task<'_>) -> Option<&'static str> {
     match task {
         Task::Desk(Source::Input, Source::Input, ..) => Some("SCRIPT"),
         Task::Audit(Source::Input, Source::Input, ..) => Some("JOURNAL"),
-        Task::Projects(ballots, _) | Task::Voters(ballots, _) => ballots_read_twice(ballots),
+        Task::Projects(ballots, _) | Task::Voters(ballots, _) | Task::Export(ballots, _) => {
+            ballots_read_twice(ballots)
+        }
         _ => None,
     }
 }

@@ -49,6 +49,8 @@ pub enum Task<'a> {
     Projects(Ballots<'a>, CountOptions),
     /// The voters of a count of these ballots: who paid.
     Voters(Ballots<'a>, CountOptions),
+    /// The .pb file of these ballots, with what their count came to.
+    Export(Ballots<'a>, CountOptions),
     /// A check of a .pb file.
     Check(Source<'a>),
     /// A run of the desk of a .pb file: this many clerks serve a script, and then the desk is shut, or not.
