@@ -11,6 +11,7 @@ use pb_commands::run_audit::run_audit_watched;
 use pb_commands::run_check::run_check;
 use pb_commands::run_count::run_count_watched;
 use pb_commands::run_desk::run_desk;
+use pb_commands::run_export::{run_closed_export, run_export};
 use pb_commands::run_table::{run_closed_table, run_table};
 use pb_commands::{AppFault, Table};
 use pb_price::gate::NoGate;
@@ -110,6 +111,7 @@ where
             progress,
         )?,
         Task::Page(ballots, options, title) => page(rt, ballots, options, title, writer, progress)?,
+        Task::Export(ballots, options) => export(rt, ballots, options, writer, progress)?,
         Task::Check(source) => check(rt, source, writer, faults, progress)?,
         Task::Desk(source, script, clerks, shuts) => {
             serve(rt, source, script, *clerks, *shuts, writer, progress)?
@@ -196,6 +198,57 @@ where
             let journal = Shown::new(journal, progress);
             run_closed_table(rt, alloc, file, journal, progress, writer, options, table)
         }
+        Err(fault) => {
+            drop(file);
+            Err(fault)
+        }
+    }
+}
+
+/// Counts these ballots, and writes their .pb file with what the count came to.
+fn export<R, W: Write>(
+    rt: &R,
+    ballots: &Ballots<'_>,
+    options: &CountOptions,
+    writer: &mut W,
+    progress: &Progress<'_, R>,
+) -> Result<(), AppFault>
+where
+    R: Files + Input + Print + Eprint + Clock + AllocGlobal + Threads + Sync,
+{
+    match ballots.file {
+        Source::Input => {
+            let file = Shown::new(rt.reader(), progress);
+            export_from(rt, file, ballots.journal, options, writer)
+        }
+        Source::File(path) => {
+            let file = Shown::new(open(rt, path, 1)?, progress);
+            export_from(rt, file, ballots.journal, options, writer)
+        }
+    }
+}
+
+/// Writes the .pb file of the one that a reader gives, or of the ballots that a journal leaves.
+fn export_from<R, P: Read + Drop, W: Write>(
+    rt: &R,
+    file: P,
+    journal: Option<Source<'_>>,
+    options: &CountOptions,
+    writer: &mut W,
+) -> Result<(), AppFault>
+where
+    R: Files + Input + Print + Eprint + Clock + AllocGlobal + Threads + Sync,
+{
+    let alloc = rt.alloc();
+    let path = match journal {
+        None => return run_export(rt, alloc, file, writer, options),
+        Some(Source::Input) => {
+            return run_closed_export(rt, alloc, file, rt.reader(), writer, options);
+        }
+        Some(Source::File(path)) => path,
+    };
+    match open(rt, path, 2) {
+        Ok(journal) => run_closed_export(rt, alloc, file, journal, writer, options),
         Err(fault) => {
             drop(file);
             Err(fault)

@@ -4,6 +4,7 @@ use crate::perform::Refusal;
 use pb_command_line::{Asked, Source, Task};
 use pb_commands::AppFault;
 use pb_desk::desk::MOST_CLERKS;
+use pb_export::ExportFault;
 use pb_read::ReadFault;
 use pb_rounds::options::CountOptions;
 use pb_words::count_words::count_words;
@@ -26,6 +27,14 @@ const NO_MEMORY: &str = "Memory was refused.\nRun again on a machine with more m
 const OPEN_DESK: &str =
     "The desk is still open: no row of the journal shuts it.\nGet the journal that the desk left when it was shut.\n";
 
+/// What is said of an election that has a section's name as an id.
+const SECTION_WORD: &str =
+    "An id is META, PROJECTS or VOTES: in a file its row would begin that section.\nGive that project or voter another id.\n";
+
+/// What is said of an election with a vote that no file can name.
+const COMMA_IN_ID: &str =
+    "A ballot approves a project whose id has a comma, and a file's vote has commas between ids.\nGive that project another id.\n";
+
 /// How the program is used.
 const USAGE: &str = "pb_app counts a participatory budgeting election: pb_app count FILE
 Without a command it counts standard input, which is a terminal here.
@@ -42,6 +51,8 @@ pub(crate) fn say_refusal<R: Files + Eprint + AllocGlobal>(
 ) {
     match refusal {
         Refusal::Fault(AppFault::OpenDesk) => say(rt, OPEN_DESK),
+        Refusal::Fault(AppFault::Export(ExportFault::SectionWord)) => say(rt, SECTION_WORD),
+        Refusal::Fault(AppFault::Export(_)) => say(rt, COMMA_IN_ID),
         Refusal::Fault(AppFault::Memory) => say(rt, NO_MEMORY),
         Refusal::Fault(fault) => say_words(rt, words_of(rt, asked, fault, failure, audited)),
         Refusal::Unanswered => say_words(rt, unanswered_words(rt.alloc(), failure)),
@@ -93,7 +104,7 @@ fn words_of<R: Files + AllocGlobal>(
         AppFault::Open(1) => open_words(rt, alloc, first.unwrap_or("-")),
         AppFault::Open(_) => open_words(rt, alloc, second.unwrap_or("-")),
         AppFault::Write => write_words(alloc, asked.output, failure),
-        AppFault::OpenDesk | AppFault::Memory => Err(AllocError),
+        AppFault::OpenDesk | AppFault::Export(_) | AppFault::Memory => Err(AllocError),
     }
 }
 
@@ -101,7 +112,10 @@ fn words_of<R: Files + AllocGlobal>(
 fn paths_of<'a>(task: &Task<'a>) -> (Option<&'a str>, Option<&'a str>) {
     match task {
         Task::Count(file, _) | Task::Check(file) => (file.path(), None),
-        Task::Projects(ballots, _) | Task::Voters(ballots, _) | Task::Page(ballots, ..) => (
+        Task::Projects(ballots, _)
+        | Task::Voters(ballots, _)
+        | Task::Export(ballots, _)
+        | Task::Page(ballots, ..) => (
             ballots.file.path(),
             ballots.journal_path(),
         ),
@@ -132,6 +146,7 @@ fn options_of(task: &Task<'_>) -> CountOptions {
         | Task::Projects(_, options)
         | Task::Voters(_, options)
         | Task::Page(_, options, _)
+        | Task::Export(_, options)
         | Task::Audit(_, _, options, _) => *options,
         Task::Desk(..) | Task::Serve(..) | Task::Check(_) => CountOptions::standard(),
     }
@@ -157,8 +172,12 @@ pub(crate) fn say_tally<R: Eprint + AllocGlobal>(
     audited: &Tally,
 ) {
     match task {
-        Task::Count(..) | Task::Projects(..) | Task::Voters(..) | Task::Page(..) | Task::Check(_) =>
-            {}
+        Task::Count(..)
+        | Task::Projects(..)
+        | Task::Voters(..)
+        | Task::Page(..)
+        | Task::Export(..)
+        | Task::Check(_) => {}
         Task::Desk(..) | Task::Serve(..) => {
             say_words(rt, written.words(rt.alloc(), "entries written"))
         }

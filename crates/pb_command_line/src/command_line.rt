@@ -254,6 +254,13 @@ const COMMANDS: &[CommandForm] = &[
         ],
     },
     CommandForm {
+        name: "export",
+        about: "Counts a .pb file, and prints it as a .pb file with the result, which is read back the same",
+        arguments: &[
+            ELECTION, LEFT_BY, WORKERS, STEP, RAISES, PLAIN, MEASURE, OUTPUT, QUIET, PROGRESS,
+        ],
+    },
+    CommandForm {
         name: "check",
         about: "Lists all that is wrong with a .pb file, and what is probably not meant",
         arguments: &[ELECTION, OUTPUT, QUIET, PROGRESS],
@@ -409,6 +416,7 @@ fn task_of<'a>(name: &str, given: &ArgMatches<'a>) -> Task<'a> {
             options_of(given),
             given.get_str("title").unwrap_or(NO_TITLE),
         ),
+        "export" => Task::Export(ballots_of(given, file), options_of(given)),
         "check" => Task::Check(file),
         "desk" => Task::Desk(
             file,

@@ -52,7 +52,10 @@ fn read_twice(task: &Task<'_>) -> Option<&'static str> {
     match task {
         Task::Desk(Source::Input, Source::Input, ..) => Some("SCRIPT"),
         Task::Audit(Source::Input, Source::Input, ..) => Some("JOURNAL"),
-        Task::Projects(ballots, _) | Task::Voters(ballots, _) | Task::Page(ballots, ..) => {
+        Task::Projects(ballots, _)
+        | Task::Voters(ballots, _)
+        | Task::Export(ballots, _)
+        | Task::Page(ballots, ..) => {
             ballots_read_twice(ballots)
         }
         _ => None,

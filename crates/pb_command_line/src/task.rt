@@ -51,6 +51,8 @@ pub enum Task<'a> {
     Voters(Ballots<'a>, CountOptions),
     /// The page of a count of these ballots, with this title.
     Page(Ballots<'a>, CountOptions, &'a str),
+    /// The .pb file of these ballots, with what their count came to.
+    Export(Ballots<'a>, CountOptions),
     /// A check of a .pb file.
     Check(Source<'a>),
     /// A run of the desk of a .pb file: this many clerks serve a script, and then the desk is shut, or not.

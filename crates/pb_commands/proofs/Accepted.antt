@@ -9,6 +9,8 @@ use Rattle.pb_read.specs.FirstFault.{IsFaultAt, IsFromOutside as IsReadFromOutsi
 use Rattle.pb_read.specs.StandsFor.{StandsFor}
 use Rattle.pb_desk.specs.declared.audit_fault.AuditFault.{AuditFault}
 use Rattle.pb_desk.specs.declared.audit_fault.AuditFault.TheVariants as audit
+use Rattle.pb_export.specs.declared.export_fault.ExportFault.{ExportFault}
+use Rattle.pb_export.specs.declared.export_fault.ExportFault.TheVariants as export
 use Rattle.pb_read.specs.declared.fault.ReadFault.{ReadFault}
 use Rattle.pb_read.specs.declared.fault.ReadKind.{ReadKind}
 use Rattle.pb_read.specs.declared.fault.ReadKind.TheVariants.{ReadFailed, NoMemory}
@@ -25,7 +27,7 @@ use Rattle.pb_commands.specs.Report.{report_of}
 use Rattle.pb_script.specs.declared.script_fault.ScriptFault.{ScriptFault}
 use Rattle.pb_script.specs.declared.script_fault.ScriptFault.TheVariants as script
 use Rattle.pb_commands.specs.declared.fault.AppFault.{AppFault}
-use Rattle.pb_commands.specs.declared.fault.AppFault.TheVariants.{Read, Script, ClerkCount, Audit, OpenDesk, Count, Open, Write, Memory}
+use Rattle.pb_commands.specs.declared.fault.AppFault.TheVariants.{Read, Script, ClerkCount, Audit, OpenDesk, Count, Export, Open, Write, Memory}
 
 pub read_from_outside : (kind : ReadKind) (at : ℕ) → IsReadFromOutside kind → IsFromOutside (merged (Read (record { kind = kind; at = at })))
 read_from_outside ReadFailed at outside = refl
@@ -54,11 +56,16 @@ count_again : (fault : CountFault) → merged (merged (Count fault)) ≡ merged 
 count_again count.NoMemory = refl
 count_again fault = refl
 
+export_again : (fault : ExportFault) → merged (merged (Export fault)) ≡ merged (Export fault)
+export_again export.NoMemory = refl
+export_again fault = refl
+
 pub merged_again : (fault : AppFault) → merged (merged fault) ≡ merged fault
 merged_again (Read fault) = read_again fault.kind fault.at
 merged_again (Script fault) = script_again fault
 merged_again (Audit fault) = audit_again fault
 merged_again (Count fault) = count_again fault
+merged_again (Export fault) = export_again fault
 merged_again ClerkCount = refl
 merged_again OpenDesk = refl
 merged_again (Open number) = refl

@@ -22,7 +22,7 @@ use Rattle.pb_commands.specs.Closed.{ClosedRefuses, Leaves}
 use Rattle.pb_commands.specs.Ends.{FailsBy, IfBothKnown, IsFromOutside, JudgesFile}
 use Rattle.pb_commands.specs.Fault.{merged}
 use Rattle.pb_commands.specs.declared.fault.AppFault.{AppFault}
-use Rattle.pb_commands.specs.declared.fault.AppFault.TheVariants.{Read, Script, ClerkCount, Audit, OpenDesk, Count, Open, Write, Memory}
+use Rattle.pb_commands.specs.declared.fault.AppFault.TheVariants.{Read, Script, ClerkCount, Audit, OpenDesk, Count, Export, Open, Write, Memory}
 
 -- the fault is what refuses these bytes before anything is written
 abbrev pub Fails : List ℕ → List ℕ → AppFault → Type 0
@@ -43,6 +43,7 @@ fails_more Refuses IsText bytes ClerkCount fails = fails
 fails_more Refuses IsText bytes (Audit fault) fails = fails
 fails_more Refuses IsText bytes OpenDesk fails = fails
 fails_more Refuses IsText bytes (Count fault) fails = fails
+fails_more Refuses IsText bytes (Export fault) fails = fails
 fails_more Refuses IsText bytes (Open number) fails = fails
 
 -- the bytes leave one election at most

@@ -18,3 +18,4 @@ pub mod TableRows
 pub mod TableHeads
 pub mod PaymentsText
 pub mod CheckWritten
+mod Exports

@@ -2,6 +2,8 @@
 use Rattle.std.specs.Prelude.{ℕ, List, [], ◌∷◌, ◌++◌, ◌==◌, codes, decimal, flat_map, if◌then◌else◌, unwrap_or}
 use Rattle.pb_desk.specs.AuditFault.{numbered_name as of_audit}
 use Rattle.pb_desk.specs.declared.audit_fault.AuditFault.TheVariants as audit
+use Rattle.pb_export.specs.ExportFault.{numbered_name as of_export}
+use Rattle.pb_export.specs.declared.export_fault.ExportFault.TheVariants as export
 use Rattle.pb_read.specs.Kinds.{numbered_name as of_read}
 use Rattle.pb_read.specs.declared.fault.ReadKind.{ReadKind}
 use Rattle.pb_read.specs.declared.fault.ReadKind.TheVariants as read
@@ -10,7 +12,7 @@ use Rattle.pb_rounds.specs.declared.count_fault.CountFault.TheVariants as count
 use Rattle.pb_script.specs.ScriptFault.{numbered_name as of_script}
 use Rattle.pb_script.specs.declared.script_fault.ScriptFault.TheVariants as script
 use Rattle.pb_commands.specs.declared.fault.AppFault.{AppFault}
-use Rattle.pb_commands.specs.declared.fault.AppFault.TheVariants.{Read, Script, ClerkCount, Audit, OpenDesk, Count, Open, Write, Memory}
+use Rattle.pb_commands.specs.declared.fault.AppFault.TheVariants.{Read, Script, ClerkCount, Audit, OpenDesk, Count, Export, Open, Write, Memory}
 
 -- the same fault, in which out of memory is one case, whichever crate met it
 abbrev pub merged : AppFault → AppFault
@@ -22,6 +24,7 @@ merged (Read fault) = of_kind fault.kind
 merged (Script script.NoMemory) = Memory
 merged (Audit audit.NoMemory) = Memory
 merged (Count count.NoMemory) = Memory
+merged (Export export.NoMemory) = Memory
 merged fault = fault
 
 -- what is refused, the fault's number and name, and the record or row
@@ -37,6 +40,7 @@ fields_of (Audit fault) =
     numbered (codes "audit") ((of_audit fault).0, (of_audit fault).1, unwrap_or (of_audit fault).2 0)
 fields_of OpenDesk = codes "open-desk" ∷ []
 fields_of (Count fault) = codes "count" ∷ decimal (of_count fault).0 ∷ (of_count fault).1 ∷ []
+fields_of (Export fault) = codes "export" ∷ decimal (of_export fault).0 ∷ (of_export fault).1 ∷ []
 fields_of (Open number) = codes "open" ∷ decimal number ∷ []
 fields_of Write = codes "write" ∷ []
 fields_of Memory = codes "memory" ∷ []
@@ -60,4 +64,5 @@ status_of (Count count.RaisesSpent) = 1
 status_of (Count fault) = 2
 status_of ClerkCount = 2
 status_of OpenDesk = 1
+status_of (Export fault) = 1
 status_of fault = 3

@@ -8,3 +8,5 @@ pub mod Audited
 pub mod Desked
 pub mod Checked
 pub mod Closed
+pub mod Exported
+pub mod Exporting

@@ -2,6 +2,7 @@
 
 use pb_core::no_memory::NoMemory;
 use pb_desk::AuditFault;
+use pb_export::ExportFault;
 use pb_read::{ReadFault, ReadKind};
 use pb_rounds::count_fault::CountFault;
 use pb_script::ScriptFault;
@@ -29,6 +30,9 @@ pub enum AppFault {
     /// An option of the count is out of its range, or its raises are spent.
     #[error("count: {0}")]
     Count(CountFault),
+    /// No file would be read back as the election.
+    #[error("export: {0}")]
+    Export(ExportFault),
     /// The file with this number on the command line, from 1, could not be opened.
     #[error("file {0} could not be opened")]
     Open(u32),
@@ -57,7 +61,8 @@ impl AppFault {
             )
             | AppFault::Script(ScriptFault::NoMemory)
             | AppFault::Audit(AuditFault::NoMemory)
-            | AppFault::Count(CountFault::NoMemory) => AppFault::Memory,
+            | AppFault::Count(CountFault::NoMemory)
+            | AppFault::Export(ExportFault::NoMemory) => AppFault::Memory,
             fault => fault,
         }
     }
@@ -96,6 +101,18 @@ impl From<CountFault> for AppFault {
 
     fn from(fault: CountFault) -> AppFault {
         AppFault::Count(fault).merged()
+    }
+}
+
+impl From<ExportFault> for AppFault {
+    ghost use Rattle.std.specs.Prelude.{◌≡◌};
+    ghost use Rattle.pb_commands.specs.Fault.{merged};
+    ghost use Rattle.pb_commands.specs.declared.fault.AppFault.TheVariants.{Export};
+
+    ghost from_gives = { λ fault app. app ≡ merged (Export fault) };
+
+    fn from(fault: ExportFault) -> AppFault {
+        AppFault::Export(fault).merged()
     }
 }
 

@@ -7,6 +7,7 @@ ghost use Rattle.pb_script.specs.declared.script_fault.ScriptFault.TheVariants.{
 
 use crate::fault::AppFault;
 use itoa::Buffer;
+use pb_export::ExportFault;
 use pb_rounds::count_fault::CountFault;
 use std::io;
 use std::io::Write;
@@ -41,6 +42,7 @@ impl AppFault {
             }
             AppFault::OpenDesk => write_fields(writer, &["open-desk"]),
             AppFault::Count(fault) => write_count(writer, fault),
+            AppFault::Export(fault) => write_export(writer, fault),
             AppFault::Open(number) => write_open(writer, number),
             AppFault::Write => write_fields(writer, &["write"]),
             AppFault::Memory => write_fields(writer, &["memory"]),
@@ -57,7 +59,8 @@ impl AppFault {
             AppFault::Script(fault) => read_status(fault.number()),
             AppFault::ClerkCount => BAD_ARGUMENTS,
             AppFault::Audit(fault) => read_status(fault.number()),
-            AppFault::OpenDesk | AppFault::Count(CountFault::RaisesSpent) => REFUSED,
+            AppFault::OpenDesk | AppFault::Count(CountFault::RaisesSpent) | AppFault::Export(_) =>
+                REFUSED,
             AppFault::Count(_) => BAD_ARGUMENTS,
             AppFault::Open(_) | AppFault::Write | AppFault::Memory => NO_DEVICE,
         }
@@ -104,6 +107,16 @@ fn write_count<W: Write>(writer: &mut W, fault: CountFault) -> io::Result<()>
     let mut digits = Buffer::new();
     let number = digits.format(fault.number());
     write_fields(writer, &["count", number, fault.name()])
+}
+
+/// Writes the line of an election that is not exported.
+fn write_export<W: Write>(writer: &mut W, fault: ExportFault) -> io::Result<()>
+    ensures { OnOk result (Appends (W.contents writer.old) (W.contents writer.new)
+        (line (fields_of (AppFault.Export fault)))) }
+{
+    let mut digits = Buffer::new();
+    let number = digits.format(fault.number());
+    write_fields(writer, &["export", number, fault.name()])
 }
 
 /// Writes the line of the file with this number on the command line, which could not be opened.

@@ -1,10 +1,11 @@
-//! The commands `count`, `projects`, `voters`, `desk`, `audit` and `check`, from bytes to bytes.
+//! The commands `count`, `projects`, `voters`, `export`, `desk`, `audit` and `check`, from bytes to bytes.
 //!
 //! A run reads its inputs in their order, makes its whole text in memory, and then writes it: so a run that is
 //! refused has written nothing. Each refusal has one line and one status.
 #![tactic(auto)]
 
 mod closed_desk;
+mod export_text;
 pub mod fault;
 mod fault_line;
 pub mod laws;
@@ -14,6 +15,7 @@ pub mod run_audit;
 pub mod run_check;
 pub mod run_count;
 pub mod run_desk;
+pub mod run_export;
 pub mod run_table;
 pub mod table;
 pub mod table_laws;

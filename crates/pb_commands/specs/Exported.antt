@@ -1,0 +1,75 @@
+-- What a run of `export` writes, and what refuses it.
+use Rattle.std.specs.Prelude.{◌≡◌, ◌++◌, ℕ, Bool, true, false, List, codes, decimal, length, map}
+use Rattle.std.specs.List.{range_with_len}
+use Rattle.pb_core.specs.Election.{ElectionView}
+use Rattle.pb_core.specs.MoneyText.{money_text}
+use Rattle.pb_export.specs.Export.{CanBeWritten, IsExportFault}
+use Rattle.pb_export.specs.FileRows.{file_rows}
+use Rattle.pb_read.specs.StandsFor.{StandsFor}
+use Rattle.pb_reasons.specs.Reasons.{project_reason}
+use Rattle.pb_reasons.specs.declared.project_reason.Ending.{Ending}
+use Rattle.pb_reasons.specs.declared.project_reason.Ending.TheVariants.{Won, Lost}
+use Rattle.pb_rounds.specs.Counted.{IsCountFault, IsCountOf}
+use Rattle.pb_rounds.specs.Outcome.{OutcomeView, Settled, settled}
+use Rattle.pb_rounds.specs.declared.measure.Measure.{Measure}
+use Rattle.pb_rounds.specs.declared.measure.Measure.TheVariants as measure
+use Rattle.pb_rounds.specs.declared.options.CountOptions.{CountOptions}
+use Rattle.pb_rounds.specs.declared.options.Completion.{Completion}
+use Rattle.pb_rounds.specs.declared.options.Completion.TheVariants as completion
+use Rattle.pb_rows.specs.Reading.{records_of}
+use Rattle.pb_rows.specs.Writing.{text_of_rows}
+use Rattle.pb_commands.specs.Closed.{ClosedRefuses, Leaves}
+use Rattle.pb_commands.specs.declared.fault.AppFault.{AppFault}
+use Rattle.pb_commands.specs.declared.fault.AppFault.TheVariants.{Count, Export}
+
+-- the measure and the completion of a count, in words
+abbrev pub measure_text : Measure → List ℕ
+measure_text measure.Votes = codes "equal shares by price"
+measure_text measure.Cost = codes "equal shares by price over cost"
+
+abbrev pub completion_text : Completion → ℕ → ℕ → List ℕ
+completion_text completion.Plain step most = codes ", no raises"
+completion_text completion.Add1 step most =
+    codes ", raises of " ++ money_text step ++ codes ", at most " ++ decimal most
+
+-- the rule of a count, in words
+abbrev pub rule_text : CountOptions → List ℕ
+rule_text options =
+    measure_text options.measure ++ completion_text options.completion options.step options.max_raises
+
+-- whether a project is elected
+abbrev pub is_won : Ending → Bool
+is_won (Won w) = true
+is_won (Lost l) = false
+
+-- how many ballots approve each project, and whether it is elected
+abbrev pub votes_of : ElectionView → Settled → List ℕ
+votes_of e o = map (λ place. (project_reason e o place).votes) (range_with_len 0 (length e.projects))
+
+abbrev pub selected_of : ElectionView → Settled → List Bool
+selected_of e o = map (λ place. is_won (project_reason e o place).ending) (range_with_len 0 (length e.projects))
+
+-- the text is a file of the election, with what the count by these options came to; it is read back as the election
+pub record IsExportOf (options : CountOptions) (e : ElectionView) (text : List ℕ) : Type 0 where
+  pub outcome : OutcomeView
+  pub counted : IsCountOf e options outcome
+  pub can : CanBeWritten e
+  pub text_is : text
+      ≡ text_of_rows (file_rows e (rule_text options) (votes_of e (settled outcome)) (selected_of e (settled outcome)))
+  pub reads_back : StandsFor (records_of text) e
+
+-- the text is such a file of an election that is such
+abbrev pub ExportWrites : CountOptions → (ElectionView → Type 0) → List ℕ → Type 0
+ExportWrites options IsSuch text = (e : ElectionView) × IsSuch e × IsExportOf options e text
+
+-- what refuses an election: its count; or, once it is counted, that no file would be read back as it
+abbrev pub ExportRefuses : CountOptions → ElectionView → AppFault → Type 0
+ExportRefuses options e (Count fault) = IsCountFault e options fault
+ExportRefuses options e (Export fault) = ((o : OutcomeView) × IsCountOf e options o) × IsExportFault e fault
+ExportRefuses options e fault = ⊥
+
+-- the same where the ballots are those of a journal
+abbrev pub ClosedExportRefuses : List ℕ → List ℕ → CountOptions → ElectionView → AppFault → Type 0
+ClosedExportRefuses bytes journal options e (Export fault) =
+    (left : ElectionView) × Leaves bytes journal left × ExportRefuses options left (Export fault)
+ClosedExportRefuses bytes journal options e fault = ClosedRefuses bytes journal options e fault

@@ -1,0 +1,12 @@
+-- What stops the making of a file; private contracts speak of it.
+use Rattle.std.specs.Prelude.{⊤}
+use Rattle.pb_core.specs.Election.{ElectionView}
+use Rattle.pb_rounds.specs.declared.options.CountOptions.{CountOptions}
+use Rattle.pb_commands.specs.Exported.{ExportRefuses}
+use Rattle.pb_commands.specs.declared.fault.AppFault.{AppFault}
+use Rattle.pb_commands.specs.declared.fault.AppFault.TheVariants.{Memory}
+
+-- memory was refused, or the election is
+abbrev pub IsStopped : CountOptions → ElectionView → AppFault → Type 0
+IsStopped options e Memory = ⊤
+IsStopped options e fault = ExportRefuses options e fault

@@ -1,0 +1,127 @@
+// The file of a counted election, as text.
+
+ghost use Rattle.std.specs.Prelude.{◌≡◌, ◌++◌, IfErr, IfOk, OnOk, string_bytes};
+ghost use Rattle.pb_reasons.specs.Reasons.{AreReasons, CanBeTold};
+ghost use Rattle.pb_rounds.specs.Outcome.{settled};
+ghost use Rattle.pb_commands.specs.Exporting.{IsStopped};
+ghost use Rattle.pb_commands.specs.Exported.{IsExportOf, completion_text, is_won, rule_text, selected_of, votes_of};
+ghost use Rattle.pb_commands.specs.Fault.{merged};
+
+use crate::fault::AppFault;
+use itoa::Buffer;
+use pb_core::election::Election;
+use pb_core::no_memory::NoMemory;
+use pb_export::Told;
+use pb_export::write_pb::write_pb;
+use pb_reasons::{Ending, Reasons};
+use pb_rounds::count::count;
+use pb_rounds::measure::Measure;
+use pb_rounds::options::{Completion, CountOptions};
+use pb_rounds::outcome::Outcome;
+use std::alloc::Global;
+use std::thread::Threads;
+
+/// The file of an election that is counted with these options.
+pub(crate) fn export_text<T: Threads + Sync>(
+    rt: &T,
+    alloc: Global,
+    election: &Election,
+    options: &CountOptions,
+) -> Result<Vec<u8>, AppFault>
+    ensures ok { IfOk result (λ text. IsExportOf options.now election.now text.items) }
+    ensures fault { IfErr result (IsStopped options.now election.now) }
+    ensures merged { IfErr result (λ fault. merged fault ≡ fault) }
+{
+    // What is true of every election is true of its reasons.
+    let _budget = election.budget();
+    let outcome = count(rt, alloc, election, options)?;
+    let rule = rule_text(alloc, options)?;
+    let reasons = Reasons::of(alloc, election, &outcome)?;
+    let votes = votes_of(alloc, election, &outcome, &reasons)?;
+    let selected = selected_of(alloc, election, &outcome, &reasons)?;
+    let told = Told {
+        rule: rule.as_str(),
+        votes: votes.as_slice(),
+        selected: selected.as_slice(),
+    };
+    let text = write_pb(alloc, election, &told)?;
+    Ok(text)
+}
+
+/// How many ballots approve each project.
+fn votes_of(
+    alloc: Global,
+    election: &Election,
+    outcome: &Outcome,
+    reasons: &Reasons,
+) -> Result<Vec<u32>, NoMemory>
+    requires told { CanBeTold election.now (settled outcome.now) }
+    requires own { AreReasons election.now (settled outcome.now) reasons.now }
+    ensures { IfOk result (λ votes. votes.items ≡ votes_of election.now (settled outcome.now)) }
+{
+    let mut votes = Vec::new(alloc);
+    for place in 0..election.projects().len() {
+        let reason = reasons.project(election, outcome, place as u32);
+        votes.push(reason.votes)?;
+    }
+    Ok(votes)
+}
+
+/// Whether each project is elected.
+fn selected_of(
+    alloc: Global,
+    election: &Election,
+    outcome: &Outcome,
+    reasons: &Reasons,
+) -> Result<Vec<bool>, NoMemory>
+    requires told { CanBeTold election.now (settled outcome.now) }
+    requires own { AreReasons election.now (settled outcome.now) reasons.now }
+    ensures { IfOk result (λ selected. selected.items ≡ selected_of election.now (settled outcome.now)) }
+{
+    let mut selected = Vec::new(alloc);
+    for place in 0..election.projects().len() {
+        let reason = reasons.project(election, outcome, place as u32);
+        selected.push(is_won(&reason.ending))?;
+    }
+    Ok(selected)
+}
+
+/// Whether a project is elected.
+fn is_won(ending: &Ending) -> bool
+    ensures { result ≡ is_won ending.now }
+{
+    match ending {
+        Ending::Won(_) => true,
+        Ending::Lost(_) => false,
+    }
+}
+
+/// The rule of a count, in words.
+fn rule_text(alloc: Global, options: &CountOptions) -> Result<String, NoMemory>
+    ensures { IfOk result (λ text. string_bytes text ≡ rule_text options.now) }
+{
+    let words = match options.measure {
+        Measure::Votes => "equal shares by price",
+        Measure::Cost => "equal shares by price over cost",
+    };
+    let mut text = String::from_str(alloc, words)?;
+    match options.completion {
+        Completion::Plain => text.push_str(", no raises")?,
+        Completion::Add1 => put_raises(alloc, &mut text, options)?,
+    }
+    Ok(text)
+}
+
+/// Puts the step of the raises and their limit after a text.
+fn put_raises(alloc: Global, text: &mut String, options: &CountOptions) -> Result<(), NoMemory>
+    ensures { OnOk result (string_bytes text.new
+        ≡ string_bytes text.old ++ completion_text Completion.Add1 options.now.step options.now.max_raises) }
+{
+    let mut digits = Buffer::new();
+    let step = options.step.text(alloc)?;
+    text.push_str(", raises of ")?;
+    text.push_str(step.as_str())?;
+    text.push_str(", at most ")?;
+    text.push_str(digits.format(options.max_raises))?;
+    Ok(())
+}

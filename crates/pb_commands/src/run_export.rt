@@ -1,0 +1,108 @@
+// Runs that write the file of a counted election.
+
+ghost use Rattle.std.specs.Prelude.{◌≡◌, ◌≢◌, IfErr, IfSome, OnOk};
+ghost use Rattle.pb_read.specs.StandsFor.{StandsFor};
+ghost use Rattle.pb_rows.specs.Reading.{records_of};
+ghost use Rattle.pb_commands.specs.Closed.{Leaves};
+ghost use Rattle.pb_commands.specs.Ends.{Accepts, FailsBy, HasWritten, IfBothKnown, JudgesFile};
+ghost use Rattle.pb_commands.specs.Exported.{ClosedExportRefuses, ExportRefuses, ExportWrites};
+ghost use Rattle.pb_commands.specs.Fault.{merged};
+
+use crate::closed_desk::closed_ballots;
+use crate::export_text::export_text;
+use crate::fault::AppFault;
+use crate::run_count::write_out;
+use pb_read::read_pb;
+use pb_rounds::options::CountOptions;
+use std::alloc::Global;
+use std::io::{Read, Write};
+use std::thread::Threads;
+
+/// Reads a .pb file, counts it with these options, and writes the file of the election with what the count came to: it is
+/// read back as the same election. What the count refuses, and when, is as for `run_count`; then an election that no file
+/// would be read back as is refused.
+///
+/// The file is refused before the options are looked at, and nothing is written but the whole file.
+/// Where the fault is `Write` some of the file may have gone out; on any other fault the writer is as it was.
+pub fn run_export<T: Threads + Sync, R: Read + Drop, W: Write>(
+    rt: &T,
+    alloc: Global,
+    reader: R,
+    writer: &mut W,
+    options: &CountOptions,
+) -> Result<(), AppFault>
+    // Where the reader's bytes are known, they alone and the options decide what is written,
+    ensures ok { OnOk result (IfSome (R.remaining reader) (λ bytes.
+        HasWritten (ExportWrites options.now (StandsFor (records_of bytes))) (W.contents writer.old) (W.contents writer.new))) }
+
+    // and which fault comes.
+    ensures fault { IfErr result (λ fault. IfSome (R.remaining reader) (λ bytes.
+        FailsBy (ExportRefuses options.now) (ExportWrites options.now (StandsFor (records_of bytes))) bytes fault)) }
+
+    // A file that can be exported is, unless a device fails or memory is refused.
+    ensures accepts { IfSome (R.remaining reader) (λ bytes.
+        Accepts (ExportWrites options.now (StandsFor (records_of bytes))) result) }
+
+    // A fault writes nothing, unless it is the writer's.
+    ensures unchanged { IfErr result (λ fault. fault ≢ AppFault.Write → writer.new ≡ writer.old) }
+
+    // Out of memory is one fault.
+    ensures merged { IfErr result (λ fault. merged fault ≡ fault) }
+{
+    let election = read_pb(alloc, reader)?;
+    let made = export_text(rt, alloc, &election, options);
+    drop(election);
+    match made {
+        Ok(text) => write_out(writer, text.as_slice()),
+        Err(fault) => Err(fault),
+    }
+}
+
+/// Reads a .pb file and a journal, audits the journal, counts the ballots that its shut desk leaves with these options,
+/// and writes the file of the election with these ballots and what the count came to. What it refuses, and when, is as for
+/// `run_closed_table`; then an election that no file would be read back as is refused.
+///
+/// The file is refused before the journal, the journal before an open desk, and that before the options. Nothing is
+/// written but the whole file. Where the fault is `Write` some of the file may have gone out; on any other fault the
+/// writer is as it was.
+pub fn run_closed_export<T: Threads + Sync, P: Read + Drop, J: Read + Drop, W: Write>(
+    rt: &T,
+    alloc: Global,
+    file: P,
+    journal: J,
+    writer: &mut W,
+    options: &CountOptions,
+) -> Result<(), AppFault>
+    // Where the bytes of both readers are known, they alone and the options decide what is written,
+    ensures ok { OnOk result (IfBothKnown (P.remaining file) (J.remaining journal) (λ bytes rows. HasWritten
+        (ExportWrites options.now (Leaves bytes rows)) (W.contents writer.old) (W.contents writer.new))) }
+
+    // and which fault comes.
+    ensures fault { IfErr result (λ fault. IfBothKnown (P.remaining file) (J.remaining journal) (λ bytes rows.
+        FailsBy (ClosedExportRefuses bytes rows options.now)
+        (ExportWrites options.now (Leaves bytes rows)) bytes fault)) }
+
+    // A file and a journal that can be exported are, unless a device fails or memory is refused.
+    ensures accepts { IfBothKnown (P.remaining file) (J.remaining journal) (λ bytes rows.
+        Accepts (ExportWrites options.now (Leaves bytes rows)) result) }
+
+    // The file is judged first, whatever is known of the journal.
+    ensures file { IfSome (P.remaining file) (λ bytes. JudgesFile bytes result) }
+
+    // A fault writes nothing, unless it is the writer's.
+    ensures unchanged { IfErr result (λ fault. fault ≢ AppFault.Write → writer.new ≡ writer.old) }
+
+    // Out of memory is one fault.
+    ensures merged { IfErr result (λ fault. merged fault ≡ fault) }
+{
+    let election = match closed_ballots(alloc, file, journal) {
+        Ok(election) => election,
+        Err(fault) => return Err(fault),
+    };
+    let made = export_text(rt, alloc, &election, options);
+    drop(election);
+    match made {
+        Ok(text) => write_out(writer, text.as_slice()),
+        Err(fault) => Err(fault),
+    }
+}

@@ -1,0 +1,9 @@
+pub mod Tidy
+pub mod Pieces
+pub mod Metas
+pub mod Projects
+pub mod Votes
+pub mod Stands
+pub mod Grown
+pub mod OfFile
+pub mod VoteText

@@ -1,0 +1,71 @@
+-- PROJECTS, read back.
+use Rattle.std.proofs.Common.{◌≡◌, ◌≢◌, ◌≤◌, ℕ, suc, Bool, true, false, not, List, [], ◌∷◌, decimal, Option, Some, None, refl, ap, sym, ◌∙◌}
+use Rattle.std.specs.Prelude.{is_some, slice_index, slice_index_or}
+use Rattle.std.specs.List.{AllByRecursion, AllZip}
+use Rattle.std.specs.Str.{trim, trim_start, trim_end, chars}
+use Rattle.std.proofs.Math.Utf8.{encode}
+use Rattle.std.proofs.lemmas.Bool.{cond-true}
+use Rattle.pb_core.specs.Election.{ProjectView}
+use Rattle.pb_core.specs.Money.{largest_money}
+use Rattle.pb_core.specs.MoneyText.{money_text}
+use Rattle.pb_rows.specs.Reading.{Fields}
+use Rattle.pb_read.specs.Rows.{head_of, is_blank, rows_of, trimmed}
+use Rattle.pb_read.specs.StandsFor.{GivesProject, GivesProjects}
+use Rattle.pb_export.specs.Export.{is_section_word}
+use Rattle.pb_export.specs.FileRows.{project_row, projects_from, projects_rows, selected_text}
+use Rattle.pb_export.proofs.Metas.{money_back}
+
+-- a project that a file can give
+pub record IsWritable (p : ProjectView) : Type 0 where
+  pub has_id : p.id ≢ []
+  pub tidy_id : trim p.id ≡ p.id
+  pub tidy_name : trim p.name ≡ p.name
+  pub affordable : p.cost ≤ largest_money
+  pub no_head : is_section_word p.id ≡ false
+
+-- a row gives a project, where the columns stand as they are written
+abbrev Gives : Fields → ProjectView → Type 0
+Gives = GivesProject (record { id = 0; cost = 1; name = Some 3 })
+
+no_section : {A : Type 0} (found : Option A) → is_some found ≡ false → found ≡ None
+no_section None none = refl
+no_section (Some name) none = cc none
+
+-- a row that begins with such an id is plain
+pub plain_row : (id : List ℕ) (rest : Fields) → trim id ≡ id → is_section_word id ≡ false → head_of (trimmed (id ∷ rest)) ≡ None
+unfolding head_of
+plain_row id rest tidy none = no_section (head_of (trimmed (id ∷ rest))) (ap (λ (t : List ℕ). is_section_word t) tidy ∙ none)
+
+shows : (id : List ℕ) (rest : Fields) → trim id ≡ id → id ≢ [] → not (is_blank (trimmed (id ∷ rest))) ≡ true
+shows [] rest tidy some = absurd (some refl)
+shows (b ∷ id) rest tidy some = rw tidy refl
+
+-- and it is not blank
+pub row_kept : (id : List ℕ) (rest : Fields) (records : List Fields) → trim id ≡ id → id ≢ [] → rows_of ((id ∷ rest) ∷ records) ≡ trimmed (id ∷ rest) ∷ rows_of records
+row_kept id rest records tidy some = cond-true _ (trimmed (id ∷ rest) ∷ rows_of records) (rows_of records) (shows id rest tidy some)
+
+gives_project : (p : ProjectView) (votes : ℕ) (selected : Bool) → IsWritable p → Gives (trimmed (project_row p votes selected)) p
+gives_project p votes selected is = record {
+  whole = refl;
+  id = sym is.tidy_id;
+  name = sym is.tidy_name;
+  cost = money_back p.cost is.affordable;
+}
+
+module _ (votes : List ℕ) (selected : List Bool) where
+  gives_from : (place : ℕ) (projects : List ProjectView) → AllByRecursion IsWritable projects →
+      AllByRecursion (λ row. head_of row ≡ None) (rows_of (projects_from votes selected place projects)) × AllZip Gives (rows_of (projects_from votes selected place projects)) projects
+  gives_from place [] are = (tt, tt)
+  gives_from place (p ∷ projects) are =
+      let count = slice_index votes place in
+      let elected = slice_index_or selected place false in
+      let others : Fields = money_text p.cost ∷ decimal count ∷ p.name ∷ selected_text elected ∷ [] in
+      let rest = gives_from (suc place) projects are.1 in
+      rw (row_kept p.id others (projects_from votes selected (suc place) projects) are.0.tidy_id are.0.has_id)
+      ((plain_row p.id others are.0.tidy_id are.0.no_head, rest.0), (gives_project p count elected are.0, rest.1))
+
+  pub gives_projects : (projects : List ProjectView) → AllByRecursion IsWritable projects → GivesProjects (record { id = 0; cost = 1; name = Some 3 }) projects (rows_of (projects_rows votes selected projects))
+  unfolding head_of trim_start trim_end chars encode
+  gives_projects projects are =
+      let from = gives_from 0 projects are in
+      record { head = _; header = _; body = rows_of (projects_from votes selected 0 projects); cut = refl; opens = refl; plain = (refl, from.0); says = (refl, from.1) }

@@ -1,0 +1,19 @@
+use Rattle.std.proofs.Common.{◌≡◌, ◌++◌, ℕ, List, ap, ◌∙◌, subst, sym}
+use Rattle.pb_read.specs.StandsFor.{StandsFor}
+use Rattle.pb_rows.specs.Reading.{records_of}
+use Rattle.pb_rows.specs.Writing.{text_of_rows}
+use Rattle.pb_export.specs.FileRows.{file_rows}
+use Rattle.pb_export.proofs.OfFile.{tested_file}
+use Rattle.pb_export.proofs.Stands.{stands}
+use Rattle.pb_export.proofs.write_pb.write_pb.Goals as goal
+
+pub returns-in-Ok-finish-clause-reads_back : goal.returns-in-Ok-finish-clause-reads_back
+returns-in-Ok-finish-clause-reads_back c =
+    let e = c.args.election.now in
+    let told = c.args.told.now in
+    let grows = c.in-Ok.ensures in
+    let text = text_of_rows (file_rows e told.rule.now told.votes.now told.selected.now) in
+    let is : c.in-Ok-finish.text.items ≡ text = c.in-Ok-finish.ensures.text ∙ grows.text ∙ ap (λ (t : List ℕ). t ++ text) c.start-rows.ensures.text in
+    subst (λ (t : List ℕ). StandsFor (records_of t) e) (sym is)
+    (stands e told.rule.now told.votes.now told.selected.now c.budget-budget.ensures.is_election (tested_file e (sym c.is_of_file.ensures ∙ c.if-not-is_of_file.false)) (sym c.has_section_word.ensures ∙ c.if-has_section_word.false)
+    (sym c.has_comma_in_vote.ensures ∙ c.if-has_comma_in_vote.false) grows.are_text)

@@ -1,0 +1,51 @@
+-- Which elections a file can be written of.
+use Rattle.std.specs.Prelude.{◌≡◌, ◌==◌, ◌&&◌, ◌||◌, ℕ, Bool, true, false, ⊤, List, [], ◌∷◌, Option, None, Some, is_some, nat_le, slice_index_or}
+use Rattle.std.specs.List.{list_all, list_any}
+use Rattle.std.specs.Str.{bytes_eq, trim}
+use Rattle.pb_core.specs.Election.{ElectionView, most_projects, project_ids}
+use Rattle.pb_read.specs.Rows.{head_of}
+use Rattle.pb_export.specs.declared.export_fault.ExportFault.{ExportFault}
+use Rattle.pb_export.specs.declared.export_fault.ExportFault.TheVariants.{SectionWord, CommaInId, OfNoFile, NoMemory}
+
+-- a text has no white space at its ends
+abbrev pub is_tidy : List ℕ → Bool
+is_tidy text = bytes_eq (trim text) text
+
+-- a limit on a ballot's length that a file can name
+abbrev pub is_small : Option ℕ → Bool
+is_small None = true
+is_small (Some most) = nat_le most most_projects
+
+-- projects' ids and names are tidy, and the limit is small, as in every election that a file stands for
+abbrev pub is_of_file : ElectionView → Bool
+is_of_file e = list_all (λ p. is_tidy p.id && is_tidy p.name) e.projects && is_small e.max_length
+
+-- an id would be read as a section's head
+abbrev pub is_section_word : List ℕ → Bool
+is_section_word id = is_some (head_of (id ∷ []))
+
+abbrev pub has_section_word : ElectionView → Bool
+has_section_word e =
+    list_any (λ p. is_section_word p.id) e.projects || list_any (λ v. is_section_word v.id) e.voters
+
+-- an id has a comma (code 44)
+abbrev pub has_comma : List ℕ → Bool
+has_comma id = list_any (λ b. b == 44) id
+
+-- a ballot approves a project whose id has one
+abbrev pub has_comma_in_vote : ElectionView → Bool
+has_comma_in_vote e =
+    list_any (λ v. list_any (λ place. has_comma (slice_index_or (project_ids e) place [])) v.ballot) e.voters
+
+-- a file can be written of the election
+pub record CanBeWritten (e : ElectionView) : Type 0 where
+  pub words : has_section_word e ≡ false
+  pub commas : has_comma_in_vote e ≡ false
+  pub of_file : is_of_file e ≡ true
+
+-- what refuses an election
+abbrev pub IsExportFault : ElectionView → ExportFault → Type 0
+IsExportFault e SectionWord = has_section_word e ≡ true
+IsExportFault e CommaInId = (has_section_word e ≡ false) × (has_comma_in_vote e ≡ true)
+IsExportFault e OfNoFile = is_of_file e ≡ false
+IsExportFault e NoMemory = ⊤

@@ -1,0 +1,50 @@
+// Why an election is not exported.
+
+use thiserror::Error;
+
+/// Why an election is not exported: no `.pb` file would be read back as it.
+#[derive(Clone, Copy, Debug, PartialEq, Eq, Error)]
+pub enum ExportFault {
+    /// An id is META, PROJECTS or VOTES in any case: its row would be a section's head.
+    #[error("an id is the name of a section")]
+    SectionWord,
+    /// A ballot approves a project whose id has a comma, which no vote can name.
+    #[error("a ballot approves a project whose id has a comma")]
+    CommaInId,
+    /// A project's id or name has white space at its ends, or the limit on a ballot's length is above 10,000. No file
+    /// stands for such an election.
+    #[error("no file stands for such an election")]
+    OfNoFile,
+    /// Out of memory.
+    #[error("out of memory")]
+    NoMemory,
+}
+
+impl ExportFault {
+    ghost use Rattle.std.specs.Prelude.{◌≡◌};
+    ghost use Rattle.pb_export.specs.ExportFault.{numbered_name};
+
+    /// The fault's number.
+    pub fn number(&self) -> u32
+        ensures { result ≡ (numbered_name self.now).0 }
+    {
+        match self {
+            ExportFault::SectionWord => 1,
+            ExportFault::CommaInId => 2,
+            ExportFault::OfNoFile => 3,
+            ExportFault::NoMemory => 4,
+        }
+    }
+
+    /// The fault's name.
+    pub fn name(&self) -> &'static str
+        ensures { result.now ≡ (numbered_name self.now).1 }
+    {
+        match self {
+            ExportFault::SectionWord => "SectionWord",
+            ExportFault::CommaInId => "CommaInId",
+            ExportFault::OfNoFile => "OfNoFile",
+            ExportFault::NoMemory => "NoMemory",
+        }
+    }
+}

@@ -1,0 +1,114 @@
+// Whether an election can be read back from a file.
+
+ghost use Rattle.std.specs.Prelude.{◌≡◌, ◌<◌, ◌&&◌, [], All, length, map, slice_index_or};
+ghost use Rattle.std.specs.List.{list_all, list_any};
+ghost use Rattle.pb_export.specs.Export.{has_comma, has_comma_in_vote, has_section_word, is_of_file, is_section_word, is_small, is_tidy};
+
+use pb_core::election::{Election, MOST_PROJECTS};
+use pb_core::project::Project;
+use pb_core::voter::Voter;
+
+#[tactic(auto, unfolding(pb_read::specs::Rows::head_of))]
+/// Whether an id would be read as a section's head.
+fn is_section_word(id: &str) -> bool
+    ensures { result ≡ is_section_word id.now }
+{
+    "META".eq_ignore_ascii_case(id)
+        || "PROJECTS".eq_ignore_ascii_case(id)
+        || "VOTES".eq_ignore_ascii_case(id)
+}
+
+/// Whether an id of a project or a voter would be read as a section's head.
+pub(crate) fn has_section_word(election: &Election) -> bool
+    ensures { result ≡ has_section_word election.now }
+{
+    has_project_word(election.projects()) || has_voter_word(election.voters())
+}
+
+/// Whether the id of one of these projects would be read as a section's head.
+fn has_project_word(projects: &[Project]) -> bool
+    ensures { result ≡ list_any (λ p. is_section_word p.id) projects.now }
+{
+    for project in projects {
+        if is_section_word(project.id()) {
+            return true;
+        }
+    }
+    false
+}
+
+/// Whether the id of one of these voters would be read as a section's head.
+fn has_voter_word(voters: &[Voter]) -> bool
+    ensures { result ≡ list_any (λ v. is_section_word v.id) voters.now }
+{
+    for voter in voters {
+        if is_section_word(voter.id.text()) {
+            return true;
+        }
+    }
+    false
+}
+
+/// Whether an election is as one that a file stands for.
+pub(crate) fn is_of_file(election: &Election) -> bool
+    ensures { result ≡ is_of_file election.now }
+{
+    are_tidy(election.projects()) && is_small(election.max_length())
+}
+
+/// Whether no id or name of these projects has white space at its ends.
+fn are_tidy(projects: &[Project]) -> bool
+    ensures { result ≡ list_all (λ p. is_tidy p.id && is_tidy p.name) projects.now }
+{
+    for project in projects {
+        if !(is_tidy(project.id()) && is_tidy(project.name())) {
+            return false;
+        }
+    }
+    true
+}
+
+/// Whether a text has no white space at its ends.
+fn is_tidy(text: &str) -> bool
+    ensures { result ≡ is_tidy text.now }
+{
+    text.trim() == text
+}
+
+/// Whether a file can name this limit on a ballot's length.
+fn is_small(max_length: Option<u32>) -> bool
+    ensures { result ≡ is_small max_length }
+{
+    match max_length {
+        Some(most) => most as usize <= MOST_PROJECTS,
+        None => true,
+    }
+}
+
+/// Whether a ballot approves a project whose id has a comma.
+pub(crate) fn has_comma_in_vote(election: &Election) -> bool
+    ensures { result ≡ has_comma_in_vote election.now }
+{
+    let projects = election.projects();
+    for voter in election.voters() {
+        if approves_comma(projects, voter.ballot.places()) {
+            return true;
+        }
+    }
+    false
+}
+
+/// Whether the id of one of the projects at these places has a comma.
+fn approves_comma(projects: &[Project], places: &[u32]) -> bool
+    requires { All (λ place. place < length projects.now) places.now }
+    ensures { result
+        ≡ list_any (λ place. has_comma (slice_index_or (map (λ p. p.id) projects.now) place [])) places.now }
+{
+    for place in places {
+        let id = projects[*place as usize].id();
+        if id.as_bytes().contains(&b',') {
+            return true;
+        }
+    }
+    false
+}

@@ -1,0 +1,190 @@
+// Elections, written as .pb files.
+
+ghost use Rattle.std.specs.Prelude.{◌≡◌, ◌<◌, ◌++◌, ℕ, All, IfErr, IfOk, OnOk, length, map, string_bytes};
+ghost use Rattle.csv.specs.Records.{AllText};
+ghost use Rattle.pb_core.specs.Election.{project_ids};
+ghost use Rattle.pb_read.specs.StandsFor.{StandsFor};
+ghost use Rattle.pb_rows.specs.Reading.{records_of};
+ghost use Rattle.pb_rows.specs.Writing.{text_of_row, text_of_rows};
+ghost use Rattle.pb_export.specs.Export.{CanBeWritten, IsExportFault};
+ghost use Rattle.pb_export.specs.Growing.{Grows};
+ghost use Rattle.pb_export.specs.FileRows.{file_rows, limit_rows, meta_rows, project_row, projects_rows, vote_text, votes_rows};
+
+use crate::export_fault::ExportFault;
+use crate::readable::{has_comma_in_vote, has_section_word, is_of_file};
+use crate::told::Told;
+use itoa::Buffer;
+use pb_core::election::Election;
+use pb_core::no_memory::NoMemory;
+use pb_core::project::Project;
+use pb_rows::RowsWriter;
+use std::alloc::Global;
+
+/// Writes an election as a .pb file: META, PROJECTS and VOTES, each with its header row, projects and voters in their
+/// order. What `told` has stands in META's row `rule` and in the columns `votes` and `selected`, which readers pass over.
+///
+/// The file is read back as this election. An election that can't be is refused: a section's name as an id first, then a
+/// comma in the id of a project that a ballot approves, then what no file's election has.
+pub fn write_pb(alloc: Global, election: &Election, told: &Told<'_>) -> Result<Vec<u8>, ExportFault>
+    requires votes { length told.now.votes.now ≡ length election.now.projects }
+    requires selected { length told.now.selected.now ≡ length election.now.projects }
+    ensures reads_back { IfOk result (λ text. StandsFor (records_of text.items) election.now) }
+    ensures text { IfOk result (λ text. text.items
+        ≡ text_of_rows (file_rows election.now told.now.rule.now told.now.votes.now told.now.selected.now)) }
+    ensures ok { OnOk result (CanBeWritten election.now) }
+    ensures fault { IfErr result (IsExportFault election.now) }
+{
+    // What is true of every election holds of what is read back.
+    let _budget = election.budget();
+    if has_section_word(election) {
+        return Err(ExportFault::SectionWord);
+    }
+    if has_comma_in_vote(election) {
+        return Err(ExportFault::CommaInId);
+    }
+    if !is_of_file(election) {
+        return Err(ExportFault::OfNoFile);
+    }
+    let mut rows = RowsWriter::start(alloc);
+    match put_file(&mut rows, alloc, election, told) {
+        Ok(()) => match rows.finish() {
+            Ok(text) => Ok(text),
+            Err(_) => Err(ExportFault::NoMemory),
+        },
+        Err(_) => {
+            drop(rows);
+            Err(ExportFault::NoMemory)
+        }
+    }
+}
+
+/// Writes the three sections.
+fn put_file(
+    rows: &mut RowsWriter,
+    alloc: Global,
+    election: &Election,
+    told: &Told<'_>,
+) -> Result<(), NoMemory>
+    requires votes { length told.now.votes.now ≡ length election.now.projects }
+    requires selected { length told.now.selected.now ≡ length election.now.projects }
+    ensures { OnOk result
+        (Grows (file_rows election.now told.now.rule.now told.now.votes.now told.now.selected.now)
+        rows.old.text rows.new.text) }
+{
+    put_meta(rows, alloc, election, told.rule)?;
+    put_projects(rows, alloc, election.projects(), told.votes, told.selected)?;
+    put_votes(rows, alloc, election)?;
+    Ok(())
+}
+
+/// Writes META.
+fn put_meta(
+    rows: &mut RowsWriter,
+    alloc: Global,
+    election: &Election,
+    rule: &str,
+) -> Result<(), NoMemory>
+    ensures { OnOk result (Grows (meta_rows election.now rule.now) rows.old.text rows.new.text) }
+{
+    let budget = election.budget().text(alloc)?;
+    let mut project_digits = Buffer::new();
+    let mut voter_digits = Buffer::new();
+    let projects = project_digits.format(election.projects().len() as u32);
+    let voters = voter_digits.format(election.voters().len() as u32);
+    rows.put_row(&["META"])?;
+    rows.put_row(&["key", "value"])?;
+    rows.put_row(&["budget", budget.as_str()])?;
+    rows.put_row(&["vote_type", "approval"])?;
+    put_limit(rows, election.max_length())?;
+    rows.put_row(&["num_projects", projects])?;
+    rows.put_row(&["num_votes", voters])?;
+    rows.put_row(&["rule", rule])?;
+    Ok(())
+}
+
+/// Writes the row of META on how long a ballot may be, where there is a limit.
+fn put_limit(rows: &mut RowsWriter, max_length: Option<u32>) -> Result<(), NoMemory>
+    ensures { OnOk result (Grows (limit_rows max_length) rows.old.text rows.new.text) }
+{
+    if let Some(most) = max_length {
+        let mut digits = Buffer::new();
+        rows.put_row(&["max_length", digits.format(most)])?;
+    }
+    Ok(())
+}
+
+/// Writes PROJECTS.
+fn put_projects(
+    rows: &mut RowsWriter,
+    alloc: Global,
+    projects: &[Project],
+    votes: &[u32],
+    selected: &[bool],
+) -> Result<(), NoMemory>
+    requires votes { length votes.now ≡ length projects.now }
+    requires selected { length selected.now ≡ length projects.now }
+    ensures { OnOk result
+        (Grows (projects_rows votes.now selected.now projects.now) rows.old.text rows.new.text) }
+{
+    rows.put_row(&["PROJECTS"])?;
+    rows.put_row(&["project_id", "cost", "votes", "name", "selected"])?;
+    for place in 0..projects.len() {
+        put_project(rows, alloc, &projects[place], votes[place], selected[place])?;
+    }
+    Ok(())
+}
+
+/// Writes the row of a project.
+fn put_project(
+    rows: &mut RowsWriter,
+    alloc: Global,
+    project: &Project,
+    votes: u32,
+    selected: bool,
+) -> Result<(), NoMemory>
+    ensures text { OnOk result (rows.new.text ≡ rows.old.text
+        ++ text_of_row (project_row project.now votes selected)) }
+    ensures are_text { OnOk result (AllText (project_row project.now votes selected)) }
+{
+    let mut digits = Buffer::new();
+    let cost = project.cost().text(alloc)?;
+    let selected = if selected { "1" } else { "0" };
+    rows.put_row(&[
+        project.id(),
+        cost.as_str(),
+        digits.format(votes),
+        project.name(),
+        selected,
+    ])?;
+    Ok(())
+}
+
+/// Writes VOTES.
+fn put_votes(rows: &mut RowsWriter, alloc: Global, election: &Election) -> Result<(), NoMemory>
+    ensures { OnOk result
+        (Grows (votes_rows (project_ids election.now) election.now.voters) rows.old.text rows.new.text) }
+{
+    rows.put_row(&["VOTES"])?;
+    rows.put_row(&["voter_id", "vote"])?;
+    let projects = election.projects();
+    for voter in election.voters() {
+        let vote = vote_text(alloc, projects, voter.ballot.places())?;
+        rows.put_row(&[voter.id.text(), vote.as_str()])?;
+    }
+    Ok(())
+}
+
+/// The ids of the projects at these places, with `,` between two.
+fn vote_text(alloc: Global, projects: &[Project], places: &[u32]) -> Result<String, NoMemory>
+    requires { All (λ place. place < length projects.now) places.now }
+    ensures { IfOk result (λ text. string_bytes text ≡ vote_text (map (λ p. p.id) projects.now) places.now) }
+{
+    let mut text = String::new(alloc);
+    for (i, place) in places.iter().enumerate() {
+        if i > 0 {
+            text.push_str(",")?;
+        }
+        text.push_str(projects[*place as usize].id())?;
+    }
+    Ok(text)
+}
