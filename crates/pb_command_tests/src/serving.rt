@@ -1,9 +1,10 @@
-// Requests that are answered as they come in: when the answers leave, and how often the journal is synced.
+// Requests that are answered as they come in: when the answers leave, and how often the journal is synced; and a device in
+// memory, where memory suffices.
 
 ghost use Rattle.std.specs.Prelude.{[]};
 
 use crate::checks::{THREE_VOTERS, same};
-use pb_durable::{Device, DeviceFault, DurableDesk, JournalFile, Opened, open};
+use pb_durable::{Device, DeviceFault, DurableDesk, JournalFile, MemoryDevice, Opened, open};
 use pb_read::read_pb;
 use pb_serving::run_serve::run_serve;
 use pb_serving::{Always, Pace};
@@ -209,4 +210,24 @@ fn rows_at_hand_share_their_syncs(rt: HostRuntime) {
     same(&rt, seen.syncs.get(), 3, "syncs");
     same(&rt, text.as_slice() == ANSWERS.as_bytes(), true, "answers");
     drop(text);
+}
+
+/// A device in memory has what was written and cut, where memory suffices.
+#[test]
+fn a_device_in_memory_has_its_bytes(rt: HostRuntime) {
+    let bytes = b"journal".to_vec(rt.alloc()).expect(&rt, "memory");
+    let mut device = MemoryDevice::new(rt.alloc(), bytes).expect(&rt, "memory");
+    same(&rt, device.write_at(0, b"day"), Ok(()), "a write");
+    let len = device.bytes().len().min(5);
+    same(&rt, device.cut(len), Ok(()), "a cut");
+    same(&rt, device.sync(), Ok(()), "a sync");
+    let read = device.read(rt.alloc()).expect(&rt, "memory");
+    same(
+        &rt,
+        read.as_slice() == b"dayrn".as_slice(),
+        true,
+        "bytes that are read",
+    );
+    same(&rt, device.bytes() == b"dayrn".as_slice(), true, "bytes");
+    drop(read);
 }
