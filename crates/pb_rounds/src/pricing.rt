@@ -10,7 +10,7 @@ use std::alloc::Allocator;
 const APPROVALS_A_THREAD: u64 = 100_000;
 
 /// How many approvals of an election are worth trials in threads of their own.
-const APPROVALS_A_TRIAL: u64 = 50_000;
+const APPROVALS_A_TRIAL: u64 = 500_000;
 
 /// What all rounds of a count price by.
 #[derive(Drop)]
