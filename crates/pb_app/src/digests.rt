@@ -46,7 +46,7 @@ where
     };
     let passed = match digests {
         Ok(rows) => {
-            let passed = pass_on(rows.as_str(), report.as_slice(), shut, writer);
+            let passed = pass_on(rt.alloc(), rows.as_str(), report.as_slice(), shut, writer);
             drop(rows);
             passed
         }
@@ -56,8 +56,9 @@ where
     passed
 }
 
-/// Writes the digests and the report.
+/// Writes the digests and the report, as one text.
 fn pass_on<W: Write>(
+    alloc: Global,
     rows: &str,
     report: &[u8],
     shut: bool,
@@ -66,10 +67,10 @@ fn pass_on<W: Write>(
     if shut && says_open(report) {
         return Err(AppFault::OpenDesk);
     }
-    if writer.write_all(rows.as_bytes()).is_err()
-        || writer.write_all(report).is_err()
-        || writer.flush().is_err()
-    {
+    let mut text = Vec::new(alloc);
+    text.extend_from_slice(rows.as_bytes())?;
+    text.extend_from_slice(report)?;
+    if writer.write_all(text.as_slice()).is_err() || writer.flush().is_err() {
         return Err(AppFault::Write);
     }
     Ok(())
