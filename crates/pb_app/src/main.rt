@@ -98,7 +98,7 @@ fn done<R>(rt: &R, asked: &Asked<'_>, shows: bool) -> ExitCode
 where
     R: Files<File = File> + Input + Print + Eprint + Clock + AllocGlobal + Threads + Sync,
 {
-    let mut output = Output::new(rt, asked.output);
+    let mut output = Output::new(rt, asked.output, words::writes_entries(&asked.task));
     let mut audited = Tally::new();
     let mut faults = Vec::new(rt.alloc());
     let progress = Progress::new(rt, asked.shows.unwrap_or(shows));

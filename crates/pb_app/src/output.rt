@@ -26,19 +26,22 @@ pub(crate) struct Output<'a, R: Files + Print + AllocGlobal> {
     /// The path of the file that gets the result; none is standard output.
     path: Option<&'a str>,
     opened: Option<Opened<R::File>>,
-    /// What went by.
+    /// What went by, where it is counted.
     pub(crate) tally: Tally,
+    is_counted: bool,
     /// Why a write failed.
     pub(crate) failure: Option<Error>,
 }
 
 impl<'a, R: Files + Print + AllocGlobal> Output<'a, R> {
-    pub(crate) fn new(rt: &'a R, path: Option<&'a str>) -> Output<'a, R> {
+    /// A result that goes to the file with this path, or to standard output; the entries of a journal are counted.
+    pub(crate) fn new(rt: &'a R, path: Option<&'a str>, is_counted: bool) -> Output<'a, R> {
         Output {
             rt,
             path,
             opened: None,
             tally: Tally::new(),
+            is_counted,
             failure: None,
         }
     }
@@ -81,7 +84,9 @@ impl<R: Files + Print + AllocGlobal> Write for Output<'_, R> {
         match self.write_some(buf) {
             Ok(count) => {
                 let count = count.min(buf.len());
-                self.tally.take(&buf[..count]);
+                if self.is_counted {
+                    self.tally.take(&buf[..count]);
+                }
                 Ok(count)
             }
             Err(error) => {

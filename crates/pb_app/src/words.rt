@@ -115,10 +115,7 @@ fn paths_of<'a>(task: &Task<'a>) -> (Option<&'a str>, Option<&'a str>) {
         Task::Projects(ballots, _)
         | Task::Voters(ballots, _)
         | Task::Export(ballots, _)
-        | Task::Page(ballots, ..) => (
-            ballots.file.path(),
-            ballots.journal_path(),
-        ),
+        | Task::Page(ballots, ..) => (ballots.file.path(), ballots.journal_path()),
         Task::Desk(file, script, ..) => (file.path(), script.path()),
         Task::Audit(file, journal, ..) => (file.path(), journal.path()),
         Task::Serve(file, journal) => (Some(*file), Some(*journal)),
@@ -162,6 +159,11 @@ pub(crate) fn say_faults<R: Files + Eprint + AllocGlobal>(
         let (file, _) = paths_of(task);
         say_words(rt, list_words(rt, rt.alloc(), file, faults));
     }
+}
+
+/// Whether what is written are entries of a journal, of which it is said how many they are.
+pub(crate) fn writes_entries(task: &Task<'_>) -> bool {
+    matches!(task, Task::Desk(..) | Task::Serve(..))
 }
 
 /// Says how many requests were done and refused, where a journal was written or audited.
