@@ -24,7 +24,7 @@ use std::alloc::Allocator;
 use std::mem::swap;
 use std::thread::{self, Threads};
 
-/// The most jumps after one group, which no count comes near: each second one at least goes further than all before it.
+/// The most jumps after one group, so that the loop ends; a count that reaches it goes on with the next group.
 const MOST_JUMPS: u32 = 1_000;
 
 /// Raises that are tried side by side, from this number of raises on.
