@@ -6,8 +6,9 @@
     tools/book.py --count    print the lines of each crate's definitions, and of all
     tools/book.py --check    fail where docs/what-to-believe.md lacks a word that a public contract reaches,
                              names one that none reaches, or states another number of lines, and where a
-                             contract names a word or a type of this repository that is not found, and where
-                             a step of the shared desk is not of its form (tools/steps.py)
+                             contract names a word or a type of this repository that is not found, where a
+                             word of specs/ is not reached or one of specs/Inner/ is, and where a step of the
+                             shared desk is not of its form (tools/steps.py)
 
 A public contract is that of a function that another crate (or `main`, in the program's crate) can call. A word
 is reached when such a contract, the model of a public type, or a reached definition names it; and so are the rules
@@ -490,6 +491,10 @@ def check(crates, book):
         ):
             words = {d.name for d in part.values() if d.crate == crate}
             wrong += compare(crate, what, words, words_named(listed))
+        for (file, _), one in book.definitions[crate].items():
+            is_reached = one.key() in reached or one.key() in book.computing
+            if WORD.match(one.name) and is_reached == file.startswith("Inner."):
+                wrong.append(f"{crate}: `{one.name}` stands in specs/{file.replace('.', '/')}, and is {'' if is_reached else 'not '}believed")
     total = sum(lines_of(reached, crate) for crate in crates)
     if f"**{total} lines**" not in text:
         wrong.append(f"the definitions have {total} lines, and the page doesn't say so")

@@ -2,6 +2,7 @@
 
 use crate::paced::{AtHand, Paced};
 use crate::perform::{Refusal, open};
+use crate::words;
 use pb_commands::AppFault;
 use pb_core::election::Election;
 use pb_durable::file_device::{FileDevice, FileFault, fault_of, keep_beside};
@@ -23,7 +24,7 @@ struct TornFile<'a, R> {
     failure: &'a Cell<Option<Error>>,
 }
 
-impl<R: Files<File = File> + AllocGlobal> Beside for TornFile<'_, R> {
+impl<R: Files<File = File> + Eprint + AllocGlobal> Beside for TornFile<'_, R> {
     ghost use Rattle.std.specs.Prelude.{[]};
 
     ghost tells = { ⊥ };
@@ -33,6 +34,9 @@ impl<R: Files<File = File> + AllocGlobal> Beside for TornFile<'_, R> {
     fn keep(&mut self, bytes: &[u8]) -> Result<(), DeviceFault> {
         let path = format!(in self.rt.alloc(); "{}.torn", self.journal)?;
         let kept = keep_beside(self.rt, self.journal, path.as_str(), bytes);
+        if kept.is_ok() {
+            words::say_torn(self.rt, path.as_str(), bytes.len());
+        }
         drop(path);
         match kept {
             Ok(()) => Ok(()),
@@ -53,7 +57,7 @@ pub(crate) fn serve<R, W: Write>(
     writer: &mut W,
 ) -> Result<(), Refusal>
 where
-    R: Files<File = File> + Input + AllocGlobal,
+    R: Files<File = File> + Input + Eprint + AllocGlobal,
 {
     let election = match read_pb(rt.alloc(), open(rt, file, 1)?) {
         Ok(election) => election,

@@ -12,7 +12,8 @@ use pb_words::journal_words::seen_words;
 use pb_words::read_words::{list_words, read_words};
 use pb_words::script_words::script_words;
 use pb_words::serve_words::{
-    bad_rows_words, locked_words, spelling_words, unanswered_words, unkept_words, unopened_words,
+    bad_rows_words, locked_words, spelling_words, torn_words, unanswered_words, unkept_words,
+    unopened_words,
 };
 use pb_words::{Tally, mistaken_words, open_words, write_words};
 use std::alloc::{AllocError, Global};
@@ -62,7 +63,7 @@ pub(crate) fn say_refusal<R: Files + Eprint + AllocGlobal>(
 
 /// Words where a desk does not stand on its journal, or has not taken each row.
 fn words_of_serve(alloc: Global, task: &Task<'_>, refusal: &Refusal) -> Result<String, AllocError> {
-    let (_, second) = paths_of(task);
+    let (_, second) = task.paths();
     let path = second.unwrap_or("-");
     match refusal {
         Refusal::Locked => locked_words(alloc, path),
@@ -89,7 +90,7 @@ fn words_of<R: Files + AllocGlobal>(
     audited: &Tally,
 ) -> Result<String, AllocError> {
     let alloc = rt.alloc();
-    let (first, second) = paths_of(&asked.task);
+    let (first, second) = asked.task.paths();
     match fault {
         AppFault::Read(fault) => read_words(rt, alloc, first, fault),
         AppFault::Script(fault) if is_serve(&asked.task) => {
@@ -105,20 +106,6 @@ fn words_of<R: Files + AllocGlobal>(
         AppFault::Open(_) => open_words(rt, alloc, second.unwrap_or("-")),
         AppFault::Write => write_words(alloc, asked.output, failure),
         AppFault::OpenDesk | AppFault::Export(_) | AppFault::Memory => Err(AllocError),
-    }
-}
-
-/// The paths of the texts that are read; standard input has none.
-fn paths_of<'a>(task: &Task<'a>) -> (Option<&'a str>, Option<&'a str>) {
-    match task {
-        Task::Count(file, _) | Task::Check(file) => (file.path(), None),
-        Task::Projects(ballots, _)
-        | Task::Voters(ballots, _)
-        | Task::Export(ballots, _)
-        | Task::Page(ballots, ..) => (ballots.file.path(), ballots.journal_path()),
-        Task::Desk(file, script, ..) => (file.path(), script.path()),
-        Task::Audit(file, journal, ..) => (file.path(), journal.path()),
-        Task::Serve(file, journal) => (Some(*file), Some(*journal)),
     }
 }
 
@@ -156,7 +143,7 @@ pub(crate) fn say_faults<R: Files + Eprint + AllocGlobal>(
     faults: &[ReadFault],
 ) {
     if !faults.is_empty() {
-        let (file, _) = paths_of(task);
+        let (file, _) = task.paths();
         say_words(rt, list_words(rt, rt.alloc(), file, faults));
     }
 }
@@ -202,6 +189,13 @@ pub(crate) fn say_mistaken<R: Files + Eprint + AllocGlobal>(rt: &R, arguments: &
             say_words(rt, mistaken_words(rt.alloc(), path.as_str()))
         }
         _ => {}
+    }
+}
+
+/// Says that so many bytes behind a journal's text are kept in this file.
+pub(crate) fn say_torn<R: Eprint + AllocGlobal>(rt: &R, path: &str, bytes: usize) {
+    if bytes > 0 {
+        say_words(rt, torn_words(rt.alloc(), path, bytes));
     }
 }
 

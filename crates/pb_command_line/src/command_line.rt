@@ -24,7 +24,7 @@ Examples:
   pb_app check city.pb
   pb_app count city.pb
   pb_app count city.pb --step 1000 --output city.report
-  pb_app desk city.pb requests.script --clerks 2 --output city.journal
+  pb_app desk city.pb requests.script --clerks 2 --output trial.journal
   pb_app audit city.pb city.journal --require-shut
   pb_app serve city.pb city.journal < requests.script
 
@@ -255,7 +255,7 @@ const COMMANDS: &[CommandForm] = &[
     },
     CommandForm {
         name: "export",
-        about: "Counts a .pb file, and prints it as a .pb file with the result, which is read back the same",
+        about: "Counts a .pb file, and prints the ballots with the result as a .pb file, which counts the same",
         arguments: &[
             ELECTION, LEFT_BY, WORKERS, STEP, RAISES, PLAIN, MEASURE, OUTPUT, QUIET, PROGRESS,
         ],

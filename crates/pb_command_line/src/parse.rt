@@ -34,10 +34,13 @@ pub fn parse<'a, R: Print + Eprint>(
             if let Some(name) = needs_path(&asked.task) {
                 return Ok(Parsed::Ends(refuse_input(rt, name)));
             }
-            match read_twice(&asked.task) {
-                Some(name) => Ok(Parsed::Ends(refuse_twice(rt, name))),
-                None => Ok(Parsed::Asks(asked)),
+            if let Some(name) = read_twice(&asked.task) {
+                return Ok(Parsed::Ends(refuse_twice(rt, name)));
             }
+            if replaces_what_it_reads(&asked) {
+                return Ok(Parsed::Ends(refuse_output(rt)));
+            }
+            Ok(Parsed::Asks(asked))
         }
         Err(error) => {
             let end = refused(rt, &error);
@@ -55,9 +58,7 @@ fn read_twice(task: &Task<'_>) -> Option<&'static str> {
         Task::Projects(ballots, _)
         | Task::Voters(ballots, _)
         | Task::Export(ballots, _)
-        | Task::Page(ballots, ..) => {
-            ballots_read_twice(ballots)
-        }
+        | Task::Page(ballots, ..) => { ballots_read_twice(ballots) }
         _ => None,
     }
 }
@@ -68,6 +69,12 @@ fn ballots_read_twice(ballots: &Ballots<'_>) -> Option<&'static str> {
         (Source::Input, Some(Source::Input)) => Some("JOURNAL"),
         _ => None,
     }
+}
+
+/// Whether the result would go to a file that is read for it, by the same path.
+fn replaces_what_it_reads(asked: &Asked<'_>) -> bool {
+    let (first, second) = asked.task.paths();
+    asked.output.is_some() && (asked.output == first || asked.output == second)
 }
 
 /// The argument that is standard input where the requests stand there, if it is.
@@ -92,6 +99,12 @@ fn refuse_twice<R: Eprint>(rt: &R, name: &str) -> u8 {
     let _ = eprintln!(rt;
         "error: FILE and {name} are both standard input (-), which can be read once"
     );
+    BAD_ARGUMENTS
+}
+
+/// Refuses arguments by which the result would replace a file that is read.
+fn refuse_output<R: Eprint>(rt: &R) -> u8 {
+    let _ = eprintln!(rt; "error: --output would replace a file that is read: name another one");
     BAD_ARGUMENTS
 }
 

@@ -63,6 +63,22 @@ pub enum Task<'a> {
     Serve(&'a str, &'a str),
 }
 
+impl<'a> Task<'a> {
+    /// The paths of the texts that are read; standard input has none.
+    pub fn paths(&self) -> (Option<&'a str>, Option<&'a str>) {
+        match *self {
+            Task::Count(file, _) | Task::Check(file) => (file.path(), None),
+            Task::Projects(ballots, _)
+            | Task::Voters(ballots, _)
+            | Task::Export(ballots, _)
+            | Task::Page(ballots, ..) => (ballots.file.path(), ballots.journal_path()),
+            Task::Desk(file, script, ..) => (file.path(), script.path()),
+            Task::Audit(file, journal, ..) => (file.path(), journal.path()),
+            Task::Serve(file, journal) => (Some(file), Some(journal)),
+        }
+    }
+}
+
 /// What is asked of an audit beside its report.
 #[derive(Clone, Copy)]
 pub struct AuditWish {

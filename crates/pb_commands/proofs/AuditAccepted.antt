@@ -23,7 +23,8 @@ use Rattle.pb_rows.specs.Numbers.{AreNumbers}
 use Rattle.pb_rows.specs.Reading.{records_of}
 use Rattle.pb_rows.specs.Writing.{text_of_row}
 use Rattle.pb_script.specs.Serving.{program_room}
-use Rattle.pb_commands.specs.Audited.{AuditWrites, IsDeskOf, IsRefusedDesk, IsTextOf, entries_row}
+use Rattle.pb_commands.specs.Audited.{AuditWrites, IsDeskOf, IsTextOf, entries_row}
+use Rattle.pb_commands.specs.Inner.Audited.{IsRefusedDesk}
 use Rattle.pb_commands.specs.Counted.{IsReportOf}
 use Rattle.pb_commands.specs.Ends.{Accepts, IfBothKnown, IsFromOutside}
 use Rattle.pb_commands.specs.Fault.{merged}

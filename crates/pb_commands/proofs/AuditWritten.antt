@@ -17,7 +17,8 @@ use Rattle.pb_rounds.specs.declared.count_fault.CountFault.TheVariants as count
 use Rattle.pb_rounds.specs.declared.options.CountOptions.{CountOptions}
 use Rattle.pb_rows.specs.Reading.{records_of}
 use Rattle.pb_script.specs.Serving.{program_room}
-use Rattle.pb_commands.specs.Audited.{AuditRefuses, AuditWrites, IsDeskOf, IsRefusedDesk, IsTextOf}
+use Rattle.pb_commands.specs.Audited.{AuditRefuses, AuditWrites, IsDeskOf, IsTextOf}
+use Rattle.pb_commands.specs.Inner.Audited.{IsRefusedDesk}
 use Rattle.pb_commands.specs.Ends.{FailsBy, HasWritten, IfBothKnown, JudgesFile}
 use Rattle.pb_commands.specs.Fault.{merged}
 use Rattle.pb_commands.specs.declared.fault.AppFault.{AppFault}

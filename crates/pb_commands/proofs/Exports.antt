@@ -21,7 +21,7 @@ use Rattle.pb_commands.proofs.ClosedDesks.{Bars, Fails, one_left}
 use Rattle.pb_commands.specs.Closed.{ClosedRefuses, Leaves}
 use Rattle.pb_commands.specs.Ends.{Accepts, FailsBy, HasWritten, IfBothKnown, IsFromOutside}
 use Rattle.pb_commands.specs.Exported.{ClosedExportRefuses, ExportWrites, IsExportOf}
-use Rattle.pb_commands.specs.Exporting.{IsStopped}
+use Rattle.pb_commands.specs.Inner.Exporting.{IsStopped}
 use Rattle.pb_commands.specs.Fault.{merged}
 use Rattle.pb_commands.specs.declared.fault.AppFault.{AppFault}
 use Rattle.pb_commands.specs.declared.fault.AppFault.TheVariants.{Read, Script, ClerkCount, Audit, OpenDesk, Count, Export, Open, Write, Memory}

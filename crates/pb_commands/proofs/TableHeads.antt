@@ -4,7 +4,7 @@ use Rattle.csv.specs.Writing.{escaped, fields_text, is_blank}
 use Rattle.pb_rows.proofs.RowsText.{text_of_rows-cons}
 use Rattle.pb_rows.specs.Reading.{Fields}
 use Rattle.pb_rows.specs.Writing.{text_of_row, text_of_rows}
-use Rattle.pb_commands.specs.Tables.{project_columns, voter_columns}
+use Rattle.pb_commands.specs.Inner.Tables.{project_columns, voter_columns}
 
 pub projects_head : (rows : List Fields) → text_of_rows (project_columns ∷ rows)
     ≡ codes "place;project_id;name;cost;votes;round;price;collected;in_full;left;missing\n" ++ text_of_rows rows

@@ -1,13 +1,11 @@
 -- What a run of `audit` writes, and what it refuses.
-use Rattle.std.specs.Prelude.{◌≡◌, ℕ, ◌++◌, ⊤, MatchBool, List, [], ◌∷◌, true, codes, decimal, length, if◌then◌else◌}
+use Rattle.std.specs.Prelude.{◌≡◌, ℕ, ◌++◌, MatchBool, List, [], ◌∷◌, true, codes, decimal, length, if◌then◌else◌}
 use Rattle.pb_core.specs.Election.{ElectionView}
 use Rattle.pb_desk.specs.Audit.{IsFaultOfJournal, IsSound}
 use Rattle.pb_desk.specs.Desk.{DeskView, closed_election, standing_of}
 use Rattle.pb_desk.specs.Rows.{rows_of}
 use Rattle.pb_read.specs.StandsFor.{StandsFor}
 use Rattle.pb_rounds.specs.Counted.{IsCountFault}
-use Rattle.pb_rounds.specs.declared.count_fault.CountFault.{CountFault}
-use Rattle.pb_rounds.specs.declared.count_fault.CountFault.TheVariants.{NoMemory}
 use Rattle.pb_rounds.specs.declared.options.CountOptions.{CountOptions}
 use Rattle.pb_rows.specs.Reading.{Fields, records_of}
 use Rattle.pb_rows.specs.Writing.{text_of_row}
@@ -50,9 +48,3 @@ AuditRefuses bytes rows options e (Count fault) =
     (d : DeskView) × IsDeskOf bytes rows d × ((standing_of d).is_shut ≡ true)
     × IsCountFault (closed_election d) options fault
 AuditRefuses bytes rows options e fault = ⊥
-
--- the desk is shut, and the count of the ballots that its journal leaves is refused; or memory is
-abbrev pub IsRefusedDesk : DeskView → CountOptions → CountFault → Type 0
-IsRefusedDesk d options NoMemory = ⊤
-IsRefusedDesk d options fault =
-    ((standing_of d).is_shut ≡ true) × IsCountFault (closed_election d) options fault

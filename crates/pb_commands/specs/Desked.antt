@@ -4,9 +4,7 @@ use Rattle.pb_core.specs.Election.{ElectionView}
 use Rattle.pb_read.specs.StandsFor.{StandsFor}
 use Rattle.pb_rows.specs.Reading.{records_of}
 use Rattle.pb_script.specs.Served.{IsServeFault, IsServed}
-use Rattle.pb_script.specs.declared.serve_fault.ServeFault.{ServeFault}
 use Rattle.pb_script.specs.declared.serve_fault.ServeFault.TheVariants as serve
-use Rattle.pb_commands.specs.Fault.{merged}
 use Rattle.pb_commands.specs.declared.fault.AppFault.{AppFault}
 use Rattle.pb_commands.specs.declared.fault.AppFault.TheVariants.{Script, ClerkCount}
 
@@ -21,8 +19,3 @@ abbrev pub DeskRefuses : List ℕ → ℕ → ElectionView → AppFault → Type
 DeskRefuses rows clerks e (Script fault) = IsServeFault clerks (records_of rows) (serve.Script fault)
 DeskRefuses rows clerks e ClerkCount = IsServeFault clerks (records_of rows) serve.ClerkCount
 DeskRefuses rows clerks e fault = ⊥
-
--- a script that is not served, as a run answers it
-abbrev pub unserved : ServeFault → AppFault
-unserved (serve.Script fault) = merged (Script fault)
-unserved serve.ClerkCount = ClerkCount

@@ -9,4 +9,4 @@ pub mod Desked
 pub mod Checked
 pub mod Closed
 pub mod Exported
-pub mod Exporting
+pub mod Inner

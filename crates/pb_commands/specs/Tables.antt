@@ -15,12 +15,6 @@ use Rattle.pb_commands.specs.Report.{id_at}
 use Rattle.pb_commands.specs.declared.table.Table.{Table}
 use Rattle.pb_commands.specs.declared.table.Table.TheVariants.{Projects, Voters}
 
--- the columns of projects; private contracts speak of them
-abbrev pub project_columns : Fields
-project_columns =
-    codes "place" ∷ codes "project_id" ∷ codes "name" ∷ codes "cost" ∷ codes "votes" ∷ codes "round"
-    ∷ codes "price" ∷ codes "collected" ∷ codes "in_full" ∷ codes "left" ∷ codes "missing" ∷ []
-
 -- the name of the project at this place
 abbrev pub name_at : ElectionView → ℕ → List ℕ
 name_at e place = slice_index_or (map (λ p. p.name) e.projects) place []
@@ -36,11 +30,6 @@ abbrev pub project_row : ElectionView → Settled → ℕ → Fields
 project_row e o place =
     decimal place ∷ id_at e place ∷ name_at e place ∷ money_text (cost_at (support_of e) place)
     ∷ decimal (project_reason e o place).votes ∷ ending_fields (project_reason e o place).ending
-
--- the columns of voters; private contracts speak of them
-abbrev pub voter_columns : Fields
-voter_columns =
-    codes "voter_id" ∷ codes "votes" ∷ codes "elected" ∷ codes "paid" ∷ codes "left" ∷ codes "payments" ∷ []
 
 -- payments as text: each a place, `:` and an amount, with `,` between two
 abbrev pub payments_text : List Payment → List ℕ

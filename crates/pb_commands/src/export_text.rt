@@ -3,7 +3,7 @@
 ghost use Rattle.std.specs.Prelude.{◌≡◌, ◌++◌, IfErr, IfOk, OnOk, string_bytes};
 ghost use Rattle.pb_reasons.specs.Reasons.{AreReasons, CanBeTold};
 ghost use Rattle.pb_rounds.specs.Outcome.{settled};
-ghost use Rattle.pb_commands.specs.Exporting.{IsStopped};
+ghost use Rattle.pb_commands.specs.Inner.Exporting.{IsStopped};
 ghost use Rattle.pb_commands.specs.Exported.{IsExportOf, completion_text, is_won, rule_text, selected_of, votes_of};
 ghost use Rattle.pb_commands.specs.Fault.{merged};
 

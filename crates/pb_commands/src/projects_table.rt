@@ -7,7 +7,8 @@ ghost use Rattle.pb_rounds.specs.Outcome.{settled};
 ghost use Rattle.pb_rows.specs.Reading.{Fields};
 ghost use Rattle.pb_rows.specs.Writing.{text_of_row, text_of_rows};
 ghost use Rattle.pb_reasons.specs.Reasons.{AreReasons, CanBeTold};
-ghost use Rattle.pb_commands.specs.Tables.{ending_fields, project_columns, project_row};
+ghost use Rattle.pb_commands.specs.Tables.{ending_fields, project_row};
+ghost use Rattle.pb_commands.specs.Inner.Tables.{project_columns};
 
 use itoa::Buffer;
 use pb_core::election::Election;

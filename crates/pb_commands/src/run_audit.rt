@@ -3,7 +3,8 @@
 ghost use Rattle.std.specs.Prelude.{◌≡◌, ◌≢◌, ◌++◌, ℕ, List, IfErr, IfOk, IfSome, OnOk, codes, if◌then◌else◌, true};
 ghost use Rattle.pb_desk.specs.Desk.{closed_election, standing_of};
 ghost use Rattle.pb_rows.specs.Writing.{text_of_row};
-ghost use Rattle.pb_commands.specs.Audited.{AuditRefuses, AuditWrites, IsRefusedDesk, IsTextOf, entries_row};
+ghost use Rattle.pb_commands.specs.Audited.{AuditRefuses, AuditWrites, IsTextOf, entries_row};
+ghost use Rattle.pb_commands.specs.Inner.Audited.{IsRefusedDesk};
 ghost use Rattle.pb_commands.specs.Counted.{IsReportOf};
 ghost use Rattle.pb_commands.specs.Ends.{Accepts, FailsBy, HasWritten, IfBothKnown, JudgesFile};
 ghost use Rattle.pb_commands.specs.Fault.{merged};

@@ -4,7 +4,8 @@ ghost use Rattle.std.specs.Prelude.{◌≡◌, ◌≢◌, ◌++◌, ℕ, List, I
 ghost use Rattle.pb_rows.specs.Reading.{records_of};
 ghost use Rattle.pb_rows.specs.Writing.{text_of_row, text_of_rows};
 ghost use Rattle.pb_read.specs.Listed.{AreListed};
-ghost use Rattle.pb_commands.specs.Checked.{IsTextOfCheck, fault_row, warning_row};
+ghost use Rattle.pb_commands.specs.Checked.{IsTextOfCheck, fault_row};
+ghost use Rattle.pb_commands.specs.Inner.Checked.{warning_row};
 ghost use Rattle.pb_commands.specs.Ends.{HasWritten, IsFromOutside};
 
 use crate::fault::AppFault;

@@ -5,7 +5,8 @@ ghost use Rattle.std.specs.List.{range_with_len};
 ghost use Rattle.pb_rounds.specs.Outcome.{settled};
 ghost use Rattle.pb_rows.specs.Writing.{text_of_row, text_of_rows};
 ghost use Rattle.pb_reasons.specs.Reasons.{AreReasons, CanBeTold};
-ghost use Rattle.pb_commands.specs.Tables.{payments_text, reason_fields, voter_columns, voter_row};
+ghost use Rattle.pb_commands.specs.Tables.{payments_text, reason_fields, voter_row};
+ghost use Rattle.pb_commands.specs.Inner.Tables.{voter_columns};
 
 use itoa::Buffer;
 use pb_core::election::Election;

@@ -12,7 +12,7 @@ use Rattle.pb_core.specs.Election.{ElectionView, VoterView, AreDistinct, IsElect
 use Rattle.pb_core.specs.Request.{EntryView}
 use Rattle.pb_desk.specs.Desk.{AreKnown, IsStanding}
 use Rattle.pb_desk.specs.Replay.{ballots_of, opened}
-use Rattle.pb_desk.specs.Sources.{ballots_at, found_at, opened_from, AreFound, AreSources, IsInOrder}
+use Rattle.pb_desk.specs.Inner.Sources.{ballots_at, found_at, opened_from, AreFound, AreSources, IsInOrder}
 use Rattle.pb_desk.specs.declared.source.Source.{Source}
 use Rattle.pb_desk.specs.declared.source.Source.TheVariants.{Opening}
 use Rattle.pb_desk.proofs.Sources.{ballot_is, found_is}

@@ -12,9 +12,9 @@ use Rattle.std.proofs.lemmas.List.Elements.{filter_map-append}
 use Rattle.std.proofs.lemmas.Map.{NonePasses, lookup-none}
 use Rattle.std.proofs.lemmas.Option.{none-some, same_Some, slice_get_read, slice_get_within}
 use Rattle.std.proofs.lemmas.Slice.Eq.{bytes_eq-Decides}
-use Rattle.pb_ids.specs.Places.{Places, get_inserted}
+use Rattle.pb_ids.specs.Inner.Places.{Places, get_inserted}
 use Rattle.pb_desk.specs.declared.source.Source.{Source}
-use Rattle.pb_desk.specs.Slots.{filed, IsListing}
+use Rattle.pb_desk.specs.Inner.Slots.{filed, IsListing}
 use Rattle.pb_desk.proofs.Ballots.{set_value-absent}
 use Rattle.pb_desk.proofs.Places.{get-drop, get-push_cases, get-set_here, get-set_other}
 

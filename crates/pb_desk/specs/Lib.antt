@@ -6,11 +6,8 @@ pub mod Standing
 pub mod StartFault
 pub mod Step
 pub mod WriteFault
-pub mod RowReading
 pub mod Audit
 pub mod AuditFault
-pub mod AuditSteps
 pub mod IntoFault
 pub mod Opening
-pub mod Slots
-pub mod Sources
+pub mod Inner

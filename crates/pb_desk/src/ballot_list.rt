@@ -6,8 +6,8 @@ ghost use Rattle.std.specs.Map.{lookup, remove_entry, set_value};
 ghost use Rattle.std.specs.Str.{bytes_eq};
 ghost use Rattle.pb_core.specs.Election.{most_voters, AreDistinct};
 ghost use Rattle.pb_core.specs.Request.{asked};
-ghost use Rattle.pb_desk.specs.Slots.{filed};
-ghost use Rattle.pb_desk.specs.Sources.{filed_under, opened_from, HasNewVoter};
+ghost use Rattle.pb_desk.specs.Inner.Slots.{filed};
+ghost use Rattle.pb_desk.specs.Inner.Sources.{filed_under, opened_from, HasNewVoter};
 
 use crate::source::Source;
 use pb_core::no_memory::NoMemory;
@@ -34,7 +34,7 @@ pub(crate) struct BallotList<A: Allocator> {
 impl<A: Allocator> Model for BallotList<A> {
     ghost use Rattle.std.specs.Prelude.{ℕ, List};
     ghost use Rattle.std.specs.FinMap as map;
-    ghost use Rattle.pb_desk.specs.Slots.{filed, IsListing};
+    ghost use Rattle.pb_desk.specs.Inner.Slots.{filed, IsListing};
     ghost use Rattle.pb_desk.specs.declared.source.Source.{Source};
 
     ghost Value = { List (List ℕ × Source) };

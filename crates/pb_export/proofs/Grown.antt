@@ -7,7 +7,7 @@ use Rattle.pb_rows.specs.Reading.{Fields}
 use Rattle.pb_rows.specs.Writing.{text_of_row, text_of_rows}
 use Rattle.pb_rows.proofs.RowsText.{text_of_rows-nil, text_of_rows-cons, text_of_rows-append}
 use Rattle.pb_read.proofs.ListFacts.{AllByRecursion-append}
-use Rattle.pb_export.specs.Growing.{Grows}
+use Rattle.pb_export.specs.Inner.Growing.{Grows}
 use Rattle.pb_export.specs.FileRows.{project_row, projects_from}
 
 -- a text to which no row was added

@@ -12,7 +12,7 @@ use Rattle.pb_core.specs.Ballot.{IsBallot}
 use Rattle.pb_core.specs.Election.{AreDistinct}
 use Rattle.pb_read.proofs.Ballots.{ballot_is}
 use Rattle.pb_read.proofs.ListFacts.{is_among-Contains}
-use Rattle.pb_read.specs.Machine.{places_in}
+use Rattle.pb_read.specs.Inner.Machine.{places_in}
 use Rattle.pb_read.specs.Rows.{is_empty}
 use Rattle.pb_read.specs.Voting.{ballot_of, is_among, names_only, pieces_of}
 use Rattle.pb_export.specs.Export.{has_comma}

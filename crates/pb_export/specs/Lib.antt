@@ -1,4 +1,4 @@
 pub mod Export
 pub mod FileRows
-pub mod Growing
 pub mod ExportFault
+pub mod Inner

@@ -7,7 +7,7 @@ ghost use Rattle.pb_read.specs.StandsFor.{StandsFor};
 ghost use Rattle.pb_rows.specs.Reading.{records_of};
 ghost use Rattle.pb_rows.specs.Writing.{text_of_row, text_of_rows};
 ghost use Rattle.pb_export.specs.Export.{CanBeWritten, IsExportFault};
-ghost use Rattle.pb_export.specs.Growing.{Grows};
+ghost use Rattle.pb_export.specs.Inner.Growing.{Grows};
 ghost use Rattle.pb_export.specs.FileRows.{file_rows, limit_rows, meta_rows, project_row, projects_rows, vote_text, votes_rows};
 
 use crate::export_fault::ExportFault;

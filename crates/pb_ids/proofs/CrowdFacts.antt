@@ -1,8 +1,8 @@
 -- How many entries a table has that is counted.
 use Rattle.std.proofs.Common.{ℕ, ◌/◌, ◌^◌, ◌<◌, ◌≤◌, arith}
 use Rattle.std.proofs.Math.Pow.{pow_mono}
-use Rattle.pb_ids.specs.Crowd.{IsTable}
-use Rattle.pb_ids.specs.Kept.{most_hashed}
+use Rattle.pb_ids.specs.Inner.Crowd.{IsTable}
+use Rattle.pb_ids.specs.Inner.Kept.{most_hashed}
 
 pub few_entries : (bits len : ℕ) → IsTable bits len → len < most_hashed
 few_entries bits len table =

@@ -3,7 +3,7 @@ use Rattle.std.proofs.Common.{◌≡◌, ℕ, List, Option, Some, None, Result, 
 use Rattle.std.specs.FinMap.{empty, get, insert}
 use Rattle.std.specs.Prelude.{OnErr, OnOk}
 use Rattle.std.specs.Str.{bytes_eq}
-use Rattle.pb_ids.specs.Places.{Places, Shows, get_inserted, get_none, same_places}
+use Rattle.pb_ids.specs.Inner.Places.{Places, Shows, get_inserted, get_none, same_places}
 
 pub shows_none : {found : List ℕ → Option ℕ} → ((text : List ℕ) → found text ≡ None) → Shows found
 shows_none none = (empty, λ text. get_none text ∙ sym (none text))

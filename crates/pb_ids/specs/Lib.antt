@@ -1,3 +1,1 @@
-pub mod Crowd
-pub mod Kept
-pub mod Places
+pub mod Inner

@@ -1,8 +1,8 @@
 // How crowded the places of a hash table are.
 
 ghost use Rattle.std.specs.Prelude.{◌≡◌, ◌<◌, ◌≤◌, ℕ, true, IfOk, MatchOption};
-ghost use Rattle.pb_ids.specs.Crowd.{IsTable, has_lane, region_of};
-ghost use Rattle.pb_ids.specs.Kept.{most_hashed};
+ghost use Rattle.pb_ids.specs.Inner.Crowd.{IsTable, has_lane, region_of};
+ghost use Rattle.pb_ids.specs.Inner.Kept.{most_hashed};
 
 use std::alloc::{AllocError, Allocator};
 

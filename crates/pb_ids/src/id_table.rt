@@ -2,8 +2,8 @@
 
 ghost use Rattle.std.specs.Prelude.{◌≡◌, IfOk, OnErr, OnOk};
 ghost use Rattle.std.specs.FinMap as map;
-ghost use Rattle.pb_ids.specs.Kept.{IsFew, found};
-ghost use Rattle.pb_ids.specs.Places.{Shows, Shows-prop};
+ghost use Rattle.pb_ids.specs.Inner.Kept.{IsFew, found};
+ghost use Rattle.pb_ids.specs.Inner.Places.{Shows, Shows-prop};
 
 use crate::kept_ids::KeptIds;
 use std::alloc::{AllocError, Allocator, Global};

@@ -2,7 +2,7 @@
 
 ghost use Rattle.std.specs.Prelude.{◌≡◌, List, ℕ, None, Some, IfOk, OnErr, OnOk, if◌then◌else◌};
 ghost use Rattle.std.specs.Str.{bytes_eq};
-ghost use Rattle.pb_ids.specs.Kept.{IsFew, code_of, found, has_code, hashed};
+ghost use Rattle.pb_ids.specs.Inner.Kept.{IsFew, code_of, found, has_code, hashed};
 
 use crate::crowd::{Crowd, start_of};
 use indexmap::IndexMap;

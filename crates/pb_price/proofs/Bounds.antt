@@ -1,7 +1,7 @@
 -- A lower bound of a price, and the next one.
 use Rattle.std.proofs.Common.{◌≡◌, ℕ, ◌+◌, ◌-◌, ◌/◌, ◌%◌, ◌<◌, ◌≤◌, min, List, length, Option, Some, None, refl, sym, subst, ◌∙◌, ap, inl, inr, arith}
 use Rattle.std.proofs.lemmas.Bool.{cases_lt}
-use Rattle.pb_price.specs.Payment.{payers_above}
+use Rattle.pb_price.specs.Inner.Payment.{payers_above}
 use Rattle.pb_price.specs.Price.{paid_at, price_of, total_rest, IsPrice}
 use Rattle.pb_price.proofs.Payments.{collected_below, least_from_price, no_price_from_short, paid_at-le-total_rest, paid_at_rises, price_of_is_price, short_from_no_price}
 use Rattle.pb_price.proofs.PriceSteps.{above_pays, all_paid, part-le, part-positive, starts_below, steps_below}

@@ -10,7 +10,8 @@ use mathlib.Core.Option.{none, some, some-injective, some-ne-none}
 use lib.ListN.{get_elem?}
 use Rattle.atomic_table.proofs.Lists.{at_set, at_snoc}
 use Rattle.atomic_table.specs.Table.{State, Me, step, stepped, keeps, Allows, Final, Joins, Seen, Splits}
-use Rattle.pb_price.specs.Claims.{drawn, draws, joined, one_seat, past_end, rest_of_seats, spent, AreBelowOnce, AreClaims, IsView}
+use Rattle.pb_price.specs.Claims.{AreClaims, IsView}
+use Rattle.pb_price.specs.Inner.Claims.{drawn, draws, joined, one_seat, past_end, rest_of_seats, spent, AreBelowOnce}
 use Rattle.pb_price.specs.declared.claims.drawn.Drawn.{Drawn}
 use Rattle.pb_price.proofs.BuiltLists.{range_with_len_more}
 

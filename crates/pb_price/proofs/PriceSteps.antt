@@ -5,7 +5,7 @@ use Rattle.std.specs.Prelude.{nat_lt, slice_index}
 use Rattle.std.proofs.lemmas.Bool.{cases_lt, lt-ltb, le-ltb}
 use Rattle.std.proofs.lemmas.Grind.{div_ceil_times}
 use Rattle.std.proofs.lemmas.List.Sums.{sum_by-cons, sum_by-le, count_by-le-length}
-use Rattle.pb_price.specs.Payment.{payers_above}
+use Rattle.pb_price.specs.Inner.Payment.{payers_above}
 use Rattle.pb_price.specs.Price.{paid_at, total_rest}
 use Rattle.pb_price.proofs.Payments.{paid_at_rises, pays_all_or_one}
 

@@ -8,7 +8,7 @@ use Rattle.std.proofs.lemmas.Grind.{div_ceil_times}
 use Rattle.std.proofs.lemmas.List.{map_more}
 use Rattle.std.proofs.lemmas.List.Sums.{sum_by-cons, sum_by_more, sum_by_push, sum-map}
 use Rattle.std.proofs.lemmas.List.Sorted.{sum_by-IsPermutation, IsNonDecreasingBy-from_sort}
-use Rattle.pb_price.specs.Payment.{paid_from, IsLeastFrom}
+use Rattle.pb_price.specs.Inner.Payment.{paid_from, IsLeastFrom}
 use Rattle.pb_price.specs.Price.{paid_at, total_rest, IsLeastPayment}
 
 -- where everybody has p, each pays p

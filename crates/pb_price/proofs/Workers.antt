@@ -7,10 +7,10 @@ use Rattle.std.proofs.lemmas.List.{ext_get_or, get_or-map, get_or-set_other, get
 use Rattle.std.proofs.lemmas.List.Elements.{All-append, All-tail}
 use Rattle.std.proofs.lemmas.List.Sums.{sum_by-cons, sum_by-append, sum_by_push}
 use Rattle.pb_core.specs.Election.{most_projects}
-use Rattle.pb_price.specs.Claims.{all_joined, drawn, joined, past_end, AreBelowOnce}
+use Rattle.pb_price.specs.Inner.Claims.{all_joined, drawn, joined, past_end, AreBelowOnce}
 use Rattle.pb_price.specs.Price.{price_at}
 use Rattle.pb_price.specs.Supporters.{SupportView}
-use Rattle.pb_price.specs.Working.{drawn_pieces, gathered, placed, times, AreGathered, IsAnswer, IsDone, IsWorking}
+use Rattle.pb_price.specs.Inner.Working.{drawn_pieces, gathered, placed, times, AreGathered, IsAnswer, IsDone, IsWorking}
 use Rattle.pb_price.specs.declared.answer.Answer.{Answer}
 use Rattle.pb_price.specs.declared.claims.drawn.Drawn.{Drawn}
 use Rattle.pb_price.proofs.ClaimSteps.{past_range, weight_more}

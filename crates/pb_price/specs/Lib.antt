@@ -1,7 +1,5 @@
 pub mod Claims
-pub mod Lists
-pub mod Payment
 pub mod Price
 pub mod PriceFault
 pub mod Supporters
-pub mod Working
+pub mod Inner

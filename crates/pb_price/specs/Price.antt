@@ -1,3 +1,4 @@
+-- The price of a project: what its supporters pay, and when they cover its cost.
 use Rattle.std.specs.Prelude.{◌≡◌, ℕ, ◌+◌, ◌-◌, ◌*◌, ◌^◌, ◌<◌, ◌≤◌, min, List, length, All, Option, MatchOption, nat_le, find, sum_by, slice_index}
 use Rattle.std.specs.List.{range_with_len}
 use Rattle.pb_core.specs.Money.{largest_money}

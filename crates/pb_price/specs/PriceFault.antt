@@ -1,3 +1,4 @@
+-- Why prices are not computed.
 use Rattle.std.specs.Prelude.{ℕ, Bool, List, codes, ◌&&◌, nat_le}
 use Rattle.pb_price.specs.declared.price_fault.PriceFault.{PriceFault}
 use Rattle.pb_price.specs.declared.price_fault.PriceFault.TheVariants.{WorkerCount, NoMemory}

@@ -1,9 +1,9 @@
 ghost use Rattle.std.specs.Prelude.{◌≡◌, ◌+◌, ◌<◌, ◌≤◌, [], All, length, map, max, min, Err, IfOk, OnOk, OnErr, MatchBool, IsOkUnless};
 ghost use Rattle.pb_core.specs.Election.{most_projects};
-ghost use Rattle.pb_price.specs.Claims.{drawn};
+ghost use Rattle.pb_price.specs.Inner.Claims.{drawn};
 ghost use Rattle.pb_price.specs.Price.{price_at, AreRests, largest_count};
 ghost use Rattle.pb_price.specs.PriceFault.{is_worker_count};
-ghost use Rattle.pb_price.specs.Working.{AreGathered, IsBatch, IsDone};
+ghost use Rattle.pb_price.specs.Inner.Working.{AreGathered, IsBatch, IsDone};
 
 use crate::claims::rule::Batch;
 use crate::claims::{Claim, Claims};

@@ -2,7 +2,7 @@
 
 ghost use Rattle.std.specs.Prelude.{◌≡◌, ◌+◌, ◌-◌, ◌<◌, ◌≤◌, ◌^◌, [], ◌∷◌, ◌++◌, ℕ, IfOk, sum_by};
 ghost use Rattle.std.specs.List.{range_with_len};
-ghost use Rattle.pb_price.specs.Claims.{drawn, joined, past_end, AreBelowOnce};
+ghost use Rattle.pb_price.specs.Inner.Claims.{drawn, joined, past_end, AreBelowOnce};
 
 pub(crate) mod drawn;
 pub(crate) mod rule;

@@ -2,9 +2,9 @@
 
 ghost use Rattle.std.specs.Prelude.{◌≡◌, ◌+◌, ◌<◌, ◌≤◌, None, All, length, map, min, replicate, IfOk, OnOk, sum_by};
 ghost use Rattle.pb_core.specs.Election.{most_projects};
-ghost use Rattle.pb_price.specs.Claims.{all_joined, joined};
+ghost use Rattle.pb_price.specs.Inner.Claims.{all_joined, joined};
 ghost use Rattle.pb_price.specs.Price.{price_at, largest_count};
-ghost use Rattle.pb_price.specs.Working.{gathered, placed, IsBatch};
+ghost use Rattle.pb_price.specs.Inner.Working.{gathered, placed, IsBatch};
 
 use crate::answer::Answer;
 use crate::claims::{Claim, Claims};

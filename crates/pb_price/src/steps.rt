@@ -1,5 +1,5 @@
 ghost use Rattle.std.specs.Prelude.{◌≡◌, ◌<◌, ◌≤◌, ◌*◌, ◌^◌, ℕ, All, IfSome, MatchOption, None, Some, length};
-ghost use Rattle.pb_price.specs.Payment.{payers_above};
+ghost use Rattle.pb_price.specs.Inner.Payment.{payers_above};
 ghost use Rattle.pb_price.specs.Price.{paid_at, price_at, total_rest, AreRests, IsPrice, largest_share};
 ghost use Rattle.pb_price.specs.Supporters.{supporters_at, cost_at};
 

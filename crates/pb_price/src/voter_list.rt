@@ -1,6 +1,6 @@
 ghost use Rattle.std.specs.Prelude.{◌≡◌, ℕ, ◌<◌, List, [], ◌∷◌, ◌++◌, All, length, IfOk, OnOk, OnErr};
 ghost use Rattle.std.specs.List.Sorted.{IsStrictlyIncreasing};
-ghost use Rattle.pb_price.specs.Lists.{AddsVoter};
+ghost use Rattle.pb_price.specs.Inner.Lists.{AddsVoter};
 
 use pb_core::no_memory::NoMemory;
 use std::alloc::{Allocator, Global};

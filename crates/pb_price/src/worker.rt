@@ -1,6 +1,6 @@
 ghost use Rattle.std.specs.Prelude.{◌≡◌, [], All, length, IfOk, OnOk};
-ghost use Rattle.pb_price.specs.Claims.{drawn};
-ghost use Rattle.pb_price.specs.Working.{IsBatch, IsDone};
+ghost use Rattle.pb_price.specs.Inner.Claims.{drawn};
+ghost use Rattle.pb_price.specs.Inner.Working.{IsBatch, IsDone};
 
 use crate::answer::Answer;
 use crate::claims::{Claim, Claims};

@@ -13,7 +13,7 @@ use Rattle.pb_core.specs.Ballot.{HasSameMembers, IsBallot}
 use Rattle.pb_core.specs.Election.{AreDistinct}
 use Rattle.pb_read.proofs.Keeps.{ballot_of-below, ballot_of-rises}
 use Rattle.pb_read.proofs.ListFacts.{Contains-cons, Contains-is_among, is_among-Contains}
-use Rattle.pb_read.specs.Machine.{places_in}
+use Rattle.pb_read.specs.Inner.Machine.{places_in}
 use Rattle.pb_read.specs.Voting.{ballot_of, is_among, names_only, pieces_of}
 
 Contains-tail : (x z : ℕ) (xs : List ℕ) → Contains (x ∷ xs) z → x ≢ z → Contains xs z

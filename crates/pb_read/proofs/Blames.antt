@@ -3,16 +3,17 @@ use Rattle.std.proofs.Common.{◌≡◌, ◌≤◌, ◌+◌, ℕ, Bool, true, fa
 use Rattle.std.specs.Prelude.{find}
 use Rattle.std.proofs.lemmas.Bool.{false≢true}
 use Rattle.std.proofs.lemmas.Option.{same_Some}
-use Rattle.pb_rows.specs.Reading.{Fields, HasReadAtMost}
+use Rattle.pb_rows.specs.Reading.{Fields}
+use Rattle.pb_rows.specs.Inner.Reading.{HasReadAtMost}
 use Rattle.pb_rows.specs.declared.fault.RecordsFault.{RecordsFault}
 use Rattle.pb_rows.proofs.RecordsRead.{HasReadAtMost-more}
 use Rattle.pb_read.proofs.ListFacts.{some≢none}
 use Rattle.pb_read.specs.Faults.{applies}
-use Rattle.pb_read.specs.Machine.{Explains, Position, row_fault, row_kinds}
-use Rattle.pb_read.specs.Progresses.{BlamesReader}
+use Rattle.pb_read.specs.Inner.Machine.{Explains, Position, row_fault, row_kinds}
+use Rattle.pb_read.specs.Inner.Progresses.{BlamesReader}
 use Rattle.pb_read.specs.Stages.{Next}
 use Rattle.pb_read.specs.StandsFor.{most_records}
-use Rattle.pb_read.specs.Tracking.{IsNextRow, Tracks}
+use Rattle.pb_read.specs.Inner.Tracking.{IsNextRow, Tracks}
 use Rattle.pb_read.specs.declared.fault.ReadKind.{ReadKind}
 use Rattle.pb_read.specs.declared.fault.ReadKind.TheVariants as kinds
 

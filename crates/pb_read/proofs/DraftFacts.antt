@@ -10,11 +10,11 @@ use Rattle.pb_core.specs.declared.money_fault.MoneyFault.{MoneyFault}
 use Rattle.pb_rows.specs.Reading.{Fields}
 use Rattle.pb_read.proofs.IdFacts.{is_some-place, place_in-push}
 use Rattle.pb_read.specs.Columns.{has_fields}
-use Rattle.pb_read.specs.Drafts.{HasProject, HasVoter, IsTied}
-use Rattle.pb_ids.specs.Places.{Places, get_inserted, get_none}
-use Rattle.pb_read.specs.Ids.{Finds, place_in}
-use Rattle.pb_read.specs.MoneyKinds.{kind_of_money}
-use Rattle.pb_read.specs.Machine.{Explains, project_checks, project_row_checks, vote_checks, vote_row_checks}
+use Rattle.pb_read.specs.Inner.Drafts.{HasProject, HasVoter, IsTied}
+use Rattle.pb_ids.specs.Inner.Places.{Places, get_inserted, get_none}
+use Rattle.pb_read.specs.Inner.Ids.{Finds, place_in}
+use Rattle.pb_read.specs.Inner.MoneyKinds.{kind_of_money}
+use Rattle.pb_read.specs.Inner.Machine.{Explains, project_checks, project_row_checks, vote_checks, vote_row_checks}
 use Rattle.pb_read.specs.Rows.{field, is_empty}
 use Rattle.pb_read.specs.Voting.{is_among, names_only}
 use Rattle.pb_read.specs.declared.columns.ProjectColumns.{ProjectColumns}

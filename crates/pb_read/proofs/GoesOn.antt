@@ -19,8 +19,8 @@ use Rattle.pb_read.specs.Stages.{the_end, blank, next_row, IsAt}
 use Rattle.pb_read.specs.declared.progress.Stage.TheVariants.{Start, Header, InMeta, InProjects, InVotes}
 use Rattle.pb_read.specs.declared.section.Section.TheVariants as section
 use Rattle.pb_read.specs.FirstFault.{HasNoFault, IsAtFault, IsFirstFault}
-use Rattle.pb_read.specs.Machine.{Position, start, advance, run, step, row_fault, lowest_kind}
-use Rattle.pb_read.specs.Tracking.{Reached}
+use Rattle.pb_read.specs.Inner.Machine.{Position, start, advance, run, step, row_fault, lowest_kind}
+use Rattle.pb_read.specs.Inner.Tracking.{Reached}
 use Rattle.pb_read.specs.Rows.{head_of, is_blank, rows_of, trimmed}
 use Rattle.pb_read.specs.StandsFor.{Describes, GivesAll, StandsFor, most_records}
 use Rattle.pb_read.specs.declared.columns.VoteColumns.{VoteColumns}

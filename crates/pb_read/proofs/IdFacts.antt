@@ -7,7 +7,7 @@ use Rattle.std.specs.Str.{bytes_eq}
 use Rattle.std.proofs.lemmas.Bool.{false_from_ne_true, false≢true}
 use Rattle.std.proofs.lemmas.Slice.Eq.{bytes_eq-Decides}
 use Rattle.std.proofs.lemmas.Iterator.Adapters.{position_from-zero}
-use Rattle.pb_read.specs.Ids.{place_in}
+use Rattle.pb_read.specs.Inner.Ids.{place_in}
 use Rattle.pb_read.specs.Voting.{is_among}
 
 -- an id has a place where it is among the ids

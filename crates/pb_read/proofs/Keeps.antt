@@ -27,7 +27,7 @@ use Rattle.pb_read.proofs.MachineLaws.{meta_of-push, passes_project, passes_vote
 use Rattle.pb_read.specs.Columns.{project_columns, vote_columns}
 use Rattle.pb_read.specs.Stages.{Next, the_end, blank, head, plain, next_row, IsAt}
 use Rattle.pb_read.specs.declared.progress.Stage.TheVariants.{Start, Header, InMeta, InProjects, InVotes}
-use Rattle.pb_read.specs.Machine.{Position, advance, budget_of, limit_of, amount_of, project_of, voter_of, with_project, with_voter, with_row, row_fault}
+use Rattle.pb_read.specs.Inner.Machine.{Position, advance, budget_of, limit_of, amount_of, project_of, voter_of, with_project, with_voter, with_row, row_fault}
 use Rattle.pb_read.specs.MetaRows.{meta_of, value_of}
 use Rattle.pb_read.specs.Rows.{field, head_of, is_blank, is_empty, trimmed}
 use Rattle.pb_read.specs.StandsFor.{GivesAllButVoters, GivesProject, GivesProjects, GivesTerms, GivesVoter, GivesVoters, IsHead, IsMeta, IsSection, Then, opening}

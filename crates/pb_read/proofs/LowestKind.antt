@@ -7,7 +7,7 @@ use Rattle.pb_rows.specs.Reading.{Fields}
 use Rattle.pb_read.proofs.ListFacts.{some≢none}
 use Rattle.pb_read.specs.Faults.{applies_after}
 use Rattle.pb_read.specs.Kinds.{number_of}
-use Rattle.pb_read.specs.Machine.{Position, all_kinds, lowest_kind, row_fault}
+use Rattle.pb_read.specs.Inner.Machine.{Position, all_kinds, lowest_kind, row_fault}
 use Rattle.pb_read.specs.declared.fault.ReadKind.{ReadKind}
 use Rattle.pb_read.specs.declared.fault.ReadKind.TheVariants as kinds
 

@@ -14,7 +14,7 @@ use Rattle.pb_read.proofs.ListFacts.{cond_none, some≢none}
 use Rattle.pb_read.specs.Columns.{has_fields}
 use Rattle.pb_read.specs.Faults.{fails_by}
 use Rattle.pb_read.specs.Stages.{head, plain, next_row}
-use Rattle.pb_read.specs.Machine.{Position, with_row, step, bind, run, head_checks, project_checks, vote_checks, vote_row_checks, row_fault}
+use Rattle.pb_read.specs.Inner.Machine.{Position, with_row, step, bind, run, head_checks, project_checks, vote_checks, vote_row_checks, row_fault}
 use Rattle.pb_read.specs.Lengths.{max_length_of}
 use Rattle.pb_read.specs.MetaRows.{meta_of, value_of}
 use Rattle.pb_read.specs.Rows.{field, is_empty, is_word}

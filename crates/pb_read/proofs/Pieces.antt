@@ -8,7 +8,7 @@ use Rattle.std.proofs.lemmas.Option.{cond_some}
 use Rattle.std.proofs.lemmas.List.{map_push, map-append}
 use Rattle.std.proofs.lemmas.List.Elements.{filter-append}
 use Rattle.std.proofs.lemmas.List.Folds.{list_all-append}
-use Rattle.pb_read.specs.Machine.{places_in}
+use Rattle.pb_read.specs.Inner.Machine.{places_in}
 use Rattle.pb_read.specs.Rows.{is_empty}
 use Rattle.pb_read.specs.Voting.{is_among}
 

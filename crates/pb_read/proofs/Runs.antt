@@ -14,7 +14,7 @@ use Rattle.pb_read.proofs.MachineLaws.{run-append, meta_of-push, head_passes, pr
 use Rattle.pb_read.specs.Columns.{project_columns, vote_columns}
 use Rattle.pb_read.specs.Stages.{Next, head, plain, next_row, IsAt}
 use Rattle.pb_read.specs.declared.progress.Stage.TheVariants.{Start, Header, InMeta, InProjects, InVotes}
-use Rattle.pb_read.specs.Machine.{Position, start, advance, amount_of, project_of, voter_of, run, bind, step, step_or, row_fault}
+use Rattle.pb_read.specs.Inner.Machine.{Position, start, advance, amount_of, project_of, voter_of, run, bind, step, step_or, row_fault}
 use Rattle.pb_read.specs.MetaRows.{meta_of}
 use Rattle.pb_read.specs.Rows.{field, head_of, is_blank, is_empty}
 use Rattle.pb_read.specs.StandsFor.{GivesAll, GivesAllButVoters, GivesProject, GivesTerms, GivesVoter, IsHead, IsMeta, Then, opening}

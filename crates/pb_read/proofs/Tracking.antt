@@ -7,13 +7,13 @@ use Rattle.std.specs.Str.{is_utf8}
 use Rattle.csv.specs.Records.{AllText}
 use Rattle.pb_core.specs.Election.{ElectionView}
 use Rattle.pb_rows.specs.Reading.{Fields, NextIsNoText, records_of}
-use Rattle.pb_read.specs.Tracking.{HasCome, HasEnded, IsNextRow, Reached, Tracks}
+use Rattle.pb_read.specs.Inner.Tracking.{HasCome, HasEnded, IsNextRow, Reached, Tracks}
 use Rattle.pb_read.proofs.GoesOn.{AllText-from_test, end_stands, first_fault, no_fault_so_far, reached_next, reached_start, test-from_AllText}
 use Rattle.pb_read.proofs.Uniqueness.{one_election, refused_from_outside}
 use Rattle.pb_read.specs.Stages.{next_row, the_end}
 use Rattle.pb_read.specs.FirstFault.{IsReachedAt, IsFaultAt, IsFirstFault, IsFromOutside}
-use Rattle.pb_read.specs.Machine.{Position, start, Explains, advance, lowest_kind, row_fault}
-use Rattle.pb_read.specs.Progresses.{EndsWith, StopsReading}
+use Rattle.pb_read.specs.Inner.Machine.{Position, start, Explains, advance, lowest_kind, row_fault}
+use Rattle.pb_read.specs.Inner.Progresses.{EndsWith, StopsReading}
 use Rattle.pb_read.specs.Rows.{trimmed}
 use Rattle.pb_read.specs.StandsFor.{StandsFor, most_records}
 use Rattle.pb_read.specs.declared.fault.ReadFault.{ReadFault}

@@ -12,7 +12,7 @@ use Rattle.pb_read.proofs.Runs.{runs}
 use Rattle.pb_read.specs.Faults.{applies_after}
 use Rattle.pb_read.specs.Kinds.{number_of}
 use Rattle.pb_read.specs.FirstFault.{HasNoFault, IsAtFault, IsFaultAt, IsFirstFault, IsFromOutside, IsReachedAt}
-use Rattle.pb_read.specs.Machine.{start, run}
+use Rattle.pb_read.specs.Inner.Machine.{start, run}
 use Rattle.pb_read.specs.Rows.{rows_of}
 use Rattle.pb_read.specs.StandsFor.{Describes, StandsFor}
 use Rattle.pb_read.specs.declared.fault.ReadKind.{ReadKind}

@@ -2,9 +2,9 @@
 
 ghost use Rattle.std.specs.Prelude.{◌≡◌, [], None, IfOk, IfSome, OnOk};
 ghost use Rattle.pb_rows.specs.Reading.{records_of};
-ghost use Rattle.pb_read.specs.Checking.{GoesOn, IsGoing, IsRefusal, Judges, JudgesEnd, JudgesRow};
+ghost use Rattle.pb_read.specs.Inner.Checking.{GoesOn, IsGoing, IsRefusal, Judges, JudgesEnd, JudgesRow};
 ghost use Rattle.pb_read.specs.Listed.{AreListed, is_of_row, may_be_of_row};
-ghost use Rattle.pb_read.specs.Progresses.{IsReady, place_of};
+ghost use Rattle.pb_read.specs.Inner.Progresses.{IsReady, place_of};
 ghost use Rattle.pb_read.specs.StandsFor.{opening};
 ghost use Rattle.pb_read.specs.declared.progress.Stage.TheVariants.{Start};
 

@@ -24,8 +24,8 @@ pub(crate) struct VoteColumns {
 impl ProjectColumns {
     ghost use Rattle.std.specs.Prelude.{◌≡◌, IfErr, IfOk};
     ghost use Rattle.pb_core.specs.Election.{ElectionView};
-    ghost use Rattle.pb_read.specs.Drafts.{HasProject};
-    ghost use Rattle.pb_read.specs.Machine.{Explains, project_row_checks};
+    ghost use Rattle.pb_read.specs.Inner.Drafts.{HasProject};
+    ghost use Rattle.pb_read.specs.Inner.Machine.{Explains, project_row_checks};
     ghost use Rattle.pb_read.specs.Columns.{name_field, project_columns};
 
     /// The columns that a header row of PROJECTS names: `project_id` and `cost` are needed.
@@ -75,8 +75,8 @@ impl ProjectColumns {
 impl VoteColumns {
     ghost use Rattle.std.specs.Prelude.{◌≡◌, IfErr, IfOk};
     ghost use Rattle.pb_core.specs.Election.{ElectionView};
-    ghost use Rattle.pb_read.specs.Drafts.{HasVoter};
-    ghost use Rattle.pb_read.specs.Machine.{Explains, vote_row_checks};
+    ghost use Rattle.pb_read.specs.Inner.Drafts.{HasVoter};
+    ghost use Rattle.pb_read.specs.Inner.Machine.{Explains, vote_row_checks};
     ghost use Rattle.pb_read.specs.Columns.{vote_columns};
 
     /// The columns that a header row of VOTES names: `voter_id` and `vote`, both needed.

@@ -3,9 +3,9 @@
 ghost use Rattle.std.specs.Prelude.{◌≡◌, ◌≢◌, ◌≤◌, [], ◌∷◌, ◌++◌, IfErr, IfOk, OnOk, None};
 ghost use Rattle.pb_core.specs.Election.{project_ids, voter_ids};
 ghost use Rattle.pb_core.specs.Money.{largest_money};
-ghost use Rattle.pb_read.specs.Drafts.{HasVoter, IsAsBefore, IsTied};
-ghost use Rattle.pb_read.specs.Ids.{Finds};
-ghost use Rattle.pb_read.specs.Machine.{Explains, project_row_checks, vote_row_checks, with_project, with_voter};
+ghost use Rattle.pb_read.specs.Inner.Drafts.{HasVoter, IsAsBefore, IsTied};
+ghost use Rattle.pb_read.specs.Inner.Ids.{Finds};
+ghost use Rattle.pb_read.specs.Inner.Machine.{Explains, project_row_checks, vote_row_checks, with_project, with_voter};
 ghost use Rattle.pb_read.specs.Rows.{field};
 ghost use Rattle.pb_read.specs.StandsFor.{opening};
 ghost use Rattle.pb_read.specs.Voting.{ballot_of};

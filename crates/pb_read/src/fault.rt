@@ -81,7 +81,7 @@ pub enum ReadKind {
 }
 
 impl ReadKind {
-    ghost use Rattle.pb_read.specs.MoneyKinds.{kind_of_money};
+    ghost use Rattle.pb_read.specs.Inner.MoneyKinds.{kind_of_money};
 
     /// The kind of an amount's fault.
     pub(crate) fn of_money(fault: MoneyFault) -> ReadKind

@@ -19,7 +19,7 @@ pub(crate) struct Meta {
 
 impl Meta {
     ghost use Rattle.std.specs.Prelude.{◌≡◌, [], Some, Ok, None, MatchResult};
-    ghost use Rattle.pb_read.specs.Machine.{head_checks, with_row};
+    ghost use Rattle.pb_read.specs.Inner.Machine.{head_checks, with_row};
     ghost use Rattle.pb_read.specs.MetaRows.{meta_of};
 
     /// META without rows.

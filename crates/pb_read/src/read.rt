@@ -2,12 +2,13 @@
 
 ghost use Rattle.std.specs.Prelude.{◌≡◌, None, IfOk, IfErr, IfSome, OnErr, OnOk, MatchResult};
 ghost use Rattle.pb_core.specs.Election.{ElectionView};
-ghost use Rattle.pb_rows.specs.Reading.{HasReadAtMost, records_of};
+ghost use Rattle.pb_rows.specs.Reading.{records_of};
+ghost use Rattle.pb_rows.specs.Inner.Reading.{HasReadAtMost};
 ghost use Rattle.pb_read.specs.Stages.{next_row, the_end};
 ghost use Rattle.pb_read.specs.FirstFault.{IsFaultAt, IsFromOutside};
-ghost use Rattle.pb_read.specs.Progresses.{Advances, BlamesReader, EndsWith, IsReady, Refuses, StopsReading, place_of};
+ghost use Rattle.pb_read.specs.Inner.Progresses.{Advances, BlamesReader, EndsWith, IsReady, Refuses, StopsReading, place_of};
 ghost use Rattle.pb_read.specs.StandsFor.{StandsFor, opening};
-ghost use Rattle.pb_read.specs.Tracking.{HasEnded, IsNextRow};
+ghost use Rattle.pb_read.specs.Inner.Tracking.{HasEnded, IsNextRow};
 ghost use Rattle.pb_read.specs.declared.progress.Stage.TheVariants.{Start};
 
 use crate::fault::{ReadFault, ReadKind};

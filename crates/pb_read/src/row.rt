@@ -6,8 +6,8 @@ ghost use Rattle.csv.specs.Records.{fields_of};
 ghost use Rattle.pb_rows.specs.Reading.{NextIsNoText};
 ghost use Rattle.pb_read.specs.Columns.{column, has_fields};
 ghost use Rattle.pb_read.specs.Rows.{field, is_blank, is_word, trimmed};
-ghost use Rattle.pb_read.specs.Checking.{HasFound};
-ghost use Rattle.pb_read.specs.Tracking.{IsNextRow};
+ghost use Rattle.pb_read.specs.Inner.Checking.{HasFound};
+ghost use Rattle.pb_read.specs.Inner.Tracking.{IsNextRow};
 
 use csv::{ByteRecord, StringRecord};
 use pb_rows::{Records, RecordsFault};

@@ -1,8 +1,8 @@
 // The projects that a vote names.
 
 ghost use Rattle.std.specs.Prelude.{◌≡◌, List, ℕ, IfOk, true};
-ghost use Rattle.pb_read.specs.Ids.{Finds};
-ghost use Rattle.pb_read.specs.Machine.{places_in};
+ghost use Rattle.pb_read.specs.Inner.Ids.{Finds};
+ghost use Rattle.pb_read.specs.Inner.Machine.{places_in};
 ghost use Rattle.pb_read.specs.Voting.{names_only, pieces_of};
 
 use pb_core::no_memory::NoMemory;

@@ -8,8 +8,9 @@ use Rattle.std.proofs.lemmas.List.Folds.{find_at, list_all_at}
 use Rattle.std.proofs.lemmas.List.MinMax.{IsFirstBest-from_best_of, ranks_by}
 use Rattle.std.proofs.lemmas.List.Sums.{position_or_len_is, list_all-from_AllPass, fold_push}
 use Rattle.std.proofs.lemmas.Option.{slice_get-get_or, none-some}
-use Rattle.pb_rounds.specs.BidOrder.{bid_cmp-total}
-use Rattle.pb_rounds.specs.Bid.{Bid, is_before, first_least, better_of}
+use Rattle.pb_rounds.specs.Inner.BidOrder.{bid_cmp-total}
+use Rattle.pb_rounds.specs.Bid.{Bid, is_before, first_least}
+use Rattle.pb_rounds.specs.Inner.Bid.{better_of}
 
 -- the order of bids ranks them
 pub is_before_ranks : IsStrictWeakOrder is_before

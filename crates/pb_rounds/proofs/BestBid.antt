@@ -8,7 +8,7 @@ use Rattle.pb_price.specs.Supporters.{SupportView}
 use Rattle.pb_price.specs.Price.{price_at}
 use Rattle.pb_rounds.specs.declared.measure.Measure.{Measure}
 use Rattle.pb_rounds.specs.Bid.{Bid}
-use Rattle.pb_rounds.specs.Queue.{IsIn}
+use Rattle.pb_rounds.specs.Inner.Queue.{IsIn}
 use Rattle.pb_rounds.specs.Run.{bid, bids_at, best_of, is_listed}
 use Rattle.pb_rounds.proofs.Best.{no_bid}
 

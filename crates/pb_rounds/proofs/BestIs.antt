@@ -11,7 +11,7 @@ use Rattle.pb_price.specs.Supporters.{SupportView}
 use Rattle.pb_price.specs.Price.{price_at}
 use Rattle.pb_rounds.specs.declared.measure.Measure.{Measure}
 use Rattle.pb_rounds.specs.Bid.{Bid, bid_cmp, is_before}
-use Rattle.pb_rounds.specs.BidOrder.{bid_cmp-total, tied_bids}
+use Rattle.pb_rounds.specs.Inner.BidOrder.{bid_cmp-total, tied_bids}
 use Rattle.pb_rounds.specs.Run.{bid, bids_at, best_of, is_listed}
 use Rattle.pb_rounds.proofs.BestBid.{best_is_bid, no_price_without_best}
 

@@ -18,8 +18,8 @@ use Rattle.pb_price.specs.Supporters.{SupportView, cost_at, supporters_at}
 use Rattle.pb_price.proofs.RestsFall.{no_price_falls, no_price_stays}
 use Rattle.pb_rounds.specs.declared.measure.Measure.{Measure}
 use Rattle.pb_rounds.specs.Bid.{Bid, bid_cmp, is_before}
-use Rattle.pb_rounds.specs.Bounds.{FindsBest, HasBounds, IsOpening}
-use Rattle.pb_rounds.specs.Queue.{IsDone, IsIn, Rises}
+use Rattle.pb_rounds.specs.Inner.Bounds.{FindsBest, HasBounds, IsOpening}
+use Rattle.pb_rounds.specs.Inner.Queue.{IsDone, IsIn, Rises}
 use Rattle.pb_rounds.specs.Run.{best_of, bid, charged, is_listed, weight_of, without}
 use Rattle.pb_rounds.proofs.BestBid.{best_is_bid}
 use Rattle.pb_rounds.proofs.BestIs.{is_best}

@@ -10,11 +10,12 @@ use Rattle.pb_price.specs.Supporters.{SupportView, IsSupport, support_of}
 use Rattle.pb_rounds.specs.declared.count_fault.CountFault.{CountFault}
 use Rattle.pb_rounds.specs.declared.count_fault.CountFault.TheVariants.{NoMemory}
 use Rattle.pb_rounds.specs.declared.measure.Measure.{Measure}
-use Rattle.pb_rounds.specs.Count.{IsCompletionFault, spent_on, is_over, is_over_after, is_exhausted_after, is_decisive, first_decisive, add1_of, opening_share, share_after, elected_after, settled_after}
+use Rattle.pb_rounds.specs.Count.{spent_on, is_over, is_over_after, is_exhausted_after, is_decisive, first_decisive, add1_of, opening_share, share_after, elected_after, settled_after}
+use Rattle.pb_rounds.specs.Inner.Count.{IsCompletionFault}
 use Rattle.pb_rounds.specs.Outcome.{OutcomeView, Settled, settled}
 use Rattle.pb_rounds.specs.Run.{ElectedView}
 use Rattle.pb_rounds.specs.PriceSystem.{HasPriceSystem}
-use Rattle.pb_rounds.specs.RaiseEnds.{IsCompletion, IsOutcomeAt}
+use Rattle.pb_rounds.specs.Inner.RaiseEnds.{IsCompletion, IsOutcomeAt}
 use Rattle.pb_rounds.proofs.Exhausted.{over_from_within}
 use Rattle.pb_rounds.proofs.Explained.{run_within_shares, run_has_price_system}
 

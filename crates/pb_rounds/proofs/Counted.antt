@@ -8,13 +8,14 @@ use Rattle.pb_price.specs.PriceFault.{is_worker_count}
 use Rattle.pb_price.specs.Supporters.{SupportView, support_of}
 use Rattle.pb_rounds.specs.Cheapest.{EachWasCheapest}
 use Rattle.pb_rounds.specs.Completed.{AreSpent}
-use Rattle.pb_rounds.specs.Count.{count_of, opening_share, raises_of, settled_after, share_after, IsCompletionFault}
+use Rattle.pb_rounds.specs.Count.{count_of, opening_share, raises_of, settled_after, share_after}
+use Rattle.pb_rounds.specs.Inner.Count.{IsCompletionFault}
 use Rattle.pb_rounds.specs.Counted.{IsCountFault, IsCountOf}
 use Rattle.pb_rounds.specs.CountFault.{largest_step, most_raises, refusal_of}
 use Rattle.pb_rounds.specs.Outcome.{OutcomeView, Settled, settled, settled_by}
 use Rattle.pb_rounds.specs.PriceSystem.{HasPriceSystem}
 use Rattle.pb_rounds.specs.PricingRecord.{HasPricing}
-use Rattle.pb_rounds.specs.RaiseEnds.{CanComplete, IsCompletion, IsOutcomeAt}
+use Rattle.pb_rounds.specs.Inner.RaiseEnds.{CanComplete, IsCompletion, IsOutcomeAt}
 use Rattle.pb_rounds.specs.Run.{RunView, outcome_of, run_of}
 use Rattle.pb_rounds.specs.declared.count_fault.CountFault.{CountFault}
 use Rattle.pb_rounds.specs.declared.count_fault.CountFault.TheVariants.{WorkerCount, StepRange, RaisesRange, RaisesSpent, NoMemory}

@@ -7,7 +7,7 @@ use Rattle.std.proofs.lemmas.List.Folds.{list_any_at, list_any_none}
 use Rattle.std.proofs.lemmas.List.FromFn.{get_or-range_with_len, length-range_with_len}
 use Rattle.pb_price.specs.Supporters.{SupportView, supporters_at, cost_at}
 use Rattle.pb_rounds.specs.Count.{spent_on, is_over, is_exhausted, could_be_added}
-use Rattle.pb_rounds.specs.Queue.{AreMarked}
+use Rattle.pb_rounds.specs.Inner.Queue.{AreMarked}
 use Rattle.pb_rounds.specs.Run.{ElectedView}
 
 -- the project has a supporter and costs at most this much

@@ -11,8 +11,8 @@ use Rattle.std.specs.declared.cmp.Ordering.TheVariants.{Less, Equal, Greater}
 use Rattle.std.proofs.lemmas.Bool.{true≢false, eq-eqb, eqb-true, ne_eqb, cases_eq, or_left, or_right, or_cases}
 use Rattle.std.proofs.lemmas.List.Sums.{sum_by-cons}
 use Rattle.pb_rounds.specs.Bid.{Bid, bid_cmp, is_before}
-use Rattle.pb_rounds.specs.BidOrder.{bid_cmp-total, tied_bids}
-use Rattle.pb_rounds.specs.Queue.{IsIn, Rises, places_of}
+use Rattle.pb_rounds.specs.Inner.BidOrder.{bid_cmp-total, tied_bids}
+use Rattle.pb_rounds.specs.Inner.Queue.{IsIn, Rises, places_of}
 use Rattle.pb_rounds.specs.Run.{is_listed, without}
 use Rattle.pb_rounds.proofs.Listed.{is_listed-without}
 

@@ -17,9 +17,9 @@ use Rattle.pb_price.specs.Price.{NoRestRises, price_at}
 use Rattle.pb_price.specs.Supporters.{SupportView, cost_at, supporters_at}
 use Rattle.pb_rounds.specs.declared.measure.Measure.{Measure}
 use Rattle.pb_rounds.specs.Bid.{Bid, bid_cmp, first_least, is_before}
-use Rattle.pb_rounds.specs.BidOrder.{bid_cmp-total, greater_from}
+use Rattle.pb_rounds.specs.Inner.BidOrder.{bid_cmp-total, greater_from}
 use Rattle.pb_rounds.specs.PricingRecord.{ArePriced, IsPricedEnd, IsPricedRound, is_in_time, known_after}
-use Rattle.pb_rounds.specs.Queue.{IsDone, IsIn, IsTaken, PricesHeads, PutsBack, Rises, places_of}
+use Rattle.pb_rounds.specs.Inner.Queue.{IsDone, IsIn, IsTaken, PricesHeads, PutsBack, Rises, places_of}
 use Rattle.pb_rounds.specs.Run.{bid, bids_at, best_of, charged, is_listed, weight_of, without}
 use Rattle.pb_rounds.proofs.BestBid.{IsBid, best_is_bid, bid_from, bid_in, no_price_without_best}
 use Rattle.pb_rounds.proofs.BestIs.{is_best, no_best, none_before_best}

@@ -11,8 +11,9 @@ use Rattle.pb_core.specs.Election.{most_projects}
 use Rattle.pb_price.specs.Price.{largest_count, price_at}
 use Rattle.pb_price.specs.Supporters.{SupportView}
 use Rattle.pb_rounds.specs.declared.measure.Measure.{Measure}
-use Rattle.pb_rounds.specs.Bid.{Bid, better_of, bid_cmp, first_least, is_before}
-use Rattle.pb_rounds.specs.Queue.{IsDone, IsFull, IsIn, IsTaken, PricesHeads, PutsBack, TakesHeads, places_of}
+use Rattle.pb_rounds.specs.Bid.{Bid, bid_cmp, first_least, is_before}
+use Rattle.pb_rounds.specs.Inner.Bid.{better_of}
+use Rattle.pb_rounds.specs.Inner.Queue.{IsDone, IsFull, IsIn, IsTaken, PricesHeads, PutsBack, TakesHeads, places_of}
 use Rattle.pb_rounds.specs.Run.{bid, bid_at, bids_at}
 use Rattle.pb_rounds.proofs.Best.{first_least-push}
 use Rattle.pb_rounds.proofs.QueueLists.{in_either, in_left, in_right, put_from, put_is_in, put_keeps, rises_from_sorted}

@@ -16,7 +16,7 @@ use Rattle.pb_price.specs.Supporters.{SupportView, IsSupport, cost_at, supporter
 use Rattle.pb_rounds.specs.declared.measure.Measure.{Measure}
 use Rattle.pb_rounds.specs.declared.measure.Measure.TheVariants.{Votes, Cost}
 use Rattle.pb_rounds.specs.Bid.{Bid, is_before}
-use Rattle.pb_rounds.specs.BidOrder.{bid_cmp-total, greater_from}
+use Rattle.pb_rounds.specs.Inner.BidOrder.{bid_cmp-total, greater_from}
 use Rattle.pb_rounds.specs.Cheapest.{IsCheaper, IsRun, rests_after}
 use Rattle.pb_rounds.specs.Run.{ElectedView, RunView, best_of, bid, charged, elected_by, is_listed, run_from, run_of, then_run, without}
 use Rattle.pb_rounds.proofs.BestIs.{is_best, no_best}

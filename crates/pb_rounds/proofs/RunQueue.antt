@@ -13,8 +13,8 @@ use Rattle.pb_rounds.specs.Bid.{Bid}
 use Rattle.pb_price.specs.PriceFault.{is_worker_count}
 use Rattle.pb_rounds.specs.Outcome.{OutcomeView}
 use Rattle.pb_rounds.specs.PricingRecord.{HasPricing, IsPricedEnd, IsPricedRound, PricingRecord, known_after}
-use Rattle.pb_rounds.specs.Queue.{IsDone, IsFull, IsIn, PricesHeads, PutsBack, Rises}
-use Rattle.pb_rounds.specs.RaiseEnds.{IsOutcomeAt}
+use Rattle.pb_rounds.specs.Inner.Queue.{IsDone, IsFull, IsIn, PricesHeads, PutsBack, Rises}
+use Rattle.pb_rounds.specs.Inner.RaiseEnds.{IsOutcomeAt}
 use Rattle.pb_rounds.specs.Run.{best_of, bid, charged, elected_by, without}
 use Rattle.pb_rounds.proofs.BestBid.{best_is_bid}
 use Rattle.pb_rounds.proofs.Listed.{RisesWithin-below, is_listed-range, length-without_one, listed-below, range_rises}

@@ -13,11 +13,11 @@ use Rattle.pb_rounds.specs.declared.measure.Measure.{Measure}
 use Rattle.pb_rounds.specs.declared.raise_end.RaiseEnd.TheVariants.{GoesOn, Exhausted, Over}
 use Rattle.pb_rounds.specs.Between.{KeepsElecting}
 use Rattle.pb_rounds.specs.Bid.{Bid, is_before}
-use Rattle.pb_rounds.specs.Bounds.{FindsBest, Follows, HasBounds, IsOpening}
+use Rattle.pb_rounds.specs.Inner.Bounds.{FindsBest, Follows, HasBounds, IsOpening}
 use Rattle.pb_rounds.specs.Count.{is_exhausted, is_over, spent_on}
 use Rattle.pb_rounds.specs.Outcome.{OutcomeView, Settled}
-use Rattle.pb_rounds.specs.Queue.{AreMarked}
-use Rattle.pb_rounds.specs.RaiseEnds.{IsTried}
+use Rattle.pb_rounds.specs.Inner.Queue.{AreMarked}
+use Rattle.pb_rounds.specs.Inner.RaiseEnds.{IsTried}
 use Rattle.pb_rounds.specs.Run.{ElectedView, RunView, best_of, bid, charged, elected_by, is_elected, is_listed, run_from, run_of, without}
 use Rattle.pb_rounds.proofs.BestBid.{best_is_bid}
 use Rattle.pb_rounds.proofs.BestIs.{no_best}

@@ -12,7 +12,7 @@ use Rattle.pb_rounds.specs.declared.raise_end.RaiseEnd.{RaiseEnd}
 use Rattle.pb_rounds.specs.declared.raise_end.RaiseEnd.TheVariants.{GoesOn, Exhausted, Over}
 use Rattle.pb_rounds.specs.Between.{KeepsElecting, KeepsUpTo}
 use Rattle.pb_rounds.specs.Count.{add1_of, elected_after, is_decisive, is_over_after, opening_share, share_after}
-use Rattle.pb_rounds.specs.RaiseEnds.{IsRaiseEnd, IsTried}
+use Rattle.pb_rounds.specs.Inner.RaiseEnds.{IsRaiseEnd, IsTried}
 use Rattle.pb_rounds.specs.Run.{ElectedView, run_of}
 use Rattle.pb_rounds.proofs.BetweenShares.{same_between, same_exhausted, same_over}
 use Rattle.pb_rounds.proofs.Completing.{decided_before, decided_here, opening_not_over}

@@ -1,5 +1,5 @@
 -- What a round orders projects by. The code's `Key` is a bid: its model is this record.
-use Rattle.std.specs.Prelude.{ℕ, Bool, Option, None, Some, List, ◌*◌, max, not, find, if◌then◌else◌}
+use Rattle.std.specs.Prelude.{ℕ, Bool, Option, List, ◌*◌, max, not, find}
 use Rattle.std.specs.List.{list_all}
 use Rattle.std.specs.Ordering.{is_lt, nat_cmp, on, then_cmp}
 use Rattle.std.specs.declared.cmp.Ordering.{Ordering}
@@ -25,8 +25,3 @@ is_before a b = is_lt (bid_cmp a b)
 -- the first bid that no other comes before
 abbrev pub first_least : (Bid → Bid → Bool) → List Bid → Option Bid
 first_least before bids = find (λ b. list_all (λ other. not (before other b)) bids) bids
-
--- the better of a best so far, if there is one, and one more bid
-abbrev pub better_of : Option Bid → Bid → Bid
-better_of None b = b
-better_of (Some best) b = if is_before b best then b else best

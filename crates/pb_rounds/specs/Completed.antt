@@ -1,3 +1,4 @@
+-- The completion by raises (Add1), in the words of its rule.
 use Rattle.std.specs.Prelude.{◌≢◌, ℕ, List, ◌+◌, ◌<◌, ◌≤◌, ◌⊎◌, All, length}
 use Rattle.pb_core.specs.Election.{ElectionView}
 use Rattle.pb_price.specs.Supporters.{SupportView, support_of, supporters_at, cost_at}

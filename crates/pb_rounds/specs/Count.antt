@@ -1,9 +1,8 @@
-use Rattle.std.specs.Prelude.{◌≡◌, None, ℕ, Bool, Option, Some, List, ◌+◌, ◌-◌, ◌*◌, ◌/◌, ◌&&◌, ◌||◌, ◌==◌, not, nat_lt, nat_le, find, length, option_map, sum_by, if◌then◌else◌}
+-- The count: the opening share, the raises, and where they end.
+use Rattle.std.specs.Prelude.{ℕ, Bool, Option, Some, List, ◌+◌, ◌-◌, ◌*◌, ◌/◌, ◌&&◌, ◌||◌, ◌==◌, not, nat_lt, nat_le, find, length, option_map, sum_by, if◌then◌else◌}
 use Rattle.std.specs.List.{list_any, range_with_len}
 use Rattle.pb_core.specs.Election.{ElectionView}
 use Rattle.pb_price.specs.Supporters.{SupportView, support_of, supporters_at, cost_at}
-use Rattle.pb_rounds.specs.declared.count_fault.CountFault.{CountFault}
-use Rattle.pb_rounds.specs.declared.count_fault.CountFault.TheVariants.{WorkerCount, StepRange, RaisesRange, RaisesSpent, NoMemory}
 use Rattle.pb_rounds.specs.Outcome.{Settled, settled_by}
 use Rattle.pb_rounds.specs.Run.{ElectedView, is_elected, outcome_of}
 use Rattle.pb_rounds.specs.declared.options.Completion.{Completion}
@@ -77,11 +76,3 @@ abbrev pub count_of : ElectionView → CountOptions → Option Settled
 count_of e options =
     option_map (settled_after options.measure e options.step)
     (raises_of options.completion options.measure e options.step options.max_raises)
-
--- when each fault of a completion by raises comes
-abbrev pub IsCompletionFault : Measure → ElectionView → ℕ → ℕ → CountFault → Type 0
-IsCompletionFault m e step limit WorkerCount = ⊥
-IsCompletionFault m e step limit StepRange = ⊥
-IsCompletionFault m e step limit RaisesRange = ⊥
-IsCompletionFault m e step limit RaisesSpent = add1_of m e step limit ≡ None
-IsCompletionFault m e step limit NoMemory = Unit {0}

@@ -1,3 +1,4 @@
+-- Which options a count refuses.
 use Rattle.std.specs.Prelude.{ℕ, List, Option, Some, None, codes, ◌&&◌, not, nat_le, if◌then◌else◌}
 use Rattle.pb_price.specs.PriceFault.{is_worker_count}
 use Rattle.pb_rounds.specs.declared.count_fault.CountFault.{CountFault}

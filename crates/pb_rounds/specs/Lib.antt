@@ -1,7 +1,5 @@
 pub mod Between
 pub mod Bid
-pub mod BidOrder
-pub mod Bounds
 pub mod Cheapest
 pub mod Completed
 pub mod Count
@@ -11,8 +9,6 @@ pub mod Outcome
 pub mod Payments
 pub mod PriceSystem
 pub mod PricingRecord
-pub mod Queue
-pub mod RaiseEnds
 pub mod Reach
 pub mod Run
-pub mod Threads
+pub mod Inner

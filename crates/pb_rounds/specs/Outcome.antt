@@ -1,3 +1,4 @@
+-- The outcome of a count.
 use Rattle.std.specs.Prelude.{ℕ, List}
 use Rattle.pb_rounds.specs.Run.{ElectedView, RunView}
 

@@ -1,3 +1,4 @@
+-- Price systems: payments that explain an outcome.
 use Rattle.std.specs.Prelude.{◌≡◌, ℕ, List, ◌+◌, ◌<◌, ◌≤◌, ◌≢◌, length, slice_index, sum, sum_by, All, Contains}
 use Rattle.std.specs.List.{AllZip}
 use Rattle.pb_price.specs.Supporters.{SupportView, supporters_at, cost_at}

@@ -1,3 +1,4 @@
+-- A run of the Method of Equal Shares at one share.
 use Rattle.std.specs.Prelude.{ℕ, zero, suc, Bool, Option, List, [], ◌∷◌, ◌-◌, ◌==◌, not, min, map, filter, filter_map, length, option_map, slice_index, replicate, if◌then◌else◌}
 use Rattle.std.specs.List.{list_any, range_with_len}
 use Rattle.std.specs.Option.{option_map_or}

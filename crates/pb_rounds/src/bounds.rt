@@ -3,7 +3,7 @@
 ghost use Rattle.std.specs.Prelude.{◌≡◌, ◌+◌, ◌<◌, ◌≤◌, ℕ, List, IfOk, OnOk, length};
 ghost use Rattle.pb_price.specs.Price.{AreRests, largest_share};
 ghost use Rattle.pb_price.specs.Supporters.{IsSupport};
-ghost use Rattle.pb_rounds.specs.Bounds.{FindsBest, HasBounds, IsOpening};
+ghost use Rattle.pb_rounds.specs.Inner.Bounds.{FindsBest, HasBounds, IsOpening};
 ghost use Rattle.pb_rounds.specs.declared.measure.Measure.{Measure};
 
 use crate::key::Key;

@@ -4,13 +4,14 @@ ghost use Rattle.pb_price.specs.Price.{largest_share};
 ghost use Rattle.pb_price.specs.PriceFault.{is_worker_count};
 ghost use Rattle.pb_price.specs.Supporters.{support_of};
 ghost use Rattle.pb_rounds.specs.Cheapest.{EachWasCheapest};
-ghost use Rattle.pb_rounds.specs.Count.{opening_share, share_after, IsCompletionFault};
+ghost use Rattle.pb_rounds.specs.Count.{opening_share, share_after};
+ghost use Rattle.pb_rounds.specs.Inner.Count.{IsCompletionFault};
 ghost use Rattle.pb_rounds.specs.CountFault.{refusal_of};
 ghost use Rattle.pb_rounds.specs.Counted.{IsCountFault, IsCountOf};
 ghost use Rattle.pb_rounds.specs.Outcome.{settled, settled_by};
 ghost use Rattle.pb_rounds.specs.PriceSystem.{HasPriceSystem};
 ghost use Rattle.pb_rounds.specs.PricingRecord.{HasPricing};
-ghost use Rattle.pb_rounds.specs.RaiseEnds.{CanComplete, IsCompletion, IsOutcomeAt};
+ghost use Rattle.pb_rounds.specs.Inner.RaiseEnds.{CanComplete, IsCompletion, IsOutcomeAt};
 ghost use Rattle.pb_rounds.specs.Run.{outcome_of};
 
 use crate::count_fault::CountFault;

@@ -66,7 +66,7 @@ impl Key {
 
 impl Ord for Key {
     ghost use Rattle.pb_rounds.specs.Bid.{bid_cmp};
-    ghost use Rattle.pb_rounds.specs.BidOrder.{bid_cmp-total, fields_tie};
+    ghost use Rattle.pb_rounds.specs.Inner.BidOrder.{bid_cmp-total, fields_tie};
     ghost use Rattle.std.proofs.Common.{refl};
 
     ghost cmp = { bid_cmp };
@@ -90,7 +90,7 @@ impl PartialOrd for Key {
     ghost use Rattle.std.specs.Cmp.{partial_order_from_own_ties, partial_order_from_total};
     ghost use Rattle.std.specs.Ordering.{as_partial_cmp};
     ghost use Rattle.pb_rounds.specs.Bid.{bid_cmp};
-    ghost use Rattle.pb_rounds.specs.BidOrder.{bid_cmp-total, fields_tie};
+    ghost use Rattle.pb_rounds.specs.Inner.BidOrder.{bid_cmp-total, fields_tie};
 
     ghost partial_cmp = { as_partial_cmp bid_cmp };
 

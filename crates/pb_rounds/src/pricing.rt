@@ -1,6 +1,6 @@
 ghost use Rattle.std.specs.Prelude.{◌≡◌, ◌<◌, ◌≤◌, All, length, true};
 ghost use Rattle.pb_price.specs.PriceFault.{is_worker_count};
-ghost use Rattle.pb_rounds.specs.Threads.{workers_for};
+ghost use Rattle.pb_rounds.specs.Inner.Threads.{workers_for};
 
 use crate::measure::Measure;
 use pb_price::supporters::Supporters;

@@ -4,10 +4,11 @@ ghost use Rattle.pb_core.specs.Election.{most_projects};
 ghost use Rattle.pb_price.specs.Price.{paid_at, price_at, AreRests, largest_count};
 ghost use Rattle.pb_price.specs.PriceFault.{is_worker_count};
 ghost use Rattle.pb_price.specs.Supporters.{supporters_at};
-ghost use Rattle.pb_rounds.specs.Bid.{Bid, better_of, first_least, is_before};
-ghost use Rattle.pb_rounds.specs.Queue.{IsDone, IsIn, PricesHeads};
+ghost use Rattle.pb_rounds.specs.Bid.{Bid, first_least, is_before};
+ghost use Rattle.pb_rounds.specs.Inner.Bid.{better_of};
+ghost use Rattle.pb_rounds.specs.Inner.Queue.{IsDone, IsIn, PricesHeads};
 ghost use Rattle.pb_rounds.specs.Run.{bids_at, charged, elected_by};
-ghost use Rattle.pb_rounds.specs.Threads.{workers_for};
+ghost use Rattle.pb_rounds.specs.Inner.Threads.{workers_for};
 
 use crate::key::Key;
 use crate::outcome::{Elected, Outcome};

@@ -1,8 +1,8 @@
 ghost use Rattle.std.specs.Prelude.{◌≡◌, ◌≤◌, [], length, replicate, IfOk, OnOk, true};
 ghost use Rattle.pb_price.specs.Price.{largest_share};
 ghost use Rattle.pb_price.specs.PriceFault.{is_worker_count};
-ghost use Rattle.pb_rounds.specs.Queue.{IsFull};
-ghost use Rattle.pb_rounds.specs.RaiseEnds.{IsOutcomeAt};
+ghost use Rattle.pb_rounds.specs.Inner.Queue.{IsFull};
+ghost use Rattle.pb_rounds.specs.Inner.RaiseEnds.{IsOutcomeAt};
 
 use crate::key::Key;
 use crate::measure::Measure;

@@ -2,10 +2,11 @@
 
 ghost use Rattle.std.specs.Prelude.{◌≡◌, ◌+◌, ◌*◌, ◌<◌, ◌≤◌, ℕ, None, length, slice_index_or, Some, IfOk, IfErr, MatchOption, OnOk, ⊤, false, ◌-◌, true};
 ghost use Rattle.pb_core.specs.Money.{largest_money};
-ghost use Rattle.pb_rounds.specs.Count.{add1_of, elected_after, is_decisive, IsCompletionFault};
+ghost use Rattle.pb_rounds.specs.Count.{add1_of, elected_after, is_decisive};
+ghost use Rattle.pb_rounds.specs.Inner.Count.{IsCompletionFault};
 ghost use Rattle.pb_rounds.specs.CountFault.{largest_step, most_raises};
-ghost use Rattle.pb_rounds.specs.RaiseEnds.{CanComplete, IsCompletion, IsFound};
-ghost use Rattle.pb_rounds.specs.Threads.{group_size};
+ghost use Rattle.pb_rounds.specs.Inner.RaiseEnds.{CanComplete, IsCompletion, IsFound};
+ghost use Rattle.pb_rounds.specs.Inner.Threads.{group_size};
 
 use crate::count::{opening_share, outcome_after};
 use crate::count_fault::CountFault;

@@ -3,7 +3,7 @@
 ghost use Rattle.std.specs.Prelude.{◌≡◌, ◌<◌, List, OnOk, false, length, nat_le, nat_lt, replicate, slice_set, true, ◌&&◌};
 ghost use Rattle.pb_price.specs.Supporters.{supporters_at, cost_at};
 ghost use Rattle.pb_rounds.specs.Count.{spent_on, is_exhausted};
-ghost use Rattle.pb_rounds.specs.Queue.{AreMarked};
+ghost use Rattle.pb_rounds.specs.Inner.Queue.{AreMarked};
 ghost use Rattle.pb_rounds.specs.Run.{ElectedView};
 
 use pb_core::money::Money;

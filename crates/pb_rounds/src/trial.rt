@@ -3,8 +3,8 @@
 ghost use Rattle.std.specs.Prelude.{◌≡◌, ◌≤◌, [], length, replicate, IfOk, OnOk};
 ghost use Rattle.pb_price.specs.Price.{largest_share};
 ghost use Rattle.pb_price.specs.Supporters.{IsSupport};
-ghost use Rattle.pb_rounds.specs.Bounds.{IsOpening};
-ghost use Rattle.pb_rounds.specs.RaiseEnds.{IsTried};
+ghost use Rattle.pb_rounds.specs.Inner.Bounds.{IsOpening};
+ghost use Rattle.pb_rounds.specs.Inner.RaiseEnds.{IsTried};
 
 use crate::bounds::{fill_opening, next_best};
 use crate::key::Key;

@@ -3,7 +3,8 @@ use Rattle.std.proofs.Common.{◌≡◌, ◌∙◌, ◌++◌, ℕ, List, [], ◌
 use Rattle.std.specs.Prelude.{option_map}
 use Rattle.std.proofs.lemmas.List.{append-nil}
 use Rattle.csv.specs.Records.{AllText}
-use Rattle.pb_rows.specs.Reading.{Fields, HasRead, HasReadAtMost, IsNext, NextIsNoText, records_of}
+use Rattle.pb_rows.specs.Reading.{Fields, IsNext, NextIsNoText, records_of}
+use Rattle.pb_rows.specs.Inner.Reading.{HasRead, HasReadAtMost}
 
 -- at first none was read
 pub HasRead-start : (known : Option (List ℕ)) → HasRead known [] (option_map records_of known)

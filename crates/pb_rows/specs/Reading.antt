@@ -1,5 +1,5 @@
 -- The records of a text.
-use Rattle.std.specs.Prelude.{◌≡◌, ◌≤◌, ◌+◌, ◌++◌, ℕ, Bool, true, false, List, [], ◌∷◌, length, Option, Some, None, option_map, ⊤}
+use Rattle.std.specs.Prelude.{◌≡◌, ◌+◌, ℕ, Bool, true, false, List, [], ◌∷◌, length, Option, Some, None, option_map, ⊤}
 use Rattle.csv.specs.Reading.{Ready, default_config, has_failed, is_flexible, names_headers, reader_config, reader_state, reader_trim, records, records_from, source_of, strip_bom}
 use Rattle.csv.specs.Records.{AllText}
 use Rattle.csv.specs.declared.parser.Config.{Config}
@@ -41,19 +41,6 @@ abbrev pub NextIsNoText : Option (List Fields) → Type 0
 NextIsNoText None = ⊤
 NextIsNoText (Some []) = ⊥
 NextIsNoText (Some (first ∷ rest)) = ¬ AllText first
-
--- these records were read so far, where the text is known: they, and then those that are left, are all its
--- records
-abbrev pub HasRead : Option (List ℕ) → List Fields → Option (List Fields) → Type 0
-HasRead None done left = ⊤
-HasRead (Some bytes) done None = ⊥
-HasRead (Some bytes) done (Some rest) = records_of bytes ≡ done ++ rest
-
--- where it is known which records were left before, and which are now: at most this many were read
-abbrev pub HasReadAtMost : ℕ → Option (List Fields) → Option (List Fields) → Type 0
-HasReadAtMost most None after = ⊤
-HasReadAtMost most (Some before) None = ⊤
-HasReadAtMost most (Some before) (Some after) = length before ≤ length after + most
 
 -- the records that a reader of csv still gives
 abbrev pub left_of : {R : Type 0} → (R → Option (List ℕ)) → Reader R → Option (List Fields)

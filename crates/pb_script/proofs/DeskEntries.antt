@@ -17,8 +17,10 @@ use Rattle.pb_desk.specs.Step.{answer_of, first_unknown, has_ballot, is_too_long
 use Rattle.pb_rows.specs.Numbers.{AreNumbers}
 use Rattle.pb_rows.specs.Reading.{Fields}
 use Rattle.pb_shared.specs.Clerk.{entries_of}
-use Rattle.pb_script.specs.Script.{AreAsked, IsScript, IsScriptRow, ScriptRowView, asked_by, clerks_within}
-use Rattle.pb_script.specs.Serving.{AreClerks, ServesAll, ServesScript, ShutAtEnd, requests_of}
+use Rattle.pb_script.specs.Script.{IsScript, IsScriptRow, ScriptRowView, asked_by, clerks_within}
+use Rattle.pb_script.specs.Inner.Script.{AreAsked}
+use Rattle.pb_script.specs.Serving.{AreClerks, ServesScript, ShutAtEnd, requests_of}
+use Rattle.pb_script.specs.Inner.Serving.{ServesAll}
 
 cond_answer : (test : Bool) (a b : Answer) → IsAnswer a → IsAnswer b → IsAnswer (cond test a b)
 cond_answer true a b is other = is

@@ -8,7 +8,8 @@ use Rattle.pb_core.specs.Request.{EntryView, RequestView}
 use Rattle.pb_desk.specs.Replay.{most_clerks}
 use Rattle.pb_shared.specs.Clerk.{entries_of}
 use Rattle.pb_script.specs.Script.{most_rows}
-use Rattle.pb_script.specs.Serving.{ServesAll, ServesUpTo, list_of, program_room, requests_of}
+use Rattle.pb_script.specs.Serving.{program_room, requests_of}
+use Rattle.pb_script.specs.Inner.Serving.{ServesAll, ServesUpTo, list_of}
 
 -- how many entries of a journal are this clerk's
 abbrev count_of : ℕ → List EntryView → ℕ

@@ -8,8 +8,10 @@ use Rattle.std.proofs.lemmas.List.Elements.{filter-append}
 use Rattle.std.proofs.lemmas.List.Sums.{count_by-le-length, length-filter}
 use Rattle.pb_core.specs.Request.{RequestView}
 use Rattle.pb_rows.specs.Reading.{Fields, IsNext}
-use Rattle.pb_script.specs.Script.{AreAsked, IsScript, IsScriptRow, ScriptRowView, asked_by, clerks_within, most_rows}
-use Rattle.pb_script.specs.ScriptReading.{HaveAsked, HaveGone, IsFaultOfScript, IsNextScriptFault, NoneLeft, SplitsScript, TakesScriptRow}
+use Rattle.pb_script.specs.Script.{IsScript, IsScriptRow, ScriptRowView, asked_by, clerks_within, most_rows}
+use Rattle.pb_script.specs.Inner.Script.{AreAsked}
+use Rattle.pb_script.specs.ScriptReading.{IsFaultOfScript, IsNextScriptFault, NoneLeft}
+use Rattle.pb_script.specs.Inner.ScriptReading.{HaveAsked, HaveGone, SplitsScript, TakesScriptRow}
 use Rattle.pb_script.specs.declared.script_fault.ScriptFault.{ScriptFault}
 use Rattle.pb_script.specs.declared.script_fault.ScriptFault.TheVariants.{NoMemory}
 

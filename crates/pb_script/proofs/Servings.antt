@@ -11,11 +11,12 @@ use Rattle.pb_core.specs.declared.answer.Answer.{Answer}
 use Rattle.pb_desk.specs.Desk.{DeskView}
 use Rattle.pb_shared.specs.Clerk.{AreAll, AreNewcomers, Begins, ClerkView, IsMergeOf, SharedView, Serves, entries_of}
 use Rattle.pb_shared.specs.Refusal.{HandsBack}
-use Rattle.pb_shared.specs.Seats.{newcomer}
+use Rattle.pb_shared.specs.Inner.Seats.{newcomer}
 use Rattle.pb_shared.specs.declared.share_fault.ShareFault.{ShareFault}
 use Rattle.pb_shared.specs.declared.share_fault.ShareFault.TheVariants as share
 use Rattle.pb_script.specs.declared.serve_script.Returned.{Returned}
-use Rattle.pb_script.specs.Serving.{AppendsFor, AreBack, AreClerks, AreCounts, HasServed, IsServingFault, ServesUpTo, list_of, requests_of, unshared}
+use Rattle.pb_script.specs.Serving.{AreClerks, requests_of}
+use Rattle.pb_script.specs.Inner.Serving.{AppendsFor, AreBack, AreCounts, HasServed, IsServingFault, ServesUpTo, list_of, unshared}
 
 -- an element of a list, read through a function
 pub read_through : {X Y : Type 0} (f : X → Y) (items : List X) (list : List Y) (i : ℕ) (x : X) → map f items ≡ list → i < length items → x ≡ get_or items i x →

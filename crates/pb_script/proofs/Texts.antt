@@ -8,9 +8,11 @@ use Rattle.pb_desk.specs.Opening.{OpeningView}
 use Rattle.pb_desk.specs.Replay.{IsLegal}
 use Rattle.pb_desk.specs.Rows.{journal_text}
 use Rattle.pb_rows.specs.Reading.{Fields, records_of}
-use Rattle.pb_script.specs.ScriptReading.{IsFaultOfScript, SplitsScript}
+use Rattle.pb_script.specs.ScriptReading.{IsFaultOfScript}
+use Rattle.pb_script.specs.Inner.ScriptReading.{SplitsScript}
 use Rattle.pb_script.specs.Served.{IsServeFault, IsServed}
-use Rattle.pb_script.specs.Serving.{AreClerks, IsServingFault, ServesAll, ShutAtEnd, opening_of, program_room}
+use Rattle.pb_script.specs.Serving.{AreClerks, ShutAtEnd, program_room}
+use Rattle.pb_script.specs.Inner.Serving.{IsServingFault, ServesAll, opening_of}
 use Rattle.pb_script.specs.declared.script_fault.ScriptFault.{ScriptFault}
 use Rattle.pb_script.specs.declared.script_fault.ScriptFault.TheVariants as script
 use Rattle.pb_script.specs.declared.serve_fault.ServeFault.{ServeFault}

@@ -1,7 +1,7 @@
 pub mod Script
-pub mod Asking
 pub mod ScriptFault
 pub mod ScriptReading
 pub mod RequestRows
 pub mod Serving
 pub mod Served
+pub mod Inner

@@ -1,5 +1,5 @@
 -- A script: the requests of a run's clerks, one a row.
-use Rattle.std.specs.Prelude.{◌≡◌, ℕ, ◌<◌, ◌≤◌, ◌==◌, List, [], ◌∷◌, decimal, filter, length, map, min, slice_index_or}
+use Rattle.std.specs.Prelude.{◌≡◌, ℕ, ◌<◌, ◌≤◌, ◌==◌, List, [], ◌∷◌, decimal, filter, length, map, min}
 use Rattle.std.specs.List.{AllZip}
 use Rattle.std.specs.Str.{trim}
 use Rattle.csv.specs.Records.{AllText}
@@ -47,10 +47,3 @@ pub record IsScript (clerks : ℕ) (records : List Fields) (script : List Script
 -- what a clerk asks, in the order of the script
 abbrev pub asked_by : ℕ → List ScriptRowView → List RequestView
 asked_by clerk script = map (λ x. x.request) (filter (λ x. x.clerk == clerk) script)
-
--- one list for each clerk, of what it asks in the order of the script
-pub record AreAsked (clerks : ℕ) (script : List ScriptRowView) (lists : List (List RequestView))
-    : Type 0 where
-  pub one_each : length lists ≡ clerks_within clerks
-  pub asked : (clerk : ℕ) → clerk < clerks_within clerks
-      → slice_index_or lists clerk [] ≡ asked_by clerk script

@@ -8,7 +8,8 @@ ghost use Rattle.pb_rows.specs.Reading.{records_of};
 ghost use Rattle.pb_shared.specs.Clerk.{AreNewcomers, desk_with};
 ghost use Rattle.pb_script.specs.Script.{clerks_within, most_rows};
 ghost use Rattle.pb_script.specs.Served.{IsServeFault, IsServed};
-ghost use Rattle.pb_script.specs.Serving.{AppendsFor, AreCounts, HasServed, ServesAll, ServesUpTo, ShutAtEnd, AreBack, AreClerks, IsServingFault, list_of, opening_of, program_room, unshared};
+ghost use Rattle.pb_script.specs.Serving.{ShutAtEnd, AreClerks, program_room};
+ghost use Rattle.pb_script.specs.Inner.Serving.{AppendsFor, AreCounts, HasServed, ServesAll, ServesUpTo, AreBack, IsServingFault, list_of, opening_of, unshared};
 
 use crate::requests::Requests;
 use crate::script::read_script;

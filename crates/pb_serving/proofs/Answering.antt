@@ -16,12 +16,13 @@ use Rattle.pb_rows.proofs.RowsText.{text_of_rows-append}
 use Rattle.pb_rows.specs.Reading.{Fields}
 use Rattle.pb_rows.specs.Writing.{text_of_row, text_of_rows}
 use Rattle.pb_script.specs.Script.{HasScriptForm}
-use Rattle.pb_script.specs.ScriptReading.{HaveGone, NoneLeft}
+use Rattle.pb_script.specs.ScriptReading.{NoneLeft}
+use Rattle.pb_script.specs.Inner.ScriptReading.{HaveGone}
 use Rattle.pb_script.specs.declared.script_fault.ScriptFault.TheVariants.{BadRow}
 use Rattle.pb_commands.specs.Fault.{fields_of, line}
 use Rattle.pb_commands.specs.declared.fault.AppFault.TheVariants.{Script}
 use Rattle.pb_serving.specs.Answered.{answers_from, Answers, Becomes}
-use Rattle.pb_serving.specs.Batch.{Asks}
+use Rattle.pb_serving.specs.Inner.Batch.{Asks}
 
 abbrev pub added : List (Option EntryView) → List EntryView
 added became = filter_map (λ x. x) became

@@ -5,11 +5,12 @@ use Rattle.std.specs.Prelude.{MatchOption}
 use Rattle.pb_desk.specs.Replay.{most_clerks}
 use Rattle.pb_rows.specs.Reading.{Fields, IsNext}
 use Rattle.pb_script.specs.RequestRows.{TakesRequestRow}
-use Rattle.pb_script.specs.ScriptReading.{HaveGone, NoneLeft}
+use Rattle.pb_script.specs.ScriptReading.{NoneLeft}
+use Rattle.pb_script.specs.Inner.ScriptReading.{HaveGone}
 use Rattle.pb_script.specs.declared.request_rows.RequestRow.{RequestRow}
 use Rattle.pb_script.specs.declared.request_rows.RequestRow.TheVariants as row
 use Rattle.pb_durable.specs.declared.asked.Asked.{Asked}
-use Rattle.pb_serving.specs.Batch.{Asks}
+use Rattle.pb_serving.specs.Inner.Batch.{Asks}
 
 -- these records were read, and ask this
 pub record HasRows (left after : Option (List Fields)) (asks : List Asked) : Type 0 where

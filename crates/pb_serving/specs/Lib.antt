@@ -1,3 +1,3 @@
 pub mod Answered
-pub mod Batch
 pub mod Fault
+pub mod Inner

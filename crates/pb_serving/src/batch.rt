@@ -1,7 +1,7 @@
 // The rows of the input that are served together.
 
 ghost use Rattle.std.specs.Prelude.{◌≡◌, ◌≤◌, ◌+◌, ◌++◌, [], length, IfOk};
-ghost use Rattle.pb_serving.specs.Batch.{IsBatch};
+ghost use Rattle.pb_serving.specs.Inner.Batch.{IsBatch};
 
 use crate::pace::Pace;
 use pb_core::no_memory::NoMemory;

@@ -12,8 +12,9 @@ use Rattle.pb_desk.specs.Replay.{IsLegal}
 use Rattle.pb_shared.specs.Clerk.{CanHave, ClerkView, GrowsByOthers, IsAnothers, Reads, Sees, Serves, Tries, desk_with}
 use Rattle.pb_shared.specs.Refusal.{Refuses}
 use Rattle.pb_shared.specs.Rule.{Sitter}
-use Rattle.pb_shared.specs.Plays.{CanSee, won, freed, published, has_read, reads}
-use Rattle.pb_shared.specs.Seats.{HasLost, HasServed, HasWon, IsDeskOf, clerk_view}
+use Rattle.pb_shared.specs.Inner.Plays.{CanSee, won, freed, published, has_read, reads}
+use Rattle.pb_shared.specs.Seats.{clerk_view}
+use Rattle.pb_shared.specs.Inner.Seats.{HasLost, HasServed, HasWon, IsDeskOf}
 use Rattle.pb_shared.specs.declared.seat_view.SeatView.{SeatView}
 use Rattle.pb_shared.specs.declared.shared_fault.SharedFault.{SharedFault}
 use Rattle.pb_shared.specs.declared.shared_fault.SharedFault.TheVariants.{Busy, JournalFull, NoMemory}

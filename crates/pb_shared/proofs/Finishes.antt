@@ -9,7 +9,8 @@ use Rattle.pb_core.specs.Request.{EntryView}
 use Rattle.pb_desk.specs.Desk.{DeskView}
 use Rattle.pb_shared.specs.Clerk.{SharedView, ClerkView, AreAll, Begins, IsMergeOf, IsHeldByAnother, desk_with, entries_of}
 use Rattle.pb_shared.specs.Rule.{history, RoleFits, Runs, DeskRule}
-use Rattle.pb_shared.specs.Seats.{newcomer, shared_view, sheet_of}
+use Rattle.pb_shared.specs.Seats.{shared_view}
+use Rattle.pb_shared.specs.Inner.Seats.{newcomer, sheet_of}
 use Rattle.pb_shared.specs.declared.seat_view.About.{About}
 use Rattle.pb_shared.specs.declared.seat_view.Role.TheVariants.{Guest}
 use Rattle.pb_shared.specs.declared.seat_view.SeatView.{SeatView}

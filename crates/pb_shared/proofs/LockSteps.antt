@@ -13,7 +13,7 @@ use Rattle.pb_desk.specs.Desk.{DeskView}
 use Rattle.pb_desk.specs.Replay.{IsLegal}
 use Rattle.pb_shared.specs.Clerk.{Begins, CanHave, GrowsByOthers, desk_with, entries_of}
 use Rattle.pb_shared.specs.Rule.{history, ClerkFits, RoleFits, Runs, DeskRule, Sitter}
-use Rattle.pb_shared.specs.Plays.{CanSee, won, lost, published, freed, has_read, tries_lock, publishes, frees, reads}
+use Rattle.pb_shared.specs.Inner.Plays.{CanSee, won, lost, published, freed, has_read, tries_lock, publishes, frees, reads}
 use Rattle.pb_shared.specs.declared.seat_view.About.{About}
 use Rattle.pb_shared.specs.declared.seat_view.Role.TheVariants.{Clerk}
 use Rattle.pb_shared.specs.declared.seat_view.SeatView.{SeatView}

@@ -11,9 +11,10 @@ use Rattle.atomic_table.proofs.Lists.{set_again, set_else, at_longer}
 use Rattle.pb_core.specs.Request.{EntryView}
 use Rattle.pb_desk.specs.Replay.{IsLegal}
 use Rattle.pb_shared.specs.Clerk.{CanHave, blank, desk_with}
-use Rattle.pb_shared.specs.Rule.{history, seated, stock, SheetFits, RoleFits, Runs, DeskRule}
+use Rattle.pb_shared.specs.Rule.{history, SheetFits, RoleFits, Runs, DeskRule}
+use Rattle.pb_shared.specs.Inner.Rule.{seated, stock}
 use Rattle.pb_shared.specs.Steps.{StepRule}
-use Rattle.pb_shared.specs.Plays.{visits, dealt_left, dealt_right, note_of, informed, handed, nobody}
+use Rattle.pb_shared.specs.Inner.Plays.{visits, dealt_left, dealt_right, note_of, informed, handed, nobody}
 use Rattle.pb_shared.specs.declared.seat_view.About.{About}
 use Rattle.pb_shared.specs.declared.seat_view.Role.{Role}
 use Rattle.pb_shared.specs.declared.seat_view.Role.TheVariants.{Stock, Clerk, Guest, Spent}

@@ -1,8 +1,8 @@
 pub mod Clerk
-pub mod Plays
 pub mod Refusal
 pub mod Rule
 pub mod Seats
 pub mod ShareFault
 pub mod SharedFault
 pub mod Steps
+pub mod Inner

@@ -24,15 +24,6 @@ history a later = a.desk.value.journal ++ later
 abbrev pub desk_after : About → List EntryView → DeskView
 desk_after a later = desk_with a.desk.value (history a later)
 
--- a seat that knows this sheet, and does not hold the lock
-abbrev pub seated : Role → About → Sheet → SeatView
-seated role a sheet =
-    record { role = role; about = a; sheet = sheet; holds = false; home = false; told = []; returned = [] }
-
--- the first seat, with all clerks in stock
-abbrev pub stock : About → SeatView
-stock a = seated Stock a (blank a.desk.value.journal 0)
-
 module _ (a : About) (lock : ℕ) (home : slot.Option (Option DeskView)) (later : List EntryView)
     (seat_of : ℕ → ℕ) where
   -- a clerk's sheet is true: the seat is its own; what it has seen begins the history, what came after is

@@ -102,7 +102,7 @@ fn rule(fault: AuditFault) -> &'static str {
             "the journal could not be read any further.\nCheck the disk or the connection, then run again."
         }
         AuditFault::BadRow(_) => {
-            "the row has not the form of an entry.\nGet the desk's own copy: the file was edited, cut or converted after the desk wrote it."
+            "the row has not the form of an entry.\nGet the desk's own copy: the file was edited, cut or converted after the desk wrote it. After a power cut let `pb_app serve` open it first."
         }
         AuditFault::WrongNumber(_) => {
             "the row has another number.\nA row before it is missing, doubled or out of order: get the desk's own copy."

@@ -113,7 +113,7 @@ pub(crate) fn put_separator(out: &mut Words, separator: &str) {
     out.put_all(&[
         "The file has ",
         separator,
-        " where `;` is due: save it again with `;` between the fields.\n",
+        " where `;` is due: save it again with `;` between the fields (within a vote commas stay).\n",
     ]);
 }
 

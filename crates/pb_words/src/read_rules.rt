@@ -62,7 +62,7 @@ const RULES: &[Rule] = &[
     Rule {
         rule: "the row ends before a needed column",
         broken: " is refused.\n",
-        remedy: "Fill in the row; a vote for nothing still needs its `;`.",
+        remedy: "Fill in the row, or take it out if it is none of the table; a vote for nothing still needs its `;`.",
     },
     // MissingKey
     Rule {
@@ -86,7 +86,7 @@ const RULES: &[Rule] = &[
     Rule {
         rule: "an amount is finer than a hundredth",
         broken: " is finer than a hundredth.\n",
-        remedy: "Round the amount to two decimals.",
+        remedy: "Round the amount to two decimals; where its point marks thousands, leave the point out.",
     },
     // MoneyTooLarge
     Rule {

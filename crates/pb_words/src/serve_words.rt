@@ -54,6 +54,16 @@ pub fn spelling_words(alloc: Global, path: &str) -> Result<String, AllocError> {
     )
 }
 
+/// Words for so many bytes behind a journal's text that are kept in this file.
+pub fn torn_words(alloc: Global, path: &str, bytes: usize) -> Result<String, AllocError> {
+    let mut out = Words::new(alloc);
+    out.put_number(bytes as u64);
+    out.put(" bytes behind the journal's text were cut off, and stand in ");
+    out.put_name(Some(path));
+    out.put(".\nSend each row that has no answer once more.\n");
+    out.finish()
+}
+
 /// Words for so many rows that were not of the form.
 pub fn bad_rows_words(alloc: Global, rows: u64) -> Result<String, AllocError> {
     let mut out = Words::new(alloc);

@@ -1,7 +1,8 @@
 //! The rule of the claim table, and what each kind of step on it does to the views.
 
 ghost use Rattle.std.specs.Prelude.{[]};
-ghost use Rattle.pb_price.specs.Claims.{drawn, draws, joined, one_seat, rest_of_seats, spent, AreClaims};
+ghost use Rattle.pb_price.specs.Claims.{AreClaims};
+ghost use Rattle.pb_price.specs.Inner.Claims.{drawn, draws, joined, one_seat, rest_of_seats, spent};
 
 use crate::claims::drawn::Drawn;
 use atomic_table::{Join, Play, Split, TableRule};

@@ -2,8 +2,9 @@
 
 ghost use Rattle.std.specs.Prelude.{◌≡◌, ◌≤◌, length, IfOk, IfErr, []};
 ghost use Rattle.pb_desk.specs.Replay.{IsLegal};
-ghost use Rattle.pb_shared.specs.Plays.{freed, published};
-ghost use Rattle.pb_shared.specs.Seats.{IsIdle, HasWon, HasLost, IsOut, IsDeskOf, HasServed};
+ghost use Rattle.pb_shared.specs.Inner.Plays.{freed, published};
+ghost use Rattle.pb_shared.specs.Seats.{IsIdle};
+ghost use Rattle.pb_shared.specs.Inner.Seats.{HasWon, HasLost, IsOut, IsDeskOf, HasServed};
 
 use super::SharedDesk;
 use crate::busy::Busy;

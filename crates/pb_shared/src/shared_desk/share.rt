@@ -2,7 +2,7 @@ ghost use Rattle.std.specs.Prelude.{◌≡◌, ◌<◌, ◌≤◌, All, IfOk, If
 ghost use Rattle.pb_desk.specs.Replay.{most_clerks};
 ghost use Rattle.pb_shared.specs.Clerk.{AreNewcomers};
 ghost use Rattle.pb_shared.specs.Refusal.{HandsBack};
-ghost use Rattle.pb_shared.specs.Seats.{IsLaid};
+ghost use Rattle.pb_shared.specs.Inner.Seats.{IsLaid};
 
 use super::SharedDesk;
 use crate::clerk::Clerk;

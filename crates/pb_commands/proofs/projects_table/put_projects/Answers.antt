@@ -3,7 +3,8 @@ use Rattle.pb_rounds.specs.Outcome.{settled}
 use Rattle.pb_rows.specs.Writing.{text_of_row}
 use Rattle.std.specs.Prelude.{◌++◌}
 use Rattle.pb_commands.proofs.TableRows.{columns_put, project_row_read, row_put}
-use Rattle.pb_commands.specs.Tables.{project_columns, project_row}
+use Rattle.pb_commands.specs.Tables.{project_row}
+use Rattle.pb_commands.specs.Inner.Tables.{project_columns}
 use Rattle.pb_commands.proofs.projects_table.put_projects.Goals as goal
 
 pub loop-place-init : goal.loop-place-init

@@ -3,7 +3,8 @@ use Rattle.pb_core.specs.Election.{VoterView}
 use Rattle.pb_rounds.specs.Outcome.{settled}
 use Rattle.pb_rows.specs.Writing.{text_of_row}
 use Rattle.pb_commands.proofs.TableRows.{columns_put, row_put, voter_row_read}
-use Rattle.pb_commands.specs.Tables.{voter_columns, voter_row}
+use Rattle.pb_commands.specs.Tables.{voter_row}
+use Rattle.pb_commands.specs.Inner.Tables.{voter_columns}
 use Rattle.pb_commands.proofs.voters_table.put_voters.Goals as goal
 
 pub loop-position-init : goal.loop-position-init

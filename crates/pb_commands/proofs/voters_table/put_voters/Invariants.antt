@@ -1,6 +1,7 @@
 use Rattle.pb_rounds.specs.Outcome.{settled}
 use Rattle.pb_commands.proofs.TableRows.{TableSoFar}
-use Rattle.pb_commands.specs.Tables.{voter_columns, voter_row}
+use Rattle.pb_commands.specs.Tables.{voter_row}
+use Rattle.pb_commands.specs.Inner.Tables.{voter_columns}
 use Rattle.pb_commands.proofs.voters_table.put_voters.Given as goal
 
 abbrev pub invariant-loop-position : goal.invariant-loop-position

@@ -1,5 +1,5 @@
 use Rattle.std.proofs.Common.{◌≡◌, drop, slice_get}
-use Rattle.pb_desk.specs.Slots.{filed}
+use Rattle.pb_desk.specs.Inner.Slots.{filed}
 use Rattle.pb_desk.proofs.ballot_list.nth.Given as goal
 
 abbrev pub invariant-loop-slot : goal.invariant-loop-slot

@@ -3,7 +3,7 @@ use Rattle.std.specs.Prelude.{false, slice_index, slice_index_or}
 use Rattle.csv.specs.Records.{AllText}
 use Rattle.pb_rows.specs.Reading.{Fields}
 use Rattle.pb_export.specs.FileRows.{project_row, projects_rows}
-use Rattle.pb_export.specs.Growing.{Grows}
+use Rattle.pb_export.specs.Inner.Growing.{Grows}
 use Rattle.pb_export.proofs.Grown.{none_grown, projects_more, row_grown}
 use Rattle.pb_export.proofs.Tidy.{plain_text}
 use Rattle.pb_export.proofs.write_pb.put_projects.Goals as goal

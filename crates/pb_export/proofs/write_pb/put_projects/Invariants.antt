@@ -1,5 +1,5 @@
 use Rattle.std.proofs.Common.{take}
-use Rattle.pb_export.specs.Growing.{Grows}
+use Rattle.pb_export.specs.Inner.Growing.{Grows}
 use Rattle.pb_export.specs.FileRows.{projects_rows}
 use Rattle.pb_export.proofs.write_pb.put_projects.Given as goal
 

@@ -5,7 +5,7 @@ use Rattle.pb_core.specs.Election.{ProjectView, VoterView, project_ids}
 use Rattle.pb_rows.specs.Reading.{Fields}
 use Rattle.pb_rows.specs.Writing.{text_of_row}
 use Rattle.pb_export.specs.FileRows.{vote_row, vote_text, votes_rows}
-use Rattle.pb_export.specs.Growing.{Grows}
+use Rattle.pb_export.specs.Inner.Growing.{Grows}
 use Rattle.pb_export.proofs.Grown.{none_grown, row_grown}
 use Rattle.pb_export.proofs.Tidy.{plain_text}
 use Rattle.pb_export.proofs.write_pb.put_votes.Goals as goal

@@ -1,6 +1,6 @@
 use Rattle.std.proofs.Common.{take}
 use Rattle.pb_core.specs.Election.{project_ids}
-use Rattle.pb_export.specs.Growing.{Grows}
+use Rattle.pb_export.specs.Inner.Growing.{Grows}
 use Rattle.pb_export.specs.FileRows.{votes_rows}
 use Rattle.pb_export.proofs.write_pb.put_votes.Given as goal
 

@@ -1,6 +1,6 @@
 use Rattle.std.proofs.Common.{◌≡◌, ◌<◌, ◌^◌, true, nat_lt, reverse, take}
 use Rattle.std.specs.List.{list_all}
-use Rattle.pb_ids.specs.Kept.{digits}
+use Rattle.pb_ids.specs.Inner.Kept.{digits}
 use Rattle.pb_ids.proofs.kept_ids.code_of.Given as goal
 
 abbrev pub invariant-loop-byte : goal.invariant-loop-byte

@@ -1,6 +1,6 @@
 use Rattle.std.proofs.Common.{◌∙◌, ap}
 use Rattle.std.proofs.lemmas.Result.{on_ok_weaker}
-use Rattle.pb_price.specs.Claims.{all_joined}
+use Rattle.pb_price.specs.Inner.Claims.{all_joined}
 use Rattle.pb_price.proofs.Workers.{gathers_result, gathers_these}
 use Rattle.pb_price.proofs.all_prices.draw_and_gather.Goals as goal
 

@@ -1,7 +1,7 @@
 use Rattle.std.proofs.Common.{◌≡◌, ◌<◌, [], ◌∷◌, length, ap, arith}
 use Rattle.std.proofs.lemmas.List.{length-append}
 use Rattle.std.proofs.lemmas.List.Elements.{All-push}
-use Rattle.pb_price.specs.Working.{IsDone}
+use Rattle.pb_price.specs.Inner.Working.{IsDone}
 use Rattle.pb_price.proofs.Workers.{popped_done}
 use Rattle.pb_price.proofs.all_prices.work_side_by_side.Goals as goal
 

@@ -1,6 +1,6 @@
 use Rattle.std.proofs.Common.{◌≡◌, ◌+◌, length}
 use Rattle.std.specs.Prelude.{All, IfOk}
-use Rattle.pb_price.specs.Working.{IsDone}
+use Rattle.pb_price.specs.Inner.Working.{IsDone}
 use Rattle.pb_price.proofs.all_prices.work_side_by_side.Given as goal
 
 abbrev pub invariant-loop-worker : goal.invariant-loop-worker

@@ -3,8 +3,8 @@ use Rattle.std.specs.Prelude.{All, sum_by}
 use Rattle.std.proofs.lemmas.List.{length-append}
 use Rattle.std.proofs.lemmas.List.Sums.{sum_by_push}
 use Rattle.pb_core.specs.Election.{most_projects}
-use Rattle.pb_price.specs.Claims.{all_joined}
-use Rattle.pb_price.specs.Working.{gathered}
+use Rattle.pb_price.specs.Inner.Claims.{all_joined}
+use Rattle.pb_price.specs.Inner.Working.{gathered}
 use Rattle.pb_price.proofs.Workers.{gathered_popped, joined_popped, length_placed, popped}
 use Rattle.pb_price.proofs.gathering.gather.Goals as goal
 

@@ -1,8 +1,8 @@
 use Rattle.std.proofs.Common.{◌≡◌, ◌+◌, ◌*◌, ◌<◌, ◌≤◌, length, replicate, None}
 use Rattle.std.specs.Prelude.{All, sum_by}
 use Rattle.pb_core.specs.Election.{most_projects}
-use Rattle.pb_price.specs.Claims.{all_joined}
-use Rattle.pb_price.specs.Working.{gathered}
+use Rattle.pb_price.specs.Inner.Claims.{all_joined}
+use Rattle.pb_price.specs.Inner.Working.{gathered}
 use Rattle.pb_price.proofs.gathering.gather.Given as goal
 
 abbrev pub invariant-loop-worker : goal.invariant-loop-worker

@@ -1,5 +1,5 @@
 use Rattle.std.proofs.Common.{◌≡◌, length, take}
-use Rattle.pb_price.specs.Working.{placed}
+use Rattle.pb_price.specs.Inner.Working.{placed}
 use Rattle.pb_price.proofs.gathering.place.Given as goal
 
 abbrev pub invariant-loop-answer : goal.invariant-loop-answer

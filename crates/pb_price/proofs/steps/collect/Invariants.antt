@@ -1,5 +1,5 @@
 use Rattle.std.proofs.Common.{◌≡◌, ◌≤◌, ◌*◌, take}
-use Rattle.pb_price.specs.Payment.{payers_above}
+use Rattle.pb_price.specs.Inner.Payment.{payers_above}
 use Rattle.pb_price.specs.Price.{largest_share, paid_at, total_rest}
 use Rattle.pb_price.proofs.steps.collect.Given as goal
 

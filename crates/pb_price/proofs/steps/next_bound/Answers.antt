@@ -1,5 +1,5 @@
 use Rattle.std.proofs.Common.{◌≡◌, ◌∙◌, length, ap, arith}
-use Rattle.pb_price.specs.Payment.{payers_above}
+use Rattle.pb_price.specs.Inner.Payment.{payers_above}
 use Rattle.pb_price.specs.Price.{paid_at}
 use Rattle.pb_price.specs.Supporters.{supporters_at, cost_at}
 use Rattle.pb_price.proofs.Bounds.{bound_fits, look_bound, look_covers, look_none, look_payer, look_small}

@@ -1,5 +1,5 @@
 use Rattle.std.proofs.Common.{take}
-use Rattle.pb_price.specs.Lists.{AddsVoter}
+use Rattle.pb_price.specs.Inner.Lists.{AddsVoter}
 use Rattle.pb_price.proofs.voter_list.add_ballot.Given as goal
 
 abbrev pub invariant-loop-place : goal.invariant-loop-place

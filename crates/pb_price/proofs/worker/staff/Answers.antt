@@ -1,7 +1,7 @@
 use Rattle.std.proofs.Common.{◌≡◌, ℕ, ◌+◌, ◌-◌, [], ap, ◌∙◌, arith, rules}
 use Rattle.std.proofs.lemmas.List.Elements.{All-push}
 use Rattle.std.proofs.lemmas.Result.{IfOk-from_err}
-use Rattle.pb_price.specs.Claims.{drawn}
+use Rattle.pb_price.specs.Inner.Claims.{drawn}
 use Rattle.pb_price.proofs.worker.staff.Goals as goal
 
 pub loop-number-preserved : goal.loop-number-preserved

@@ -1,6 +1,6 @@
 use Rattle.std.proofs.Common.{◌≡◌, ◌-◌, [], length}
 use Rattle.std.specs.Prelude.{All}
-use Rattle.pb_price.specs.Claims.{drawn}
+use Rattle.pb_price.specs.Inner.Claims.{drawn}
 use Rattle.pb_price.proofs.worker.staff.Given as goal
 
 abbrev pub invariant-loop-number : goal.invariant-loop-number

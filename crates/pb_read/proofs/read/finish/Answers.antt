@@ -1,5 +1,5 @@
 use Rattle.pb_read.proofs.Blames.{explained_blames}
-use Rattle.pb_read.specs.Progresses.{place_of}
+use Rattle.pb_read.specs.Inner.Progresses.{place_of}
 use Rattle.pb_read.specs.Stages.{the_end}
 use Rattle.pb_read.proofs.read.finish.Goals as goal
 

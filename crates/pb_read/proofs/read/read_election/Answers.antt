@@ -1,7 +1,7 @@
 use Rattle.std.proofs.lemmas.Result.{IfErr-weaker}
 use Rattle.pb_read.proofs.Blames.{blames_none}
 use Rattle.pb_read.proofs.Tracking.{finished, finished_ok}
-use Rattle.pb_read.specs.Progresses.{place_of}
+use Rattle.pb_read.specs.Inner.Progresses.{place_of}
 use Rattle.pb_read.proofs.read.read_election.Goals as goal
 
 pub returns-in-Ok-clause-blame : goal.returns-in-Ok-clause-blame

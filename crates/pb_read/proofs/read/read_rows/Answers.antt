@@ -3,9 +3,9 @@ use Rattle.std.proofs.lemmas.Result.{err_from_is_err_and}
 use Rattle.pb_rows.proofs.RecordsRead.{HasReadAtMost-unknown}
 use Rattle.pb_read.proofs.Blames.{blames_none, few_read}
 use Rattle.pb_read.proofs.Tracking.{refused, stopped, too_many, tracks_more}
-use Rattle.pb_read.specs.Progresses.{place_of}
+use Rattle.pb_read.specs.Inner.Progresses.{place_of}
 use Rattle.pb_read.specs.StandsFor.{most_records}
-use Rattle.pb_read.specs.Tracking.{IsNextRow, Tracks}
+use Rattle.pb_read.specs.Inner.Tracking.{IsNextRow, Tracks}
 use Rattle.pb_read.proofs.read.read_rows.Goals as goal
 
 pub returns-in_err-read_row-clause-fault : goal.returns-in_err-read_row-clause-fault

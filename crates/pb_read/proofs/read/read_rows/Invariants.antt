@@ -1,5 +1,5 @@
-use Rattle.pb_read.specs.Progresses.{IsReady, place_of}
-use Rattle.pb_read.specs.Tracking.{Tracks}
+use Rattle.pb_read.specs.Inner.Progresses.{IsReady, place_of}
+use Rattle.pb_read.specs.Inner.Tracking.{Tracks}
 use Rattle.pb_read.proofs.read.read_rows.Given as goal
 
 abbrev pub invariant-loop-done : goal.invariant-loop-done

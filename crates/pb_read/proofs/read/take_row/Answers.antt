@@ -1,5 +1,5 @@
 use Rattle.pb_read.proofs.Blames.{explained_blames}
-use Rattle.pb_read.specs.Progresses.{place_of}
+use Rattle.pb_read.specs.Inner.Progresses.{place_of}
 use Rattle.pb_read.specs.Stages.{next_row}
 use Rattle.pb_read.proofs.read.take_row.Goals as goal
 

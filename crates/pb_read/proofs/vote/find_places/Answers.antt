@@ -8,7 +8,7 @@ use Rattle.std.proofs.lemmas.List.{map_push}
 use Rattle.pb_read.proofs.IdFacts.{is_some-place}
 use Rattle.pb_read.proofs.ListFacts.{length-is_empty}
 use Rattle.pb_read.proofs.Pieces.{IsWalked, walked_empty, walked_more, walked_none, unknown_part}
-use Rattle.pb_read.specs.Ids.{place_in}
+use Rattle.pb_read.specs.Inner.Ids.{place_in}
 use Rattle.pb_read.specs.Rows.{is_empty}
 use Rattle.pb_read.proofs.vote.find_places.Goals as goal
 

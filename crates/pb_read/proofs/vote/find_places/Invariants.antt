@@ -1,6 +1,6 @@
 use Rattle.std.proofs.Common.{ℕ, List, map}
 use Rattle.pb_read.proofs.Pieces.{IsWalked}
-use Rattle.pb_read.specs.Ids.{Finds}
+use Rattle.pb_read.specs.Inner.Ids.{Finds}
 use Rattle.pb_read.proofs.vote.find_places.Given as goal
 
 abbrev pub invariant-loop-piece : goal.invariant-loop-piece

@@ -1,4 +1,4 @@
-use Rattle.pb_rounds.specs.Bounds.{IsOpening}
+use Rattle.pb_rounds.specs.Inner.Bounds.{IsOpening}
 use Rattle.pb_rounds.proofs.bounds.fill_opening.Given as goal
 
 abbrev pub invariant-loop-place : goal.invariant-loop-place

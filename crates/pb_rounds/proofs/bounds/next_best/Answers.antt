@@ -2,8 +2,8 @@ use Rattle.std.proofs.Common.{◌≡◌, ◌≢◌, ◌<◌, List, ◌∷◌, So
 use Rattle.std.proofs.lemmas.Bool.{true≢false, eq-eqb, eqb-true}
 use Rattle.pb_price.specs.Price.{price_at}
 use Rattle.pb_rounds.specs.Bid.{Bid}
-use Rattle.pb_rounds.specs.Bounds.{HasBounds}
-use Rattle.pb_rounds.specs.Queue.{IsDone}
+use Rattle.pb_rounds.specs.Inner.Bounds.{HasBounds}
+use Rattle.pb_rounds.specs.Inner.Queue.{IsDone}
 use Rattle.pb_rounds.specs.Run.{weight_of}
 use Rattle.pb_rounds.proofs.BoundQueue.{fewer_with_higher, head_goes_back, head_is_best, head_known, head_lower, head_taken, head_weight, head_without_price, looks_left, none_within}
 use Rattle.pb_rounds.proofs.bounds.next_best.Goals as goal

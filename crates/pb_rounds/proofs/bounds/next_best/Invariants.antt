@@ -1,5 +1,5 @@
 use Rattle.std.proofs.Common.{ℕ, List}
-use Rattle.pb_rounds.specs.Bounds.{HasBounds}
+use Rattle.pb_rounds.specs.Inner.Bounds.{HasBounds}
 use Rattle.pb_rounds.specs.declared.measure.Measure.{Measure}
 use Rattle.pb_rounds.proofs.BoundQueue.{looks_left}
 use Rattle.pb_rounds.proofs.bounds.next_best.Given as goal

@@ -1,7 +1,7 @@
 use Rattle.std.proofs.Common.{arith}
-use Rattle.pb_rounds.specs.Count.{IsCompletionFault}
+use Rattle.pb_rounds.specs.Inner.Count.{IsCompletionFault}
 use Rattle.pb_rounds.specs.Counted.{IsCountFault, IsCountOf}
-use Rattle.pb_rounds.specs.RaiseEnds.{IsCompletion}
+use Rattle.pb_rounds.specs.Inner.RaiseEnds.{IsCompletion}
 use Rattle.pb_rounds.proofs.Counted.{add1_counted, add1_fault, can_complete, each_err, each_ok, plain_counted}
 use Rattle.pb_rounds.proofs.count.count_in_range.Goals as goal
 

@@ -1,6 +1,6 @@
 use Rattle.pb_price.specs.Supporters.{support_of}
 use Rattle.pb_rounds.specs.Count.{share_after}
-use Rattle.pb_rounds.specs.RaiseEnds.{IsOutcomeAt}
+use Rattle.pb_rounds.specs.Inner.RaiseEnds.{IsOutcomeAt}
 use Rattle.pb_rounds.proofs.Completing.{outcome_moves}
 use Rattle.pb_rounds.proofs.Counted.{each_ok}
 use Rattle.pb_rounds.proofs.count.outcome_after.Goals as goal

@@ -1,6 +1,6 @@
 use Rattle.std.proofs.Common.{◌≡◌, ℕ, List, Some, None, subst, sym, ◌∙◌, ap, rules, true}
 use Rattle.pb_rounds.specs.Bid.{Bid, is_before}
-use Rattle.pb_rounds.specs.Bounds.{HasBounds}
+use Rattle.pb_rounds.specs.Inner.Bounds.{HasBounds}
 use Rattle.pb_rounds.specs.Run.{bid, weight_of, without}
 use Rattle.pb_rounds.proofs.BoundQueue.{found_at, found_known, found_price, found_weight}
 use Rattle.pb_rounds.proofs.jump.follows.Goals as goal

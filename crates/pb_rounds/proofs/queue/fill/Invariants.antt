@@ -1,4 +1,4 @@
-use Rattle.pb_rounds.specs.Queue.{IsFull}
+use Rattle.pb_rounds.specs.Inner.Queue.{IsFull}
 use Rattle.pb_rounds.proofs.queue.fill.Given as goal
 
 abbrev pub invariant-loop-place : goal.invariant-loop-place

@@ -1,5 +1,5 @@
 use Rattle.std.proofs.Common.{take}
-use Rattle.pb_rounds.specs.Queue.{PutsBack}
+use Rattle.pb_rounds.specs.Inner.Queue.{PutsBack}
 use Rattle.pb_rounds.proofs.queue.put_back.Given as goal
 
 abbrev pub invariant-loop-key : goal.invariant-loop-key

@@ -1,5 +1,5 @@
 use Rattle.std.proofs.Common.{◌≡◌, length}
-use Rattle.pb_rounds.specs.Queue.{PricesHeads}
+use Rattle.pb_rounds.specs.Inner.Queue.{PricesHeads}
 use Rattle.pb_rounds.proofs.round.price_batches.Given as goal
 
 abbrev pub invariant-loop-places : goal.invariant-loop-places

@@ -1,6 +1,6 @@
 use Rattle.std.proofs.Common.{subst, sym, List, ℕ}
 use Rattle.pb_price.specs.Price.{AreRests}
-use Rattle.pb_rounds.specs.Queue.{PricesHeads}
+use Rattle.pb_rounds.specs.Inner.Queue.{PricesHeads}
 use Rattle.pb_rounds.proofs.round.price_round.Goals as goal
 
 pub returns-clause-priced : goal.returns-clause-priced

@@ -1,5 +1,5 @@
 use Rattle.std.proofs.Common.{◌≡◌, ◌+◌, ◌*◌, length, drop, subst, sym, ◌∙◌, ap, arith, get_or}
-use Rattle.pb_rounds.specs.RaiseEnds.{IsFound}
+use Rattle.pb_rounds.specs.Inner.RaiseEnds.{IsFound}
 use Rattle.pb_rounds.proofs.Trials.{whole_left}
 use Rattle.pb_rounds.proofs.side_by_side.try_group.Goals as goal
 

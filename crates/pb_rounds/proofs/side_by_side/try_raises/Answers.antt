@@ -1,7 +1,7 @@
 use Rattle.std.proofs.Common.{◌+◌, ◌-◌, ◌*◌, ◌<◌, ◌≤◌, ◌≡◌, length, get_or, ap, ◌∙◌, arith}
 use Rattle.std.proofs.lemmas.List.{get_or_default}
 use Rattle.pb_rounds.specs.Count.{elected_after}
-use Rattle.pb_rounds.specs.RaiseEnds.{IsTried}
+use Rattle.pb_rounds.specs.Inner.RaiseEnds.{IsTried}
 use Rattle.pb_rounds.proofs.Trials.{ended, exhausted_decides, goes_on, goes_on_elects, over_decides, raised_once}
 use Rattle.pb_rounds.proofs.side_by_side.try_raises.Goals as goal
 

@@ -1,7 +1,7 @@
 use Rattle.std.proofs.Common.{◌≡◌, ℕ, ◌+◌, List, length, None, Some, true, set, subst, sym, ◌∙◌, ap, rules, arith}
 use Rattle.pb_price.specs.Supporters.{cost_at}
-use Rattle.pb_rounds.specs.Bounds.{HasBounds}
-use Rattle.pb_rounds.specs.Queue.{AreMarked}
+use Rattle.pb_rounds.specs.Inner.Bounds.{HasBounds}
+use Rattle.pb_rounds.specs.Inner.Queue.{AreMarked}
 use Rattle.pb_rounds.proofs.BoundQueue.{found_at}
 use Rattle.pb_rounds.proofs.TrialRounds.{best_known, best_price, bounded_open, ends_exhausted, ends_going_on, fewer_rounds, mark_known, nobody_marked, over_budget, spent_fits, trying_more}
 use Rattle.pb_rounds.proofs.trial.end_at.Goals as goal

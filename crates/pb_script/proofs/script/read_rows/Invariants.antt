@@ -1,6 +1,6 @@
 use Rattle.std.proofs.Common.{◌≤◌, ◌-◌, ◌+◌}
 use Rattle.pb_script.specs.Script.{most_rows}
-use Rattle.pb_script.specs.ScriptReading.{HaveAsked}
+use Rattle.pb_script.specs.Inner.ScriptReading.{HaveAsked}
 use Rattle.pb_script.proofs.script.read_rows.Given as goal
 
 abbrev pub invariant-rows : goal.invariant-rows

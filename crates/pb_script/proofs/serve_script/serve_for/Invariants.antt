@@ -1,6 +1,6 @@
 use Rattle.std.proofs.Common.{◌≡◌, map, take}
 use Rattle.pb_core.specs.Request.{asked}
-use Rattle.pb_script.specs.Serving.{AppendsFor}
+use Rattle.pb_script.specs.Inner.Serving.{AppendsFor}
 use Rattle.pb_script.proofs.serve_script.serve_for.Given as goal
 
 abbrev pub invariant-loop-request : goal.invariant-loop-request

@@ -2,7 +2,7 @@ use Rattle.std.proofs.Common.{◌≡◌, ◌∙◌, ◌+◌, ◌<◌, ap, sym, l
 use Rattle.std.proofs.lemmas.List.{get_or_read}
 use Rattle.pb_core.specs.Request.{asked}
 use Rattle.pb_shared.specs.Clerk.{SharedView}
-use Rattle.pb_script.specs.Serving.{list_of}
+use Rattle.pb_script.specs.Inner.Serving.{list_of}
 use Rattle.pb_script.proofs.Servings.{HasServed-more, read_through}
 use Rattle.pb_script.proofs.serve_script.serve_own.Goals as goal
 

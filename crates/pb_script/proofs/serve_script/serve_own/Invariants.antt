@@ -1,5 +1,5 @@
 use Rattle.std.proofs.Common.{◌≡◌}
-use Rattle.pb_script.specs.Serving.{HasServed, list_of}
+use Rattle.pb_script.specs.Inner.Serving.{HasServed, list_of}
 use Rattle.pb_script.proofs.serve_script.serve_own.Given as goal
 
 abbrev pub invariant-loop-request : goal.invariant-loop-request

@@ -1,7 +1,7 @@
 use Rattle.std.proofs.Common.{◌≡◌, ◌∙◌, ◌<◌, get_or, length, [], arith}
 use Rattle.std.proofs.lemmas.List.{get_or_read}
 use Rattle.pb_core.specs.Request.{asked}
-use Rattle.pb_script.specs.Serving.{list_of}
+use Rattle.pb_script.specs.Inner.Serving.{list_of}
 use Rattle.pb_script.proofs.Rooms.{few_served, room_for_rest}
 use Rattle.pb_script.proofs.Servings.{ServesUpTo-more, rest_through}
 use Rattle.pb_script.proofs.serve_script.serve_rest.Goals as goal

@@ -1,5 +1,5 @@
 use Rattle.std.proofs.Common.{◌≡◌}
-use Rattle.pb_script.specs.Serving.{ServesUpTo}
+use Rattle.pb_script.specs.Inner.Serving.{ServesUpTo}
 use Rattle.pb_script.proofs.serve_script.serve_rest.Given as goal
 
 abbrev pub invariant-loop-clerk : goal.invariant-loop-clerk

@@ -1,6 +1,7 @@
 use Rattle.std.proofs.Common.{List, subst}
 use Rattle.pb_core.specs.Request.{RequestView}
-use Rattle.pb_script.specs.Serving.{ServesAll, ShutAtEnd}
+use Rattle.pb_script.specs.Serving.{ShutAtEnd}
+use Rattle.pb_script.specs.Inner.Serving.{ServesAll}
 use Rattle.pb_script.proofs.Texts.{script_text}
 use Rattle.pb_script.proofs.serve_script.serve_script.Goals as goal
 

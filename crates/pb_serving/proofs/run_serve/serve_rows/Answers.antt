@@ -10,7 +10,7 @@ use Rattle.pb_durable.specs.DurableDesk.{entries_of}
 use Rattle.pb_durable.specs.declared.asked.Asked.{Asked}
 use Rattle.pb_rows.specs.Writing.{text_of_rows}
 use Rattle.pb_serving.specs.Answered.{StandsWithin}
-use Rattle.pb_serving.specs.Batch.{EndsBy}
+use Rattle.pb_serving.specs.Inner.Batch.{EndsBy}
 use Rattle.pb_serving.specs.declared.batch.BatchEnd.{BatchEnd}
 use Rattle.pb_serving.specs.declared.batch.BatchEnd.TheVariants as end
 use Rattle.pb_serving.proofs.Answering.{any_err, bad_more, batch_more, done, gone_mid, halted, moved, started, Progress}

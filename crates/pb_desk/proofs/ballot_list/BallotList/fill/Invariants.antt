@@ -1,5 +1,5 @@
 use Rattle.std.proofs.Common.{◌≡◌, take}
-use Rattle.pb_desk.specs.Sources.{opened_from}
+use Rattle.pb_desk.specs.Inner.Sources.{opened_from}
 use Rattle.pb_desk.proofs.ballot_list.BallotList.fill.Given as goal
 
 abbrev pub invariant-loop-voter : goal.invariant-loop-voter

@@ -5,8 +5,8 @@ use Rattle.std.proofs.lemmas.List.{drop_all}
 use Rattle.std.proofs.lemmas.Option.{slice_get_read}
 use Rattle.pb_core.specs.Election.{VoterView}
 use Rattle.pb_desk.specs.Desk.{voters_of}
-use Rattle.pb_desk.specs.Slots.{filed, IsListing}
-use Rattle.pb_desk.specs.Sources.{ballots_at, IsOwnVoter}
+use Rattle.pb_desk.specs.Inner.Slots.{filed, IsListing}
+use Rattle.pb_desk.specs.Inner.Sources.{ballots_at, IsOwnVoter}
 use Rattle.pb_desk.specs.declared.source.Source.{Source}
 use Rattle.pb_desk.specs.declared.source.Source.TheVariants.{Opening, Entry}
 use Rattle.pb_desk.proofs.Closings.{after_entry, after_opening, entry_taken, opening_taken, room_left, taken_all, within_journal, within_opening, within_turned, pair_of, AreDistinct-sources, IsSoFar-start}

@@ -1,7 +1,7 @@
 use Rattle.std.proofs.Common.{◌∙◌, List, ℕ, Option, sym, ap, subst}
 use Rattle.std.specs.FinMap as map
-use Rattle.pb_ids.specs.Places.{Places, get_none}
-use Rattle.pb_desk.specs.Slots.{IsListing}
+use Rattle.pb_ids.specs.Inner.Places.{Places, get_none}
+use Rattle.pb_desk.specs.Inner.Slots.{IsListing}
 use Rattle.pb_desk.specs.declared.source.Source.{Source}
 use Rattle.pb_desk.proofs.Slots.{IsListing-none}
 use Rattle.pb_desk.proofs.ballot_list.BallotList.with_capacity.Goals as goal

@@ -1,7 +1,7 @@
 use Rattle.std.proofs.Common.{◌≡◌, ℕ, List, ap, sym, ◌∙◌}
 use Rattle.std.specs.FinMap.{get}
 use Rattle.pb_ids.proofs.TableFacts.{inserted, shows_after, unchanged}
-use Rattle.pb_ids.specs.Kept.{found}
+use Rattle.pb_ids.specs.Inner.Kept.{found}
 use Rattle.pb_ids.proofs.id_table.IdTable.insert.Goals as goal
 
 pub invariant_of-self-inside : goal.invariant_of-self-inside

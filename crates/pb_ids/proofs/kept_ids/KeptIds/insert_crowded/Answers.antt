@@ -4,7 +4,7 @@ use Rattle.std.specs.Prelude.{string_bytes}
 use Rattle.std.specs.Str.{bytes_eq}
 use Rattle.std.proofs.lemmas.Map.Text.{btree_map_updates_text}
 use Rattle.pb_ids.proofs.KeptFacts.{found_after_crowded}
-use Rattle.pb_ids.specs.Kept.{hashed}
+use Rattle.pb_ids.specs.Inner.Kept.{hashed}
 use Rattle.pb_ids.proofs.kept_ids.KeptIds.insert_crowded.Goals as goal
 
 pub returns-clause-places : goal.returns-clause-places

@@ -1,5 +1,5 @@
 use Rattle.std.proofs.Common.{◌≡◌, ◌-◌, length}
-use Rattle.pb_price.specs.Working.{IsWorking}
+use Rattle.pb_price.specs.Inner.Working.{IsWorking}
 use Rattle.pb_price.proofs.worker.Worker.work.Given as goal
 
 abbrev pub invariant-loop-place : goal.invariant-loop-place

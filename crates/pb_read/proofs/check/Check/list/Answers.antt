@@ -1,9 +1,9 @@
 use Rattle.std.proofs.Common.{◌≡◌, ◌<◌, ◌≤◌, ◌+◌, ◌-◌, List, [], ◌∷◌, ◌++◌, length, sym, ap, subst, arith}
 use Rattle.std.specs.Prelude.{IfSome}
 use Rattle.pb_read.proofs.Checks.{going_leaves, going_passes, going_start, listed_done, listed_full, listed_last, one_longer}
-use Rattle.pb_read.specs.Checking.{IsGoing}
+use Rattle.pb_read.specs.Inner.Checking.{IsGoing}
 use Rattle.pb_read.specs.Listed.{AreListed}
-use Rattle.pb_read.specs.Progresses.{place_of}
+use Rattle.pb_read.specs.Inner.Progresses.{place_of}
 use Rattle.pb_read.proofs.check.Check.list.Goals.{in-Passes, in-LeavesOut+in_ok-push-in-LeavesOut+else-len-ge-MOST_FAULTS}
 use Rattle.pb_read.proofs.check.Check.list.Goals as goal
 

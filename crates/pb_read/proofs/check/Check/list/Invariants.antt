@@ -1,6 +1,6 @@
 use Rattle.std.specs.Prelude.{◌<◌, ◌≤◌, length}
-use Rattle.pb_read.specs.Checking.{IsGoing}
-use Rattle.pb_read.specs.Progresses.{IsReady, place_of}
+use Rattle.pb_read.specs.Inner.Checking.{IsGoing}
+use Rattle.pb_read.specs.Inner.Progresses.{IsReady, place_of}
 use Rattle.pb_read.proofs.check.Check.list.Given as goal
 
 abbrev pub invariant-loop-done : goal.invariant-loop-done

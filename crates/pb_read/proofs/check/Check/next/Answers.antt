@@ -1,6 +1,6 @@
 use Rattle.std.proofs.Common.{refl}
 use Rattle.pb_read.proofs.Checks.{no_text_judged, text_judged}
-use Rattle.pb_read.specs.Progresses.{place_of}
+use Rattle.pb_read.specs.Inner.Progresses.{place_of}
 use Rattle.pb_read.proofs.check.Check.next.Goals as goal
 
 pub returns-in-Ok-Text-clause-judged : goal.returns-in-Ok-Text-clause-judged

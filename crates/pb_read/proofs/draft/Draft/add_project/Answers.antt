@@ -4,8 +4,8 @@ use Rattle.std.proofs.lemmas.Bool.{le-leb, lt-leb}
 use Rattle.pb_core.specs.Election.{ProjectView, most_projects, project_ids, voter_ids}
 use Rattle.pb_read.proofs.DraftFacts.{finds_after, project_checked, project_ids-push, same_project, was_among}
 use Rattle.pb_read.proofs.Keeps.{money_of-le, not_among}
-use Rattle.pb_read.specs.Ids.{Finds}
-use Rattle.pb_read.specs.Machine.{amount_of, project_of}
+use Rattle.pb_read.specs.Inner.Ids.{Finds}
+use Rattle.pb_read.specs.Inner.Machine.{amount_of, project_of}
 use Rattle.pb_read.specs.Rows.{field}
 use Rattle.pb_read.specs.Voting.{is_among}
 use Rattle.pb_read.proofs.draft.Draft.add_project.Goals as goal

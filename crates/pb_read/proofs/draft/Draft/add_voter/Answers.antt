@@ -4,8 +4,8 @@ use Rattle.pb_core.specs.Election.{ElectionView, ProjectView, VoterView, project
 use Rattle.pb_read.proofs.DraftFacts.{same_voter, voter_ids-push}
 use Rattle.pb_read.proofs.Keeps.{ballot_of-below, not_among}
 use Rattle.pb_read.proofs.MachineLaws.{passes_checks}
-use Rattle.pb_read.specs.Ids.{Finds}
-use Rattle.pb_read.specs.Machine.{voter_of}
+use Rattle.pb_read.specs.Inner.Ids.{Finds}
+use Rattle.pb_read.specs.Inner.Machine.{voter_of}
 use Rattle.pb_read.specs.Rows.{field}
 use Rattle.pb_read.specs.Voting.{ballot_of, is_among}
 use Rattle.pb_read.proofs.draft.Draft.add_voter.Goals as goal

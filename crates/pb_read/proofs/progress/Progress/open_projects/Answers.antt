@@ -1,6 +1,6 @@
 use Rattle.std.proofs.Common.{ap, subst, sym, ◌∙◌}
 use Rattle.pb_read.proofs.ProgressFacts.{projects_opened}
-use Rattle.pb_read.specs.Drafts.{IsTied}
+use Rattle.pb_read.specs.Inner.Drafts.{IsTied}
 use Rattle.pb_read.specs.declared.draft.Draft.{Draft}
 use Rattle.pb_read.proofs.progress.Progress.open_projects.Goals as goal
 

@@ -1,5 +1,5 @@
 use Rattle.std.proofs.Common.{[], ap, sym, ◌∙◌, arith}
-use Rattle.pb_shared.specs.Plays.{freed}
+use Rattle.pb_shared.specs.Inner.Plays.{freed}
 use Rattle.pb_shared.proofs.Offers.{carries, frees_at, in_hand}
 use Rattle.pb_shared.proofs.shared_desk.SharedDesk.bring_back.Goals as goal
 

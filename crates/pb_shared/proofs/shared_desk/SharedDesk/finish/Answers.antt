@@ -1,7 +1,7 @@
 use Rattle.std.proofs.Common.{◌≡◌, ◌∙◌, ◌++◌, ◌∷◌, [], All, length, map, ap, sym, subst, arith, refl, append_assoc}
 use mathlib.Core.List.{append-nil}
 use Rattle.pb_shared.specs.Clerk.{ClerkView}
-use Rattle.pb_shared.specs.Seats.{sheet_of}
+use Rattle.pb_shared.specs.Inner.Seats.{sheet_of}
 use Rattle.pb_shared.specs.declared.seat_view.SeatView.{SeatView}
 use Rattle.pb_shared.proofs.Offers.{clerk_sits}
 use Rattle.pb_shared.proofs.SeatSteps.{comes_to_finish, hands_back}

@@ -1,6 +1,6 @@
 use Rattle.std.proofs.Common.{◌≡◌, List, ◌++◌, map}
 use Rattle.pb_shared.specs.Clerk.{ClerkView}
-use Rattle.pb_shared.specs.Seats.{sheet_of}
+use Rattle.pb_shared.specs.Inner.Seats.{sheet_of}
 use Rattle.pb_shared.specs.declared.seat_view.Role.TheVariants.{Guest}
 use Rattle.pb_shared.proofs.shared_desk.SharedDesk.finish.Given as goal
 

@@ -1,5 +1,5 @@
 use Rattle.std.proofs.Common.{[], ap, sym, refl, ◌∙◌, arith}
-use Rattle.pb_shared.specs.Plays.{freed, journal_out, published}
+use Rattle.pb_shared.specs.Inner.Plays.{freed, journal_out, published}
 use Rattle.pb_shared.proofs.Offers.{carries, frees_again, in_hand, stores_at}
 use Rattle.pb_shared.proofs.shared_desk.SharedDesk.publish.Goals as goal
 

@@ -1,9 +1,10 @@
 use Rattle.std.proofs.Common.{◌≡◌, ◌+◌, [], length, slice_get, inl, inr, ⊎_elim, refl, sym, ap, ◌∙◌, arith, add-one, length-append}
 use Rattle.pb_shared.specs.Clerk.{blank}
-use Rattle.pb_shared.specs.Rule.{seated}
+use Rattle.pb_shared.specs.Inner.Rule.{seated}
 use Rattle.pb_shared.specs.Steps.{knowing}
-use Rattle.pb_shared.specs.Plays.{dealt_left, dealt_right}
-use Rattle.pb_shared.specs.Seats.{clerk_view, newcomer, shared_view}
+use Rattle.pb_shared.specs.Inner.Plays.{dealt_left, dealt_right}
+use Rattle.pb_shared.specs.Seats.{clerk_view, shared_view}
+use Rattle.pb_shared.specs.Inner.Seats.{newcomer}
 use Rattle.pb_shared.specs.declared.seat_view.Role.TheVariants.{Stock}
 use Rattle.pb_shared.proofs.Offers.{deals_at, comes_next, of_newcomers}
 use Rattle.pb_shared.proofs.shared_desk.SharedDesk.share.Goals as goal

@@ -1,6 +1,6 @@
 use Rattle.std.proofs.Common.{◌≡◌, ◌∙◌, ◌++◌, ◌∷◌, [], Some, ap, arith, length, sym}
 use Rattle.pb_desk.specs.Desk.{DeskView}
-use Rattle.pb_shared.specs.Rule.{stock}
+use Rattle.pb_shared.specs.Inner.Rule.{stock}
 use Rattle.pb_shared.specs.declared.seat_view.About.{About}
 use Rattle.pb_shared.proofs.Offers.{starts_at}
 use Rattle.pb_shared.proofs.shared_desk.share.lay_table.Goals as goal

@@ -4,7 +4,7 @@ use Rattle.pb_core.specs.Election.{project_ids, voter_ids}
 use Rattle.pb_core.specs.Money.{money_of}
 use Rattle.pb_rows.specs.Reading.{Fields}
 use Rattle.pb_read.specs.Columns.{has_fields}
-use Rattle.pb_read.specs.Ids.{Finds}
+use Rattle.pb_read.specs.Inner.Ids.{Finds}
 use Rattle.pb_read.specs.Rows.{field, is_empty}
 use Rattle.pb_read.specs.declared.columns.ProjectColumns.{ProjectColumns}
 use Rattle.pb_read.specs.declared.columns.VoteColumns.{VoteColumns}

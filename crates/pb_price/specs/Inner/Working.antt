@@ -1,7 +1,7 @@
 -- What a worker has drawn and answered, and what its answers become together.
 use Rattle.std.specs.Prelude.{◌≡◌, ℕ, ◌<◌, ◌≤◌, ◌*◌, List, [], ◌∷◌, ◌++◌, Option, None, All, length, map, fold, count_by, nat_eq, nat_lt, slice_index, slice_index_or, slice_set}
 use Rattle.pb_core.specs.Election.{most_projects}
-use Rattle.pb_price.specs.Claims.{past_end}
+use Rattle.pb_price.specs.Inner.Claims.{past_end}
 use Rattle.pb_price.specs.Price.{price_at, AreRests}
 use Rattle.pb_price.specs.Supporters.{SupportView}
 use Rattle.pb_price.specs.declared.answer.Answer.{Answer}

@@ -1,3 +1,4 @@
+-- What people pay together at a price.
 use Rattle.std.specs.Prelude.{ℕ, ◌<◌, ◌≤◌, min, List, sum_by, count_by, nat_lt, slice_index}
 
 -- what people with these rests pay together where each pays p, or all that is left where that is less

@@ -5,7 +5,7 @@ use Rattle.pb_price.specs.Price.{price_at}
 use Rattle.pb_price.specs.Supporters.{SupportView, supporters_at}
 use Rattle.pb_rounds.specs.Bid.{Bid, is_before}
 use Rattle.pb_rounds.specs.Outcome.{OutcomeView}
-use Rattle.pb_rounds.specs.Queue.{IsIn, Rises}
+use Rattle.pb_rounds.specs.Inner.Queue.{IsIn, Rises}
 use Rattle.pb_rounds.specs.Run.{ElectedView, best_of, bid, charged, elected_by, is_listed, without}
 use Rattle.pb_rounds.specs.declared.measure.Measure.{Measure}
 

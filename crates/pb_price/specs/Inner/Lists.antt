@@ -1,3 +1,4 @@
+-- The lists of supporters while they are built.
 use Rattle.std.specs.Prelude.{◌≡◌, ℕ, ◌<◌, List, [], ◌∷◌, ◌++◌, length, slice_index_or, if◌then◌else◌}
 use Rattle.pb_core.specs.Ballot.{approves}
 

@@ -5,11 +5,11 @@ use Rattle.pb_core.specs.Election.{ElectionView}
 use Rattle.pb_rows.specs.Reading.{Fields, IsNext}
 use Rattle.pb_read.specs.FirstFault.{IsFaultAt}
 use Rattle.pb_read.specs.Listed.{is_of_row, may_be_of_row, without}
-use Rattle.pb_read.specs.Machine.{Position, advance, lowest_kind, row_fault}
-use Rattle.pb_read.specs.Progresses.{EndsWith}
+use Rattle.pb_read.specs.Inner.Machine.{Position, advance, lowest_kind, row_fault}
+use Rattle.pb_read.specs.Inner.Progresses.{EndsWith}
 use Rattle.pb_read.specs.Stages.{next_row, the_end}
 use Rattle.pb_read.specs.StandsFor.{most_records}
-use Rattle.pb_read.specs.Tracking.{IsNextRow, Tracks}
+use Rattle.pb_read.specs.Inner.Tracking.{IsNextRow, Tracks}
 use Rattle.pb_read.specs.declared.check.Verdict.{Verdict}
 use Rattle.pb_read.specs.declared.check.Verdict.TheVariants.{Passes, LeavesOut, Ends, Done}
 use Rattle.pb_read.specs.declared.fault.ReadFault.{ReadFault}

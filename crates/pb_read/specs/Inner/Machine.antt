@@ -12,7 +12,7 @@ use Rattle.pb_core.specs.declared.money_fault.MoneyFault.{MoneyFault}
 use Rattle.pb_rows.specs.Reading.{Fields}
 use Rattle.pb_read.specs.Columns.{project_columns, vote_columns, has_fields, name_field}
 use Rattle.pb_read.specs.Faults.{applies}
-use Rattle.pb_read.specs.MoneyKinds.{kind_of_money}
+use Rattle.pb_read.specs.Inner.MoneyKinds.{kind_of_money}
 use Rattle.pb_read.specs.Lengths.{max_length_of}
 use Rattle.pb_read.specs.MetaRows.{meta_of}
 use Rattle.pb_read.specs.Stages.{Next, head, plain, the_end, next_row}

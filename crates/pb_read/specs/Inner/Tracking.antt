@@ -4,7 +4,7 @@ use Rattle.std.specs.List.{AllByRecursion}
 use Rattle.csv.specs.Records.{AllText}
 use Rattle.pb_rows.specs.Reading.{Fields, IsNext}
 use Rattle.pb_core.specs.Election.{IsElection}
-use Rattle.pb_read.specs.Machine.{Position}
+use Rattle.pb_read.specs.Inner.Machine.{Position}
 use Rattle.pb_read.specs.Stages.{IsAt}
 use Rattle.pb_read.specs.Rows.{rows_of, trimmed}
 use Rattle.pb_read.specs.StandsFor.{most_records}

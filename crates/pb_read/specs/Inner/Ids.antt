@@ -2,7 +2,7 @@
 use Rattle.std.specs.FinMap.{get}
 use Rattle.std.specs.Prelude.{◌≡◌, ℕ, List, Option, position}
 use Rattle.std.specs.Str.{bytes_eq}
-use Rattle.pb_ids.specs.Places.{Places}
+use Rattle.pb_ids.specs.Inner.Places.{Places}
 
 -- the place of a text among these ids
 abbrev pub place_in : List (List ℕ) → List ℕ → Option ℕ

@@ -8,8 +8,8 @@ use Rattle.pb_rows.specs.declared.fault.RecordsFault.{RecordsFault}
 use Rattle.pb_rows.specs.declared.fault.RecordsFault.TheVariants as stop
 use Rattle.pb_read.specs.declared.fault.ReadKind.{ReadKind}
 use Rattle.pb_read.specs.declared.fault.ReadKind.TheVariants.{ReadFailed, NotText, NoMemory}
-use Rattle.pb_read.specs.Drafts.{IsTied}
-use Rattle.pb_read.specs.Machine.{Explains, Position, advance, row_fault}
+use Rattle.pb_read.specs.Inner.Drafts.{IsTied}
+use Rattle.pb_read.specs.Inner.Machine.{Explains, Position, advance, row_fault}
 use Rattle.pb_read.specs.Stages.{Next}
 use Rattle.pb_read.specs.declared.columns.VoteColumns.{VoteColumns}
 use Rattle.pb_read.specs.declared.progress.Progress.{Progress}

@@ -1,0 +1,6 @@
+-- Words that private contracts alone speak of: nobody has to believe them.
+pub mod AuditSteps
+pub mod RowReading
+pub mod Slots
+pub mod Sources
+pub mod Step

@@ -1,0 +1,8 @@
+-- Words that private contracts alone speak of: nobody has to believe them.
+pub mod Checking
+pub mod Drafts
+pub mod Ids
+pub mod Machine
+pub mod MoneyKinds
+pub mod Progresses
+pub mod Tracking

@@ -1,0 +1,8 @@
+-- Words that private contracts alone speak of: nobody has to believe them.
+pub mod Bid
+pub mod BidOrder
+pub mod Bounds
+pub mod Count
+pub mod Queue
+pub mod RaiseEnds
+pub mod Threads

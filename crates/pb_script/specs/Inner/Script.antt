@@ -1,0 +1,11 @@
+-- What each clerk of a script asks, as lists.
+use Rattle.std.specs.Prelude.{◌≡◌, ℕ, ◌<◌, List, [], length, slice_index_or}
+use Rattle.pb_core.specs.Request.{RequestView}
+use Rattle.pb_script.specs.Script.{ScriptRowView, clerks_within, asked_by}
+
+-- one list for each clerk, of what it asks in the order of the script
+pub record AreAsked (clerks : ℕ) (script : List ScriptRowView) (lists : List (List RequestView))
+    : Type 0 where
+  pub one_each : length lists ≡ clerks_within clerks
+  pub asked : (clerk : ℕ) → clerk < clerks_within clerks
+      → slice_index_or lists clerk [] ≡ asked_by clerk script

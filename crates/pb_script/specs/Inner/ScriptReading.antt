@@ -1,0 +1,43 @@
+-- How far a script was read.
+use Rattle.std.specs.Prelude.{◌≡◌, ℕ, ◌+◌, ◌++◌, ⊤, true, List, length, Option, None, Some}
+use Rattle.std.specs.List.{AllZip}
+use Rattle.pb_core.specs.Request.{RequestView}
+use Rattle.pb_rows.specs.Reading.{Fields, IsNext}
+use Rattle.pb_rows.specs.declared.fault.RecordsFault.{RecordsFault}
+use Rattle.pb_rows.specs.declared.fault.RecordsFault.TheVariants as stop
+use Rattle.pb_script.specs.Script.{IsScript, IsScriptRow, ScriptRowView}
+use Rattle.pb_script.specs.Inner.Script.{AreAsked}
+use Rattle.pb_script.specs.declared.script_fault.ScriptFault.{ScriptFault}
+use Rattle.pb_script.specs.declared.script_fault.ScriptFault.TheVariants.{ReadFailed}
+
+-- the records are a script for this many clerks, in which each asks this
+abbrev pub SplitsScript : ℕ → List Fields → List (List RequestView) → Type 0
+SplitsScript clerks records lists =
+    (script : List ScriptRowView) × IsScript clerks records script × AreAsked clerks script lists
+
+-- where it is known which records there were, they are those that were read, and those that are left
+abbrev pub HaveGone : Option (List Fields) → List Fields → Option (List Fields) → Type 0
+HaveGone None gone left = ⊤
+HaveGone (Some all) gone None = ⊥
+HaveGone (Some all) gone (Some rest) = all ≡ gone ++ rest
+
+-- the next record is this one, and says this
+pub record TakesScriptRow (clerks : ℕ) (left after : Option (List Fields)) (x : ScriptRowView) : Type 0 where
+  pub fields : Fields
+  pub next : IsNext left after true fields
+  pub row : IsScriptRow clerks fields x
+
+-- this many records were read, and in them each clerk asked this
+pub record HaveAsked (clerks : ℕ) (all left : Option (List Fields)) (count : ℕ)
+    (lists : List (List RequestView)) : Type 0 where
+  pub gone : List Fields
+  pub script : List ScriptRowView
+  pub have_gone : HaveGone all gone left
+  pub rows : AllZip (IsScriptRow clerks) gone script
+  pub count_is : length gone ≡ count
+  pub lists_are : AreAsked clerks script lists
+
+-- the reader is at fault only where it failed
+abbrev pub BlamesReader : ScriptFault → Option RecordsFault → Type 0
+BlamesReader (ReadFailed row) stopped = stopped ≡ Some stop.ReadFailed
+BlamesReader fault stopped = ⊤

@@ -1,0 +1,2 @@
+-- Words that private contracts alone speak of: nobody has to believe them.
+pub mod Batch

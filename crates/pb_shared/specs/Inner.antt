@@ -1,0 +1,4 @@
+-- Words that private contracts alone speak of: nobody has to believe them.
+pub mod Plays
+pub mod Rule
+pub mod Seats
