@@ -71,7 +71,7 @@ impl Progress {
     }
 
     /// Reads a section's head.
-    #[tactic(auto, unfolding(crate::specs::Machine::row_fault))]
+    #[tactic(auto, unfolding(crate::specs::Inner::Machine::row_fault))]
     fn open(&mut self, section: Section) -> Result<(), ReadKind>
         requires { IsReady self.old }
         ensures ok { OnOk result (Advances self.old (head section) self.new) }
@@ -110,7 +110,7 @@ impl Progress {
     }
 
     /// Reads a row that is no section's head.
-    #[tactic(auto, unfolding(crate::specs::Machine::row_fault))]
+    #[tactic(auto, unfolding(crate::specs::Inner::Machine::row_fault))]
     fn read_plain(&mut self, row: &Row) -> Result<(), ReadKind>
         requires { IsReady self.old }
         ensures ok { OnOk result (Advances self.old (plain row.now) self.new) }
@@ -144,7 +144,7 @@ impl Progress {
     }
 
     /// Hands out the election, where the file may end here.
-    #[tactic(auto, unfolding(crate::specs::Machine::row_fault))]
+    #[tactic(auto, unfolding(crate::specs::Inner::Machine::row_fault))]
     pub(crate) fn finish(&mut self) -> Result<Election, ReadKind>
         ensures end { MatchResult result (EndsWith (place_of self.old)) (Refuses self.old the_end) }
         ensures no_row { IfErr result (λ kind. is_of_row kind ≡ false) }
