@@ -1,6 +1,8 @@
 """A browser without a window, led through a pipe by the DevTools protocol."""
-import base64, collections, json, os, shutil, subprocess, tempfile
+import base64, collections, json, os, select, shutil, subprocess, tempfile
 
+# How many seconds a step of an installation, and an answer of the browser, may take.
+INSTALLS, ANSWERS = 300, 60
 NAMES = ['chromium', 'chromium-browser', 'google-chrome']
 
 
@@ -15,8 +17,15 @@ def install():
         return
     environment = {**os.environ, 'DEBIAN_FRONTEND': 'noninteractive'}
     for words in ('update', 'install -y --no-install-recommends chromium fonts-dejavu-core'):
-        subprocess.run(['apt-get', '-qq', *words.split()], env=environment, stdin=subprocess.DEVNULL,
-                       stdout=subprocess.DEVNULL, stderr=subprocess.DEVNULL)
+        try:
+            subprocess.run(['apt-get', '-qq', *words.split()], env=environment, stdin=subprocess.DEVNULL,
+                           stdout=subprocess.DEVNULL, stderr=subprocess.DEVNULL, timeout=INSTALLS)
+        except subprocess.TimeoutExpired:
+            return
+
+
+class NoBrowser(Exception):
+    """A browser that is installed does not run here: it has ended, or does not answer."""
 
 
 class Browser:
@@ -35,7 +44,7 @@ class Browser:
 
         self.process = subprocess.Popen(
             [path, '--headless=new', '--no-sandbox', '--disable-gpu', '--hide-scrollbars', '--remote-debugging-pipe',
-             '--no-first-run', '--disable-background-networking', f'--user-data-dir={self.folder.name}', 'about:blank'],
+             '--disable-dev-shm-usage', '--no-first-run', '--disable-background-networking', f'--user-data-dir={self.folder.name}', 'about:blank'],
             preexec_fn=place, close_fds=False, stdin=subprocess.DEVNULL, stdout=subprocess.DEVNULL,
             stderr=subprocess.DEVNULL)
         for end in (read_there, write_there, *ends):
@@ -56,9 +65,11 @@ class Browser:
     def _message(self):
         """The next message of the browser."""
         while b'\0' not in self.rest:
+            if not select.select([self.reader], [], [], ANSWERS)[0]:
+                raise NoBrowser('does not answer')
             more = os.read(self.reader.fileno(), 1 << 20)
             if not more:
-                raise SystemExit('the browser ended')
+                raise NoBrowser('has ended')
             self.rest += more
         message, self.rest = self.rest.split(b'\0', 1)
         return json.loads(message)
@@ -69,8 +80,11 @@ class Browser:
         call = {'id': self.number, 'method': method, 'params': parameters}
         if self.session:
             call['sessionId'] = self.session
-        self.writer.write(json.dumps(call).encode() + b'\0')
-        self.writer.flush()
+        try:
+            self.writer.write(json.dumps(call).encode() + b'\0')
+            self.writer.flush()
+        except BrokenPipeError:
+            raise NoBrowser('has ended') from None
         while True:
             message = self._message()
             if message.get('id') == self.number:
