@@ -2,9 +2,10 @@
 //! the desk that took its ballots.
 #![tactic(auto)]
 
+mod audit;
 mod counted;
 mod digested;
-mod digests;
+mod given;
 mod output;
 mod paced;
 mod page;
@@ -14,7 +15,7 @@ mod serve;
 mod words;
 
 use crate::output::Output;
-use crate::perform::{Refusal, perform};
+use crate::perform::{Notes, Refusal, perform};
 use crate::progress::Progress;
 use pb_command_line::parse::parse;
 use pb_command_line::{Asked, Parsed};
@@ -99,27 +100,29 @@ where
     R: Files<File = File> + Input + Print + Eprint + Clock + AllocGlobal + Threads + Sync,
 {
     let mut output = Output::new(rt, asked.output, words::writes_entries(&asked.task));
-    let mut audited = Tally::new();
-    let mut faults = Vec::new(rt.alloc());
+    let mut notes = Notes {
+        audited: Tally::new(),
+        faults: Vec::new(rt.alloc()),
+    };
     let progress = Progress::new(rt, asked.shows.unwrap_or(shows));
-    let result = perform(rt, asked, &mut output, &mut audited, &mut faults, &progress);
+    let result = perform(rt, asked, &mut output, &mut notes, &progress);
     progress.clear();
     let code = match result {
         Ok(()) => {
-            words::say_tally(rt, &asked.task, &output.tally, &audited);
-            words::say_faults(rt, &asked.task, faults.as_slice());
-            status_of(faults.as_slice())
+            words::say_tally(rt, &asked.task, &output.tally, &notes.audited);
+            words::say_faults(rt, &asked.task, notes.faults.as_slice());
+            status_of(notes.faults.as_slice())
         }
         Err(refusal) => {
             if let Refusal::BadRows(_) = refusal {
-                words::say_tally(rt, &asked.task, &output.tally, &audited);
+                words::say_tally(rt, &asked.task, &output.tally, &notes.audited);
             }
             let status = write_line(rt, &refusal);
-            words::say_refusal(rt, asked, &refusal, output.failure.as_ref(), &audited);
+            words::say_refusal(rt, asked, &refusal, output.failure.as_ref(), &notes.audited);
             status
         }
     };
-    drop(faults);
+    drop(notes);
     drop(output);
     ExitCode::from(code)
 }

@@ -6,7 +6,7 @@ ghost use Rattle.pb_commands.specs.Ends.{HasWritten};
 ghost use Rattle.pb_page.specs.Page.{IsPage};
 
 use crate::digested::{Digested, hex_of};
-use crate::perform::open;
+use crate::given::{open, open_both};
 use crate::progress::{Progress, Shown};
 use pb_command_line::{Ballots, Source as Given};
 use pb_commands::{AppFault, closed_ballots};
@@ -47,43 +47,15 @@ pub(crate) fn page<'a, R, W: Write>(
 where
     R: Files + Input + Print + Eprint + Clock + AllocGlobal + Threads + Sync,
 {
-    match ballots.file {
-        Given::Input => {
-            let file = Shown::new(rt.reader(), progress);
-            page_from(rt, file, ballots, options, title, writer, progress)
-        }
-        Given::File(path) => {
-            let file = Shown::new(open(rt, path, 1)?, progress);
-            page_from(rt, file, ballots, options, title, writer, progress)
-        }
-    }
-}
-
-/// The same, where a reader gives the .pb file.
-fn page_from<'a, R, P: Read + Drop, W: Write>(
-    rt: &R,
-    file: P,
-    ballots: &Ballots<'a>,
-    options: &CountOptions,
-    title: &'a str,
-    writer: &mut W,
-    progress: &Progress<'_, R>,
-) -> Result<(), AppFault>
-where
-    R: Files + Input + Print + Eprint + Clock + AllocGlobal + Threads + Sync,
-{
     let alloc = rt.alloc();
-    let read = match ballots.journal {
-        None => read_file(alloc, file)?,
-        Some(Given::Input) => read_both(alloc, file, Shown::new(rt.reader(), progress))?,
-        Some(Given::File(path)) => match open(rt, path, 2) {
-            Ok(journal) => read_both(alloc, file, Shown::new(journal, progress))?,
-            Err(fault) => {
-                drop(file);
-                return Err(fault);
-            }
-        },
-    };
+    let read = match &ballots.journal {
+        None => read_file(alloc, Shown::new(open(rt, &ballots.file, 1)?, progress)),
+        Some(journal) => {
+            let (file, journal) = open_both(rt, &ballots.file, journal)?;
+            let file = Shown::new(file, progress);
+            read_both(alloc, file, Shown::new(journal, progress))
+        }
+    }?;
     let written = write_page(rt, &read, ballots, options, title, writer);
     drop(read);
     written

@@ -1,7 +1,8 @@
 // The command `serve`: a desk that stands on a file.
 
+use crate::given::open_file;
 use crate::paced::{AtHand, Paced};
-use crate::perform::{Refusal, open};
+use crate::perform::Refusal;
 use crate::words;
 use pb_commands::AppFault;
 use pb_core::election::Election;
@@ -59,7 +60,7 @@ pub(crate) fn serve<R, W: Write>(
 where
     R: Files<File = File> + Input + Eprint + AllocGlobal,
 {
-    let election = match read_pb(rt.alloc(), open(rt, file, 1)?) {
+    let election = match read_pb(rt.alloc(), open_file(rt, file, 1)?) {
         Ok(election) => election,
         Err(fault) => return Err(Refusal::Fault(AppFault::from(fault))),
     };

@@ -118,7 +118,7 @@ fn is_serve(task: &Task<'_>) -> bool {
 
 fn clerks_of(task: &Task<'_>) -> u32 {
     match task {
-        Task::Desk(_, _, clerks, _) => *clerks,
+        Task::Desk(run) => run.clerks,
         Task::Serve(..) => MOST_CLERKS,
         _ => 1,
     }
@@ -130,8 +130,8 @@ fn options_of(task: &Task<'_>) -> CountOptions {
         | Task::Projects(_, options)
         | Task::Voters(_, options)
         | Task::Page(_, options, _)
-        | Task::Export(_, options)
-        | Task::Audit(_, _, options, _) => *options,
+        | Task::Export(_, options) => *options,
+        Task::Audit(run) => run.options,
         Task::Desk(..) | Task::Serve(..) | Task::Check(_) => CountOptions::standard(),
     }
 }

@@ -1,6 +1,6 @@
 // The commands and options that the program knows, and what parsed arguments ask for.
 
-use crate::task::{Asked, AuditWish, Ballots, Source, Task};
+use crate::task::{Asked, AuditRun, Ballots, DeskRun, Source, Task};
 use clap::{Arg, ArgAction, ArgMatches, Command, value_parser};
 use pb_core::money::Money;
 use pb_rounds::measure::Measure;
@@ -418,22 +418,20 @@ fn task_of<'a>(name: &str, given: &ArgMatches<'a>) -> Task<'a> {
         ),
         "export" => Task::Export(ballots_of(given, file), options_of(given)),
         "check" => Task::Check(file),
-        "desk" => Task::Desk(
+        "desk" => Task::Desk(DeskRun {
             file,
-            source_of(given, "SCRIPT"),
-            given.get_one("clerks").unwrap_or(1),
-            given.get_flag("shut"),
-        ),
+            script: source_of(given, "SCRIPT"),
+            clerks: given.get_one("clerks").unwrap_or(1),
+            shuts: given.get_flag("shut"),
+        }),
         "serve" => Task::Serve(path_of(given, "FILE"), path_of(given, "JOURNAL")),
-        _ => Task::Audit(
+        _ => Task::Audit(AuditRun {
             file,
-            source_of(given, "JOURNAL"),
-            options_of(given),
-            AuditWish {
-                shut: given.get_flag("require-shut"),
-                digests: given.get_flag("digests"),
-            },
-        ),
+            journal: source_of(given, "JOURNAL"),
+            options: options_of(given),
+            requires_shut: given.get_flag("require-shut"),
+            digests: given.get_flag("digests"),
+        }),
     }
 }
 

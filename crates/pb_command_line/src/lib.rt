@@ -6,4 +6,4 @@ pub mod parse;
 pub mod task;
 
 pub use parse::Parsed;
-pub use task::{Asked, AuditWish, Ballots, Source, Task};
+pub use task::{Asked, AuditRun, Ballots, DeskRun, Source, Task};

@@ -1,7 +1,7 @@
 //! What given arguments ask for.
 
 use crate::command_line::{asked_by, command_line};
-use crate::task::{Asked, Ballots, Source, Task};
+use crate::task::{Asked, Source, Task};
 use clap::Error;
 use clap::error::ErrorKind;
 use std::alloc::{AllocError, Global};
@@ -52,21 +52,17 @@ pub fn parse<'a, R: Print + Eprint>(
 
 /// The argument that is standard input beside FILE, where it is.
 fn read_twice(task: &Task<'_>) -> Option<&'static str> {
-    match task {
-        Task::Desk(Source::Input, Source::Input, ..) => Some("SCRIPT"),
-        Task::Audit(Source::Input, Source::Input, ..) => Some("JOURNAL"),
+    let (file, beside, name) = match task {
+        Task::Desk(run) => (run.file, Some(run.script), "SCRIPT"),
+        Task::Audit(run) => (run.file, Some(run.journal), "JOURNAL"),
         Task::Projects(ballots, _)
         | Task::Voters(ballots, _)
         | Task::Export(ballots, _)
-        | Task::Page(ballots, ..) => { ballots_read_twice(ballots) }
-        _ => None,
-    }
-}
-
-/// The argument that is standard input beside the file of these ballots, where it is.
-fn ballots_read_twice(ballots: &Ballots<'_>) -> Option<&'static str> {
-    match (ballots.file, ballots.journal) {
-        (Source::Input, Some(Source::Input)) => Some("JOURNAL"),
+        | Task::Page(ballots, ..) => (ballots.file, ballots.journal, "JOURNAL"),
+        Task::Count(..) | Task::Check(_) | Task::Serve(..) => return None,
+    };
+    match (file, beside) {
+        (Source::Input, Some(Source::Input)) => Some(name),
         _ => None,
     }
 }

@@ -40,6 +40,32 @@ impl<'a> Ballots<'a> {
     }
 }
 
+/// A run of the desk of a .pb file, whose clerks serve a script.
+#[derive(Clone, Copy)]
+pub struct DeskRun<'a> {
+    /// The .pb file.
+    pub file: Source<'a>,
+    pub script: Source<'a>,
+    /// How many clerks there are.
+    pub clerks: u32,
+    /// The desk is shut at the end.
+    pub shuts: bool,
+}
+
+/// An audit of a journal on a .pb file.
+#[derive(Clone, Copy)]
+pub struct AuditRun<'a> {
+    /// The .pb file.
+    pub file: Source<'a>,
+    pub journal: Source<'a>,
+    /// Those of the count that follows.
+    pub options: CountOptions,
+    /// An open desk is refused.
+    pub requires_shut: bool,
+    /// The digests of what was read stand before the report.
+    pub digests: bool,
+}
+
 /// What the arguments ask for.
 #[derive(Clone, Copy)]
 pub enum Task<'a> {
@@ -55,10 +81,10 @@ pub enum Task<'a> {
     Export(Ballots<'a>, CountOptions),
     /// A check of a .pb file.
     Check(Source<'a>),
-    /// A run of the desk of a .pb file: this many clerks serve a script, and then the desk is shut, or not.
-    Desk(Source<'a>, Source<'a>, u32, bool),
+    /// A run of the desk of a .pb file.
+    Desk(DeskRun<'a>),
     /// An audit of a journal on a .pb file.
-    Audit(Source<'a>, Source<'a>, CountOptions, AuditWish),
+    Audit(AuditRun<'a>),
     /// A desk of the .pb file with the first path, whose journal is the file with the second; standard input asks.
     Serve(&'a str, &'a str),
 }
@@ -72,20 +98,11 @@ impl<'a> Task<'a> {
             | Task::Voters(ballots, _)
             | Task::Export(ballots, _)
             | Task::Page(ballots, ..) => (ballots.file.path(), ballots.journal_path()),
-            Task::Desk(file, script, ..) => (file.path(), script.path()),
-            Task::Audit(file, journal, ..) => (file.path(), journal.path()),
+            Task::Desk(run) => (run.file.path(), run.script.path()),
+            Task::Audit(run) => (run.file.path(), run.journal.path()),
             Task::Serve(file, journal) => (Some(file), Some(journal)),
         }
     }
-}
-
-/// What is asked of an audit beside its report.
-#[derive(Clone, Copy)]
-pub struct AuditWish {
-    /// An open desk is refused.
-    pub shut: bool,
-    /// The digests of what was read stand before the report.
-    pub digests: bool,
 }
 
 /// What the arguments ask for, and where the result goes.

@@ -1,5 +1,6 @@
 //! What no run of the program shows of its commands: the count of a shared desk, clerks side by side, a writer that
-//! can't be flushed, what the faults of a script and of a run say of themselves, and when the answers of `serve` leave.
+//! can't be flushed, what the faults of a script and of a run say of themselves, what a count tells of its raises, and
+//! when the answers of `serve` leave.
 //!
 //! These tests stand apart from those of `pb_tests`, which so need not wait for the proof of `pb_commands`.
 #![tactic(auto)]
@@ -12,5 +13,7 @@ mod clerks;
 mod closing;
 #[cfg(test)]
 mod faults;
+#[cfg(test)]
+mod raises;
 #[cfg(test)]
 mod serving;
