@@ -12,7 +12,7 @@ use Rattle.pb_price.specs.Price.{NoRestRises, price_at}
 use Rattle.pb_price.specs.Supporters.{SupportView, cost_at, supporters_at}
 use Rattle.pb_price.proofs.RestsFall.{no_price_falls, no_price_stays}
 use Rattle.pb_rounds.specs.declared.measure.Measure.{Measure}
-use Rattle.pb_rounds.specs.Between.{KeepsElecting, KeepsUpTo, places_of_elected}
+use Rattle.pb_rounds.specs.Inner.Between.{KeepsElecting, KeepsUpTo, places_of_elected}
 use Rattle.pb_rounds.specs.Bid.{Bid, is_before}
 use Rattle.pb_rounds.specs.Count.{could_be_added, is_exhausted, is_over, spent_on}
 use Rattle.pb_rounds.specs.Run.{ElectedView, RunView, best_of, bid, charged, is_elected, is_listed, run_from, run_of, without}

@@ -17,7 +17,7 @@ use Rattle.pb_rounds.specs.declared.measure.Measure.{Measure}
 use Rattle.pb_rounds.specs.Bid.{Bid}
 use Rattle.pb_rounds.specs.Completed.{IsExhausted, IsOver}
 use Rattle.pb_rounds.specs.Count.{elected_after, is_decisive, opening_share, share_after, spent_on}
-use Rattle.pb_rounds.specs.Reach.{LeavesRoom, is_within_reach}
+use Rattle.pb_rounds.specs.Inner.Reach.{LeavesRoom, is_within_reach}
 use Rattle.pb_rounds.specs.Run.{ElectedView, best_of, charged, elected_by, is_listed, outcome_of, run_from, run_of, then_run, without}
 use Rattle.pb_rounds.proofs.BestBid.{best_is_bid}
 use Rattle.pb_rounds.proofs.Charged.{charged_at}

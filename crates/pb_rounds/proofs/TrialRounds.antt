@@ -11,7 +11,7 @@ use Rattle.pb_price.specs.Price.{largest_share, price_at}
 use Rattle.pb_price.specs.Supporters.{IsSupport, SupportView, cost_at, supporters_at}
 use Rattle.pb_rounds.specs.declared.measure.Measure.{Measure}
 use Rattle.pb_rounds.specs.declared.raise_end.RaiseEnd.TheVariants.{GoesOn, Exhausted, Over}
-use Rattle.pb_rounds.specs.Between.{KeepsElecting}
+use Rattle.pb_rounds.specs.Inner.Between.{KeepsElecting}
 use Rattle.pb_rounds.specs.Bid.{Bid, is_before}
 use Rattle.pb_rounds.specs.Inner.Bounds.{FindsBest, Follows, HasBounds, IsOpening}
 use Rattle.pb_rounds.specs.Count.{is_exhausted, is_over, spent_on}

@@ -10,7 +10,7 @@ use Rattle.pb_price.specs.Supporters.{SupportView, support_of}
 use Rattle.pb_rounds.specs.declared.measure.Measure.{Measure}
 use Rattle.pb_rounds.specs.declared.raise_end.RaiseEnd.{RaiseEnd}
 use Rattle.pb_rounds.specs.declared.raise_end.RaiseEnd.TheVariants.{GoesOn, Exhausted, Over}
-use Rattle.pb_rounds.specs.Between.{KeepsElecting, KeepsUpTo}
+use Rattle.pb_rounds.specs.Inner.Between.{KeepsElecting, KeepsUpTo}
 use Rattle.pb_rounds.specs.Count.{add1_of, elected_after, is_decisive, is_over_after, opening_share, share_after}
 use Rattle.pb_rounds.specs.Inner.RaiseEnds.{IsRaiseEnd, IsTried}
 use Rattle.pb_rounds.specs.Run.{ElectedView, run_of}

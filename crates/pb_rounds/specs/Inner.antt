@@ -1,8 +1,10 @@
 -- Words that private contracts alone speak of: nobody has to believe them.
+pub mod Between
 pub mod Bid
 pub mod BidOrder
 pub mod Bounds
 pub mod Count
 pub mod Queue
 pub mod RaiseEnds
+pub mod Reach
 pub mod Threads

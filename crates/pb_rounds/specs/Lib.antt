@@ -1,4 +1,3 @@
-pub mod Between
 pub mod Bid
 pub mod Cheapest
 pub mod Completed
@@ -9,6 +8,5 @@ pub mod Outcome
 pub mod Payments
 pub mod PriceSystem
 pub mod PricingRecord
-pub mod Reach
 pub mod Run
 pub mod Inner

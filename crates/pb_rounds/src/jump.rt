@@ -4,7 +4,7 @@ ghost use Rattle.std.specs.Prelude.{◌≡◌, ◌≤◌, ℕ, List, IfOk, lengt
 ghost use Rattle.std.specs.List.{range_with_len};
 ghost use Rattle.pb_price.specs.Price.{AreRests, largest_share};
 ghost use Rattle.pb_price.specs.Supporters.{IsSupport};
-ghost use Rattle.pb_rounds.specs.Between.{KeepsElecting};
+ghost use Rattle.pb_rounds.specs.Inner.Between.{KeepsElecting};
 ghost use Rattle.pb_rounds.specs.Inner.Bounds.{Follows, HasBounds};
 ghost use Rattle.pb_rounds.specs.Run.{run_of};
 ghost use Rattle.pb_rounds.specs.declared.measure.Measure.{Measure};

@@ -3,14 +3,12 @@
 ghost use Rattle.std.specs.Prelude.{◌≡◌, ◌↔◌, ◌+◌, ◌*◌, ◌<◌, ◌≤◌, ℕ, None, Some, length};
 ghost use Rattle.pb_core.specs.Election.{ElectionView, IsElection};
 ghost use Rattle.pb_price.specs.Supporters.{support_of};
-ghost use Rattle.pb_rounds.specs.Between.{KeepsUpTo, places_of_elected};
 ghost use Rattle.pb_rounds.specs.Cheapest.{IsRun};
-ghost use Rattle.pb_rounds.specs.Completed.{AreSpent, IsCompleted, IsExhausted, IsOver};
+ghost use Rattle.pb_rounds.specs.Completed.{AreSpent, IsCompleted};
 ghost use Rattle.pb_rounds.specs.Count.{add1_of, count_of, opening_share};
 ghost use Rattle.pb_rounds.specs.CountFault.{refusal_of};
 ghost use Rattle.pb_rounds.specs.Counted.{IsCountFault, IsCountOf};
 ghost use Rattle.pb_rounds.specs.Outcome.{OutcomeView, settled};
-ghost use Rattle.pb_rounds.specs.Reach.{LeavesRoom};
 ghost use Rattle.pb_rounds.specs.Run.{RunView, outcome_of};
 ghost use Rattle.pb_rounds.specs.declared.count_fault.CountFault.TheVariants.{RaisesSpent};
 ghost use Rattle.pb_rounds.specs.declared.measure.Measure.{Measure};
@@ -48,22 +46,4 @@ pub fn count_is_computed()
 pub fn run_is_its_rule()
     ensures { (m : Measure) (e : ElectionView) (share : ℕ) (run : RunView) → IsElection e
         → (run ≡ outcome_of m e share) ↔ IsRun m (support_of e) share run }
-{}
-
-/// Where the projects within reach of a share leave of the budget what some other project with supporters costs, the
-/// outcome at that share is neither over the budget nor exhausted.
-pub fn room_decides_nothing()
-    ensures { (m : Measure) (e : ElectionView) (share : ℕ) → LeavesRoom (support_of e) e.budget share
-        → (¬ IsOver (support_of e) e.budget (outcome_of m e share).elected)
-        × (¬ IsExhausted (support_of e) e.budget (outcome_of m e share).elected) }
-{}
-
-/// Where the projects elected at a smaller share are so from a larger one, each before every other even at its price of the
-/// smaller share, every share in between elects the same projects in the same order. (For the same elected before, rests
-/// grow with the share and prices fall. So in between the elected project's price is at most that of the smaller share, and
-/// the others' prices are at least those of the larger one.)
-pub fn same_elected_in_between()
-    ensures { (m : Measure) (e : ElectionView) (small share large : ℕ) → small ≤ share → share ≤ large
-        → KeepsUpTo m (support_of e) small large
-        → places_of_elected (outcome_of m e share).elected ≡ places_of_elected (outcome_of m e small).elected }
 {}

@@ -17,6 +17,7 @@ mod raise_end;
 mod reach;
 mod round;
 mod run;
+mod shortcut_laws;
 mod side_by_side;
 mod standing;
 mod trial;

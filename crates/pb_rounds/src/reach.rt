@@ -4,7 +4,7 @@ ghost use Rattle.std.specs.Prelude.{◌≡◌, ◌+◌, ◌*◌, ◌<◌, ◌≤
 ghost use Rattle.pb_core.specs.Money.{largest_money};
 ghost use Rattle.pb_price.specs.Price.{largest_share};
 ghost use Rattle.pb_rounds.specs.CountFault.{largest_step, most_raises};
-ghost use Rattle.pb_rounds.specs.Reach.{LeavesRoom};
+ghost use Rattle.pb_rounds.specs.Inner.Reach.{LeavesRoom};
 
 use pb_core::money::Money;
 use pb_price::supporters::Supporters;

@@ -1,5 +1,5 @@
 use Rattle.std.proofs.Common.{ℕ, ◌+◌, ◌-◌, ◌*◌, ◌<◌, ◌≤◌}
-use Rattle.pb_rounds.specs.Reach.{LeavesRoom}
+use Rattle.pb_rounds.specs.Inner.Reach.{LeavesRoom}
 use Rattle.pb_rounds.proofs.reach.raises_with_room.Given as goal
 
 abbrev pub invariant-loop-low : goal.invariant-loop-low

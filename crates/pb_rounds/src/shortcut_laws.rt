@@ -1,0 +1,29 @@
+//! Why the shortcuts of a completion pass over no raise that decides, each as the contract of a function that does nothing. Nobody
+//! has to believe them: what a count promises says nothing of shortcuts.
+
+ghost use Rattle.std.specs.Prelude.{◌≡◌, ◌≤◌, ℕ};
+ghost use Rattle.pb_core.specs.Election.{ElectionView};
+ghost use Rattle.pb_price.specs.Supporters.{support_of};
+ghost use Rattle.pb_rounds.specs.Completed.{IsExhausted, IsOver};
+ghost use Rattle.pb_rounds.specs.Inner.Between.{KeepsUpTo, places_of_elected};
+ghost use Rattle.pb_rounds.specs.Inner.Reach.{LeavesRoom};
+ghost use Rattle.pb_rounds.specs.Run.{outcome_of};
+ghost use Rattle.pb_rounds.specs.declared.measure.Measure.{Measure};
+
+/// Where the projects within reach of a share leave of the budget what some other project with supporters costs, the
+/// outcome at that share is neither over the budget nor exhausted.
+pub fn room_decides_nothing()
+    ensures { (m : Measure) (e : ElectionView) (share : ℕ) → LeavesRoom (support_of e) e.budget share
+        → (¬ IsOver (support_of e) e.budget (outcome_of m e share).elected)
+        × (¬ IsExhausted (support_of e) e.budget (outcome_of m e share).elected) }
+{}
+
+/// Where the projects elected at a smaller share are so from a larger one, each before every other even at its price of the
+/// smaller share, every share in between elects the same projects in the same order. (For the same elected before, rests
+/// grow with the share and prices fall. So in between the elected project's price is at most that of the smaller share, and
+/// the others' prices are at least those of the larger one.)
+pub fn same_elected_in_between()
+    ensures { (m : Measure) (e : ElectionView) (small share large : ℕ) → small ≤ share → share ≤ large
+        → KeepsUpTo m (support_of e) small large
+        → places_of_elected (outcome_of m e share).elected ≡ places_of_elected (outcome_of m e small).elected }
+{}
