@@ -46,7 +46,11 @@ RULES = (
 )
 # Laws that say only that a definition computes just what the words of a rule say. What these alone reach is for running on
 # small inputs, and nobody has to believe it.
-COMPUTING_LAWS = {("pb_rounds", "completion_is_its_rule"), ("pb_rounds", "count_is_computed")}
+COMPUTING_LAWS = {
+    ("pb_rounds", "run_is_its_rule"),
+    ("pb_rounds", "completion_is_its_rule"),
+    ("pb_rounds", "count_is_computed"),
+}
 # What an impl has to say besides its meaning: proofs that a law holds.
 PROOFS = {"laws", "total", "matches_partial_cmp", "matches_eq", "respects_eq"}
 

@@ -9,14 +9,12 @@ use Rattle.std.specs.declared.cmp.Ordering.{Ordering}
 use Rattle.std.specs.declared.cmp.Ordering.TheVariants.{Less, Equal, Greater}
 use Rattle.std.proofs.lemmas.Bool.{true≢false}
 use Rattle.std.proofs.lemmas.List.Elements.{All-nil, All-cons, All-head, All-tail}
-use Rattle.pb_core.specs.Election.{ElectionView}
 use Rattle.pb_price.specs.Price.{paid_at, price_at}
-use Rattle.pb_price.specs.Supporters.{SupportView, IsSupport, cost_at, support_of, supporters_at}
+use Rattle.pb_price.specs.Supporters.{SupportView, IsSupport, cost_at, supporters_at}
 use Rattle.pb_rounds.specs.declared.measure.Measure.{Measure}
 use Rattle.pb_rounds.specs.declared.measure.Measure.TheVariants.{Votes, Cost}
 use Rattle.pb_rounds.specs.Bid.{Bid, is_before}
 use Rattle.pb_rounds.specs.Cheapest.{IsCheaper, EachWasCheapest, rests_after}
-use Rattle.pb_rounds.specs.Outcome.{OutcomeView, Settled, settled, settled_by}
 use Rattle.pb_rounds.specs.Run.{ElectedView, RunView, bid, best_of, charged, elected_by, is_listed, run_from, run_of, then_run, without}
 use Rattle.pb_rounds.proofs.BestBid.{best_is_bid}
 use Rattle.pb_rounds.proofs.BestIs.{none_before_best}
@@ -139,17 +137,10 @@ pub run_was_cheapest : (m : Measure) (s : SupportView) → IsSupport s → (shar
 run_was_cheapest m s h share before w later e =
     let found = all_were_first m s h share before w later e in
     record {
-      known = known_place s w.place found.listed;
-      was_left = found.was_left;
+      was_left = (known_place s w.place found.listed, found.was_left);
       priced = found.priced;
       collected = found.collected;
-      cheapest = λ other price known apart earlier priced.
-          found.cheapest other price (is_listed-range 0 (length s.costs) other (omega arith) (omega arith)) apart earlier priced;
+      cheapest = λ other price left apart priced.
+          let known = left.0 in
+          found.cheapest other price (is_listed-range 0 (length s.costs) other (omega arith) (omega (arith, known))) apart left.1 priced;
     }
-
--- the same of an outcome
-pub settled_was_cheapest : (m : Measure) (e : ElectionView) (s : SupportView) → s ≡ support_of e → IsSupport s → (share raised : ℕ) (o : OutcomeView)
-    → settled o ≡ settled_by share raised (run_of m s share) → EachWasCheapest m (support_of e) o.share o.elected
-settled_was_cheapest m e s same h share raised o is =
-    subst (λ (t : SupportView). EachWasCheapest m t o.share o.elected) same
-    (subst (λ (x : Settled). EachWasCheapest m s x.share x.elected) (sym is) (run_was_cheapest m s h share))

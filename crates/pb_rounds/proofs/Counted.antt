@@ -5,8 +5,8 @@ use Rattle.std.proofs.lemmas.Bool.{and_parts, leb-true}
 use Rattle.std.proofs.lemmas.Option.{none-some, same_Some}
 use Rattle.pb_core.specs.Election.{ElectionView}
 use Rattle.pb_price.specs.PriceFault.{is_worker_count}
-use Rattle.pb_price.specs.Supporters.{SupportView, support_of}
-use Rattle.pb_rounds.specs.Cheapest.{EachWasCheapest}
+use Rattle.pb_price.specs.Supporters.{SupportView, IsSupport, support_of}
+use Rattle.pb_rounds.specs.Cheapest.{IsRun}
 use Rattle.pb_rounds.specs.Completed.{AreSpent}
 use Rattle.pb_rounds.specs.Count.{count_of, opening_share, raises_of, settled_after, share_after}
 use Rattle.pb_rounds.specs.Inner.Count.{IsCompletionFault}
@@ -16,17 +16,17 @@ use Rattle.pb_rounds.specs.Outcome.{OutcomeView, Settled, settled, settled_by}
 use Rattle.pb_rounds.specs.PriceSystem.{HasPriceSystem}
 use Rattle.pb_rounds.specs.PricingRecord.{HasPricing}
 use Rattle.pb_rounds.specs.Inner.RaiseEnds.{CanComplete, IsCompletion, IsOutcomeAt}
-use Rattle.pb_rounds.specs.Run.{RunView, outcome_of, run_of}
+use Rattle.pb_rounds.specs.Run.{outcome_of, run_of}
 use Rattle.pb_rounds.specs.declared.count_fault.CountFault.{CountFault}
 use Rattle.pb_rounds.specs.declared.count_fault.CountFault.TheVariants.{WorkerCount, StepRange, RaisesRange, RaisesSpent, NoMemory}
 use Rattle.pb_rounds.specs.declared.measure.Measure.{Measure}
 use Rattle.pb_rounds.specs.declared.options.Completion.{Completion}
 use Rattle.pb_rounds.specs.declared.options.Completion.TheVariants.{Plain, Add1}
 use Rattle.pb_rounds.specs.declared.options.CountOptions.{CountOptions}
-use Rattle.pb_rounds.proofs.CheapestRounds.{settled_was_cheapest}
 use Rattle.pb_rounds.proofs.Completing.{add1_not_over, opening_not_over, settled_priced, settled_within}
 use Rattle.pb_rounds.proofs.PricedRounds.{one_more_priced}
 use Rattle.pb_rounds.proofs.RaisesEnd.{add1_completed, completed_is_decided, spent_is_undecided, undecided_is_spent}
+use Rattle.pb_rounds.proofs.RunIs.{only_run, words_of_run}
 use Rattle.pb_rounds.proofs.Settled.{settled_has_price_system}
 
 -- what follows of an answer follows of a result
@@ -70,15 +70,10 @@ module _ (e : ElectionView) (options : CountOptions) (o : OutcomeView) where
       subst (λ n. HasPricing options.measure (support_of e) options.workers n o.priced) (sym (ap (λ (x : Settled). x.share) h.settled_is)) h.priced
 
   run_at : (raised : ℕ) → IsOutcomeAt options.measure (support_of e) options.workers (share_after e options.step raised) raised o
-      → record { elected = o.elected; rests = o.rests } ≡ outcome_of options.measure e o.share
+      → IsRun options.measure (support_of e) o.share o.elected o.rests
   run_at raised h =
-      let run : Settled → RunView = λ x. record { elected = x.elected; rests = x.rests } in
-      ap run h.settled_is ∙ ap (outcome_of options.measure e) (sym (ap (λ (x : Settled). x.share) h.settled_is))
-
-  cheapest_at : (raised : ℕ) → IsOutcomeAt options.measure (support_of e) options.workers (share_after e options.step raised) raised o
-      → EachWasCheapest options.measure (support_of e) o.share o.elected
-  cheapest_at raised h =
-      settled_was_cheapest options.measure e (support_of e) refl h.is_support (share_after e options.step raised) raised o h.settled_is
+      subst (λ (x : Settled). IsRun options.measure (support_of e) x.share x.elected x.rests) (sym h.settled_is)
+      (words_of_run options.measure (support_of e) (share_after e options.step raised) h.is_support)
 
   -- the count at the opening share
   pub plain_counted : refusal_of options ≡ None → options.completion ≡ Plain
@@ -92,7 +87,6 @@ module _ (e : ElectionView) (options : CountOptions) (o : OutcomeView) where
         ∙ ap (λ n. opening_share e + n * options.step) (sym (ap (λ (x : Settled). x.raised) h.settled_is));
     plain = λ _. ap (λ (x : Settled). x.raised) h.settled_is;
     completed = λ completed. not_both options.completion plain completed;
-    cheapest = cheapest_at 0 h;
     price_system = settled_priced options.measure e h.is_support options.step 0 o h.settled_is;
   }
 
@@ -108,18 +102,17 @@ module _ (e : ElectionView) (options : CountOptions) (o : OutcomeView) where
     share_is = ap (λ (x : Settled). x.share) h.ended.settled_is;
     plain = λ plain. not_both options.completion plain add1;
     completed = λ _. add1_completed options.measure e h.ended.is_support options.step options.max_raises o.raised h.decided;
-    cheapest = cheapest_at o.raised h.ended;
     price_system = settled_priced options.measure e h.ended.is_support options.step o.raised o h.ended.settled_is;
   }
 
 -- why a count that is completed by raises gives no outcome
-pub add1_fault : (e : ElectionView) (options : CountOptions) → refusal_of options ≡ None → options.completion ≡ Add1 → (fault : CountFault)
+pub add1_fault : (e : ElectionView) (options : CountOptions) → IsSupport (support_of e) → refusal_of options ≡ None → options.completion ≡ Add1 → (fault : CountFault)
     → IsCompletionFault options.measure e options.step options.max_raises fault → IsCountFault e options fault
-add1_fault e options in_range add1 WorkerCount h = absurd h
-add1_fault e options in_range add1 StepRange h = absurd h
-add1_fault e options in_range add1 RaisesRange h = absurd h
-add1_fault e options in_range add1 RaisesSpent h = (in_range, add1, undecided_is_spent options.measure e options.step options.max_raises h)
-add1_fault e options in_range add1 NoMemory h = in_range
+add1_fault e options support in_range add1 WorkerCount h = absurd h
+add1_fault e options support in_range add1 StepRange h = absurd h
+add1_fault e options support in_range add1 RaisesRange h = absurd h
+add1_fault e options support in_range add1 RaisesSpent h = (in_range, add1, undecided_is_spent options.measure e options.step options.max_raises support h)
+add1_fault e options support in_range add1 NoMemory h = in_range
 
 -- the count as it is computed
 count_by : (e : ElectionView) (options : CountOptions) (c : Completion) → options.completion ≡ c → (raises : Option ℕ)
@@ -135,11 +128,17 @@ raised_as : (e : ElectionView) (options : CountOptions) (o : OutcomeView) → Is
 raised_as e options o h Plain is = ap (λ n. Some n) (sym (h.plain is))
 raised_as e options o h Add1 is = completed_is_decided options.measure e options.step options.max_raises o.raised (h.completed is)
 
+-- the outcome that is promised, as the computed run gives it
+pub settled_run : (e : ElectionView) (options : CountOptions) (o : OutcomeView) → IsCountOf e options o
+    → settled o ≡ settled_by o.share o.raised (outcome_of options.measure e o.share)
+settled_run e options o h =
+    ap (settled_by o.share o.raised) (only_run options.measure (support_of e) o.share (record { elected = o.elected; rests = o.rests }) h.run_is)
+
 pub is_computed : (e : ElectionView) (options : CountOptions) (o : OutcomeView) → IsCountOf e options o → count_of e options ≡ Some (settled o)
 is_computed e options o h =
     count_by e options options.completion refl (Some o.raised) (raised_as e options o h options.completion refl)
     ∙ ap (λ n. Some (settled_by n o.raised (outcome_of options.measure e n))) (sym h.share_is)
-    ∙ ap (λ run. Some (settled_by o.share o.raised run)) (sym h.run_is)
+    ∙ ap (λ (x : Settled). Some x) (sym (settled_run e options o h))
 
 pub one_outcome : (e : ElectionView) (options : CountOptions) (first second : OutcomeView) → IsCountOf e options first → IsCountOf e options second
     → settled first ≡ settled second
@@ -155,32 +154,34 @@ none_is_settled : {X Y : Type 0} (f : X → Y) (o : Option X) → option_map f o
 none_is_settled f None e = refl
 none_is_settled f (Some x) e = absurd (none-some _ (sym e))
 
-none_raised : (e : ElectionView) (options : CountOptions) (c : Completion) → options.completion ≡ c
+none_raised : (e : ElectionView) (options : CountOptions) → IsSupport (support_of e) → (c : Completion) → options.completion ≡ c
     → raises_of c options.measure e options.step options.max_raises ≡ None
     → (options.completion ≡ Add1) × AreSpent options.measure e options.step options.max_raises
-none_raised e options Plain is none = absurd (none-some _ (sym none))
-none_raised e options Add1 is none = (is, undecided_is_spent options.measure e options.step options.max_raises none)
+none_raised e options support Plain is none = absurd (none-some _ (sym none))
+none_raised e options support Add1 is none = (is, undecided_is_spent options.measure e options.step options.max_raises support none)
 
-pub none_is_spent : (e : ElectionView) (options : CountOptions) → refusal_of options ≡ None → count_of e options ≡ None → IsCountFault e options RaisesSpent
-none_is_spent e options in_range none =
-    let spent = none_raised e options options.completion refl (none_is_settled (settled_after options.measure e options.step) _ none) in
+pub none_is_spent : (e : ElectionView) (options : CountOptions) → IsSupport (support_of e) → refusal_of options ≡ None → count_of e options ≡ None → IsCountFault e options RaisesSpent
+none_is_spent e options support in_range none =
+    let spent = none_raised e options support options.completion refl (none_is_settled (settled_after options.measure e options.step) _ none) in
     (in_range, spent.0, spent.1)
 
 -- what a run at a share promises of its outcome
 pub record IsShared (m : Measure) (e : ElectionView) (workers share : ℕ) (o : OutcomeView) : Type 0 where
-  pub outcome : settled o ≡ settled_by share 0 (outcome_of m e share)
+  pub outcome : (o.share ≡ share) × (o.raised ≡ 0) × IsRun m (support_of e) share o.elected o.rests
   pub priced : HasPricing m (support_of e) workers share o.priced
   pub one_more : length o.priced ≡ length o.elected + 1
-  pub cheapest : EachWasCheapest m (support_of e) share o.elected
   pub price_system : HasPriceSystem (support_of e) share o.elected o.rests
 
 pub shared_from_run : (m : Measure) (e : ElectionView) (s : SupportView) → s ≡ support_of e → (workers share : ℕ) (o : OutcomeView)
     → IsOutcomeAt m s workers share 0 o → IsShared m e workers share o
 shared_from_run m e s same workers share o h = record {
-  outcome = h.settled_is ∙ ap (λ (t : SupportView). settled_by share 0 (run_of m t share)) same;
+  outcome = (
+    ap (λ (x : Settled). x.share) h.settled_is,
+    ap (λ (x : Settled). x.raised) h.settled_is,
+    subst (λ (x : Settled). IsRun m (support_of e) share x.elected x.rests) (sym h.settled_is)
+        (subst (λ (t : SupportView). IsRun m t share (run_of m s share).elected (run_of m s share).rests) same (words_of_run m s share h.is_support)),
+  );
   priced = subst (λ (t : SupportView). HasPricing m t workers share o.priced) same h.priced;
   one_more = one_more_priced m s workers share 0 o h.settled_is h.priced;
-  cheapest = subst (λ n. EachWasCheapest m (support_of e) n o.elected) (ap (λ (x : Settled). x.share) h.settled_is)
-      (settled_was_cheapest m e s same h.is_support share 0 o h.settled_is);
   price_system = settled_has_price_system m e s same h.is_support share 0 o h.settled_is;
 }

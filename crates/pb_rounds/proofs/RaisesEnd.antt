@@ -1,5 +1,5 @@
 -- The completion in the words of its rule.
-use Rattle.std.proofs.Common.{◌≡◌, ◌≢◌, ℕ, ◌+◌, ◌-◌, ◌<◌, List, length, get_or, Option, Some, None, true, false, sym, ◌∙◌, ap, inl, inr, arith}
+use Rattle.std.proofs.Common.{◌≡◌, ◌≢◌, ℕ, ◌+◌, ◌-◌, ◌<◌, List, length, get_or, Option, Some, None, true, false, sym, subst, ◌∙◌, ap, inl, inr, arith}
 use Rattle.std.specs.Prelude.{All, ◌==◌, MatchOption, option_map, if◌then◌else◌}
 use Rattle.std.specs.List.{range_with_len}
 use Rattle.std.proofs.lemmas.Bool.{true≢false, not-true, not_from_false, and_parts, and_from, and_cases, or_parts, or_cases, or_from, cases_Bool, cases_eq, cond-true, cond-false, false_from_ne_true, lt-ltb, ltb-true, leb-true, leb-false, eq-eqb, ne_eqb}
@@ -10,11 +10,12 @@ use Rattle.pb_core.specs.Election.{ElectionView}
 use Rattle.pb_price.proofs.FirstInRange.{IsFirstInRange, NoneInRange, find-range_with_len}
 use Rattle.pb_price.specs.Supporters.{SupportView, IsSupport, support_of, supporters_at, cost_at}
 use Rattle.pb_rounds.specs.declared.measure.Measure.{Measure}
-use Rattle.pb_rounds.specs.Completed.{IsOver, IsExhausted, IsCompleted, GoesOn, AreSpent}
-use Rattle.pb_rounds.specs.Count.{spent_on, is_over, is_exhausted, could_be_added, is_over_after, is_exhausted_after, is_decisive, first_decisive, add1_of, elected_after}
-use Rattle.pb_rounds.specs.Run.{ElectedView, is_elected}
+use Rattle.pb_rounds.specs.Completed.{After, IsOver, IsExhausted, IsCompleted, GoesOn, AreSpent}
+use Rattle.pb_rounds.specs.Count.{spent_on, is_over, is_exhausted, could_be_added, is_over_after, is_exhausted_after, is_decisive, first_decisive, add1_of, elected_after, share_after}
+use Rattle.pb_rounds.specs.Run.{ElectedView, RunView, is_elected, outcome_of}
 use Rattle.pb_rounds.proofs.Completing.{decided_before, decided_here, opening_not_over, raises_spent, within_from_not_over}
 use Rattle.pb_rounds.proofs.Exhausted.{over_from_more, over_from_within}
+use Rattle.pb_rounds.proofs.RunIs.{only_run, words_of_run}
 
 not_elected_from : (elected : List ElectedView) (place : ℕ) → All (λ w. w.place ≢ place) elected → is_elected elected place ≡ false
 not_elected_from elected place h = list_any_none (λ w. w.place == place) elected (λ k d below. ne_eqb _ _ (h k d below))
@@ -40,11 +41,12 @@ module _ (s : SupportView) (budget : ℕ) (elected : List ElectedView) where
       let none = not-true _ parts.1 in
       record {
         within = within;
-        no_room = λ place known others supported.
+        no_room = λ place left supported.
+            let known = left.0 in
             let alone : could_be_added s budget elected place ≡ false = false_from_ne_true _ (λ yes_could.
             true≢false (sym (list_any_at (could_be_added s budget elected) (range_with_len 0 (length s.costs)) place 0 (rw (length-range_with_len 0 (length s.costs)) known)
             (ap (could_be_added s budget elected) (get_or-range_with_len 0 (length s.costs) place 0 known ∙ omega arith) ∙ yes_could)) ∙ none)) in
-            let dear = could_from place others supported alone in
+            let dear = could_from place left.1 supported alone in
             omega arith;
       }
 
@@ -52,7 +54,7 @@ module _ (s : SupportView) (budget : ℕ) (elected : List ElectedView) where
   could_none h place known yes_could =
       let parts = and_parts _ _ yes_could in
       let first = and_parts _ _ parts.0 in
-      let room = h.no_room place known (others_from elected place (not-true _ first.0)) (ltb-true 0 (length (supporters_at s place)) first.1) in
+      let room = h.no_room place (known, others_from elected place (not-true _ first.0)) (ltb-true 0 (length (supporters_at s place)) first.1) in
       let cheap = leb-true (cost_at s place) (budget - spent_on s elected) parts.1 in
       omega (arith, room, cheap, h.within)
 
@@ -65,10 +67,22 @@ module _ (s : SupportView) (budget : ℕ) (elected : List ElectedView) where
       let at : get_or (range_with_len 0 (length s.costs)) k d ≡ k = get_or-range_with_len 0 (length s.costs) k d within ∙ omega arith in
       ap (could_be_added s budget elected) at ∙ false_from_ne_true _ (could_none h k within))))
 
-no_end : (m : Measure) (e : ElectionView) (step raises : ℕ) → is_decisive m e step raises ≡ false
+-- what the computed run elects, in the words of the rule, and back
+from_computed : (m : Measure) (e : ElectionView) → IsSupport (support_of e) → (step raises : ℕ) (IsSuch : List ElectedView → Type 0)
+    → IsSuch (elected_after m e step raises) → After m e step raises IsSuch
+from_computed m e h step raises IsSuch such =
+    (elected_after m e step raises, (outcome_of m e (share_after e step raises)).rests, words_of_run m (support_of e) (share_after e step raises) h, such)
+
+computed_from : (m : Measure) (e : ElectionView) (step raises : ℕ) (IsSuch : List ElectedView → Type 0)
+    → After m e step raises IsSuch → IsSuch (elected_after m e step raises)
+computed_from m e step raises IsSuch (elected, rests, words, such) =
+    subst IsSuch (ap (λ (r : RunView). r.elected) (only_run m (support_of e) (share_after e step raises) (record { elected = elected; rests = rests }) words)) such
+
+no_end : (m : Measure) (e : ElectionView) → IsSupport (support_of e) → (step raises : ℕ) → is_decisive m e step raises ≡ false
     → GoesOn m e step raises
-no_end m e step raises h =
-    let parts = or_parts _ _ h in (
+no_end m e support step raises h =
+    let parts = or_parts _ _ h in
+    from_computed m e support step raises (λ elected. (¬ IsOver (support_of e) e.budget elected) × (¬ IsExhausted (support_of e) e.budget elected)) (
       (λ over. true≢false (sym (over_from_more (support_of e) e.budget (elected_after m e step raises) over) ∙ parts.0)),
       (λ exhausted. true≢false (sym (test_from_exhausted (support_of e) e.budget (elected_after m e step raises) exhausted) ∙ parts.1)),
     )
@@ -91,11 +105,12 @@ decided_completed m e h step limit (Some n) found raises is = elim (cases_Bool (
             let below = found.below in
             record {
               within_limit = omega arith;
-              fewer_go_on = λ fewer few. no_end m e step fewer (found.first fewer (omega arith) (omega arith));
+              fewer_go_on = λ fewer few. no_end m e h step fewer (found.first fewer (omega arith) (omega arith));
               ends = inr (
-                no_end m e step raises (found.first raises (omega arith) (omega arith)),
+                no_end m e h step raises (found.first raises (omega arith) (omega arith)),
                 omega arith,
-                more_from_over (support_of e) e.budget (elected_after m e step (raises + 1)) (ap (is_over_after m e step) next ∙ over),
+                from_computed m e h step (raises + 1) (IsOver (support_of e) e.budget)
+                    (more_from_over (support_of e) e.budget (elected_after m e step (raises + 1)) (ap (is_over_after m e step) next ∙ over)),
               );
             }
       ]
@@ -104,9 +119,9 @@ decided_completed m e h step limit (Some n) found raises is = elim (cases_Bool (
       let below = found.below in
       record {
         within_limit = omega arith;
-        fewer_go_on = λ fewer few. no_end m e step fewer (found.first fewer (omega arith) (omega arith));
-        ends = inl (exhausted_from_test (support_of e) e.budget (elected_after m e step raises)
-            (ap (is_exhausted_after m e step) here ∙ exhausted_at m e step n not_over found.passes));
+        fewer_go_on = λ fewer few. no_end m e h step fewer (found.first fewer (omega arith) (omega arith));
+        ends = inl (from_computed m e h step raises (IsExhausted (support_of e) e.budget) (exhausted_from_test (support_of e) e.budget (elected_after m e step raises)
+            (ap (is_exhausted_after m e step) here ∙ exhausted_at m e step n not_over found.passes)));
       }
 ]
   where
@@ -124,7 +139,8 @@ add1_completed m e h step limit raises is =
 
 -- raises that go on do not decide
 goes_on_test : (m : Measure) (e : ElectionView) (step raises : ℕ) → GoesOn m e step raises → is_decisive m e step raises ≡ false
-goes_on_test m e step raises h =
+goes_on_test m e step raises goes_on =
+    let h = computed_from m e step raises (λ elected. (¬ IsOver (support_of e) e.budget elected) × (¬ IsExhausted (support_of e) e.budget elected)) goes_on in
     or_from _ _ (false_from_ne_true _ (λ over. h.0 (more_from_over (support_of e) e.budget (elected_after m e step raises) over)))
     (false_from_ne_true _ (λ exhausted. h.1 (exhausted_from_test (support_of e) e.budget (elected_after m e step raises) exhausted)))
 
@@ -132,7 +148,8 @@ module _ (m : Measure) (e : ElectionView) (step limit : ℕ) where
   -- a number of raises of which the rule's words hold is what the completion decides on
   pub completed_is_decided : (raises : ℕ) → IsCompleted m e step limit raises → add1_of m e step limit ≡ Some raises
   completed_is_decided raises h = elim h.ends [
-    | inl exhausted ↦
+    | inl ended ↦
+        let exhausted = computed_from m e step raises (IsExhausted (support_of e) e.budget) ended in
         decided_here m e step limit raises h.within_limit (λ j below. goes_on_test m e step j (h.fewer_go_on j below))
         (over_from_within (support_of e) e.budget (elected_after m e step raises) exhausted.within)
         (test_from_exhausted (support_of e) e.budget (elected_after m e step raises) exhausted)
@@ -144,7 +161,7 @@ module _ (m : Measure) (e : ElectionView) (step limit : ℕ) where
           | inr other ↦ goes_on_test m e step j (h.fewer_go_on j (omega arith))
         ] in
         let back : raises + 1 - 1 ≡ raises = omega arith in
-        decided_before m e step limit (raises + 1) (omega arith) more (over_from_more (support_of e) e.budget (elected_after m e step (raises + 1)) over.2)
+        decided_before m e step limit (raises + 1) (omega arith) more (over_from_more (support_of e) e.budget (elected_after m e step (raises + 1)) (computed_from m e step (raises + 1) (IsOver (support_of e) e.budget) over.2))
         ∙ ap (λ n. Some n) back
   ]
 
@@ -153,11 +170,11 @@ module _ (m : Measure) (e : ElectionView) (step limit : ℕ) where
   spent_is_undecided h =
       raises_spent m e step limit (limit + 1) (omega arith) (λ j below. goes_on_test m e step j (h j (omega arith)))
 
-  undecided : (o : Option ℕ) → MatchOption o (NoneInRange (is_decisive m e step) 0 (limit + 1)) (IsFirstInRange (is_decisive m e step) 0 (limit + 1))
+  undecided : IsSupport (support_of e) → (o : Option ℕ) → MatchOption o (NoneInRange (is_decisive m e step) 0 (limit + 1)) (IsFirstInRange (is_decisive m e step) 0 (limit + 1))
       → option_map (λ n. if is_over_after m e step n then n - 1 else n) o ≡ None → AreSpent m e step limit
-  undecided None found is raises within = no_end m e step raises (found raises (omega arith) (omega arith))
-  undecided (Some n) found is raises within = absurd (none-some _ (sym is))
+  undecided support None found is raises within = no_end m e support step raises (found raises (omega arith) (omega arith))
+  undecided support (Some n) found is raises within = absurd (none-some _ (sym is))
 
-  pub undecided_is_spent : add1_of m e step limit ≡ None → AreSpent m e step limit
+  pub undecided_is_spent : IsSupport (support_of e) → add1_of m e step limit ≡ None → AreSpent m e step limit
   unfolding first_decisive
-  undecided_is_spent is = undecided _ (find-range_with_len (is_decisive m e step) (limit + 1) 0 (limit + 1) (omega arith)) is
+  undecided_is_spent support is = undecided support _ (find-range_with_len (is_decisive m e step) (limit + 1) 0 (limit + 1) (omega arith)) is

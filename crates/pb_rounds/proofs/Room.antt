@@ -121,7 +121,7 @@ module _ (m : Measure) (s : SupportView) (budget share : ℕ) (h : LeavesRoom s 
   room_not_exhausted : ¬ IsExhausted s budget (run_of m s share).elected
   room_not_exhausted ends =
       let reached = outcome_reaches m s share in
-      let more = ends.no_room h.place h.known (reached.others h.place h.beyond) h.supported in
+      let more = ends.no_room h.place (h.known, reached.others h.place h.beyond) h.supported in
       let all = reached.spent in
       let room = h.room in
       omega (arith, more, all, room)

@@ -139,39 +139,43 @@ no_price_by s rests place short (Some p) e =
     let covers = total_rest_covers (supporters_at s place) rests (cost_at s place) p (least_from_price (supporters_at s place) rests (cost_at s place) p e) in
     absurd (omega (arith, short, covers))
 
-module _ (m : Measure) (s : SupportView) (h : IsSupport s) (share : ℕ) where
-  run_is : IsRun m s share (run_of m s share)
-  run_is = record {
+module _ (m : Measure) (s : SupportView) (share : ℕ) where
+  -- the words hold of the run that is computed
+  pub words_of_run : IsSupport s → IsRun m s share (run_of m s share).elected (run_of m s share).rests
+  words_of_run h = record {
     cheapest = run_was_cheapest m s h share;
     rests_are = all_rests m s share;
-    none_left = λ place known others.
-        no_price_by s (run_of m s share).rests place ((run_has_price_system m s h share).explain.too_expensive place known others) _ refl;
+    none_left = λ place left.
+        no_price_by s (run_of m s share).rests place ((run_has_price_system m s h share).explain.too_expensive place left.0 left.1) _ refl;
+    is_support = h;
   }
 
-  words_from : (run : RunView) → IsRun m s share run → IsRunFrom m s (replicate s.voters share) (range_with_len 0 (length s.costs)) run.elected run.rests
+  words_from : (run : RunView) → IsRun m s share run.elected run.rests → IsRunFrom m s (replicate s.voters share) (range_with_len 0 (length s.costs)) run.elected run.rests
   words_from run words = record {
     first = λ before w later e.
         let found = words.cheapest before w later e in
-        let known = found.known in
+        let known = found.was_left.0 in
         record {
-          listed = is_listed-range 0 (length s.costs) w.place (omega arith) (omega arith);
-          was_left = found.was_left;
+          listed = is_listed-range 0 (length s.costs) w.place (omega arith) (omega (arith, known));
+          was_left = found.was_left.1;
           priced = found.priced;
           collected = found.collected;
-          cheapest = λ other price listed apart earlier priced. found.cheapest other price (known_place s other listed) apart earlier priced;
+          cheapest = λ other price listed apart earlier priced. found.cheapest other price (known_place s other listed, earlier) apart priced;
         };
     rests_are = words.rests_are;
-    none_left = λ place listed others. words.none_left place (known_place s place listed) others;
+    none_left = λ place listed others. words.none_left place (known_place s place listed, others);
   }
 
-  only_run : (run : RunView) → IsRun m s share run → run ≡ run_of m s share
+  -- and of no other
+  pub only_run : (run : RunView) → IsRun m s share run.elected run.rests → run ≡ run_of m s share
   unfolding run_of
   only_run run words =
       words_are_run m s run.elected (length s.costs) (replicate s.voters share) (range_with_len 0 (length s.costs)) run.rests
-      (λ place listed. h.costs_positive place 0 (known_place s place listed))
+      (λ place listed. words.is_support.costs_positive place 0 (known_place s place listed))
       (let long = length-range_with_len 0 (length s.costs) in omega (arith, long))
       (words_from run words)
 
   -- the law
-  pub run_is_its_rule : (run : RunView) → (run ≡ run_of m s share → IsRun m s share run) × (IsRun m s share run → run ≡ run_of m s share)
-  run_is_its_rule run = ((λ same. subst (IsRun m s share) (sym same) run_is), only_run run)
+  pub run_is_its_rule : IsSupport s → (run : RunView)
+      → (run ≡ run_of m s share → IsRun m s share run.elected run.rests) × (IsRun m s share run.elected run.rests → run ≡ run_of m s share)
+  run_is_its_rule h run = ((λ same. subst (λ (r : RunView). IsRun m s share r.elected r.rests) (sym same) (words_of_run h)), only_run run)

@@ -1,8 +1,8 @@
 -- That each elected project was the cheapest of its round.
 use Rattle.std.specs.Prelude.{◌≡◌, ◌≢◌, ℕ, ◌*◌, ◌<◌, ◌⊎◌, List, [], ◌∷◌, ◌++◌, All, Some, None, length, replicate}
-use Rattle.pb_price.specs.Supporters.{SupportView, supporters_at, cost_at}
+use Rattle.pb_price.specs.Supporters.{SupportView, IsSupport, supporters_at, cost_at}
 use Rattle.pb_price.specs.Price.{paid_at, price_at}
-use Rattle.pb_rounds.specs.Run.{ElectedView, RunView, charged}
+use Rattle.pb_rounds.specs.Run.{ElectedView, charged}
 use Rattle.pb_rounds.specs.declared.measure.Measure.{Measure}
 use Rattle.pb_rounds.specs.declared.measure.Measure.TheVariants.{Votes, Cost}
 
@@ -23,17 +23,18 @@ abbrev pub rests_after : SupportView → List ℕ → List ElectedView → List 
 rests_after s rests [] = rests
 rests_after s rests (w ∷ elected) = rests_after s (charged (supporters_at s w.place) w.price rests) elected
 
+-- there is a project at this place, and it is none of these
+abbrev pub IsLeft : SupportView → List ElectedView → ℕ → Type 0
+IsLeft s elected place = (place < length s.costs) × All (λ w. w.place ≢ place) elected
+
 -- w was elected at these rests, after those before it, at its price, and collected what its supporters could pay of it; it was
 -- cheaper than each other project that was left and could be paid
 pub record WasCheapest (m : Measure) (s : SupportView) (rests : List ℕ) (before : List ElectedView)
     (w : ElectedView) : Type 0 where
-  pub known : w.place < length s.costs
-  pub was_left : All (λ v. v.place ≢ w.place) before
+  pub was_left : IsLeft s before w.place
   pub priced : price_at s rests w.place ≡ Some w.price
   pub collected : w.collected ≡ paid_at (supporters_at s w.place) rests w.price
-  pub cheapest : (other price : ℕ) → other < length s.costs → other ≢ w.place
-      → All (λ v. v.place ≢ other) before
-      → price_at s rests other ≡ Some price
+  pub cheapest : (other price : ℕ) → IsLeft s before other → other ≢ w.place → price_at s rests other ≡ Some price
       → IsCheaper m s w.place w.price other price
 
 -- each of the elected, in order of election from this share, was the cheapest of its round
@@ -42,10 +43,10 @@ EachWasCheapest m s share elected = (before : List ElectedView) (w : ElectedView
     → elected ≡ before ++ w ∷ later
     → WasCheapest m s (rests_after s (replicate s.voters share) before) before w
 
--- the run at this share, in the words of its rule: each of the elected was the cheapest of its round, the rests are what all
--- their payments left, and no project that is left has a price
-pub record IsRun (m : Measure) (s : SupportView) (share : ℕ) (run : RunView) : Type 0 where
-  pub cheapest : EachWasCheapest m s share run.elected
-  pub rests_are : run.rests ≡ rests_after s (replicate s.voters share) run.elected
-  pub none_left : (place : ℕ) → place < length s.costs → All (λ w. w.place ≢ place) run.elected
-      → price_at s run.rests place ≡ None
+-- A run at this share elects these, and leaves these rests: each of the elected was the cheapest of its round, the rests are
+-- what all their payments left, and no project that is left has a price. The supporters are such as those of every election.
+pub record IsRun (m : Measure) (s : SupportView) (share : ℕ) (elected : List ElectedView) (rests : List ℕ) : Type 0 where
+  pub cheapest : EachWasCheapest m s share elected
+  pub rests_are : rests ≡ rests_after s (replicate s.voters share) elected
+  pub none_left : (place : ℕ) → IsLeft s elected place → price_at s rests place ≡ None
+  pub is_support : IsSupport s

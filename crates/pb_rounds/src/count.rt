@@ -1,18 +1,17 @@
 ghost use Rattle.std.specs.Prelude.{◌≡◌, ◌+◌, ◌≤◌, None, IfOk, IfErr, MatchBool, MatchOption, IsOkUnless, length, ⊤};
+ghost use Rattle.pb_core.specs.Election.{IsElection};
 ghost use Rattle.pb_core.specs.Money.{largest_money};
 ghost use Rattle.pb_price.specs.Price.{largest_share};
 ghost use Rattle.pb_price.specs.PriceFault.{is_worker_count};
 ghost use Rattle.pb_price.specs.Supporters.{support_of};
-ghost use Rattle.pb_rounds.specs.Cheapest.{EachWasCheapest};
+ghost use Rattle.pb_rounds.specs.Cheapest.{IsRun};
 ghost use Rattle.pb_rounds.specs.Count.{opening_share, share_after};
 ghost use Rattle.pb_rounds.specs.Inner.Count.{IsCompletionFault};
 ghost use Rattle.pb_rounds.specs.CountFault.{refusal_of};
 ghost use Rattle.pb_rounds.specs.Counted.{IsCountFault, IsCountOf};
-ghost use Rattle.pb_rounds.specs.Outcome.{settled, settled_by};
 ghost use Rattle.pb_rounds.specs.PriceSystem.{HasPriceSystem};
 ghost use Rattle.pb_rounds.specs.PricingRecord.{HasPricing};
 ghost use Rattle.pb_rounds.specs.Inner.RaiseEnds.{CanComplete, IsCompletion, IsOutcomeAt};
-ghost use Rattle.pb_rounds.specs.Run.{outcome_of};
 
 use crate::count_fault::CountFault;
 use crate::measure::Measure;
@@ -49,6 +48,7 @@ fn refusal_of(options: &CountOptions) -> Option<CountFault>
 pub(crate) fn opening_share<B: Allocator>(election: &Election<B>) -> Money
     ensures share { result ≡ opening_share election.now }
     ensures small { result ≤ largest_money }
+    ensures is_election { IsElection election.now }
 {
     let voters = election.voters().len() as u64;
     if voters == 0 {
@@ -84,11 +84,10 @@ where
     ensures workers { MatchBool (is_worker_count workers)
         (IsOkUnless result CountFault.NoMemory) (result ≡ Err CountFault.WorkerCount) }
     // what is answered
-    ensures outcome { IfOk result (λ o.
-        settled o ≡ settled_by share 0 (outcome_of measure election.now share)) }
+    ensures outcome { IfOk result (λ o. (o.share ≡ share) × (o.raised ≡ 0)
+        × IsRun measure (support_of election.now) share o.elected o.rests) }
     ensures priced { IfOk result (λ o. HasPricing measure (support_of election.now) workers share o.priced) }
     ensures one_more { IfOk result (λ o. length o.priced ≡ length o.elected + 1) }
-    ensures cheapest { IfOk result (λ o. EachWasCheapest measure (support_of election.now) share o.elected) }
     ensures price_system { IfOk result (λ o.
         HasPriceSystem (support_of election.now) share o.elected o.rests) }
 {
@@ -212,6 +211,7 @@ fn complete<R: Threads + Sync, G: Gate, A: Allocator + Copy + Send + Sync, B: Al
     ensures completed { IfOk result
         (IsCompletion pricing.now.measure election.now pricing.now.workers step max_raises) }
     ensures faults { IfErr result (IsCompletionFault pricing.now.measure election.now step max_raises) }
+    ensures is_election { IsElection election.now }
 {
     let budget = election.budget();
     let opening = opening_share(election);

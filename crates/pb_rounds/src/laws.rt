@@ -27,7 +27,7 @@ pub fn opening_share_is_largest()
 pub fn completion_is_its_rule()
     ensures decided { (m : Measure) (e : ElectionView) (step limit raises : ℕ) → IsElection e
         → (add1_of m e step limit ≡ Some raises) ↔ IsCompleted m e step limit raises }
-    ensures spent { (m : Measure) (e : ElectionView) (step limit : ℕ)
+    ensures spent { (m : Measure) (e : ElectionView) (step limit : ℕ) → IsElection e
         → (add1_of m e step limit ≡ None) ↔ AreSpent m e step limit }
 {}
 
@@ -37,7 +37,7 @@ pub fn count_is_computed()
         → IsCountOf e options first → IsCountOf e options second → settled first ≡ settled second }
     ensures computed { (e : ElectionView) (options : CountOptions) (o : OutcomeView) → IsCountOf e options o
         → count_of e options ≡ Some (settled o) }
-    ensures spent { (e : ElectionView) (options : CountOptions) → refusal_of options ≡ None
+    ensures spent { (e : ElectionView) (options : CountOptions) → IsElection e → refusal_of options ≡ None
         → (count_of e options ≡ None) ↔ IsCountFault e options RaisesSpent }
 {}
 
@@ -45,5 +45,5 @@ pub fn count_is_computed()
 /// collected what its supporters could pay of its price, the rests are what is left then, and nothing that is left has a price.
 pub fn run_is_its_rule()
     ensures { (m : Measure) (e : ElectionView) (share : ℕ) (run : RunView) → IsElection e
-        → (run ≡ outcome_of m e share) ↔ IsRun m (support_of e) share run }
+        → (run ≡ outcome_of m e share) ↔ IsRun m (support_of e) share run.elected run.rests }
 {}

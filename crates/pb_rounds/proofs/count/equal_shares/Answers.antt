@@ -17,11 +17,6 @@ returns-clause-one_more g c =
     (shared_from_run c.args.measure c.args.election.now c.in_ok-supporters.supporters c.in_ok-supporters.ensures c.args.workers c.args.share
     c.in_ok-outcome.outcome c.in_ok-outcome.ensures).one_more
 
-pub returns-clause-cheapest : goal.returns-clause-cheapest
-returns-clause-cheapest g c =
-    (shared_from_run c.args.measure c.args.election.now c.in_ok-supporters.supporters c.in_ok-supporters.ensures c.args.workers c.args.share
-    c.in_ok-outcome.outcome c.in_ok-outcome.ensures).cheapest
-
 pub returns-clause-price_system : goal.returns-clause-price_system
 returns-clause-price_system g c =
     (shared_from_run c.args.measure c.args.election.now c.in_ok-supporters.supporters c.in_ok-supporters.ensures c.args.workers c.args.share
@@ -36,9 +31,6 @@ returns-in_err-supporters-clause-priced g c = IfOk-from_err _ _ c.from_residual.
 pub returns-in_err-supporters-clause-one_more : goal.returns-in_err-supporters-clause-one_more
 returns-in_err-supporters-clause-one_more g c = IfOk-from_err _ _ c.from_residual.ensures.0
 
-pub returns-in_err-supporters-clause-cheapest : goal.returns-in_err-supporters-clause-cheapest
-returns-in_err-supporters-clause-cheapest g c = IfOk-from_err _ _ c.from_residual.ensures.0
-
 pub returns-in_err-supporters-clause-price_system : goal.returns-in_err-supporters-clause-price_system
 returns-in_err-supporters-clause-price_system g c = IfOk-from_err _ _ c.from_residual.ensures.0
 
@@ -50,9 +42,6 @@ returns-in_err-outcome-clause-priced g c = IfOk-from_err _ _ c.from_residual-in_
 
 pub returns-in_err-outcome-clause-one_more : goal.returns-in_err-outcome-clause-one_more
 returns-in_err-outcome-clause-one_more g c = IfOk-from_err _ _ c.from_residual-in_err-outcome.ensures.0
-
-pub returns-in_err-outcome-clause-cheapest : goal.returns-in_err-outcome-clause-cheapest
-returns-in_err-outcome-clause-cheapest g c = IfOk-from_err _ _ c.from_residual-in_err-outcome.ensures.0
 
 pub returns-in_err-outcome-clause-price_system : goal.returns-in_err-outcome-clause-price_system
 returns-in_err-outcome-clause-price_system g c = IfOk-from_err _ _ c.from_residual-in_err-outcome.ensures.0

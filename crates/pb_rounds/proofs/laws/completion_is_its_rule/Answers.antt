@@ -7,4 +7,4 @@ returns-clause-decided c m e step limit raises h =
     (add1_completed m e (IsSupport-support_of e h) step limit raises, completed_is_decided m e step limit raises)
 
 pub returns-clause-spent : goal.returns-clause-spent
-returns-clause-spent c m e step limit = (undecided_is_spent m e step limit, spent_is_undecided m e step limit)
+returns-clause-spent c m e step limit h = (undecided_is_spent m e step limit (IsSupport-support_of e h), spent_is_undecided m e step limit)

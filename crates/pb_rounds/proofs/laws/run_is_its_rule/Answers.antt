@@ -4,4 +4,4 @@ use Rattle.pb_rounds.proofs.RunIs.{run_is_its_rule}
 use Rattle.pb_rounds.proofs.laws.run_is_its_rule.Goals as goal
 
 pub returns : goal.returns
-returns c m e share run h = run_is_its_rule m (support_of e) (IsSupport-support_of e h) share run
+returns c m e share run h = run_is_its_rule m (support_of e) share (IsSupport-support_of e h) run
