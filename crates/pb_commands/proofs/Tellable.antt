@@ -1,13 +1,11 @@
 -- The outcome of a count can be told.
-use Rattle.std.proofs.Common.{◌≡◌, ap}
 use Rattle.pb_core.specs.Election.{ElectionView, IsElection}
 use Rattle.pb_price.proofs.SupporterLists.{IsSupport-support_of}
 use Rattle.pb_reasons.specs.Reasons.{CanBeTold}
-use Rattle.pb_rounds.proofs.Counted.{is_computed}
+use Rattle.pb_rounds.proofs.Counted.{is_computed, settled_run}
 use Rattle.pb_rounds.proofs.Settled.{settled_has_rests, settled_is_paid_in_turn}
 use Rattle.pb_rounds.specs.Counted.{IsCountOf}
-use Rattle.pb_rounds.specs.Outcome.{OutcomeView, settled, settled_by}
-use Rattle.pb_rounds.specs.Run.{RunView, outcome_of}
+use Rattle.pb_rounds.specs.Outcome.{OutcomeView, settled}
 use Rattle.pb_rounds.specs.declared.options.CountOptions.{CountOptions}
 use Rattle.pb_commands.proofs.ElectedPlaces.{count_elects_projects}
 use Rattle.pb_commands.proofs.Printables.{sums_are_amounts}
@@ -17,7 +15,7 @@ count_can_be_told e options o h counted =
     let places = count_elects_projects e options (settled o) (is_computed e options o counted) in
     let sums = sums_are_amounts e options o h (is_computed e options o counted) counted.within_budget counted.price_system in
     let support = IsSupport-support_of e h in
-    let run : settled o ≡ settled_by o.share o.raised (outcome_of options.measure e o.share) = ap (λ (run : RunView). settled_by o.share o.raised run) counted.run_is in
+    let run = settled_run e options o counted in
     record {
       known = places.known;
       few = places.few;

@@ -25,6 +25,7 @@ use Rattle.pb_rounds.specs.declared.options.Completion.TheVariants.{Plain, Add1}
 use Rattle.pb_rounds.specs.declared.options.CountOptions.{CountOptions}
 use Rattle.pb_rounds.proofs.Completing.{add1_not_over, opening_not_over, settled_priced, settled_within}
 use Rattle.pb_rounds.proofs.PricedRounds.{one_more_priced}
+use Rattle.pb_rounds.proofs.PricedRule.{has_pricing}
 use Rattle.pb_rounds.proofs.RaisesEnd.{add1_completed, completed_is_decided, spent_is_undecided, undecided_is_spent}
 use Rattle.pb_rounds.proofs.RunIs.{only_run, words_of_run}
 use Rattle.pb_rounds.proofs.Settled.{settled_has_price_system}
@@ -65,9 +66,10 @@ not_both Add1 first second = cc
 
 module _ (e : ElectionView) (options : CountOptions) (o : OutcomeView) where
   priced_at_share : (raised : ℕ) → IsOutcomeAt options.measure (support_of e) options.workers (share_after e options.step raised) raised o
-      → HasPricing options.measure (support_of e) options.workers o.share o.priced
+      → HasPricing options.measure (support_of e) options.workers o.share o.elected o.priced
   priced_at_share raised h =
-      subst (λ n. HasPricing options.measure (support_of e) options.workers n o.priced) (sym (ap (λ (x : Settled). x.share) h.settled_is)) h.priced
+      subst (λ (x : Settled). HasPricing options.measure (support_of e) options.workers x.share x.elected o.priced) (sym h.settled_is)
+      (has_pricing options.measure (support_of e) h.is_support options.workers (share_after e options.step raised) o.priced h.priced)
 
   run_at : (raised : ℕ) → IsOutcomeAt options.measure (support_of e) options.workers (share_after e options.step raised) raised o
       → IsRun options.measure (support_of e) o.share o.elected o.rests
@@ -168,7 +170,7 @@ none_is_spent e options support in_range none =
 -- what a run at a share promises of its outcome
 pub record IsShared (m : Measure) (e : ElectionView) (workers share : ℕ) (o : OutcomeView) : Type 0 where
   pub outcome : (o.share ≡ share) × (o.raised ≡ 0) × IsRun m (support_of e) share o.elected o.rests
-  pub priced : HasPricing m (support_of e) workers share o.priced
+  pub priced : HasPricing m (support_of e) workers share o.elected o.priced
   pub one_more : length o.priced ≡ length o.elected + 1
   pub price_system : HasPriceSystem (support_of e) share o.elected o.rests
 
@@ -181,7 +183,9 @@ shared_from_run m e s same workers share o h = record {
     subst (λ (x : Settled). IsRun m (support_of e) share x.elected x.rests) (sym h.settled_is)
         (subst (λ (t : SupportView). IsRun m t share (run_of m s share).elected (run_of m s share).rests) same (words_of_run m s share h.is_support)),
   );
-  priced = subst (λ (t : SupportView). HasPricing m t workers share o.priced) same h.priced;
+  priced = subst (λ (x : Settled). HasPricing m (support_of e) workers share x.elected o.priced) (sym h.settled_is)
+      (subst (λ (t : SupportView). HasPricing m t workers share (run_of m s share).elected o.priced) same
+      (has_pricing m s h.is_support workers share o.priced h.priced));
   one_more = one_more_priced m s workers share 0 o h.settled_is h.priced;
   price_system = settled_has_price_system m e s same h.is_support share 0 o h.settled_is;
 }

@@ -25,3 +25,4 @@ pub mod CheapestRounds
 pub mod Room
 pub mod RunIs
 pub mod PricedRounds
+pub mod PricedRule

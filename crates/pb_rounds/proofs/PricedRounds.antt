@@ -8,7 +8,7 @@ use Rattle.pb_price.specs.Supporters.{SupportView, supporters_at}
 use Rattle.pb_rounds.specs.declared.measure.Measure.{Measure}
 use Rattle.pb_rounds.specs.Bid.{Bid}
 use Rattle.pb_rounds.specs.Outcome.{OutcomeView, Settled, settled, settled_by}
-use Rattle.pb_rounds.specs.PricingRecord.{HasPricing, IsPricedEnd, IsPricedRound, PricingRecord, known_after}
+use Rattle.pb_rounds.specs.Inner.BidRecord.{HasBidRecord, IsBidEnd, IsBidRound, BidRecord, known_after}
 use Rattle.pb_rounds.specs.Run.{RunView, best_of, charged, run_from, run_of, without}
 use Rattle.pb_rounds.proofs.BestBid.{best_is_bid}
 use Rattle.pb_rounds.proofs.Listed.{length-without}
@@ -16,12 +16,12 @@ use Rattle.pb_rounds.proofs.Progress.{run_from-none, run_from-some}
 
 -- one round, where the rounds after it have one more than the run after it elects
 module _ (m : Measure) (s : SupportView) (workers : ℕ) (rests left : List ℕ) (known : ℕ → Option ℕ) (priced : List ℕ) (later : List (List ℕ))
-    (others : (n : ℕ) (rests left : List ℕ) (known : ℕ → Option ℕ) → length left ≤ n → PricingRecord m s workers rests left known later
+    (others : (n : ℕ) (rests left : List ℕ) (known : ℕ → Option ℕ) → length left ≤ n → BidRecord m s workers rests left known later
     → length later ≡ length (run_from m s n rests left).elected + 1) where
   round_counts : (n : ℕ) → length left ≤ n → (o : Option Bid) → best_of m s rests left ≡ o
-      → MatchOption o (IsPricedEnd s rests left known priced × (later ≡ []))
-      (λ winner. IsPricedRound m s workers rests left known winner priced
-      × PricingRecord m s workers (charged (supporters_at s winner.place) winner.price rests) (without winner.place left) (known_after s rests priced known) later)
+      → MatchOption o (IsBidEnd s rests left known priced × (later ≡ []))
+      (λ winner. IsBidRound m s workers rests left known winner priced
+      × BidRecord m s workers (charged (supporters_at s winner.place) winner.price rests) (without winner.place left) (known_after s rests priced known) later)
       → length (priced ∷ later) ≡ length (run_from m s n rests left).elected + 1
   round_counts n short None e h =
       let ended : length (run_from m s n rests left).elected ≡ 0 = ap (λ (r : RunView). length r.elected) (run_from-none m s rests left e n) in
@@ -37,12 +37,12 @@ module _ (m : Measure) (s : SupportView) (workers : ℕ) (rests left : List ℕ)
       omega (arith, after, here)
 
 rounds_count : (m : Measure) (s : SupportView) (workers : ℕ) (rounds : List (List ℕ)) (n : ℕ) (rests left : List ℕ) (known : ℕ → Option ℕ) → length left ≤ n
-    → PricingRecord m s workers rests left known rounds → length rounds ≡ length (run_from m s n rests left).elected + 1
+    → BidRecord m s workers rests left known rounds → length rounds ≡ length (run_from m s n rests left).elected + 1
 rounds_count m s workers [] n rests left known short h = absurd h
 rounds_count m s workers (priced ∷ later) n rests left known short h =
     round_counts m s workers rests left known priced later (rounds_count m s workers later) n short (best_of m s rests left) refl h
 
-all_rounds_count : (m : Measure) (s : SupportView) (workers share : ℕ) (priced : List ℕ) → HasPricing m s workers share priced
+all_rounds_count : (m : Measure) (s : SupportView) (workers share : ℕ) (priced : List ℕ) → HasBidRecord m s workers share priced
     → length priced ≡ length (run_of m s share).elected + 1
 unfolding run_of
 all_rounds_count m s workers share priced (rounds, h, is) =
@@ -52,6 +52,6 @@ all_rounds_count m s workers share priced (rounds, h, is) =
 
 -- one number of prices more than elected
 pub one_more_priced : (m : Measure) (s : SupportView) (workers share raised : ℕ) (o : OutcomeView) → settled o ≡ settled_by share raised (run_of m s share)
-    → HasPricing m s workers share o.priced → length o.priced ≡ length o.elected + 1
+    → HasBidRecord m s workers share o.priced → length o.priced ≡ length o.elected + 1
 one_more_priced m s workers share raised o is h =
     all_rounds_count m s workers share o.priced h ∙ ap (λ n. n + 1) (sym (ap (λ (x : Settled). length x.elected) is))

@@ -8,7 +8,7 @@ use Rattle.std.specs.Ordering.{is_gt, is_lt, ordering_reverse, ordering_then}
 use Rattle.std.specs.declared.cmp.Ordering.{Ordering}
 use Rattle.std.specs.declared.cmp.Ordering.TheVariants.{Less, Equal, Greater}
 use Rattle.std.proofs.lemmas.Bool.{true≢false, cases_Bool, cases_eq, cond-true, cond-false, false_from_ne_true, not_from_false}
-use Rattle.std.proofs.lemmas.List.{append_assoc, map-append}
+use Rattle.std.proofs.lemmas.List.{append-nil, append_assoc, map-append}
 use Rattle.std.proofs.lemmas.Option.{none-some, same_Some}
 use Rattle.std.proofs.Math.Nat.{mul-lt-mul_of_pos_right}
 use Rattle.pb_price.proofs.Payments.{least_from_price, paid_at-zero}
@@ -18,7 +18,7 @@ use Rattle.pb_price.specs.Supporters.{SupportView, cost_at, supporters_at}
 use Rattle.pb_rounds.specs.declared.measure.Measure.{Measure}
 use Rattle.pb_rounds.specs.Bid.{Bid, bid_cmp, first_least, is_before}
 use Rattle.pb_rounds.specs.Inner.BidOrder.{bid_cmp-total, greater_from}
-use Rattle.pb_rounds.specs.PricingRecord.{ArePriced, IsPricedEnd, IsPricedRound, is_in_time, known_after}
+use Rattle.pb_rounds.specs.Inner.BidRecord.{AreInTime, ArePriced, IsBidEnd, IsBidRound, is_in_time, known_after}
 use Rattle.pb_rounds.specs.Inner.Queue.{IsDone, IsIn, IsTaken, PricesHeads, PutsBack, Rises, places_of}
 use Rattle.pb_rounds.specs.Run.{bid, bids_at, best_of, charged, is_listed, weight_of, without}
 use Rattle.pb_rounds.proofs.BestBid.{IsBid, best_is_bid, bid_from, bid_in, no_price_without_best}
@@ -206,11 +206,10 @@ module _ (m : Measure) (s : SupportView) (rests left : List ℕ) (known : ℕ �
     pub round_without_best : best_of m s rests left ≡ None
     round_without_best = no_best m s rests left no_price_left
 
-    pub priced_end : IsPricedEnd s rests left known places
+    pub priced_end : IsBidEnd s rests left known places
     priced_end = record {
       are_priced = are_priced;
       all_none = all_known_none;
-      few = no_more_than_left places left are_priced.once priced_left;
     }
 
   -- the round that elects w
@@ -316,33 +315,23 @@ module _ (m : Measure) (s : SupportView) (rests left : List ℕ) (known : ℕ �
         ]
       ]
 
-      there_counted : length (h.early ++ head ∷ []) ≤ count_by (is_in_time m s w known) left
-      there_counted =
-          let few = no_more_than_pass (is_in_time m s w known) (places_of (h.early ++ head ∷ [])) left
-          (distinct_prefix (places_of (h.early ++ head ∷ [])) (places_of (others ++ rest))
-          (subst (IsDistinct nat_eq) (ap places_of cut_there ∙ map-append (λ (b : Bid). b.place) (h.early ++ head ∷ []) (others ++ rest)) (queue_distinct m s left known queue q)))
-          (λ n listed. let found = in_from_listed (h.early ++ head ∷ []) n listed in
-          ap (is_listed left) (sym found.place_is) ∙ q.are_left found.found (there_in_queue found.found found.here))
-          (λ n listed. let found = in_from_listed (h.early ++ head ∷ []) n listed in
-          ap (is_in_time m s w known) (sym found.place_is) ∙ in_time_from found.found (there_in_queue found.found found.here) (there_at_most found.found found.here)) in
-          omega (arith, few, length_places (h.early ++ head ∷ []))
+      there_in_time : (workers : ℕ) → most ≤ workers → AreInTime m s workers known w places
+      there_in_time workers within = record {
+        needed = places_of (h.early ++ head ∷ []);
+        spare = places_of others;
+        parts = h.placed ∙ ap (λ b. places_of (h.early ++ b)) batch_is ∙ ap places_of (sym (append_assoc h.early (head ∷ []) others))
+            ∙ map-append (λ (b : Bid). b.place) (h.early ++ head ∷ []) others;
+        few = (let batch_length : length h.batch ≡ length others + 1 = ap length batch_is ∙ omega arith in
+            let few = h.few in omega (arith, length_places others, batch_length, few, within));
+        in_time = λ n listed. let found = in_from_listed (h.early ++ head ∷ []) n listed in
+            ap (is_in_time m s w known) (sym found.place_is) ∙ in_time_from found.found (there_in_queue found.found found.here) (there_at_most found.found found.here);
+      }
 
-      places_split : length places ≡ length (h.early ++ head ∷ []) + length others
-      places_split =
-          ap length h.placed ∙ length_places (h.early ++ h.batch) ∙ length-append h.early h.batch ∙ ap (λ (b : List Bid). length h.early + length b) batch_is
-          ∙ (let one = length-append h.early (head ∷ []) in omega (arith, one))
-
-      batch_length : length h.batch ≡ length others + 1
-      batch_length = ap length batch_is ∙ omega arith
-
-      few_there : (workers : ℕ) → most ≤ workers → length places ≤ workers - 1 + count_by (is_in_time m s w known) left
-      few_there workers within = omega (arith, there_counted, places_split, batch_length, h.few)
-
-    few_by : (workers : ℕ) → most ≤ workers → (batch : List Bid) → h.batch ≡ batch → length places ≤ workers - 1 + count_by (is_in_time m s w known) left
-    few_by workers within [] e =
+    in_time_by : (workers : ℕ) → most ≤ workers → (batch : List Bid) → h.batch ≡ batch → AreInTime m s workers known w places
+    in_time_by workers within [] e =
         let found = priced_bid w.place winner_priced in
         absurd (none_priced found.found h.early h.batch (h.begun e) e found.here)
-    few_by workers within (head ∷ others) e = few_there head others e workers within
+    in_time_by workers within (head ∷ others) e = there_in_time head others e workers within
 
     price_positive : 0 < cost_at s w.place → 0 < w.price
     price_positive positive = elim (cases_eq w.price 0) [
@@ -352,25 +341,29 @@ module _ (m : Measure) (s : SupportView) (rests left : List ℕ) (known : ℕ �
       | inr some ↦ omega arith
     ]
 
-    few_at_first : (workers : ℕ) → 0 < cost_at s w.place → ((place : ℕ) → known place ≡ Some 0) → length places ≤ workers - 1 + count_by (is_in_time m s w known) left
-    few_at_first workers positive first =
-        let few = no_more_than_pass (is_in_time m s w known) places left are_priced.once priced_left (λ n listed.
-        ap (λ o. option_map_or (λ price. not (is_before w (bid m s n price))) o false) (first n)
-        ∙ not_from_false _ (ap (λ b. is_before b (bid m s n 0)) w_is ∙ at_most_at_zero m s n w.place w.price (price_positive positive))) in
-        omega (arith, few)
+    in_time_at_first : (workers : ℕ) → 0 < cost_at s w.place → ((place : ℕ) → known place ≡ Some 0) → AreInTime m s workers known w places
+    in_time_at_first workers positive first = record {
+      needed = places;
+      spare = [];
+      parts = sym (append-nil places);
+      few = omega arith;
+      in_time = λ n listed.
+          ap (λ o. option_map_or (λ price. not (is_before w (bid m s n price))) o false) (first n)
+          ∙ not_from_false _ (ap (λ b. is_before b (bid m s n 0)) w_is ∙ at_most_at_zero m s n w.place w.price (price_positive positive));
+    }
 
-    few_either : (workers : ℕ) → 0 < cost_at s w.place → (most ≤ workers) ⊎ ((place : ℕ) → known place ≡ Some 0)
-        → length places ≤ workers - 1 + count_by (is_in_time m s w known) left
-    few_either workers positive (inl within) = few_by workers within h.batch refl
-    few_either workers positive (inr first) = few_at_first workers positive first
+    in_time_either : (workers : ℕ) → 0 < cost_at s w.place → (most ≤ workers) ⊎ ((place : ℕ) → known place ≡ Some 0)
+        → AreInTime m s workers known w places
+    in_time_either workers positive (inl within) = in_time_by workers within h.batch refl
+    in_time_either workers positive (inr first) = in_time_at_first workers positive first
 
     pub priced_round : (workers : ℕ) → 0 < cost_at s w.place → (most ≤ workers) ⊎ ((place : ℕ) → known place ≡ Some 0)
-        → IsPricedRound m s workers rests left known w places
+        → IsBidRound m s workers rests left known w places
     priced_round workers positive either = record {
       are_priced = are_priced;
       has_winner = winner_priced;
       none_before = none_known_before;
-      few = few_either workers positive either;
+      were_in_time = in_time_either workers positive either;
     }
 
     not_winner : (place : ℕ) → is_listed places place ≡ false → place ≢ w.place

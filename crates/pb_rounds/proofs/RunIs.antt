@@ -16,7 +16,7 @@ use Rattle.pb_price.specs.Supporters.{SupportView, IsSupport, cost_at, supporter
 use Rattle.pb_rounds.specs.declared.measure.Measure.{Measure}
 use Rattle.pb_rounds.specs.declared.measure.Measure.TheVariants.{Votes, Cost}
 use Rattle.pb_rounds.specs.Bid.{Bid, is_before}
-use Rattle.pb_rounds.specs.Inner.BidOrder.{bid_cmp-total, greater_from}
+use Rattle.pb_rounds.specs.Inner.BidOrder.{bid_cmp-total, greater_from, less_from}
 use Rattle.pb_rounds.specs.Cheapest.{IsCheaper, IsRun, rests_after}
 use Rattle.pb_rounds.specs.Run.{ElectedView, RunView, best_of, bid, charged, elected_by, is_listed, run_from, run_of, then_run, without}
 use Rattle.pb_rounds.proofs.BestIs.{is_best, no_best}
@@ -43,6 +43,28 @@ cheaper_is_not_after Cost s place price other q some more h =
     let one : cost_at s place ≡ max 1 (cost_at s place) = omega arith in
     let two : cost_at s other ≡ max 1 (cost_at s other) = omega arith in
     later_by (q * max 1 (cost_at s place)) (price * max 1 (cost_at s other)) other place _ (elim h [
+      | inl less ↦ inl (subst (λ n. price * max 1 (cost_at s other) < q * n) one (subst (λ n. price * n < q * cost_at s place) two less))
+      | inr same ↦ inr (ap (λ n. price * n) (sym two) ∙ same.0 ∙ ap (λ n. q * n) one, same.1)
+    ])
+
+-- what is less, or as much and earlier, comes before
+first_by : (x y i j : ℕ) (o : Ordering) → (x < y) ⊎ ((x ≡ y) × (i < j)) → is_lt (ordering_then (nat_cmp x y) (ordering_then (nat_cmp i j) o)) ≡ true
+first_by x y i j o (inl less) = rw (less_from x y less) refl
+first_by x y i j o (inr same) =
+    let tied = ap (nat_cmp x) (sym same.0) ∙ tied_itself nat_cmp_total x in
+    rw (tied, less_from i j same.1) refl
+
+pub cheaper_is_before : (m : Measure) (s : SupportView) (place price other q : ℕ) → 0 < cost_at s place → 0 < cost_at s other
+    → IsCheaper m s place price other q → is_before (bid m s place price) (bid m s other q) ≡ true
+cheaper_is_before Votes s place price other q some more h =
+    first_by (price * max 1 1) (q * max 1 1) place other _ (elim h [
+      | inl less ↦ inl (omega arith)
+      | inr same ↦ inr (omega (arith, same.0), same.1)
+    ])
+cheaper_is_before Cost s place price other q some more h =
+    let one : cost_at s place ≡ max 1 (cost_at s place) = omega arith in
+    let two : cost_at s other ≡ max 1 (cost_at s other) = omega arith in
+    first_by (price * max 1 (cost_at s other)) (q * max 1 (cost_at s place)) place other _ (elim h [
       | inl less ↦ inl (subst (λ n. price * max 1 (cost_at s other) < q * n) one (subst (λ n. price * n < q * cost_at s place) two less))
       | inr same ↦ inr (ap (λ n. price * n) (sym two) ∙ same.0 ∙ ap (λ n. q * n) one, same.1)
     ])

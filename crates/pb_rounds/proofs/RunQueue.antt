@@ -12,7 +12,7 @@ use Rattle.pb_rounds.specs.declared.measure.Measure.{Measure}
 use Rattle.pb_rounds.specs.Bid.{Bid}
 use Rattle.pb_price.specs.PriceFault.{is_worker_count}
 use Rattle.pb_rounds.specs.Outcome.{OutcomeView}
-use Rattle.pb_rounds.specs.PricingRecord.{HasPricing, IsPricedEnd, IsPricedRound, PricingRecord, known_after}
+use Rattle.pb_rounds.specs.Inner.BidRecord.{HasBidRecord, IsBidEnd, IsBidRound, BidRecord, known_after}
 use Rattle.pb_rounds.specs.Inner.Queue.{IsDone, IsFull, IsIn, PricesHeads, PutsBack, Rises}
 use Rattle.pb_rounds.specs.Inner.RaiseEnds.{IsOutcomeAt}
 use Rattle.pb_rounds.specs.Run.{best_of, bid, charged, elected_by, without}
@@ -30,7 +30,7 @@ pub record Queued (m : Measure) (s : SupportView) (workers share raised most : �
   pub queued : IsQueue m s left known queue
   pub first : (most ≤ workers) ⊎ ((place : ℕ) → known place ≡ Some 0)
   -- what is a record from here on is one of the whole run
-  pub continues : (later : List (List ℕ)) → PricingRecord m s workers o.rests left known later → HasPricing m s workers share (o.priced ++ map length later)
+  pub continues : (later : List (List ℕ)) → BidRecord m s workers o.rests left known later → HasBidRecord m s workers share (o.priced ++ map length later)
   pub some : 0 < most
 
 -- the opening of a run
@@ -90,9 +90,9 @@ module _ (m : Measure) (s : SupportView) (workers share raised most : ℕ) (queu
         subst (λ (x : OutcomeView). IsOutcomeAt m s workers share raised x) (sym priced_is) (record {
           settled_is = progress_end m s share raised st.left o st.progress ends;
           priced = st.continues (places ∷ []) (subst (λ (b : Option Bid). MatchOption b
-              (IsPricedEnd s o.rests st.left st.known places × (◌≡◌ {A = List (List ℕ)} [] []))
-              (λ winner. IsPricedRound m s workers o.rests st.left st.known winner places
-              × PricingRecord m s workers (charged (supporters_at s winner.place) winner.price o.rests) (without winner.place st.left) (known_after s o.rests places st.known) []))
+              (IsBidEnd s o.rests st.left st.known places × (◌≡◌ {A = List (List ℕ)} [] []))
+              (λ winner. IsBidRound m s workers o.rests st.left st.known winner places
+              × BidRecord m s workers (charged (supporters_at s winner.place) winner.price o.rests) (without winner.place st.left) (known_after s o.rests places st.known) []))
               (sym ends) (priced_end m s o.rests st.left st.known st.lower queue st.queued most rest places fresh best h done none, refl));
           is_support = is;
         })
@@ -139,14 +139,14 @@ module _ (m : Measure) (s : SupportView) (workers share raised most : ℕ) (queu
             })
 
         record_more : (later : List (List ℕ))
-            → PricingRecord m s workers (charged (supporters_at s w.place) w.price o.rests) (without w.place st.left) (known_after s o.rests places st.known) later
-            → HasPricing m s workers share (paid.priced ++ map length later)
+            → BidRecord m s workers (charged (supporters_at s w.place) w.price o.rests) (without w.place st.left) (known_after s o.rests places st.known) later
+            → HasBidRecord m s workers share (paid.priced ++ map length later)
         record_more later from_here =
-            subst (HasPricing m s workers share) (sym (ap (λ (x : OutcomeView). x.priced ++ map length later) paid_all ∙ append_assoc o.priced (length places ∷ []) (map length later)))
+            subst (HasBidRecord m s workers share) (sym (ap (λ (x : OutcomeView). x.priced ++ map length later) paid_all ∙ append_assoc o.priced (length places ∷ []) (map length later)))
             (st.continues (places ∷ later) (subst (λ (b : Option Bid). MatchOption b
-            (IsPricedEnd s o.rests st.left st.known places × (later ≡ []))
-            (λ winner. IsPricedRound m s workers o.rests st.left st.known winner places
-            × PricingRecord m s workers (charged (supporters_at s winner.place) winner.price o.rests) (without winner.place st.left) (known_after s o.rests places st.known) later))
+            (IsBidEnd s o.rests st.left st.known places × (later ≡ []))
+            (λ winner. IsBidRound m s workers o.rests st.left st.known winner places
+            × BidRecord m s workers (charged (supporters_at s winner.place) winner.price o.rests) (without winner.place st.left) (known_after s o.rests places st.known) later))
             (sym found_best)
             (priced_round m s o.rests st.left st.known st.lower queue st.queued most rest places fresh best h done w found workers (is.costs_positive w.place 0 winner_known) st.first, from_here)))
 
@@ -159,7 +159,7 @@ module _ (m : Measure) (s : SupportView) (workers share raised most : ℕ) (queu
               (next_lower m s o.rests st.left st.known st.lower queue st.queued most rest places fresh best h done w found);
           queued = next_queue m s o.rests st.left st.known st.lower queue st.queued most rest places fresh best h done w found all back;
           first = inl (omega arith);
-          continues = λ later h'. record_more later (subst (λ (x : OutcomeView). PricingRecord m s workers x.rests (without w.place st.left) (known_after s o.rests places st.known) later) paid_all h');
+          continues = λ later h'. record_more later (subst (λ (x : OutcomeView). BidRecord m s workers x.rests (without w.place st.left) (known_after s o.rests places st.known) later) paid_all h');
           some = some;
         }
 

@@ -26,7 +26,7 @@ pub record IsCountOf (e : ElectionView) (options : CountOptions) (o : OutcomeVie
       → IsCompleted options.measure e options.step options.max_raises o.raised
   pub within_budget : spent_on (support_of e) o.elected ≤ e.budget
   pub price_system : HasPriceSystem (support_of e) o.share o.elected o.rests
-  pub priced : HasPricing options.measure (support_of e) options.workers o.share o.priced
+  pub priced : HasPricing options.measure (support_of e) options.workers o.share o.elected o.priced
 
 -- When each fault of a count comes: options that are out of their ranges, and raises of which none up to the limit ends the
 -- completion. Out of memory aside, no other count is refused.

@@ -2,6 +2,7 @@
 pub mod Between
 pub mod Bid
 pub mod BidOrder
+pub mod BidRecord
 pub mod Bounds
 pub mod Count
 pub mod Queue

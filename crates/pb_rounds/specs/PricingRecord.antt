@@ -1,63 +1,54 @@
--- Which prices a run computes: of the projects left, those whose last known price could still be the best.
-use Rattle.std.specs.Prelude.{◌≡◌, ℕ, Bool, true, false, Option, Some, None, List, [], ◌∷◌, ◌+◌, ◌-◌, ◌≤◌, MatchOption, not, nat_eq, map, length, count_by, replicate, if◌then◌else◌}
-use Rattle.std.specs.List.{IsDistinct, range_with_len}
-use Rattle.std.specs.Option.{option_map_or}
+-- Which prices a run computes: of the projects left, those whose last known price could still be the cheapest.
+use Rattle.std.specs.Prelude.{◌≡◌, ℕ, Option, Some, None, List, [], ◌∷◌, ◌++◌, ◌-◌, ◌≤◌, All, Contains, nat_eq, map, length, replicate}
+use Rattle.std.specs.List.{IsDistinct}
 use Rattle.pb_price.specs.Price.{price_at}
 use Rattle.pb_price.specs.Supporters.{SupportView, supporters_at}
-use Rattle.pb_rounds.specs.Bid.{Bid, is_before}
-use Rattle.pb_rounds.specs.Run.{bid, best_of, charged, is_listed, without}
+use Rattle.pb_rounds.specs.Cheapest.{IsCheaper, IsLeft}
+use Rattle.pb_rounds.specs.Run.{ElectedView, charged}
 use Rattle.pb_rounds.specs.declared.measure.Measure.{Measure}
 
 -- the last known price of each project, once these are priced at these rests: none where it is known to have none
-abbrev pub known_after : SupportView → List ℕ → List ℕ → (ℕ → Option ℕ) → ℕ → Option ℕ
-known_after s rests priced known place =
-    if is_listed priced place then price_at s rests place else known place
+pub record AreKnown (s : SupportView) (rests priced : List ℕ) (known next : ℕ → Option ℕ) : Type 0 where
+  pub renewed : (place : ℕ) → Contains priced place → next place ≡ price_at s rests place
+  pub kept : (place : ℕ) → ¬ Contains priced place → next place ≡ known place
 
--- the project's known price does not come after the winner's
-abbrev pub is_in_time : Measure → SupportView → Bid → (ℕ → Option ℕ) → ℕ → Bool
-is_in_time m s winner known place =
-    option_map_or (λ price. not (is_before winner (bid m s place price))) (known place) false
-
--- these of the projects left are priced, none twice
-pub record ArePriced (left priced : List ℕ) : Type 0 where
-  pub among : (place : ℕ) → is_listed priced place ≡ true → is_listed left place ≡ true
+-- A round that elects w, after those before it, and prices these, which are left, none twice: w is among them; by the prices
+-- known next no other project left is cheaper than w; and w was not cheaper than any of them by the price known before, but for
+-- at most one less than the workers.
+pub record IsPricedRound (m : Measure) (s : SupportView) (workers : ℕ) (before : List ElectedView)
+    (known next : ℕ → Option ℕ)
+    (w : ElectedView) (priced : List ℕ) : Type 0 where
+  pub are_left : All (IsLeft s before) priced
   pub once : IsDistinct nat_eq priced
-
--- A round that elects the winner, and prices these: the winner is among them; after the round no known price of a project
--- left comes before the winner's; and they are at most workers - 1 more than the projects whose known price was in time.
-pub record IsPricedRound (m : Measure) (s : SupportView) (workers : ℕ) (rests left : List ℕ)
-    (known : ℕ → Option ℕ)
-    (winner : Bid) (priced : List ℕ) : Type 0 where
-  pub are_priced : ArePriced left priced
-  pub has_winner : is_listed priced winner.place ≡ true
-  pub none_before : (place price : ℕ) → is_listed left place ≡ true
-      → known_after s rests priced known place ≡ Some price
-      → is_before (bid m s place price) winner ≡ false
-  pub few : length priced ≤ workers - 1 + count_by (is_in_time m s winner known) left
+  pub has_winner : Contains priced w.place
+  pub none_cheaper : (place price : ℕ) → IsLeft s before place → next place ≡ Some price
+      → ¬ IsCheaper m s place price w.place w.price
+  pub needed : List ℕ
+  pub spare : List ℕ
+  pub parts : priced ≡ needed ++ spare
+  pub few : length spare ≤ workers - 1
+  pub in_time : All (λ place. (price : ℕ) × (known place ≡ Some price) × ¬ IsCheaper m s w.place w.price place price) needed
 
 -- the last round, which elects nobody, and prices these: after it each project left is known to have no price
-pub record IsPricedEnd (s : SupportView) (rests left : List ℕ) (known : ℕ → Option ℕ)
-    (priced : List ℕ) : Type 0 where
-  pub are_priced : ArePriced left priced
-  pub all_none : (place : ℕ) → is_listed left place ≡ true → known_after s rests priced known place ≡ None
-  pub few : length priced ≤ length left
+pub record IsPricedEnd (s : SupportView) (elected : List ElectedView) (next : ℕ → Option ℕ) (priced : List ℕ)
+    : Type 0 where
+  pub are_left : All (IsLeft s elected) priced
+  pub once : IsDistinct nat_eq priced
+  pub all_none : (place : ℕ) → IsLeft s elected place → next place ≡ None
 
--- The lists of the projects priced, one for each round of a run from these rests on, with these projects left and these
--- known prices: each round but the last elects the best of it, and the next begins where it ends.
-abbrev pub PricingRecord : Measure → SupportView → ℕ → List ℕ → List ℕ → (ℕ → Option ℕ) → List (List ℕ)
-    → Type 0
-PricingRecord m s workers rests left known [] = ⊥
-PricingRecord m s workers rests left known (priced ∷ later) =
-    MatchOption (best_of m s rests left)
-    (IsPricedEnd s rests left known priced × (later ≡ []))
-    (λ winner. IsPricedRound m s workers rests left known winner priced
-    × PricingRecord m s workers (charged (supporters_at s winner.place) winner.price rests)
-    (without winner.place left)
-    (known_after s rests priced known) later)
+-- The lists of the projects priced, one for each round that elects one of these, from these rests and known prices on, after
+-- those before, and one for the last round.
+abbrev pub PricingRecord : Measure → SupportView → ℕ → (rests : List ℕ) → (before : List ElectedView) → (ℕ → Option ℕ)
+    → (elected : List ElectedView) → List (List ℕ) → Type 0
+PricingRecord m s workers rests before known elected [] = ⊥
+PricingRecord m s workers rests before known [] (priced ∷ later) = (next : ℕ → Option ℕ)
+    × AreKnown s rests priced known next × IsPricedEnd s before next priced × (later ≡ [])
+PricingRecord m s workers rests before known (w ∷ elected) (priced ∷ later) = (next : ℕ → Option ℕ)
+    × AreKnown s rests priced known next × IsPricedRound m s workers before known next w priced
+    × PricingRecord m s workers (charged (supporters_at s w.place) w.price rests) (w ∷ before) next elected later
 
 -- these are the numbers of prices of a pricing record of a run at this share, where each known price is 0 at first
-abbrev pub HasPricing : Measure → SupportView → ℕ → ℕ → List ℕ → Type 0
-HasPricing m s workers share priced = (record_of : List (List ℕ))
-    × PricingRecord m s workers (replicate s.voters share) (range_with_len 0 (length s.costs))
-    (λ _. Some 0) record_of
+abbrev pub HasPricing : Measure → SupportView → (workers share : ℕ) → (elected : List ElectedView) → List ℕ → Type 0
+HasPricing m s workers share elected priced = (record_of : List (List ℕ))
+    × PricingRecord m s workers (replicate s.voters share) [] (λ _. Some 0) elected record_of
     × (priced ≡ map length record_of)

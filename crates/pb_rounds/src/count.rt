@@ -86,7 +86,8 @@ where
     // what is answered
     ensures outcome { IfOk result (λ o. (o.share ≡ share) × (o.raised ≡ 0)
         × IsRun measure (support_of election.now) share o.elected o.rests) }
-    ensures priced { IfOk result (λ o. HasPricing measure (support_of election.now) workers share o.priced) }
+    ensures priced { IfOk result (λ o.
+        HasPricing measure (support_of election.now) workers share o.elected o.priced) }
     ensures one_more { IfOk result (λ o. length o.priced ≡ length o.elected + 1) }
     ensures price_system { IfOk result (λ o.
         HasPriceSystem (support_of election.now) share o.elected o.rests) }

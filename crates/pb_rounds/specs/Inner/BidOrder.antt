@@ -9,7 +9,7 @@ use Rattle.std.proofs.lemmas.Bool.{true≢false, cases_lt, cases_eq, lt-ltb, le-
 use Rattle.std.proofs.Math.Nat.{mul-lt-mul_of_pos_right}
 use Rattle.pb_rounds.specs.Bid.{Bid, bid_cmp, ratio_cmp}
 
-less_from : (x y : ℕ) → x < y → nat_cmp x y ≡ Less
+pub less_from : (x y : ℕ) → x < y → nat_cmp x y ≡ Less
 less_from x y h = rw (lt-ltb x y h) refl
 
 pub greater_from : (x y : ℕ) → y < x → nat_cmp x y ≡ Greater
