@@ -47,6 +47,7 @@ RULES = (
 # Laws that say only that a definition computes just what the words of a rule say. What these alone reach is for running on
 # small inputs, and nobody has to believe it.
 COMPUTING_LAWS = {
+    ("pb_price", "price_is_least_payment"),
     ("pb_rounds", "run_is_its_rule"),
     ("pb_rounds", "completion_is_its_rule"),
     ("pb_rounds", "count_is_computed"),

@@ -1,14 +1,14 @@
 -- A lower bound of a price, and the next one.
 use Rattle.std.proofs.Common.{◌≡◌, ℕ, ◌+◌, ◌-◌, ◌/◌, ◌%◌, ◌<◌, ◌≤◌, min, List, length, Option, Some, None, refl, sym, subst, ◌∙◌, ap, inl, inr, arith}
 use Rattle.std.proofs.lemmas.Bool.{cases_lt}
-use Rattle.pb_price.specs.Inner.Payment.{payers_above}
-use Rattle.pb_price.specs.Price.{paid_at, price_of, total_rest, IsPrice}
-use Rattle.pb_price.proofs.Payments.{collected_below, least_from_price, no_price_from_short, paid_at-le-total_rest, paid_at_rises, price_of_is_price, short_from_no_price}
+use Rattle.pb_price.specs.Inner.Payment.{IsPriceFor, payers_above}
+use Rattle.pb_price.specs.Price.{paid_at, price_of, total_rest, IsLeastPayment}
+use Rattle.pb_price.proofs.Payments.{collected_below, least_from_price, paid_at-le-total_rest, paid_at_rises, price_of_is_price, short_from_no_price}
 use Rattle.pb_price.proofs.PriceSteps.{above_pays, all_paid, part-le, part-positive, starts_below, steps_below}
 
 -- no price is below it
 abbrev pub IsBound : List ℕ → List ℕ → ℕ → ℕ → Type 0
-IsBound supporters rests cost bound = (price : ℕ) → price_of supporters rests cost ≡ Some price → bound ≤ price
+IsBound supporters rests cost bound = (price : ℕ) → IsLeastPayment supporters rests cost price → bound ≤ price
 
 -- the cost divided by the supporters
 pub base_is_bound : (supporters list rests : List ℕ) (cost named n : ℕ) → list ≡ supporters → named ≡ cost → n ≡ length list → 0 < n
@@ -16,17 +16,16 @@ pub base_is_bound : (supporters list rests : List ℕ) (cost named n : ℕ) → 
 base_is_bound supporters list rests cost named n l named_is n_is some = rw (← l, ← named_is) (bound_by n_is)
   where
     bound_by : n ≡ length list → IsBound list rests named (named / n + min 1 (named % n))
-    bound_by same price e =
+    bound_by same price least =
         let start = starts_below list rests named n same some in
-        let least = least_from_price list rests named price e in
         elim (cases_lt price (named / n + min 1 (named % n))) [
           | inl less ↦ absurd (let short = start.least price less in let covers = least.covers in omega arith)
           | inr most ↦ most
         ]
 
 -- the price, or none, is what it is by definition
-pub is_price_at : (supporters rests : List ℕ) (cost : ℕ) (answer : Option ℕ) → answer ≡ price_of supporters rests cost → IsPrice supporters rests cost answer
-is_price_at supporters rests cost answer e = subst (IsPrice supporters rests cost) (sym e) (price_of_is_price supporters rests cost)
+pub is_price_at : (supporters rests : List ℕ) (cost : ℕ) (answer : Option ℕ) → answer ≡ price_of supporters rests cost → IsPriceFor supporters rests cost answer
+is_price_at supporters rests cost answer e = subst (IsPriceFor supporters rests cost) (sym e) (price_of_is_price supporters rests cost)
 
 bound_fits_by : (supporters rests : List ℕ) (cost bound : ℕ) → 0 < cost → IsBound supporters rests cost bound
     → (o : Option ℕ) → price_of supporters rests cost ≡ o → paid_at supporters rests bound ≤ cost + length supporters
@@ -34,7 +33,7 @@ bound_fits_by supporters rests cost bound some h None e =
     omega (arith, short_from_no_price supporters rests cost e, paid_at-le-total_rest supporters rests bound)
 bound_fits_by supporters rests cost bound some h (Some p) e =
     let least = least_from_price supporters rests cost p e in
-    omega (arith, paid_at_rises supporters rests bound p (h p e), collected_below supporters rests cost p least some)
+    omega (arith, paid_at_rises supporters rests bound p (h p least), collected_below supporters rests cost p least some)
 
 -- what is paid at a bound is little more than the cost
 pub bound_fits : (supporters rests : List ℕ) (cost bound : ℕ) → 0 < cost → IsBound supporters rests cost bound
@@ -51,7 +50,7 @@ covered_by supporters rests cost bound h covers (Some p) e =
       | inl less ↦ absurd (let short = least.least bound less in omega arith)
       | inr at_most ↦ at_most
     ] in
-    let same : p ≡ bound = (let above = h p e in omega arith) in
+    let same : p ≡ bound = (let above = h p least in omega arith) in
     e ∙ ap (λ n. Some n) same
 
 -- a bound that covers the cost is the price
@@ -83,9 +82,8 @@ module _ (supporters rests : List ℕ) (cost bound m : ℕ) (same : m ≡ payers
 
   pub next_is_bound : IsBound supporters rests cost
       (bound + ((cost - paid_at supporters rests bound) / m + min 1 ((cost - paid_at supporters rests bound) % m)))
-  next_is_bound price e =
+  next_is_bound price least =
       let below = steps_below supporters rests cost bound m same some_payer short in
-      let least = least_from_price supporters rests cost price e in
       elim (cases_lt price (bound + ((cost - paid_at supporters rests bound) / m + min 1 ((cost - paid_at supporters rests bound) % m)))) [
         | inl less ↦ absurd (let missing = below.least price less in let covers = least.covers in omega arith)
         | inr most ↦ most
@@ -103,11 +101,11 @@ module _ (supporters list rests : List ℕ) (cost named bound total m all : ℕ)
   all_at : all ≡ total_rest supporters rests
   all_at = all_is ∙ ap (λ xs. total_rest xs rests) l
 
-  pub look_covers : IsBound supporters rests cost bound → named ≤ total → price_of supporters rests cost ≡ Some bound
-  look_covers h covers = bound_covers supporters rests cost bound h (omega (arith, covers, n, total_at))
+  pub look_covers : IsBound supporters rests cost bound → named ≤ total → IsLeastPayment supporters rests cost bound
+  look_covers h covers = least_from_price supporters rests cost bound (bound_covers supporters rests cost bound h (omega (arith, covers, n, total_at)))
 
-  pub look_none : all < named → price_of supporters rests cost ≡ None
-  look_none short = no_price_from_short supporters rests cost (omega (arith, short, n, all_at))
+  pub look_none : all < named → total_rest supporters rests < cost
+  look_none short = omega (arith, short, n, all_at)
 
   module _ (short : total < named) (enough : named ≤ all) where
     short_at : paid_at supporters rests bound < cost

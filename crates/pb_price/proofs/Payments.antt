@@ -1,9 +1,12 @@
 -- What supporters pay at a payment, and the price as the least payment that covers the cost.
-use Rattle.std.proofs.Common.{◌≡◌, ℕ, zero, suc, ◌+◌, ◌<◌, ◌≤◌, min, List, [], ◌∷◌, length, Option, Some, None, refl, sym, ap, inl, inr, arith}
-use Rattle.std.specs.Prelude.{MatchOption, nat_le, slice_index}
+use Rattle.std.proofs.Common.{◌≡◌, ℕ, zero, suc, ◌+◌, ◌<◌, ◌≤◌, min, List, [], ◌∷◌, length, Option, Some, None, refl, sym, subst, ◌∙◌, ap, inl, inr, arith}
+use Rattle.std.specs.Prelude.{MatchOption, map, nat_le, slice_index}
+use Rattle.std.specs.List.{AllZip}
 use Rattle.std.proofs.lemmas.Bool.{leb-true, leb-false, cases_lt}
 use Rattle.std.proofs.lemmas.List.Sums.{sum_by-cons, sum_by-le-sum_by}
-use Rattle.pb_price.specs.Price.{paid_at, total_rest, price_of, IsLeastPayment, IsPrice}
+use Rattle.pb_price.specs.Inner.Payment.{IsPriceFor}
+use Rattle.pb_price.specs.Price.{paid_at, total_rest, price_at, price_of, IsLeastPayment, IsPrice}
+use Rattle.pb_price.specs.Supporters.{SupportView, supporters_at, cost_at}
 use Rattle.pb_price.proofs.FirstInRange.{IsFirstInRange, NoneInRange, find-range_with_len}
 
 -- who pays more each pays more together
@@ -76,7 +79,7 @@ price_from_range : (supporters rests : List ℕ) (cost : ℕ) (o : Option ℕ)
     → MatchOption o
     (NoneInRange (λ p. nat_le cost (paid_at supporters rests p)) 0 (cost + 1))
     (IsFirstInRange (λ p. nat_le cost (paid_at supporters rests p)) 0 (cost + 1))
-    → IsPrice supporters rests cost o
+    → IsPriceFor supporters rests cost o
 price_from_range supporters rests cost None h =
     let short = leb-false cost (paid_at supporters rests cost) (h cost (omega arith) (omega arith)) in
     omega (arith, short, pays_all_or_one supporters rests cost)
@@ -87,37 +90,37 @@ price_from_range supporters rests cost (Some p) h = record {
 
 -- the price is what its definition says: the least payment that covers the cost, or none where all rests fall short
 pub price_of_is_price : (supporters rests : List ℕ) (cost : ℕ)
-    → IsPrice supporters rests cost (price_of supporters rests cost)
+    → IsPriceFor supporters rests cost (price_of supporters rests cost)
 unfolding price_of
 price_of_is_price supporters rests cost =
     price_from_range supporters rests cost _
     (find-range_with_len (λ p. nat_le cost (paid_at supporters rests p)) (cost + 1) 0 (cost + 1) (omega arith))
 
-IsPrice-unique : (supporters rests : List ℕ) (cost : ℕ) (a b : Option ℕ)
-    → IsPrice supporters rests cost a → IsPrice supporters rests cost b → a ≡ b
-IsPrice-unique supporters rests cost None None h g = refl
-IsPrice-unique supporters rests cost None (Some q) h g =
+IsPriceFor-unique : (supporters rests : List ℕ) (cost : ℕ) (a b : Option ℕ)
+    → IsPriceFor supporters rests cost a → IsPriceFor supporters rests cost b → a ≡ b
+IsPriceFor-unique supporters rests cost None None h g = refl
+IsPriceFor-unique supporters rests cost None (Some q) h g =
     absurd (omega (arith, h, total_rest_covers supporters rests cost q g))
-IsPrice-unique supporters rests cost (Some p) None h g =
+IsPriceFor-unique supporters rests cost (Some p) None h g =
     absurd (omega (arith, g, total_rest_covers supporters rests cost p h))
-IsPrice-unique supporters rests cost (Some p) (Some q) h g =
+IsPriceFor-unique supporters rests cost (Some p) (Some q) h g =
     ap (λ n. Some n) (least_is_unique supporters rests cost p q h g)
 
 -- and what is so is the price
 pub price_from_is_price : (supporters rests : List ℕ) (cost : ℕ) (answer : Option ℕ)
-    → IsPrice supporters rests cost answer → answer ≡ price_of supporters rests cost
+    → IsPriceFor supporters rests cost answer → answer ≡ price_of supporters rests cost
 price_from_is_price supporters rests cost answer h =
-    IsPrice-unique supporters rests cost answer (price_of supporters rests cost) h (price_of_is_price supporters rests cost)
+    IsPriceFor-unique supporters rests cost answer (price_of supporters rests cost) h (price_of_is_price supporters rests cost)
 
-IsPrice-at : (supporters rests : List ℕ) (cost : ℕ) (a b : Option ℕ) → a ≡ b
-    → IsPrice supporters rests cost a → IsPrice supporters rests cost b
-IsPrice-at supporters rests cost a b e h = rw (← e) h
+IsPriceFor-at : (supporters rests : List ℕ) (cost : ℕ) (a b : Option ℕ) → a ≡ b
+    → IsPriceFor supporters rests cost a → IsPriceFor supporters rests cost b
+IsPriceFor-at supporters rests cost a b e h = rw (← e) h
 
 -- a price is the least payment that covers the cost
 pub least_from_price : (supporters rests : List ℕ) (cost p : ℕ) → price_of supporters rests cost ≡ Some p
     → IsLeastPayment supporters rests cost p
 least_from_price supporters rests cost p e =
-    IsPrice-at supporters rests cost _ (Some p) e (price_of_is_price supporters rests cost)
+    IsPriceFor-at supporters rests cost _ (Some p) e (price_of_is_price supporters rests cost)
 
 pub price_from_least : (supporters rests : List ℕ) (cost p : ℕ) → IsLeastPayment supporters rests cost p
     → price_of supporters rests cost ≡ Some p
@@ -127,8 +130,27 @@ price_from_least supporters rests cost p h = sym (price_from_is_price supporters
 pub short_from_no_price : (supporters rests : List ℕ) (cost : ℕ) → price_of supporters rests cost ≡ None
     → total_rest supporters rests < cost
 short_from_no_price supporters rests cost e =
-    IsPrice-at supporters rests cost _ None e (price_of_is_price supporters rests cost)
+    IsPriceFor-at supporters rests cost _ None e (price_of_is_price supporters rests cost)
 
 pub no_price_from_short : (supporters rests : List ℕ) (cost : ℕ) → total_rest supporters rests < cost
     → price_of supporters rests cost ≡ None
 no_price_from_short supporters rests cost h = sym (price_from_is_price supporters rests cost None h)
+
+-- the prices of a list of projects, in the words of the rule, and back
+all_are_prices : (s : SupportView) (rests projects : List ℕ) → AllZip (IsPrice s rests) projects (map (price_at s rests) projects)
+all_are_prices s rests [] = tt
+all_are_prices s rests (place ∷ projects) =
+    (price_of_is_price (supporters_at s place) rests (cost_at s place), all_are_prices s rests projects)
+
+pub are_prices : (s : SupportView) (rests projects : List ℕ) (answers : List (Option ℕ)) → answers ≡ map (price_at s rests) projects
+    → AllZip (IsPrice s rests) projects answers
+are_prices s rests projects answers e = subst (AllZip (IsPrice s rests) projects) (sym e) (all_are_prices s rests projects)
+
+pub prices_from_are_prices : (s : SupportView) (rests projects : List ℕ) (answers : List (Option ℕ)) → AllZip (IsPrice s rests) projects answers
+    → answers ≡ map (price_at s rests) projects
+prices_from_are_prices s rests [] [] h = refl
+prices_from_are_prices s rests [] (answer ∷ answers) h = absurd h
+prices_from_are_prices s rests (place ∷ projects) [] h = absurd h
+prices_from_are_prices s rests (place ∷ projects) (answer ∷ answers) h =
+    ap (λ o. o ∷ answers) (price_from_is_price (supporters_at s place) rests (cost_at s place) answer h.0)
+    ∙ ap (λ os. price_at s rests place ∷ os) (prices_from_are_prices s rests projects answers h.1)

@@ -1,6 +1,6 @@
 -- The claims on the pieces of a batch, as plain data: one word, the next number, and in the view of each claim the
 -- numbers that were drawn with it.
-use Rattle.std.specs.Prelude.{◌≡◌, ℕ, ◌+◌, ◌-◌, ◌<◌, ◌≤◌, ◌^◌, [], length, sum_by, count_by, nat_le, slice_index}
+use Rattle.std.specs.Prelude.{◌≡◌, ℕ, ◌+◌, ◌<◌, ◌≤◌, ◌^◌, [], length, sum_by, count_by, nat_le, slice_index}
 use Rattle.std.specs.List.{range_with_len}
 use mathlib.Core.Option.{some}
 use lib.ListN.{get_elem?}

@@ -12,22 +12,24 @@ paid_at supporters rests p = sum_by (λ voter. min (slice_index rests voter) p) 
 abbrev pub total_rest : List ℕ → List ℕ → ℕ
 total_rest supporters rests = sum_by (λ voter. slice_index rests voter) supporters
 
--- the price: the first payment, up to the cost, at which the supporters cover the cost
-unfoldable pub price_of : List ℕ → List ℕ → ℕ → Option ℕ
-price_of supporters rests cost =
-    find (λ p. nat_le cost (paid_at supporters rests p)) (range_with_len 0 (cost + 1))
-
--- p is the least payment that covers the cost
+-- p is the least payment by which the supporters cover the cost
 pub record IsLeastPayment (supporters rests : List ℕ) (cost p : ℕ) : Type 0 where
   pub covers : cost ≤ paid_at supporters rests p
   pub least : (q : ℕ) → q < p → paid_at supporters rests q < cost
 
--- the answer is the least payment that covers the cost; there is none just where all rests together are below the cost
-abbrev pub IsPrice : List ℕ → List ℕ → ℕ → Option ℕ → Type 0
-IsPrice supporters rests cost answer =
-    MatchOption answer (total_rest supporters rests < cost) (IsLeastPayment supporters rests cost)
+-- the price of the project at this place: the least payment that covers its cost; there is none just where all that is left to
+-- its supporters together is below the cost
+abbrev pub IsPrice : SupportView → (rests : List ℕ) → (place : ℕ) → Option ℕ → Type 0
+IsPrice s rests place answer =
+    MatchOption answer (total_rest (supporters_at s place) rests < cost_at s place)
+    (IsLeastPayment (supporters_at s place) rests (cost_at s place))
 
--- the price of the project at this place
+-- the price as it is computed: the first payment, up to the cost, at which the supporters cover the cost
+unfoldable pub price_of : List ℕ → List ℕ → ℕ → Option ℕ
+price_of supporters rests cost =
+    find (λ p. nat_le cost (paid_at supporters rests p)) (range_with_len 0 (cost + 1))
+
+-- the same of the project at this place
 abbrev pub price_at : SupportView → List ℕ → ℕ → Option ℕ
 price_at s rests place = price_of (supporters_at s place) rests (cost_at s place)
 

@@ -1,7 +1,8 @@
 ghost use Rattle.std.specs.Prelude.{◌≡◌, ◌+◌, ◌<◌, ◌≤◌, [], All, length, map, max, min, Err, IfOk, OnOk, OnErr, MatchBool, IsOkUnless};
+ghost use Rattle.std.specs.List.{AllZip};
 ghost use Rattle.pb_core.specs.Election.{most_projects};
 ghost use Rattle.pb_price.specs.Inner.Claims.{drawn};
-ghost use Rattle.pb_price.specs.Price.{price_at, AreRests, largest_count};
+ghost use Rattle.pb_price.specs.Price.{price_at, AreRests, IsPrice, largest_count};
 ghost use Rattle.pb_price.specs.PriceFault.{is_worker_count};
 ghost use Rattle.pb_price.specs.Inner.Working.{AreGathered, IsBatch, IsDone};
 
@@ -57,8 +58,7 @@ pub fn price_all<
     ensures workers { MatchBool (is_worker_count workers) (IsOkUnless result PriceFault.NoMemory)
         (result ≡ Err PriceFault.WorkerCount) }
     // what is answered
-    ensures prices { IfOk result (λ answers.
-        answers.items ≡ map (price_at supporters.now rests.now) projects.now) }
+    ensures prices { IfOk result (λ answers. AllZip (IsPrice supporters.now rests.now) projects.now answers.items) }
     // what becomes of the tally
     ensures counted { OnOk result (tally.new ≡ record {
       prices = min (tally.old.prices + length projects.now) largest_count;

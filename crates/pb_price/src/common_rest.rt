@@ -1,7 +1,7 @@
 //! Prices where all rests are equal, as in the first round of a run: no supporter has to be visited.
 
 ghost use Rattle.std.specs.Prelude.{◌≡◌, ◌<◌, ℕ, List, All, IfSome, length};
-ghost use Rattle.pb_price.specs.Price.{price_at, AreRests};
+ghost use Rattle.pb_price.specs.Price.{price_at, AreRests, IsPrice};
 
 use crate::steps::price_in_steps;
 use crate::supporters::Supporters;
@@ -56,7 +56,7 @@ pub fn price_at_share<A: Allocator>(
 ) -> Option<Money>
     requires { place < length supporters.now.costs }
     ensures { (rests : List ℕ) → AreRests supporters.now.voters rests → All (λ rest. rest ≡ share) rests
-        → result ≡ price_at supporters.now rests place }
+        → IsPrice supporters.now rests place result }
 {
     let list = supporters.of(place);
     let cost = supporters.cost(place).0;

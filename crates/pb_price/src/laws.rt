@@ -1,27 +1,28 @@
 //! Laws over prices, each as the contract of a function that does nothing.
 
-ghost use Rattle.std.specs.Prelude.{◌≡◌, ℕ, ◌+◌, ◌≤◌, List, [], Some, None, slice_index, sum_by};
+ghost use Rattle.std.specs.Prelude.{◌≡◌, ◌↔◌, ℕ, ◌+◌, ◌≤◌, List, [], Option, Some, None, slice_index, sum_by};
 ghost use Rattle.std.specs.List.{range_with_len};
 ghost use mathlib.Core.Option.{some};
 ghost use lib.ListN.{get_elem?};
 ghost use Rattle.atomic_table.specs.Table.{State, keeps, stepped};
 ghost use Rattle.pb_price.specs.Claims.{AreClaims};
-ghost use Rattle.pb_price.specs.Price.{price_of, IsPrice, NoRestRises};
+ghost use Rattle.pb_price.specs.Price.{price_at, IsPrice, NoRestRises};
+ghost use Rattle.pb_price.specs.Supporters.{SupportView};
 ghost use Rattle.pb_price.specs.declared.claims.drawn.Drawn.{Drawn};
 
-/// A price is the least payment by which the supporters cover the cost, and there is none just where all that is left to
-/// them together is below the cost.
+/// The price that is computed is the one of which the words of its rule hold: the least payment by which the supporters cover
+/// the cost, and none where all that is left to them together is below the cost.
 pub fn price_is_least_payment()
-    ensures { (supporters rests : List ℕ) (cost : ℕ)
-        → IsPrice supporters rests cost (price_of supporters rests cost) }
+    ensures { (s : SupportView) (rests : List ℕ) (place : ℕ) (answer : Option ℕ)
+        → (answer ≡ price_at s rests place) ↔ IsPrice s rests place answer }
 {}
 
 /// Where no rest rises, no price falls, and a project without a price gets none.
 pub fn no_price_falls()
-    ensures rises { (supporters before after : List ℕ) (cost p q : ℕ) → NoRestRises before after
-        → price_of supporters before cost ≡ Some p → price_of supporters after cost ≡ Some q → p ≤ q }
-    ensures stays_none { (supporters before after : List ℕ) (cost : ℕ) → NoRestRises before after
-        → price_of supporters before cost ≡ None → price_of supporters after cost ≡ None }
+    ensures rises { (s : SupportView) (before after : List ℕ) (place p q : ℕ) → NoRestRises before after
+        → IsPrice s before place (Some p) → IsPrice s after place (Some q) → p ≤ q }
+    ensures stays_none { (s : SupportView) (before after : List ℕ) (place : ℕ) → NoRestRises before after
+        → IsPrice s before place None → IsPrice s after place None }
 {}
 
 /// What the rule of the claims says of an atomic step, of whatever kind it is: the numbers in the view of the worker who makes

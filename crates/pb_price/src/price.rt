@@ -1,6 +1,5 @@
 ghost use Rattle.std.specs.Prelude.{◌≡◌, ◌+◌, ◌<◌, ◌≤◌, All, length, map, min, sum, slice_index, IfOk, OnOk, OnErr};
-ghost use Rattle.pb_price.specs.Price.{price_at, AreRests, IsPrice, largest_share, largest_count};
-ghost use Rattle.pb_price.specs.Supporters.{supporters_at, cost_at};
+ghost use Rattle.pb_price.specs.Price.{AreRests, IsPrice, largest_share, largest_count};
 
 use crate::least_payment::least_payment;
 use crate::supporters::Supporters;
@@ -24,9 +23,7 @@ pub fn price<A: Allocator, B: Allocator>(
 ) -> Result<Option<Money>, NoMemory>
     requires rests { AreRests supporters.now.voters rests.now }
     requires known { place < length supporters.now.costs }
-    ensures price { IfOk result (λ answer. answer ≡ price_at supporters.now rests.now place) }
-    ensures least { IfOk result (IsPrice (supporters_at supporters.now place) rests.now
-        (cost_at supporters.now place)) }
+    ensures price { IfOk result (IsPrice supporters.now rests.now place) }
     ensures counted { OnOk result (tally.new
         ≡ record tally.old { prices = min (tally.old.prices + 1) largest_count }) }
     ensures err { OnErr result (tally.new ≡ tally.old) }
@@ -46,9 +43,7 @@ pub fn price_with<A: Allocator, B: Allocator>(
 ) -> Result<Option<Money>, NoMemory>
     requires rests { AreRests supporters.now.voters rests.now }
     requires known { place < length supporters.now.costs }
-    ensures price { IfOk result (λ answer. answer ≡ price_at supporters.now rests.now place) }
-    ensures least { IfOk result (IsPrice (supporters_at supporters.now place) rests.now
-        (cost_at supporters.now place)) }
+    ensures price { IfOk result (IsPrice supporters.now rests.now place) }
     ensures counted { OnOk result (tally.new
         ≡ record tally.old { prices = min (tally.old.prices + 1) largest_count }) }
     ensures err { OnErr result (tally.new ≡ tally.old) }

@@ -1,7 +1,7 @@
 ghost use Rattle.std.specs.Prelude.{◌≡◌, ◌<◌, ◌≤◌, ◌*◌, ◌^◌, ℕ, All, IfSome, MatchOption, None, Some, length};
 ghost use Rattle.pb_price.specs.Inner.Payment.{payers_above};
-ghost use Rattle.pb_price.specs.Price.{paid_at, price_at, total_rest, AreRests, IsPrice, largest_share};
-ghost use Rattle.pb_price.specs.Supporters.{supporters_at, cost_at};
+ghost use Rattle.pb_price.specs.Price.{paid_at, total_rest, AreRests, IsPrice, largest_share};
+ghost use Rattle.pb_price.specs.Supporters.{cost_at};
 
 use crate::supporters::Supporters;
 use pb_core::money::Money;
@@ -26,9 +26,7 @@ pub fn price_in_steps<A: Allocator>(
 ) -> Option<Money>
     requires rests { AreRests supporters.now.voters rests.now }
     requires known { place < length supporters.now.costs }
-    ensures price { result ≡ price_at supporters.now rests.now place }
-    ensures least { IsPrice (supporters_at supporters.now place) rests.now
-        (cost_at supporters.now place) result }
+    ensures { IsPrice supporters.now rests.now place result }
 {
     let list = supporters.of(place);
     let cost = supporters.cost(place).0;
@@ -59,12 +57,12 @@ pub fn next_bound<A: Allocator>(
 ) -> Option<Money>
     requires rests { AreRests supporters.now.voters rests.now }
     requires known { place < length supporters.now.costs }
-    requires bound { (price : ℕ) → price_at supporters.now rests.now place ≡ Some price → bound ≤ price }
-    ensures none { result ≡ None → price_at supporters.now rests.now place ≡ None }
+    requires bound { (price : ℕ) → IsPrice supporters.now rests.now place (Some price) → bound ≤ price }
+    ensures none { result ≡ None → IsPrice supporters.now rests.now place None }
     ensures rises { IfSome result (λ next. bound ≤ next) }
-    ensures price { IfSome result (λ next. next ≡ bound → price_at supporters.now rests.now place ≡ Some bound) }
+    ensures price { IfSome result (λ next. next ≡ bound → IsPrice supporters.now rests.now place (Some bound)) }
     ensures bound { IfSome result (λ next. (price : ℕ)
-        → price_at supporters.now rests.now place ≡ Some price → next ≤ price) }
+        → IsPrice supporters.now rests.now place (Some price) → next ≤ price) }
     ensures small { IfSome result (λ next. bound < next → next ≤ cost_at supporters.now place) }
 {
     let cost = supporters.cost(place).0;

@@ -13,8 +13,9 @@ use Rattle.std.proofs.lemmas.List.Elements.{All-replicate}
 use Rattle.std.proofs.lemmas.List.Sums.{sum_by-cons}
 use Rattle.std.proofs.lemmas.Option.{none-some, same_Some}
 use Rattle.pb_core.specs.Money.{largest_money}
-use Rattle.pb_price.specs.Price.{AreRests, NoRestRises, largest_share, price_at}
+use Rattle.pb_price.specs.Price.{AreRests, IsPrice, NoRestRises, largest_share, price_at}
 use Rattle.pb_price.specs.Supporters.{SupportView, cost_at, supporters_at}
+use Rattle.pb_price.proofs.Payments.{price_from_is_price}
 use Rattle.pb_price.proofs.RestsFall.{no_price_falls, no_price_stays}
 use Rattle.pb_rounds.specs.declared.measure.Measure.{Measure}
 use Rattle.pb_rounds.specs.Bid.{Bid, bid_cmp, is_before}
@@ -92,10 +93,11 @@ opening_rests s share small = record {
 
 -- a price where each rest is the share
 pub opening_price : (s : SupportView) (share place : ℕ) (answer : Option ℕ) → share ≤ largest_share
-    → ((rests : List ℕ) → AreRests s.voters rests → All (λ rest. rest ≡ share) rests → answer ≡ price_at s rests place)
+    → ((rests : List ℕ) → AreRests s.voters rests → All (λ rest. rest ≡ share) rests → IsPrice s rests place answer)
     → price_at s (replicate s.voters share) place ≡ answer
 opening_price s share place answer small says =
-    sym (says (replicate s.voters share) (opening_rests s share small) (All-replicate (λ rest. rest ≡ share) s.voters share refl))
+    sym (price_from_is_price (supporters_at s place) (replicate s.voters share) (cost_at s place) answer
+    (says (replicate s.voters share) (opening_rests s share small) (All-replicate (λ rest. rest ≡ share) s.voters share refl)))
 
 -- all places have their bounds
 pub opening_bounds : (m : Measure) (s : SupportView) (share : ℕ) (queue : List Bid) → IsOpening m s share (length s.costs) queue

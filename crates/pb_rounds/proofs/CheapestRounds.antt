@@ -1,5 +1,5 @@
 -- Each project that a run elects was the cheapest of its round.
-use Rattle.std.proofs.Common.{◌≡◌, ◌≢◌, ℕ, zero, suc, ◌*◌, ◌<◌, List, [], ◌∷◌, ◌++◌, length, Option, Some, None, true, false, refl, sym, subst, ◌∙◌, ap, inl, inr, arith}
+use Rattle.std.proofs.Common.{◌≡◌, ◌≢◌, ℕ, zero, suc, ◌*◌, ◌<◌, List, [], ◌∷◌, ◌++◌, length, Option, Some, None, true, false, refl, sym, ◌∙◌, ap, inl, inr, arith}
 use Rattle.std.specs.Prelude.{All, ◌⊎◌, max, replicate}
 use Rattle.std.specs.Cmp.{ranks}
 use Rattle.std.specs.List.{range_with_len}
@@ -9,6 +9,7 @@ use Rattle.std.specs.declared.cmp.Ordering.{Ordering}
 use Rattle.std.specs.declared.cmp.Ordering.TheVariants.{Less, Equal, Greater}
 use Rattle.std.proofs.lemmas.Bool.{true≢false}
 use Rattle.std.proofs.lemmas.List.Elements.{All-nil, All-cons, All-head, All-tail}
+use Rattle.pb_price.proofs.Payments.{least_from_price, price_from_least}
 use Rattle.pb_price.specs.Price.{paid_at, price_at}
 use Rattle.pb_price.specs.Supporters.{SupportView, IsSupport, cost_at, supporters_at}
 use Rattle.pb_rounds.specs.declared.measure.Measure.{Measure}
@@ -138,9 +139,10 @@ run_was_cheapest m s h share before w later e =
     let found = all_were_first m s h share before w later e in
     record {
       was_left = (known_place s w.place found.listed, found.was_left);
-      priced = found.priced;
+      priced = least_from_price (supporters_at s w.place) (rests_after s (replicate s.voters share) before) (cost_at s w.place) w.price found.priced;
       collected = found.collected;
       cheapest = λ other price left apart priced.
           let known = left.0 in
-          found.cheapest other price (is_listed-range 0 (length s.costs) other (omega arith) (omega (arith, known))) apart left.1 priced;
+          found.cheapest other price (is_listed-range 0 (length s.costs) other (omega arith) (omega (arith, known))) apart left.1
+          (price_from_least (supporters_at s other) (rests_after s (replicate s.voters share) before) (cost_at s other) price priced);
     }

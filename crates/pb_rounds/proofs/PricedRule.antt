@@ -1,17 +1,18 @@
 -- A pricing record in bids is one in the words of the rule.
-use Rattle.std.proofs.Common.{◌≡◌, ◌≢◌, ℕ, zero, suc, ◌<◌, ◌≤◌, List, [], ◌∷◌, ◌++◌, length, get_or, Option, Some, None, Bool, true, false, refl, sym, subst, ◌∙◌, ap, inl, inr, arith}
-use Rattle.std.specs.Prelude.{All, Contains, ◌==◌, MatchOption, not, replicate}
+use Rattle.std.proofs.Common.{◌≡◌, ◌≢◌, ℕ, zero, suc, ◌<◌, ◌≤◌, List, [], ◌∷◌, ◌++◌, length, get_or, Option, Some, None, true, false, refl, sym, subst, ◌∙◌, ap, inl, inr, arith}
+use Rattle.std.specs.Prelude.{All, ◌==◌, MatchOption, not, replicate}
 use Rattle.std.specs.List.{range_with_len}
 use Rattle.std.specs.Option.{option_map_or}
 use Rattle.std.proofs.lemmas.Bool.{true≢false, cond-true, cond-false, eq-eqb, false_from_ne_true, not-true, or_cases, or_left, or_right}
 use Rattle.std.proofs.lemmas.List.Elements.{All-nil, All-cons, All-head, All-tail}
 use Rattle.std.proofs.lemmas.List.Folds.{list_any_at}
 use Rattle.std.proofs.lemmas.List.FromFn.{length-range_with_len}
+use Rattle.pb_price.proofs.Bounds.{is_price_at}
 use Rattle.pb_price.specs.Supporters.{SupportView, IsSupport, cost_at, supporters_at}
 use Rattle.pb_rounds.specs.declared.measure.Measure.{Measure}
 use Rattle.pb_rounds.specs.Bid.{Bid, is_before}
 use Rattle.pb_rounds.specs.Cheapest.{IsCheaper, IsLeft}
-use Rattle.pb_rounds.specs.Inner.BidRecord.{BidRecord, HasBidRecord, IsBidEnd, IsBidRound, is_in_time, known_after}
+use Rattle.pb_rounds.specs.Inner.BidRecord.{BidRecord, HasBidRecord, IsBidEnd, IsBidRound, known_after}
 use Rattle.pb_rounds.specs.PricingRecord.{AreKnown, HasPricing, IsPricedEnd, IsPricedRound, PricingRecord}
 use Rattle.pb_rounds.specs.Run.{ElectedView, RunView, best_of, bid, charged, elected_by, is_listed, run_from, run_of, without}
 use Rattle.pb_rounds.proofs.BestBid.{best_is_bid}
@@ -58,7 +59,8 @@ listed_in_front (x ∷ xs) ys n e = elim (or_cases (x == n) _ e) [
 
 are_known : (s : SupportView) (rests priced : List ℕ) (known : ℕ → Option ℕ) → AreKnown s rests priced known (known_after s rests priced known)
 are_known s rests priced known = record {
-  renewed = λ place here. cond-true _ _ _ (listed_from_contains priced place here);
+  renewed = λ place here.
+      is_price_at (supporters_at s place) rests (cost_at s place) (known_after s rests priced known place) (cond-true _ _ _ (listed_from_contains priced place here));
   kept = λ place other. cond-false _ _ _ (false_from_ne_true _ (λ listed. other (contains_from_listed priced place listed)));
 }
 

@@ -1,6 +1,6 @@
 -- A round over the queue elects the best of all projects left, makes one entry of a pricing record, and leaves a queue.
-use Rattle.std.proofs.Common.{◌≡◌, ◌≢◌, ℕ, ◌+◌, ◌-◌, ◌*◌, ◌<◌, ◌≤◌, List, [], ◌∷◌, ◌++◌, length, Option, Some, None, true, false, not, refl, sym, subst, ◌∙◌, ap, inl, inr, arith, length-append}
-use Rattle.std.specs.Prelude.{◌⊎◌, count_by, max, nat_eq}
+use Rattle.std.proofs.Common.{◌≡◌, ◌≢◌, ℕ, ◌+◌, ◌*◌, ◌<◌, ◌≤◌, List, [], ◌∷◌, ◌++◌, length, Option, Some, None, true, false, not, refl, sym, subst, ◌∙◌, ap, inl, inr, arith}
+use Rattle.std.specs.Prelude.{◌⊎◌, max, nat_eq}
 use Rattle.std.specs.List.{IsDistinct}
 use Rattle.std.specs.Option.{option_map_or}
 use Rattle.std.specs.Cmp.{upto}
@@ -25,7 +25,7 @@ use Rattle.pb_rounds.proofs.BestBid.{IsBid, best_is_bid, bid_from, bid_in, no_pr
 use Rattle.pb_rounds.proofs.BestIs.{is_best, no_best, none_before_best}
 use Rattle.pb_rounds.proofs.Charged.{charged_at}
 use Rattle.pb_rounds.proofs.Listed.{is_listed-without, is_listed-without_same, listed_from_without}
-use Rattle.pb_rounds.proofs.QueueLists.{HasBid, before_chain, distinct_places, distinct_prefix, in_either, in_from_listed, in_left, in_right, listed_from_in, no_more_than_left, no_more_than_pass, not_before_itself, rises_across, rises_prefix, rises_suffix}
+use Rattle.pb_rounds.proofs.QueueLists.{HasBid, before_chain, distinct_places, distinct_prefix, in_either, in_from_listed, in_left, in_right, listed_from_in, no_more_than_left, not_before_itself, rises_across, rises_prefix, rises_suffix}
 use Rattle.pb_rounds.proofs.QueueSteps.{length_places}
 
 -- the order of bids, as at most

@@ -10,8 +10,8 @@ use Rattle.std.proofs.lemmas.Bool.{true≢false, cases_eq}
 use Rattle.std.proofs.lemmas.List.Elements.{All-nil, All-cons, All-head, All-tail}
 use Rattle.std.proofs.lemmas.List.FromFn.{length-range_with_len}
 use Rattle.std.proofs.lemmas.Option.{same_Some}
-use Rattle.pb_price.proofs.Payments.{least_from_price, total_rest_covers}
-use Rattle.pb_price.specs.Price.{price_at, total_rest}
+use Rattle.pb_price.proofs.Payments.{least_from_price, no_price_from_short, price_from_least}
+use Rattle.pb_price.specs.Price.{price_at}
 use Rattle.pb_price.specs.Supporters.{SupportView, IsSupport, cost_at, supporters_at}
 use Rattle.pb_rounds.specs.declared.measure.Measure.{Measure}
 use Rattle.pb_rounds.specs.declared.measure.Measure.TheVariants.{Votes, Cost}
@@ -153,22 +153,13 @@ all_rests : (m : Measure) (s : SupportView) (share : ℕ) → (run_of m s share)
 unfolding run_of
 all_rests m s share = run_rests m s (length s.costs) (replicate s.voters share) (range_with_len 0 (length s.costs))
 
--- what costs more than the supporters have left has no price
-no_price_by : (s : SupportView) (rests : List ℕ) (place : ℕ) → total_rest (supporters_at s place) rests < cost_at s place
-    → (o : Option ℕ) → price_at s rests place ≡ o → price_at s rests place ≡ None
-no_price_by s rests place short None e = e
-no_price_by s rests place short (Some p) e =
-    let covers = total_rest_covers (supporters_at s place) rests (cost_at s place) p (least_from_price (supporters_at s place) rests (cost_at s place) p e) in
-    absurd (omega (arith, short, covers))
-
 module _ (m : Measure) (s : SupportView) (share : ℕ) where
   -- the words hold of the run that is computed
   pub words_of_run : IsSupport s → IsRun m s share (run_of m s share).elected (run_of m s share).rests
   words_of_run h = record {
     cheapest = run_was_cheapest m s h share;
     rests_are = all_rests m s share;
-    none_left = λ place left.
-        no_price_by s (run_of m s share).rests place ((run_has_price_system m s h share).explain.too_expensive place left.0 left.1) _ refl;
+    none_left = λ place left. (run_has_price_system m s h share).explain.too_expensive place left.0 left.1;
     is_support = h;
   }
 
@@ -180,12 +171,14 @@ module _ (m : Measure) (s : SupportView) (share : ℕ) where
         record {
           listed = is_listed-range 0 (length s.costs) w.place (omega arith) (omega (arith, known));
           was_left = found.was_left.1;
-          priced = found.priced;
+          priced = price_from_least (supporters_at s w.place) (rests_after s (replicate s.voters share) before) (cost_at s w.place) w.price found.priced;
           collected = found.collected;
-          cheapest = λ other price listed apart earlier priced. found.cheapest other price (known_place s other listed, earlier) apart priced;
+          cheapest = λ other price listed apart earlier priced. found.cheapest other price (known_place s other listed, earlier) apart
+              (least_from_price (supporters_at s other) (rests_after s (replicate s.voters share) before) (cost_at s other) price priced);
         };
     rests_are = words.rests_are;
-    none_left = λ place listed others. words.none_left place (known_place s place listed, others);
+    none_left = λ place listed others.
+        no_price_from_short (supporters_at s place) run.rests (cost_at s place) (words.none_left place (known_place s place listed, others));
   }
 
   -- and of no other

@@ -1,7 +1,7 @@
 -- That each elected project was the cheapest of its round.
 use Rattle.std.specs.Prelude.{◌≡◌, ◌≢◌, ℕ, ◌*◌, ◌<◌, ◌⊎◌, List, [], ◌∷◌, ◌++◌, All, Some, None, length, replicate}
 use Rattle.pb_price.specs.Supporters.{SupportView, IsSupport, supporters_at, cost_at}
-use Rattle.pb_price.specs.Price.{paid_at, price_at}
+use Rattle.pb_price.specs.Price.{paid_at, IsPrice}
 use Rattle.pb_rounds.specs.Run.{ElectedView, charged}
 use Rattle.pb_rounds.specs.declared.measure.Measure.{Measure}
 use Rattle.pb_rounds.specs.declared.measure.Measure.TheVariants.{Votes, Cost}
@@ -32,9 +32,9 @@ IsLeft s elected place = (place < length s.costs) × All (λ w. w.place ≢ plac
 pub record WasCheapest (m : Measure) (s : SupportView) (rests : List ℕ) (before : List ElectedView)
     (w : ElectedView) : Type 0 where
   pub was_left : IsLeft s before w.place
-  pub priced : price_at s rests w.place ≡ Some w.price
+  pub priced : IsPrice s rests w.place (Some w.price)
   pub collected : w.collected ≡ paid_at (supporters_at s w.place) rests w.price
-  pub cheapest : (other price : ℕ) → IsLeft s before other → other ≢ w.place → price_at s rests other ≡ Some price
+  pub cheapest : (other price : ℕ) → IsLeft s before other → other ≢ w.place → IsPrice s rests other (Some price)
       → IsCheaper m s w.place w.price other price
 
 -- each of the elected, in order of election from this share, was the cheapest of its round
@@ -48,5 +48,5 @@ EachWasCheapest m s share elected = (before : List ElectedView) (w : ElectedView
 pub record IsRun (m : Measure) (s : SupportView) (share : ℕ) (elected : List ElectedView) (rests : List ℕ) : Type 0 where
   pub cheapest : EachWasCheapest m s share elected
   pub rests_are : rests ≡ rests_after s (replicate s.voters share) elected
-  pub none_left : (place : ℕ) → IsLeft s elected place → price_at s rests place ≡ None
+  pub none_left : (place : ℕ) → IsLeft s elected place → IsPrice s rests place None
   pub is_support : IsSupport s

@@ -1,7 +1,7 @@
 -- Which prices a run computes: of the projects left, those whose last known price could still be the cheapest.
 use Rattle.std.specs.Prelude.{◌≡◌, ℕ, Option, Some, None, List, [], ◌∷◌, ◌++◌, ◌-◌, ◌≤◌, All, Contains, nat_eq, map, length, replicate}
 use Rattle.std.specs.List.{IsDistinct}
-use Rattle.pb_price.specs.Price.{price_at}
+use Rattle.pb_price.specs.Price.{IsPrice}
 use Rattle.pb_price.specs.Supporters.{SupportView, supporters_at}
 use Rattle.pb_rounds.specs.Cheapest.{IsCheaper, IsLeft}
 use Rattle.pb_rounds.specs.Run.{ElectedView, charged}
@@ -9,7 +9,7 @@ use Rattle.pb_rounds.specs.declared.measure.Measure.{Measure}
 
 -- the last known price of each project, once these are priced at these rests: none where it is known to have none
 pub record AreKnown (s : SupportView) (rests priced : List ℕ) (known next : ℕ → Option ℕ) : Type 0 where
-  pub renewed : (place : ℕ) → Contains priced place → next place ≡ price_at s rests place
+  pub renewed : (place : ℕ) → Contains priced place → IsPrice s rests place (next place)
   pub kept : (place : ℕ) → ¬ Contains priced place → next place ≡ known place
 
 -- A round that elects w, after those before it, and prices these, which are left, none twice: w is among them; by the prices

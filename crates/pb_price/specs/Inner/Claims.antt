@@ -1,7 +1,6 @@
 -- A draw of pieces of work, and how claims are split and joined.
 use Rattle.std.specs.Prelude.{◌≡◌, ℕ, ◌+◌, ◌-◌, ◌≤◌, List, [], ◌∷◌, ◌++◌, sum_by, count_by, nat_le}
 use Rattle.std.specs.List.{range_with_len}
-use mathlib.Core.Option.{some}
 use Rattle.atomic_table.specs.Table.{Me, Step}
 use Rattle.pb_price.specs.declared.claims.drawn.Drawn.{Drawn}
 

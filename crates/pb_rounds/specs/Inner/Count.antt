@@ -1,5 +1,5 @@
 -- When a completion by raises is refused.
-use Rattle.std.specs.Prelude.{◌≡◌, None, ℕ, ◌-◌}
+use Rattle.std.specs.Prelude.{◌≡◌, None, ℕ}
 use Rattle.pb_core.specs.Election.{ElectionView}
 use Rattle.pb_rounds.specs.declared.count_fault.CountFault.{CountFault}
 use Rattle.pb_rounds.specs.declared.count_fault.CountFault.TheVariants.{WorkerCount, StepRange, RaisesRange, RaisesSpent, NoMemory}

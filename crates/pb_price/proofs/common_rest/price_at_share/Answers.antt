@@ -1,15 +1,13 @@
-use Rattle.std.proofs.Common.{sym, rules, arith}
+use Rattle.std.proofs.Common.{rules, arith}
 use Rattle.pb_price.specs.Supporters.{supporters_at, cost_at}
 use Rattle.pb_price.proofs.CommonRests.{found_within, known_voters, none_beyond}
-use Rattle.pb_price.proofs.Payments.{no_price_from_short}
 use Rattle.pb_price.proofs.PriceSteps.{no_supporter}
 use Rattle.pb_price.proofs.common_rest.price_at_share.Goals as goal
 
 pub returns-then-is_empty : goal.returns-then-is_empty
 returns-then-is_empty g c = λ rests are alike.
-    sym (no_price_from_short (supporters_at c.args.supporters.now c.args.place) rests (cost_at c.args.supporters.now c.args.place)
-    (no_supporter (supporters_at c.args.supporters.now c.args.place) c.of-list.result.now rests (cost_at c.args.supporters.now c.args.place)
-    c.of-list.ensures.supporters (search rules) (c.of-list.ensures.is_support.costs_positive c.args.place 0 c.requires)))
+    no_supporter (supporters_at c.args.supporters.now c.args.place) c.of-list.result.now rests (cost_at c.args.supporters.now c.args.place)
+    c.of-list.ensures.supporters (search rules) (c.of-list.ensures.is_support.costs_positive c.args.place 0 c.requires)
 
 pub returns-then-payment-share : goal.returns-then-payment-share
 returns-then-payment-share g c = λ rests are alike.

@@ -1,17 +1,8 @@
-use Rattle.std.proofs.Common.{sym, arith}
+use Rattle.std.proofs.Common.{arith}
 use Rattle.std.proofs.lemmas.Result.{IfOk-from_err}
-use Rattle.pb_price.specs.Supporters.{supporters_at, cost_at}
-use Rattle.pb_price.proofs.Payments.{price_from_least, no_price_from_short}
+use Rattle.pb_price.specs.Supporters.{supporters_at}
 use Rattle.pb_price.proofs.WalkedRests.{ordered_rests, ordered_slice, sum-ordered, gathered_total, least_from_ordered}
 use Rattle.pb_price.proofs.price.price_with.Goals as goal
-
-pub returns-then-total-from-clause-price : goal.returns-then-total-from-clause-price
-returns-then-total-from-clause-price g c =
-    let supporters = supporters_at c.args.supporters.now c.args.place in
-    let rests = c.args.rests.now in
-    let cost = cost_at c.args.supporters.now c.args.place in
-    let total = gathered_total supporters c.of.result.now rests c.gather.new.buffer.items c.in_ok-total.total c.in_ok-total.ensures.gathered c.of.ensures.supporters c.in_ok-total.ensures.total in
-    sym (no_price_from_short supporters rests cost (omega (arith, total, c.cost.view_is, c.cost-cost.ensures.cost)))
 
 pub least_payment-payment-requires-clause-ordered : goal.least_payment-payment-requires-clause-ordered
 least_payment-payment-requires-clause-ordered g c =
@@ -25,20 +16,13 @@ least_payment-payment-requires-clause-covered g c =
     let order = ordered_rests supporters c.of.result.now rests c.gather.new.buffer.items c.sort_unstable.new.self.items c.as_slice.result.now c.in_ok-total.ensures.gathered c.of.ensures.supporters c.sort_unstable.ensures.permutation c.as_slice.ensures.value in
     omega (arith, total, sum-ordered supporters rests c.as_slice.result.now order)
 
-pub returns-clause-least : goal.returns-clause-least
-returns-clause-least g c =
+pub returns-clause-price : goal.returns-clause-price
+returns-clause-price g c =
     let supporters = supporters_at c.args.supporters.now c.args.place in
     let rests = c.args.rests.now in
     let order = ordered_rests supporters c.of.result.now rests c.gather.new.buffer.items c.sort_unstable.new.self.items c.as_slice.result.now c.in_ok-total.ensures.gathered c.of.ensures.supporters c.sort_unstable.ensures.permutation c.as_slice.ensures.value in
     rw (← c.cost-cost.ensures.cost, ← c.cost.view_is)
     (least_from_ordered supporters rests c.as_slice.result.now c.cost.inside.0 c.least_payment-payment.result order c.least_payment-payment.ensures)
 
-pub returns-clause-price : goal.returns-clause-price
-returns-clause-price g c =
-    sym (price_from_least (supporters_at c.args.supporters.now c.args.place) c.args.rests.now (cost_at c.args.supporters.now c.args.place) c.least_payment-payment.result (returns-clause-least g c))
-
 pub returns-in_err-total-clause-price : goal.returns-in_err-total-clause-price
 returns-in_err-total-clause-price g c = IfOk-from_err _ _ c.from_residual.ensures.0
-
-pub returns-in_err-total-clause-least : goal.returns-in_err-total-clause-least
-returns-in_err-total-clause-least g c = IfOk-from_err _ _ c.from_residual.ensures.0

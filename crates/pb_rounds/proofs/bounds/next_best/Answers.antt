@@ -1,6 +1,8 @@
 use Rattle.std.proofs.Common.{◌≡◌, ◌≢◌, ◌<◌, List, ◌∷◌, Some, subst, sym, ◌∙◌, ap, arith}
 use Rattle.std.proofs.lemmas.Bool.{true≢false, eq-eqb, eqb-true}
+use Rattle.pb_price.proofs.Payments.{least_from_price, no_price_from_short, price_from_least}
 use Rattle.pb_price.specs.Price.{price_at}
+use Rattle.pb_price.specs.Supporters.{cost_at, supporters_at}
 use Rattle.pb_rounds.specs.Bid.{Bid}
 use Rattle.pb_rounds.specs.Inner.Bounds.{HasBounds}
 use Rattle.pb_rounds.specs.Inner.Queue.{IsDone}
@@ -19,20 +21,23 @@ next_bound-requires-clause-bound g c price e =
     let b = c.requires.bounds in
     let h = subst (HasBounds b.0 c.args.supporters.now c.args.rests.now b.1) c.in-Some.ensures.0 (c.loop-head.invariant b.0 b.1 b.2) in
     let low = head_lower b.0 c.args.supporters.now c.args.rests.now b.1 c.in-Some.head c.take_head.new.queue.keys h price
-    (ap (price_at c.args.supporters.now c.args.rests.now) (sym c.place.ensures) ∙ e) in
+    (ap (price_at c.args.supporters.now c.args.rests.now) (sym c.place.ensures)
+    ∙ price_from_least (supporters_at c.args.supporters.now c.place.result) c.args.rests.now (cost_at c.args.supporters.now c.place.result) price e) in
     omega (arith, low, c.price-bound.ensures)
 
 pub loop-head-preserved-in-None : goal.loop-head-preserved-in-None
 loop-head-preserved-in-None g c m left b =
     head_without_price m c.args.supporters.now c.args.rests.now left c.in-Some.head c.take_head.new.queue.keys
     (subst (HasBounds m c.args.supporters.now c.args.rests.now left) c.in-Some.ensures.0 (c.loop-head.invariant m left b))
-    (ap (price_at c.args.supporters.now c.args.rests.now) (sym c.place.ensures) ∙ c.next_bound.ensures.none c.in-None.is)
+    (ap (price_at c.args.supporters.now c.args.rests.now) (sym c.place.ensures)
+    ∙ no_price_from_short (supporters_at c.args.supporters.now c.place.result) c.args.rests.now (cost_at c.args.supporters.now c.place.result) (c.next_bound.ensures.none c.in-None.is))
 
 pub returns-in-Some-next_bound : goal.returns-in-Some-next_bound
 returns-in-Some-next_bound g c m left b =
     let h = subst (HasBounds m c.args.supporters.now c.args.rests.now left) c.in-Some.ensures.0 (c.loop-head.invariant m left b) in
     let same : c.in-Some-next_bound.next ≡ c.price-bound.result = eqb-true _ _ (sym c.eq.ensures ∙ c.if-eq.true) in
-    let priced = ap (price_at c.args.supporters.now c.args.rests.now) (sym c.place.ensures) ∙ c.in-Some-next_bound.ensures.price same
+    let priced = ap (price_at c.args.supporters.now c.args.rests.now) (sym c.place.ensures)
+    ∙ price_from_least (supporters_at c.args.supporters.now c.place.result) c.args.rests.now (cost_at c.args.supporters.now c.place.result) c.price-bound.result (c.in-Some-next_bound.ensures.price same)
     ∙ ap (λ n. Some n) c.price-bound.ensures in (
       head_is_best m c.args.supporters.now c.args.rests.now left c.in-Some.head c.take_head.new.queue.keys h priced,
       head_taken m c.args.supporters.now c.args.rests.now left c.in-Some.head c.take_head.new.queue.keys h,
@@ -56,7 +61,8 @@ pub loop-head-preserved : goal.loop-head-preserved
 loop-head-preserved g c m left b =
     let h = subst (HasBounds m c.args.supporters.now c.args.rests.now left) c.in-Some.ensures.0 (c.loop-head.invariant m left b) in
     head_goes_back m c.args.supporters.now c.args.rests.now left c.in-Some.head c.take_head.new.queue.keys h c.in-Some-next_bound.next
-    (λ p e. c.in-Some-next_bound.ensures.bound p (ap (price_at c.args.supporters.now c.args.rests.now) c.place.ensures ∙ e))
+    (λ p e. c.in-Some-next_bound.ensures.bound p (least_from_price (supporters_at c.args.supporters.now c.place.result) c.args.rests.now (cost_at c.args.supporters.now c.place.result) p
+    (ap (price_at c.args.supporters.now c.args.rests.now) c.place.ensures ∙ e)))
     c.new.result
     (c.new.ensures
     ∙ ap (λ w. record { price = c.in-Some-next_bound.next; weight = w; place = c.place-in-Some-2.result })

@@ -1,11 +1,19 @@
-use Rattle.std.proofs.Common.{◌∙◌, ◌++◌, sym, ap, get_or}
-use Rattle.std.proofs.lemmas.List.{take_all}
+use Rattle.std.proofs.Common.{◌∙◌, ◌++◌, length, sym, ap, get_or, arith}
+use Rattle.std.proofs.lemmas.List.{length-map, take_all}
+use Rattle.pb_price.proofs.Payments.{prices_from_are_prices}
 use Rattle.pb_price.specs.Price.{price_at}
 use Rattle.pb_rounds.specs.Bid.{first_least, is_before}
 use Rattle.pb_rounds.specs.Run.{bids_at}
 use Rattle.pb_rounds.proofs.QueueSteps.{answer_at, best_more, fresh_none, fresh_some}
 use Rattle.pb_rounds.proofs.round.price_heads.Goals as goal
 use Rattle.pb_rounds.proofs.round.price_heads.Goals.{in-Some+in_ok-push, in_default-index}
+
+pub index-requires : goal.index-requires
+index-requires g c =
+    let s = c.args.pricing.now.supporters.now in
+    let prices = prices_from_are_prices s c.args.rests.now c.args.heads.now c.in-Ok.answers.items c.in-Ok.ensures.prices in
+    let long = ap length prices ∙ length-map c.args.heads.now (price_at s c.args.rests.now) in
+    omega (arith, long, c.in-Ok.answers.ok.0, c.loop-i-test.true)
 
 pub loop-i-preserved : goal.loop-i-preserved
 loop-i-preserved g c =
@@ -14,7 +22,7 @@ loop-i-preserved g c =
     let rests = c.args.rests.now in
     let heads = c.args.heads.now in
     let i = c.loop-i.i in
-    let answered = answer_at (price_at s rests) heads i c.loop-i-test.true c.in-Ok.answers.items c.in-Ok.ensures.prices c.index.result.now c.index.ensures in
+    let answered = answer_at (price_at s rests) heads i c.loop-i-test.true c.in-Ok.answers.items (prices_from_are_prices s rests heads c.in-Ok.answers.items c.in-Ok.ensures.prices) c.index.result.now c.index.ensures in
     record {
       fresh = elim c.match-index.branch [
         | in-Some+in_ok-push w ↦ rw w.fresh-is (w.in_ok-push.ensures.items
