@@ -19,9 +19,9 @@ paid-within_rest : (b : Bool) (rest price : ℕ) → cond b (min rest price) 0 �
 paid-within_rest true rest price = omega arith
 paid-within_rest false rest price = omega arith
 
-less_paid : (b : Bool) (rest price : ℕ) → cond b (rest - min rest price) rest ≡ rest - cond b (min rest price) 0
-less_paid true rest price = refl
-less_paid false rest price = omega arith
+less_paid : (b : Bool) (rest price : ℕ) → rest - cond b price 0 ≡ rest - cond b (min rest price) 0
+less_paid true rest price = omega arith
+less_paid false rest price = refl
 
 module _ (supporters : List ℕ) (price : ℕ) (rests : List ℕ) where
   pub length-payments_of : length (payments_of supporters price rests) ≡ length rests

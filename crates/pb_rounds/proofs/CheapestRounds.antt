@@ -15,7 +15,7 @@ use Rattle.pb_price.specs.Supporters.{SupportView, IsSupport, cost_at, supporter
 use Rattle.pb_rounds.specs.declared.measure.Measure.{Measure}
 use Rattle.pb_rounds.specs.declared.measure.Measure.TheVariants.{Votes, Cost}
 use Rattle.pb_rounds.specs.Bid.{Bid, is_before}
-use Rattle.pb_rounds.specs.Cheapest.{IsCheaper, EachWasCheapest, rests_after}
+use Rattle.pb_rounds.specs.Cheapest.{IsCheaper, WasCheapest, rests_after}
 use Rattle.pb_rounds.specs.Run.{ElectedView, RunView, bid, best_of, charged, elected_by, is_listed, run_from, run_of, then_run, without}
 use Rattle.pb_rounds.proofs.BestBid.{best_is_bid}
 use Rattle.pb_rounds.proofs.BestIs.{none_before_best}
@@ -132,6 +132,12 @@ all_were_first : (m : Measure) (s : SupportView) → IsSupport s → (share : �
 unfolding run_of
 all_were_first m s h share = run_was_first m s (length s.costs) _ _ (λ place listed.
     h.costs_positive place 0 (known_place s place listed))
+
+-- each of the elected, in order of election from this share, was the cheapest of its round
+abbrev pub EachWasCheapest : Measure → SupportView → ℕ → List ElectedView → Type 0
+EachWasCheapest m s share elected = (before : List ElectedView) (w : ElectedView) (later : List ElectedView)
+    → elected ≡ before ++ w ∷ later
+    → WasCheapest m s (rests_after s (replicate s.voters share) before) before w
 
 -- each of a run's elected was the cheapest of its round
 pub run_was_cheapest : (m : Measure) (s : SupportView) → IsSupport s → (share : ℕ) → EachWasCheapest m s share (run_of m s share).elected

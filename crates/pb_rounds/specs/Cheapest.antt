@@ -37,16 +37,12 @@ pub record WasCheapest (m : Measure) (s : SupportView) (rests : List ℕ) (befor
   pub cheapest : (other price : ℕ) → IsLeft s before other → other ≢ w.place → IsPrice s rests other (Some price)
       → IsCheaper m s w.place w.price other price
 
--- each of the elected, in order of election from this share, was the cheapest of its round
-abbrev pub EachWasCheapest : Measure → SupportView → ℕ → List ElectedView → Type 0
-EachWasCheapest m s share elected = (before : List ElectedView) (w : ElectedView) (later : List ElectedView)
-    → elected ≡ before ++ w ∷ later
-    → WasCheapest m s (rests_after s (replicate s.voters share) before) before w
-
--- A run at this share elects these, and leaves these rests: each of the elected was the cheapest of its round, the rests are
--- what all their payments left, and no project that is left has a price. The supporters are such as those of every election.
+-- A run at this share elects these, in this order, and leaves these rests: each of the elected was the cheapest of its round, the
+-- rests are what all their payments left, and no project that is left has a price. The supporters are such as those of every
+-- election.
 pub record IsRun (m : Measure) (s : SupportView) (share : ℕ) (elected : List ElectedView) (rests : List ℕ) : Type 0 where
-  pub cheapest : EachWasCheapest m s share elected
+  pub cheapest : (before : List ElectedView) (w : ElectedView) (later : List ElectedView) → elected ≡ before ++ w ∷ later
+      → WasCheapest m s (rests_after s (replicate s.voters share) before) before w
   pub rests_are : rests ≡ rests_after s (replicate s.voters share) elected
   pub none_left : (place : ℕ) → IsLeft s elected place → IsPrice s rests place None
   pub is_support : IsSupport s

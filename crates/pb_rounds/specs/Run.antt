@@ -1,5 +1,5 @@
 -- A run of the Method of Equal Shares at one share.
-use Rattle.std.specs.Prelude.{ℕ, zero, suc, Bool, Option, List, [], ◌∷◌, ◌-◌, ◌==◌, not, min, map, filter, filter_map, length, option_map, slice_index, replicate, if◌then◌else◌}
+use Rattle.std.specs.Prelude.{ℕ, zero, suc, Bool, Option, List, [], ◌∷◌, ◌-◌, ◌==◌, not, map, filter, filter_map, length, option_map, slice_index, replicate, if◌then◌else◌}
 use Rattle.std.specs.List.{list_any, range_with_len}
 use Rattle.std.specs.Option.{option_map_or}
 use Rattle.pb_core.specs.Election.{ElectionView}
@@ -45,13 +45,10 @@ best_of m s rests left = first_least is_before (bids_at m s rests left)
 abbrev pub is_listed : List ℕ → ℕ → Bool
 is_listed numbers n = list_any (λ m. m == n) numbers
 
--- the rests once each supporter paid the price, or the whole rest where that is less
+-- the rests once each supporter paid the price, or the whole rest where that is less: a difference of numbers stops at 0
 unfoldable pub charged : List ℕ → ℕ → List ℕ → List ℕ
 charged supporters price rests =
-    map
-    (λ v. if is_listed supporters v then slice_index rests v - min (slice_index rests v) price
-    else slice_index rests v)
-    (range_with_len 0 (length rests))
+    map (λ v. slice_index rests v - (if is_listed supporters v then price else 0)) (range_with_len 0 (length rests))
 
 -- the project elected by this bid
 abbrev pub elected_by : SupportView → List ℕ → Bid → ElectedView

@@ -5,7 +5,7 @@ mod bounds;
 pub mod count;
 pub mod count_fault;
 mod jump;
-pub mod key;
+mod key;
 pub mod laws;
 pub mod measure;
 pub mod options;
@@ -24,7 +24,6 @@ mod trial;
 
 pub use count::equal_shares;
 pub use count_fault::CountFault;
-pub use key::Key;
 pub use measure::Measure;
 pub use options::{Completion, CountOptions};
 pub use outcome::{Elected, Outcome};
