@@ -2,7 +2,7 @@
 //! report shows as well stands in the cases of the program.
 
 use crate::checks;
-use crate::checks::{holds, same};
+use crate::checks::same;
 use crate::crowd::Crowd;
 use crate::elections::{THREE_VOTERS, amounts, read};
 use crate::outcomes::counted;
