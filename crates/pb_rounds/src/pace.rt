@@ -29,14 +29,18 @@ impl Pace {
         }
     }
 
-    /// Whether a jump is tried after a trial whose elected cost this much.
-    pub(crate) fn is_due(&mut self, spent: u128) -> bool {
+    /// After a trial whose elected cost this much.
+    pub(crate) fn tried(&mut self, spent: u128) {
         if spent == self.spent {
             self.same = self.same.saturating_add(1);
         } else {
             self.spent = spent;
             self.same = 0;
         }
+    }
+
+    /// Whether a jump is tried after the trials so far.
+    pub(crate) fn is_due(&self) -> bool {
         self.same >= self.wait
     }
 

@@ -216,7 +216,7 @@ fn jump_ahead<R: Threads + Sync, G: Gate, A: Allocator + Copy + Send + Sync, B: 
         → is_decisive pricing.now.measure election.now step raises ≡ false) }
 {
     let mut next = from;
-    if !pace.is_due(last.spent) {
+    if !pace.is_due() {
         return Ok(next);
     }
     for _ in 0..MOST_JUMPS {
@@ -232,6 +232,13 @@ fn jump_ahead<R: Threads + Sync, G: Gate, A: Allocator + Copy + Send + Sync, B: 
         }
     }
     Ok(next)
+}
+
+/// Tells the pace of each trial of a group, in order.
+fn tell_pace<A: Allocator>(pace: &mut Pace, trials: &[Trial<A>]) {
+    for trial in trials {
+        pace.tried(trial.spent);
+    }
 }
 
 /// What a completion by raises uses again from raise to raise.
@@ -276,6 +283,7 @@ fn decide<R: Threads + Sync, G: Gate, A: Allocator + Copy + Send + Sync, B: Allo
         if let Some(raises) = found {
             return Ok(Some(raises));
         }
+        tell_pace(&mut team.pace, team.trials.as_slice());
         let count = team.trials.len();
         next = jump_ahead(
             pricing,
