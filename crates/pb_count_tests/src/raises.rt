@@ -1,7 +1,7 @@
 //! Counts of made elections, by groups of raises and with raises left out, beside the rule alone: one raise after the
 //! other.
 
-use crate::checks::same;
+use crate::checks::{holds, same};
 use crate::elections::{push_amount, read};
 use crate::outcomes::{counted, run_at};
 use pb_core::election::Election;
@@ -28,10 +28,10 @@ fn draw_from_one(seed: &mut u64, last: u64) -> u64 {
     draw(seed, last).saturating_add(1)
 }
 
-/// The row of a project that costs less than 1.51.
-fn add_project(rt: &impl Abort, alloc: Global, file: &mut String, seed: &mut u64, place: u64) {
+/// The row of a project that costs this much, in hundredths.
+fn add_project(rt: &impl Abort, alloc: Global, file: &mut String, place: u64, cost: u64) {
     write!(file, "{place};").expect(rt, "memory");
-    push_amount(rt, alloc, file, draw_from_one(seed, 150));
+    push_amount(rt, alloc, file, cost);
     file.push('\n').expect(rt, "memory");
 }
 
@@ -55,18 +55,38 @@ const SECTIONS: (&str, &str) = (
     "\nvote_type;approval\nPROJECTS\nproject_id;cost\n",
 );
 
-/// A file of 1 to 5 projects and up to 6 voters, with a budget below 4.00.
-fn made_file(rt: &impl Abort, alloc: Global, seed: &mut u64) -> String {
+/// How large a made election is.
+#[derive(Clone, Copy)]
+struct Size {
+    /// The budget, in hundredths.
+    budget: u64,
+    projects: u64,
+    /// What a project costs at most, in hundredths.
+    most: u64,
+    voters: u64,
+}
+
+/// 1 to 5 projects that cost up to 1.50, and up to 6 voters, with a budget below 4.00.
+fn small(seed: &mut u64) -> Size {
+    Size {
+        budget: draw(seed, 400),
+        projects: draw_from_one(seed, 5),
+        most: 150,
+        voters: draw(seed, 7),
+    }
+}
+
+/// A file of this size.
+fn made_file(rt: &impl Abort, alloc: Global, seed: &mut u64, size: &Size) -> String {
     let mut file = String::from_str(alloc, SECTIONS.0).expect(rt, "memory");
-    push_amount(rt, alloc, &mut file, draw(seed, 400));
+    push_amount(rt, alloc, &mut file, size.budget);
     file.push_str(SECTIONS.1).expect(rt, "memory");
-    let projects = draw_from_one(seed, 5);
-    for place in 0..projects {
-        add_project(rt, alloc, &mut file, seed, place);
+    for place in 0..size.projects {
+        add_project(rt, alloc, &mut file, place, draw_from_one(seed, size.most));
     }
     file.push_str("VOTES\nvoter_id;vote\n").expect(rt, "memory");
-    for voter in 0..draw(seed, 7) {
-        add_voter(rt, &mut file, seed, voter, projects);
+    for voter in 0..size.voters {
+        add_voter(rt, &mut file, seed, voter, size.projects);
     }
     file
 }
@@ -217,7 +237,8 @@ fn counts_alike(
 
 /// Counts one made election by both measures.
 fn counts_one(rt: &(impl Abort + Threads + Sync), alloc: Global, seed: &mut u64) {
-    let file = made_file(rt, alloc, seed);
+    let size = small(seed);
+    let file = made_file(rt, alloc, seed, &size);
     let election = read(rt, alloc, file.as_str());
     let votes = CountOptions {
         step: Money(draw_from_one(seed, 20)),
@@ -241,4 +262,42 @@ fn counts_as_the_rule_alone(rt: HostRuntime) {
     for _ in 0..300 {
         counts_one(&rt, rt.alloc(), &mut seed);
     }
+}
+
+/// How many approvals the ballots have.
+fn approvals(election: &Election) -> u64 {
+    let mut approvals: u64 = 0;
+    for voter in election.voters() {
+        approvals = approvals.saturating_add(voter.ballot.places().len() as u64);
+    }
+    approvals
+}
+
+/// 200 projects that cost up to 10,000.00, and 9,000 voters, with a budget of 100,000.00.
+const TOWN: Size = Size {
+    budget: 10_000_000,
+    projects: 200,
+    most: 1_000_000,
+    voters: 9_000,
+};
+
+/// Raises by 0.10.
+const RAISED: CountOptions = CountOptions {
+    step: Money(10),
+    max_raises: 40,
+    workers: 1,
+    completion: Completion::Add1,
+    measure: Measure::Votes,
+};
+
+/// 500,000 approvals are worth trials in threads of their own.
+#[test]
+fn counts_groups_of_raises(rt: HostRuntime) {
+    let mut seed = 1;
+    let file = made_file(&rt, rt.alloc(), &mut seed, &TOWN);
+    let election = read(&rt, rt.alloc(), file.as_str());
+    holds(&rt, approvals(&election) >= 500_000, "approvals");
+    counts_alike(&rt, rt.alloc(), &election, &RAISED);
+    drop(election);
+    drop(file);
 }
