@@ -9,6 +9,7 @@ use Rattle.std.proofs.lemmas.List.Elements.{All-nil, All-cons, All-tail, All-con
 use Rattle.std.proofs.lemmas.List.FromFn.{map-range_with_len_more}
 use Rattle.std.proofs.lemmas.List.Folds.{list_any_at, Any-from_list_any}
 use Rattle.std.proofs.lemmas.List.Sums.{sum_by-cons, length-filter, count_by-le-length}
+pub use Rattle.pb_rounds.specs.Inner.Progress.{RisesWithin}
 use Rattle.pb_rounds.specs.Run.{is_listed, without}
 
 -- what the list contains is listed, and the other way round
@@ -59,11 +60,6 @@ is_listed-range low (suc n) k a b = elim (cases_eq low k) [
   | inl same ↦ or_left (low == k) _ (eq-eqb low k same)
   | inr other ↦ or_right (low == k) _ (is_listed-range (low + 1) n k (omega arith) (omega arith))
 ]
-
--- the numbers rise, from low on and below high
-abbrev pub RisesWithin : ℕ → ℕ → List ℕ → Type 0
-RisesWithin low high [] = Unit
-RisesWithin low high (x ∷ xs) = (low ≤ x) × (x < high) × RisesWithin (x + 1) high xs
 
 rises-tail : (x : ℕ) (xs : List ℕ) → IsStrictlyIncreasing (x ∷ xs) → IsStrictlyIncreasing xs
 rises-tail x xs rise k h =

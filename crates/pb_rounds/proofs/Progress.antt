@@ -1,5 +1,5 @@
 -- How far a run has come: what is elected, followed by a run from here, is the whole run.
-use Rattle.std.proofs.Common.{◌≡◌, ℕ, zero, suc, ◌+◌, ◌<◌, ◌≤◌, List, [], ◌∷◌, ◌++◌, length, replicate, Some, None, refl, sym, ◌∙◌, ap, arith}
+use Rattle.std.proofs.Common.{◌≡◌, ℕ, zero, suc, ◌<◌, ◌≤◌, List, [], ◌∷◌, ◌++◌, length, replicate, Some, None, refl, sym, ◌∙◌, ap, arith}
 use Rattle.std.specs.List.{range_with_len}
 use Rattle.std.specs.Option.{option_map_or}
 use Rattle.std.proofs.lemmas.List.{append-nil, append_assoc, length_push, length-replicate}
@@ -9,22 +9,12 @@ use Rattle.pb_price.specs.Supporters.{SupportView, supporters_at}
 use Rattle.pb_price.specs.Price.{AreRests, largest_share}
 use Rattle.pb_rounds.specs.declared.measure.Measure.{Measure}
 use Rattle.pb_rounds.specs.Bid.{Bid}
+pub use Rattle.pb_rounds.specs.Inner.Progress.{Progress, after}
 use Rattle.pb_rounds.specs.Outcome.{OutcomeView, settled, settled_by}
 use Rattle.pb_rounds.specs.Run.{ElectedView, RunView, best_of, charged, elected_by, then_run, run_from, run_of, without}
 use Rattle.pb_rounds.proofs.BestBid.{best_is_bid}
 use Rattle.pb_rounds.proofs.Charged.{charged_at, length-charged}
-use Rattle.pb_rounds.proofs.Listed.{RisesWithin, range_rises, RisesWithin-without, length-without_one}
-
-abbrev pub after : List ElectedView → RunView → RunView
-after elected run = record { elected = elected ++ run.elected; rests = run.rests }
-
-pub record Progress (m : Measure) (s : SupportView) (share raised : ℕ) (left : List ℕ) (o : OutcomeView) : Type 0 where
-  pub share_is : o.share ≡ share
-  pub raised_is : o.raised ≡ raised
-  pub whole : run_of m s share ≡ after o.elected (run_from m s (length left) o.rests left)
-  pub rests_are : AreRests s.voters o.rests
-  pub rises : RisesWithin 0 (length s.costs) left
-  pub counted : length o.elected + length left ≡ length s.costs
+use Rattle.pb_rounds.proofs.Listed.{range_rises, RisesWithin-without, length-without_one}
 
 -- a round that elects, and a round that does not
 pub run_from-some : (m : Measure) (s : SupportView) (rests left : List ℕ) (b : Bid) → best_of m s rests left ≡ Some b → (n : ℕ)

@@ -34,7 +34,7 @@ or_false true = refl
 or_false false = refl
 
 -- one mark more
-mark_more : (s : SupportView) (elected : List ElectedView) (marks : List Bool) → AreMarked s elected marks → (w : ElectedView) → w.place < length s.costs
+pub mark_more : (s : SupportView) (elected : List ElectedView) (marks : List Bool) → AreMarked s elected marks → (w : ElectedView) → w.place < length s.costs
     → AreMarked s (elected ++ w ∷ []) (set marks w.place true)
 mark_more s elected marks h w known = record {
   one_each = length-set marks w.place true ∙ h.one_each;
@@ -46,13 +46,13 @@ mark_more s elected marks h w known = record {
   ];
 }
 
-cost_small : (s : SupportView) → IsSupport s → (place : ℕ) → cost_at s place ≤ largest_money
+pub cost_small : (s : SupportView) → IsSupport s → (place : ℕ) → cost_at s place ≤ largest_money
 cost_small s h place = elim (cases_lt place (length s.costs)) [
   | inl below ↦ h.costs_bounded place 0 below
   | inr past ↦ let none = get_or_past s.costs place 0 past in omega (arith, none)
 ]
 
-spent_small : (s : SupportView) → IsSupport s → (elected : List ElectedView) → spent_on s elected ≤ length elected * largest_money
+pub spent_small : (s : SupportView) → IsSupport s → (elected : List ElectedView) → spent_on s elected ≤ length elected * largest_money
 spent_small s h [] = omega arith
 spent_small s h (w ∷ elected) =
     omega (arith, spent_small s h elected, cost_small s h w.place, sum_by-cons (λ v. cost_at s v.place) w elected)

@@ -1,6 +1,6 @@
 -- Raises that are tried: what their ends say of the completion.
-use Rattle.std.proofs.Common.{◌≡◌, ℕ, ◌+◌, ◌-◌, ◌*◌, ◌<◌, ◌≤◌, List, ◌++◌, length, replicate, take, Some, false, subst, sym, ◌∙◌, ap, inl, inr, arith}
-use Rattle.std.specs.Prelude.{IfOk, Ok, Result}
+use Rattle.std.proofs.Common.{◌≡◌, ℕ, ◌+◌, ◌-◌, ◌*◌, ◌<◌, ◌≤◌, List, ◌++◌, length, replicate, take, Option, None, Some, false, subst, sym, ◌∙◌, ap, inl, inr, arith}
+use Rattle.std.specs.Prelude.{IfOk, MatchOption, Ok, Result}
 use Rattle.std.specs.List.{range_with_len}
 use Rattle.std.proofs.Math.Nat.{mul-le-mul_right}
 use Rattle.std.proofs.Math.Seq.{take-append_seam}
@@ -20,6 +20,12 @@ use Rattle.pb_rounds.proofs.Completing.{decided_before, decided_here, opening_no
 -- a slice of a whole list, written back
 pub whole_left : {X : Type 0} (xs ys : List X) (n : ℕ) → n ≡ length xs → take n (xs ++ ys) ≡ xs
 whole_left xs ys n e = ap (λ k. take k (xs ++ ys)) e ∙ take-append_seam xs ys
+
+-- where nothing was found, all that were looked at are so
+pub all_tried : (found : Option ℕ) (P Q : ℕ → Type 0) (bound more : ℕ) → found ≡ None
+    → MatchOption found ((raises : ℕ) → raises < bound → P raises) Q → more ≤ bound → (raises : ℕ) → raises < more → P raises
+all_tried found P Q bound more none h fits raises below =
+    subst (λ (o : Option ℕ). MatchOption o ((raises : ℕ) → raises < bound → P raises) Q) none h raises (omega arith)
 
 -- what the end of a raise says, where no raise before it decides
 module _ (m : Measure) (e : ElectionView) (step limit raised : ℕ) (tried : (j : ℕ) → j < raised → is_decisive m e step j ≡ false)

@@ -5,6 +5,8 @@ pub mod BidOrder
 pub mod BidRecord
 pub mod Bounds
 pub mod Count
+pub mod Front
+pub mod Progress
 pub mod Queue
 pub mod RaiseEnds
 pub mod Reach

@@ -1,25 +1,51 @@
 //! Jumps over raises that elect the same projects as the last one that was tried.
 
-ghost use Rattle.std.specs.Prelude.{◌≡◌, ◌≤◌, ℕ, List, IfOk, length, replicate, true};
+ghost use Rattle.std.specs.Prelude.{◌≡◌, ◌≤◌, ℕ, List, [], IfOk, OnOk, length, replicate, true};
 ghost use Rattle.std.specs.List.{range_with_len};
 ghost use Rattle.pb_price.specs.Price.{AreRests, largest_share};
 ghost use Rattle.pb_price.specs.Supporters.{IsSupport};
 ghost use Rattle.pb_rounds.specs.Inner.Between.{KeepsElecting};
-ghost use Rattle.pb_rounds.specs.Inner.Bounds.{Follows, HasBounds};
+ghost use Rattle.pb_rounds.specs.Inner.Bounds.{Follows, HasBounds, IsOpening};
 ghost use Rattle.pb_rounds.specs.Run.{run_of};
 ghost use Rattle.pb_rounds.specs.declared.measure.Measure.{Measure};
 
-use crate::bounds::next_best;
+use crate::bounds::{fill_opening, next_best};
 use crate::key::Key;
 use crate::measure::Measure;
 use crate::outcome::{Elected, Outcome};
 use crate::round::elect;
-use crate::trial::start;
+use crate::run::open;
 use pb_core::money::Money;
 use pb_core::no_memory::NoMemory;
 use pb_price::supporters::Supporters;
 use std::alloc::Allocator;
 use std::collections::BTreeSet;
+
+/// Begins a run at this share: the queue has who can be paid, nobody is elected, and every rest is the share.
+fn start<A: Allocator + Copy>(
+    measure: Measure,
+    supporters: &Supporters<A>,
+    share: Money,
+    queue: &mut BTreeSet<Key, A>,
+    outcome: &mut Outcome<A>,
+) -> Result<(), NoMemory>
+    requires { share ≤ largest_share }
+    ensures support { OnOk result (IsSupport supporters.now) }
+    ensures queue { OnOk result
+        (IsOpening measure supporters.now share (length supporters.now.costs) queue.new.keys) }
+    ensures outcome { OnOk result (outcome.new
+        ≡ record {
+          share = share;
+          raised = 0;
+          elected = [];
+          rests = replicate supporters.now.voters share;
+          priced = [];
+        }) }
+{
+    fill_opening(queue, measure, supporters, share)?;
+    open(outcome, share, 0, supporters.voters())?;
+    Ok(())
+}
 
 /// Whether the projects that a smaller share elects are elected at this share too, and at every share in between: at each round of
 /// this share the project elected last time is the best, and no other left comes before or beside the price that it had at

@@ -4,6 +4,7 @@
 mod bounds;
 pub mod count;
 pub mod count_fault;
+mod front;
 mod jump;
 mod key;
 pub mod laws;

@@ -2,14 +2,16 @@
 
 ghost use Rattle.std.specs.Prelude.{◌≡◌, ◌+◌, ◌*◌, ◌<◌, ◌≤◌, ℕ, None, length, slice_index_or, Some, IfOk, IfErr, MatchOption, OnOk, ⊤, false, ◌-◌, true};
 ghost use Rattle.pb_core.specs.Money.{largest_money};
-ghost use Rattle.pb_rounds.specs.Count.{add1_of, elected_after, is_decisive};
+ghost use Rattle.pb_rounds.specs.Count.{add1_of, elected_after, is_decisive, share_after};
 ghost use Rattle.pb_rounds.specs.Inner.Count.{IsCompletionFault};
 ghost use Rattle.pb_rounds.specs.CountFault.{largest_step, most_raises};
+ghost use Rattle.pb_rounds.specs.Inner.Front.{IsFront, IsFrontAt};
 ghost use Rattle.pb_rounds.specs.Inner.RaiseEnds.{CanComplete, IsCompletion, IsFound};
 ghost use Rattle.pb_rounds.specs.Inner.Threads.{group_size};
 
 use crate::count::{opening_share, outcome_after};
 use crate::count_fault::CountFault;
+use crate::front::Front;
 use crate::jump::keeps;
 use crate::outcome::Outcome;
 use crate::pace::Pace;
@@ -32,6 +34,7 @@ const MOST_JUMPS: u32 = 1_000;
 #[derive(Drop)]
 struct Group<'a, R, G, A: Allocator> {
     pricing: &'a Pricing<'a, R, G, A>,
+    front: &'a Front<'a, A>,
     budget: Money,
     opening: Money,
     step: Money,
@@ -44,12 +47,14 @@ impl<'a, R: Threads + Sync, G: Gate, A: Allocator + Copy + Send + Sync> Group<'a
         requires opening { self.now.opening ≤ largest_money }
         requires raised { self.now.next + i ≤ most_raises }
         requires step { self.now.step ≤ largest_step }
+        requires front { IsFront self.now.front.now }
+        requires of { IsFrontAt self.now.pricing.now.measure self.now.pricing.now.supporters.now
+            (self.now.opening + self.now.next * self.now.step) self.now.front.now }
         ensures { IsFound self.now.pricing.now.measure self.now.pricing.now.supporters.now self.now.budget
             (self.now.opening + (self.now.next + i) * self.now.step) trial.new.outcome.elected trial.new.end }
     {
         let share = raised_share(self.opening, self.next + i as u32, self.step);
-        let (measure, supporters) = (self.pricing.measure, self.pricing.supporters);
-        let end = trial.end_of(measure, supporters, self.budget, share);
+        let end = trial.end_of(self.front, self.budget, share);
         trial.end = end;
     }
 }
@@ -61,6 +66,9 @@ fn try_group<R: Threads + Sync, G: Gate, A: Allocator + Copy + Send + Sync>(
 )
     requires opening { group.now.opening ≤ largest_money }
     requires step { group.now.step ≤ largest_step }
+    requires front { IsFront group.now.front.now }
+    requires of { IsFrontAt group.now.pricing.now.measure group.now.pricing.now.supporters.now
+        (group.now.opening + group.now.next * group.now.step) group.now.front.now }
     requires few { group.now.next + length trials.old.items ≤ most_raises + 1 }
     ensures len { length trials.new.items ≡ length trials.old.items }
     ensures ends { (i : ℕ) (d : _) → i < length trials.old.items
@@ -70,7 +78,9 @@ fn try_group<R: Threads + Sync, G: Gate, A: Allocator + Copy + Send + Sync>(
 {
     let try_one = |i: usize, trial: &mut [Trial<A>]|
         requires { (length trial.now ≡ 1) × (group.now.opening ≤ largest_money)
-            × (group.now.step ≤ largest_step) × (group.now.next + i ≤ most_raises) }
+            × (group.now.step ≤ largest_step) × (group.now.next + i ≤ most_raises) × IsFront group.now.front.now
+            × IsFrontAt group.now.pricing.now.measure group.now.pricing.now.supporters.now
+            (group.now.opening + group.now.next * group.now.step) group.now.front.now }
         ensures { (d : _) → IsFound group.entry.now.pricing.now.measure group.entry.now.pricing.now.supporters.now
             group.entry.now.budget (group.entry.now.opening + (group.entry.now.next + i) * group.entry.now.step)
             (slice_index_or trial.exit.now 0 d).outcome.elected (slice_index_or trial.exit.now 0 d).end }
@@ -80,16 +90,19 @@ fn try_group<R: Threads + Sync, G: Gate, A: Allocator + Copy + Send + Sync>(
 
 /// Tries raises side by side, one for each trial, from this number of raises on, none before which decides: how many raises
 /// the completion decides on, where one of these decides. The first of them that does counts, whatever the later ones say.
-/// Where none does, the last trial has whom the last of these raises elects.
+/// Where none does, the last trial has whom the last of these raises elects. The front is that of the first of these raises.
 fn try_raises<R: Threads + Sync, G: Gate, A: Allocator + Copy + Send + Sync, B: Allocator>(
     pricing: &Pricing<R, G, A>,
     election: &Election<B>,
+    front: &Front<'_, A>,
     trials: &mut Vec<Trial<A>, A>,
     step: Money,
     max_raises: u32,
     next: u32,
 ) -> Result<Option<u32>, NoMemory>
     requires given { CanComplete election.now pricing.now.workers pricing.now.supporters.now step max_raises }
+    requires front { IsFront front.now }
+    requires of { IsFrontAt pricing.now.measure pricing.now.supporters.now (share_after election.now step next) front.now }
     requires some { 0 < length trials.old.items }
     requires few { next + length trials.old.items ≤ max_raises + 1 }
     requires tried { (raises : ℕ) → raises < next
@@ -106,6 +119,7 @@ fn try_raises<R: Threads + Sync, G: Gate, A: Allocator + Copy + Send + Sync, B: 
 {
     let group = Group {
         pricing,
+        front,
         budget: election.budget(),
         opening: opening_share(election),
         step,
@@ -273,13 +287,24 @@ fn decide<R: Threads + Sync, G: Gate, A: Allocator + Copy + Send + Sync, B: Allo
 {
     let processors = processors(pricing.rt);
     let workers = workers_for_trials(pricing.workers, pricing.supporters);
+    let opening = opening_share(election);
+    let mut front = Front::open(pricing.alloc, pricing.measure, pricing.supporters, opening)?;
     let mut next = from;
     while next <= max_raises {
         let left = max_raises + 1 - next;
-        let share = raised_share(opening_share(election), next, step);
+        let share = raised_share(opening, next, step);
         pricing.gate.raised(next, share);
+        front.extend(share)?;
         resize(pricing.alloc, &mut team.trials, workers, processors, left)?;
-        let found = try_raises(pricing, election, &mut team.trials, step, max_raises, next)?;
+        let found = try_raises(
+            pricing,
+            election,
+            &front,
+            &mut team.trials,
+            step,
+            max_raises,
+            next,
+        )?;
         if let Some(raises) = found {
             return Ok(Some(raises));
         }

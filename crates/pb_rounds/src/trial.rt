@@ -1,22 +1,19 @@
 //! A trial of a raise: only how the run at its share ends, and whom it elects.
 
-ghost use Rattle.std.specs.Prelude.{◌≡◌, ◌≤◌, [], length, replicate, IfOk, OnOk};
+ghost use Rattle.std.specs.Prelude.{◌≤◌, IfOk};
 ghost use Rattle.pb_price.specs.Price.{largest_share};
-ghost use Rattle.pb_price.specs.Supporters.{IsSupport};
-ghost use Rattle.pb_rounds.specs.Inner.Bounds.{IsOpening};
+ghost use Rattle.pb_rounds.specs.Inner.Front.{IsFront};
 ghost use Rattle.pb_rounds.specs.Inner.RaiseEnds.{IsTried};
 
-use crate::bounds::{fill_opening, next_best};
+use crate::bounds::next_best;
+use crate::front::Front;
 use crate::key::Key;
-use crate::measure::Measure;
 use crate::outcome::Outcome;
 use crate::raise_end::RaiseEnd;
 use crate::round::elect;
-use crate::run::open;
-use crate::standing::{clear_marks, is_exhausted, mark};
+use crate::standing::{is_exhausted, mark};
 use pb_core::money::Money;
 use pb_core::no_memory::NoMemory;
-use pb_price::supporters::Supporters;
 use std::alloc::{Allocator, Global};
 use std::collections::BTreeSet;
 
@@ -49,61 +46,33 @@ impl<A: Allocator> Trial<A> {
         }
     }
 
-    /// How a run at this share ends, and whom it elects, unless it is over.
+    /// How a run at this share ends, and whom it elects, unless it is over. It begins behind the front.
     pub(crate) fn end_of(
         &mut self,
-        measure: Measure,
-        supporters: &Supporters<A>,
+        front: &Front<'_, A>,
         budget: Money,
         share: Money,
     ) -> Result<RaiseEnd, NoMemory>
     where
         A: Copy,
-        requires { share ≤ largest_share }
-        ensures { IfOk result (IsTried measure supporters.now budget share self.new.outcome.elected) }
+        requires front { IsFront front.now }
+        requires from { front.now.outcome.share ≤ share }
+        requires small { share ≤ largest_share }
+        ensures { IfOk result (IsTried front.now.measure front.now.support budget share self.new.outcome.elected) }
     {
         let mut spent = 0;
         let (queue, marks) = (&mut self.queue, &mut self.marks);
         let outcome = &mut self.outcome;
-        let end = end_at(
-            measure, supporters, budget, share, queue, marks, &mut spent, outcome,
-        )?;
+        let end = end_at(front, budget, share, queue, marks, &mut spent, outcome)?;
         self.spent = spent;
         Ok(end)
     }
 }
 
-/// Begins a run at this share: the queue has who can be paid, nobody is elected, and every rest is the share.
-pub(crate) fn start<A: Allocator + Copy>(
-    measure: Measure,
-    supporters: &Supporters<A>,
-    share: Money,
-    queue: &mut BTreeSet<Key, A>,
-    outcome: &mut Outcome<A>,
-) -> Result<(), NoMemory>
-    requires { share ≤ largest_share }
-    ensures support { OnOk result (IsSupport supporters.now) }
-    ensures queue { OnOk result
-        (IsOpening measure supporters.now share (length supporters.now.costs) queue.new.keys) }
-    ensures outcome { OnOk result (outcome.new
-        ≡ record {
-          share = share;
-          raised = 0;
-          elected = [];
-          rests = replicate supporters.now.voters share;
-          priced = [];
-        }) }
-{
-    fill_opening(queue, measure, supporters, share)?;
-    open(outcome, share, 0, supporters.voters())?;
-    Ok(())
-}
-
-/// How a run at this share ends, and whom it elects, into an outcome whose lists are used again. It goes no further once the
-/// elected cost more than the budget. `spent` becomes what they cost together, in hundredths.
+/// How a run at this share ends, and whom it elects, into an outcome whose lists are used again. It begins behind the front, and
+/// goes no further once the elected cost more than the budget. `spent` becomes what they cost together, in hundredths.
 fn end_at<A: Allocator + Copy>(
-    measure: Measure,
-    supporters: &Supporters<A>,
+    front: &Front<'_, A>,
     budget: Money,
     share: Money,
     queue: &mut BTreeSet<Key, A>,
@@ -111,19 +80,25 @@ fn end_at<A: Allocator + Copy>(
     spent: &mut u128,
     outcome: &mut Outcome<A>,
 ) -> Result<RaiseEnd, NoMemory>
-    requires { share ≤ largest_share }
-    ensures { IfOk result (IsTried measure supporters.now budget share outcome.new.elected) }
+    requires front { IsFront front.now }
+    requires from { front.now.outcome.share ≤ share }
+    requires small { share ≤ largest_share }
+    ensures { IfOk result (IsTried front.now.measure front.now.support budget share outcome.new.elected) }
 {
-    start(measure, supporters, share, queue, outcome)?;
-    clear_marks(marks, supporters.projects())?;
-    let mut sum: u128 = 0;
+    let supporters = front.supporters;
+    let most = u128::from(budget.0);
+    let mut sum = front.start(share, queue, marks, outcome)?;
+    *spent = sum;
+    if sum > most {
+        return Ok(RaiseEnd::Over);
+    }
     while let Some(best) = next_best(supporters, outcome.rests.as_slice(), &None, queue)? {
         elect(supporters, best, outcome)?;
         let place = best.place();
         mark(marks, place);
         sum += u128::from(supporters.cost(place).0);
         *spent = sum;
-        if sum > u128::from(budget.0) {
+        if sum > most {
             return Ok(RaiseEnd::Over);
         }
     }

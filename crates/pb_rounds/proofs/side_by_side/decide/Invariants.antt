@@ -1,5 +1,6 @@
 use Rattle.std.proofs.Common.{◌≡◌, ℕ, ◌+◌, ◌-◌, ◌<◌, ◌≤◌, false, length}
-use Rattle.pb_rounds.specs.Count.{is_decisive}
+use Rattle.pb_rounds.specs.Count.{is_decisive, share_after}
+use Rattle.pb_rounds.specs.Inner.Front.{IsFront, IsFrontAt}
 use Rattle.pb_rounds.proofs.side_by_side.decide.Given as goal
 
 abbrev pub invariant-loop-next : goal.invariant-loop-next
@@ -7,6 +8,9 @@ invariant-loop-next g l = record {
   within : l.next ≤ l.max_raises + 1;
   few : length l.team.trials.items ≤ 64;
   tried : (raises : ℕ) → raises < l.next → is_decisive l.pricing.measure l.election l.step raises ≡ false;
+  front : IsFront l.front;
+  of : IsFrontAt l.pricing.measure l.pricing.supporters.now l.front.outcome.share l.front;
+  from : l.front.outcome.share ≤ share_after l.election l.step l.next;
 }
 
 abbrev pub decreases-loop-next : goal.decreases-loop-next

@@ -7,7 +7,7 @@ abbrev pub invariant-loop-best : goal.invariant-loop-best
 invariant-loop-best g l = record {
   is_support : IsSupport l.supporters;
   within : l.sum ≤ l.fn.budget;
-  trying : Trying l.fn.measure l.supporters l.fn.share l.queue.keys l.outcome l.marks.items l.sum;
+  trying : Trying l.fn.front.measure l.supporters l.fn.share l.queue.keys l.outcome l.marks.items l.sum;
 }
 
 abbrev pub decreases-loop-best : goal.decreases-loop-best
