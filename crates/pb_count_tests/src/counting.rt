@@ -2,7 +2,7 @@
 //! report shows as well stands in the cases of the program.
 
 use crate::checks;
-use crate::checks::same;
+use crate::checks::{holds, same};
 use crate::crowd::Crowd;
 use crate::elections::{THREE_VOTERS, amounts, read};
 use crate::outcomes::counted;
@@ -10,6 +10,7 @@ use pb_core::money::Money;
 use pb_price::gate::{Gate, NoGate};
 use pb_rounds::count::equal_shares;
 use pb_rounds::count_fault::CountFault;
+use pb_rounds::key::Key;
 use pb_rounds::measure::Measure;
 use pb_rounds::options::{Completion, CountOptions};
 use pb_rounds::outcome::{Elected, Outcome};
@@ -298,6 +299,46 @@ fn workers_meet_in_a_round(rt: HostRuntime) {
     drop(winners);
     drop(outcome);
     drop(file);
+}
+
+/// Price, weight and place of two keys, of which the first comes before the second.
+const KEYS: &[((u64, u64, u32), (u64, u64, u32))] = &[
+    ((399, 3, 3), (400, 3, 2)),
+    ((400, 3, 2), (400, 3, 3)),
+    ((800, 6, 1), (400, 3, 2)),
+    ((400, 3, 2), (800, 6, 3)),
+    ((400, 4, 9), (400, 3, 2)),
+    ((400, 3, 1), (800, 6, 2)),
+    ((400, 3, 2), (800, 6, 2)),
+    ((u64::MAX - 1, u64::MAX, 9), (u64::MAX, u64::MAX, 0)),
+];
+
+/// The key with these parts.
+fn key(rt: &impl Abort, parts: (u64, u64, u32)) -> Key {
+    let (price, weight, place) = parts;
+    assert!(rt; 1 <= weight);
+    let key = Key::new(Money(price), weight, place);
+    same(
+        rt,
+        (key.price().0, key.weight(), key.place()),
+        parts,
+        "a key",
+    );
+    key
+}
+
+/// The first comes before the second.
+fn comes_before<T: PartialOrd + Copy>(rt: &impl Abort, first: T, second: T) {
+    holds(rt, first < second, "less");
+    holds(rt, second > first, "greater");
+    holds(rt, first != second, "not equal");
+}
+
+#[test]
+fn orders_keys(rt: HostRuntime) {
+    for (first, second) in KEYS {
+        comes_before(&rt, key(&rt, *first), key(&rt, *second));
+    }
 }
 
 /// Faults, and what is said of them.

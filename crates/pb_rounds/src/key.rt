@@ -9,7 +9,7 @@ use std::marker::Model;
 ///
 /// The definitions call its value a bid (`specs/Bid.antt`).
 #[derive(Clone, Copy, Debug, PartialEq, Eq)]
-pub(crate) struct Key {
+pub struct Key {
     price: Money,
     weight: u64,
     place: u32,
@@ -30,7 +30,7 @@ impl Model for Key {
 
 impl Key {
     /// The key of the project at this place, at this price, in hundredths, and this weight, which is at least 1.
-    pub(crate) fn new(price: Money, weight: u64, place: u32) -> Key
+    pub fn new(price: Money, weight: u64, place: u32) -> Key
         requires { 1 ≤ weight }
         ensures { result ≡ record { price = price; weight = weight; place = place } }
     {
@@ -42,14 +42,14 @@ impl Key {
     }
 
     /// What each supporter pays at most, in hundredths.
-    pub(crate) fn price(&self) -> Money
+    pub fn price(&self) -> Money
         ensures { result ≡ self.now.price }
     {
         self.price
     }
 
     /// What the price is divided by: at least 1.
-    pub(crate) fn weight(&self) -> u64
+    pub fn weight(&self) -> u64
         ensures weight { result ≡ self.now.weight }
         ensures positive { 1 ≤ result }
     {
@@ -57,7 +57,7 @@ impl Key {
     }
 
     /// The project's place in the file, from 0.
-    pub(crate) fn place(&self) -> u32
+    pub fn place(&self) -> u32
         ensures { result ≡ self.now.place }
     {
         self.place

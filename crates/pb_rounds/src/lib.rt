@@ -6,7 +6,7 @@ pub mod count;
 pub mod count_fault;
 mod front;
 mod jump;
-mod key;
+pub mod key;
 pub mod laws;
 pub mod measure;
 pub mod options;
@@ -25,6 +25,7 @@ mod trial;
 
 pub use count::equal_shares;
 pub use count_fault::CountFault;
+pub use key::Key;
 pub use measure::Measure;
 pub use options::{Completion, CountOptions};
 pub use outcome::{Elected, Outcome};
