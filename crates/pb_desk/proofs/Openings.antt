@@ -11,7 +11,8 @@ use Rattle.std.proofs.lemmas.Slice.Eq.{bytes_eq-Decides}
 use Rattle.pb_core.specs.Election.{ElectionView, VoterView, AreDistinct, IsElection, IsVoter}
 use Rattle.pb_core.specs.Request.{EntryView}
 use Rattle.pb_desk.specs.Desk.{AreKnown, IsStanding}
-use Rattle.pb_desk.specs.Replay.{ballots_of, opened}
+use Rattle.pb_desk.specs.Replay.{opened}
+use Rattle.pb_desk.specs.Inner.Legal.{ballots_of}
 use Rattle.pb_desk.specs.Inner.Sources.{ballots_at, found_at, opened_from, AreFound, AreSources, IsInOrder}
 use Rattle.pb_desk.specs.declared.source.Source.{Source}
 use Rattle.pb_desk.specs.declared.source.Source.TheVariants.{Opening}

@@ -2,7 +2,8 @@
 
 ghost use Rattle.std.specs.Prelude.{◌≡◌, ◌≤◌, [], length, IfErr, IfOk};
 ghost use Rattle.std.specs.Vec.{vec_capacity};
-ghost use Rattle.pb_desk.specs.Desk.{voters_of, IsStanding};
+ghost use Rattle.pb_desk.specs.Desk.{IsStanding};
+ghost use Rattle.pb_desk.specs.Inner.Legal.{voters_of};
 
 use super::BallotBox;
 use pb_core::election::Election;

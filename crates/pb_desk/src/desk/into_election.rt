@@ -1,8 +1,7 @@
 // The election that a desk leaves when it is shut.
 
-ghost use Rattle.std.specs.Prelude.{◌≡◌, true, IfErr, IfOk, OnOk};
+ghost use Rattle.std.specs.Prelude.{◌≡◌, true, if◌then◌else◌, IfErr, IfOk, OnOk};
 ghost use Rattle.pb_desk.specs.Desk.{closed_election, standing_of};
-ghost use Rattle.pb_desk.specs.IntoFault.{HandsBack};
 
 use super::Desk;
 use crate::into_fault::IntoFault;
@@ -18,7 +17,8 @@ impl<A: Allocator> Desk<A> {
         A: Copy,
         ensures ok { IfOk result (λ election. election ≡ closed_election self) }
         ensures shut { OnOk result ((standing_of self).is_shut ≡ true) }
-        ensures err { IfErr result (HandsBack self) }
+        ensures err { IfErr result (λ fault. fault
+            ≡ (if (standing_of self).is_shut then IntoFault.NoMemory self else IntoFault.NotShut self)) }
     {
         if !self.is_shut() {
             return Err(IntoFault::NotShut(self));

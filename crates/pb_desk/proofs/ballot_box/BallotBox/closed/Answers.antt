@@ -1,6 +1,6 @@
 use Rattle.std.proofs.Common.{◌≡◌, ◌∙◌, length, ap, sym}
 use Rattle.std.proofs.lemmas.List.{length-map}
-use Rattle.pb_desk.specs.Desk.{voters_of}
+use Rattle.pb_desk.specs.Inner.Legal.{voters_of}
 use Rattle.pb_desk.specs.Inner.Sources.{ballot_at, ballots_at, BoxView}
 use Rattle.pb_desk.proofs.Closings.{are_voters, own_voters}
 use Rattle.pb_desk.proofs.ballot_box.BallotBox.closed.Goals as goal

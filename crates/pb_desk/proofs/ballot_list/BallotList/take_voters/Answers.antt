@@ -4,7 +4,7 @@ use Rattle.std.specs.Option.{option_map, IfSome, IsSome}
 use Rattle.std.proofs.lemmas.List.{drop_all}
 use Rattle.std.proofs.lemmas.Option.{slice_get_read}
 use Rattle.pb_core.specs.Election.{VoterView}
-use Rattle.pb_desk.specs.Desk.{voters_of}
+use Rattle.pb_desk.specs.Inner.Legal.{voters_of}
 use Rattle.pb_desk.specs.Inner.Slots.{filed, IsListing}
 use Rattle.pb_desk.specs.Inner.Sources.{ballots_at, IsOwnVoter}
 use Rattle.pb_desk.specs.declared.source.Source.{Source}

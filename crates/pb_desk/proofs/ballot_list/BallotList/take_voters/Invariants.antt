@@ -1,6 +1,6 @@
 use Rattle.std.proofs.Common.{◌≤◌, length, drop}
 use Rattle.std.specs.Vec.{vec_capacity}
-use Rattle.pb_desk.specs.Desk.{voters_of}
+use Rattle.pb_desk.specs.Inner.Legal.{voters_of}
 use Rattle.pb_desk.specs.Inner.Slots.{filed}
 use Rattle.pb_desk.specs.Inner.Sources.{ballots_at}
 use Rattle.pb_desk.proofs.Closings.{IsSoFar}

@@ -1,5 +1,6 @@
 use Rattle.std.proofs.Common.{◌∙◌, ap}
-use Rattle.pb_desk.specs.Desk.{closed_election, voters_of}
+use Rattle.pb_desk.specs.Desk.{closed_election}
+use Rattle.pb_desk.specs.Inner.Legal.{voters_of}
 use Rattle.pb_desk.proofs.desk.Desk.into_election.Goals as goal
 
 pub close-requires : goal.close-requires
