@@ -9,19 +9,20 @@ use Rattle.pb_core.specs.Request.{EntryView, RequestView}
 use Rattle.pb_core.specs.declared.answer.Answer.{Answer}
 use Rattle.pb_desk.specs.Desk.{DeskView}
 use Rattle.pb_desk.specs.Replay.{IsLegal}
-use Rattle.pb_shared.specs.Clerk.{CanHave, ClerkView, GrowsByOthers, IsAnothers, Reads, Sees, Serves, Tries, desk_with}
+use Rattle.pb_shared.specs.Clerk.{CanHave, ClerkView, GrowsByOthers, IsAnothers, Reads, Sees, Serves, SharedView, Tries, desk_with}
 use Rattle.pb_shared.specs.Refusal.{Refuses}
-use Rattle.pb_shared.specs.Rule.{Sitter}
+use Rattle.pb_shared.specs.Inner.Rule.{Sitter}
 use Rattle.pb_shared.specs.Inner.Plays.{CanSee, won, freed, published, has_read, reads}
 use Rattle.pb_shared.specs.Seats.{clerk_view}
 use Rattle.pb_shared.specs.Inner.Seats.{HasLost, HasServed, HasWon, IsDeskOf}
 use Rattle.pb_shared.specs.declared.seat_view.SeatView.{SeatView}
+use Rattle.pb_shared.specs.declared.seat_view.Sheet.{Sheet}
 use Rattle.pb_shared.specs.declared.shared_fault.SharedFault.{SharedFault}
 use Rattle.pb_shared.specs.declared.shared_fault.SharedFault.TheVariants.{Busy, JournalFull, NoMemory}
 
 -- one exchange
-one_try : (c c' : ClerkView) (word : ℕ) → c'.found ≡ c.found ++ word ∷ [] → Tries 1 c word c'
-one_try c c' word is = ([], All-nil (IsAnothers c), omega arith, is)
+one_try : (d : SharedView) (x x' : Sheet) (word : ℕ) → x'.found ≡ x.found ++ word ∷ [] → Tries 1 d x word x'
+one_try d x x' word is = ([], All-nil (IsAnothers d x), omega arith, is)
 
 -- the desk as it was taken out
 pub as_taken : (m m1 : Sitter) (desk : DeskView) (won_lock : HasWon m desk m1) → IsDeskOf m1 desk m1.0.sheet.seen
@@ -43,109 +44,109 @@ has_served m m1 desk desk' seen x was is_desk opening room journal by =
     )
 
 -- a call that was answered
-pub serves : (id id' : TableId) (m m1 m2 : Sitter) (c : ClerkView) (desk desk' : DeskView) (seen : List EntryView) (x : EntryView)
-    → clerk_view id m ≡ c → id' ≡ id → CanSee m.0 seen → m1.0 ≡ won m.0 seen → desk ≡ desk_with m.0.about.desk.value seen
+pub serves : (id : TableId) (m m1 m2 : Sitter) (c : ClerkView) (d : SharedView) (desk desk' : DeskView) (seen : List EntryView) (x : EntryView)
+    → clerk_view id m ≡ c → c.desk ≡ d → CanSee m.0 seen → m1.0 ≡ won m.0 seen → desk ≡ desk_with m.0.about.desk.value seen
     → desk'.opening ≡ desk.opening → desk'.room ≡ desk.room → desk'.journal ≡ desk.journal ++ x ∷ [] → IsLegal desk'.opening desk'.journal → length desk'.journal ≤ desk'.room
-    → m2 ≡ (freed (published m1.0 desk'.journal), []) → x.clerk ≡ m.0.sheet.number → Serves 1 c x.request x.answer (clerk_view id' m2)
-serves id id' m m1 m2 c desk desk' seen x view ids can was is_desk opening room journal legal fits after by =
+    → m2 ≡ (freed (published m1.0 desk'.journal), []) → x.clerk ≡ m.0.sheet.number → Serves 1 d c.sheet x.request x.answer m2.0.sheet
+serves id m m1 m2 c d desk desk' seen x view own can was is_desk opening room journal legal fits after by =
     let v : SeatView = m.0 in
     let last : EntryView = record { clerk = v.sheet.number; request = x.request; answer = x.answer } in
     let x_is : x ≡ last = λ i. record { clerk = by i; request = x.request; answer = x.answer } in
     let grown : desk'.journal ≡ seen ++ last ∷ [] = journal ∙ (λ i. ap (λ (d : DeskView). d.journal) is_desk i ++ x_is i ∷ []) in
     let mine : v.sheet.mine ++ drop (length seen) desk'.journal ≡ v.sheet.mine ++ last ∷ [] = ap (λ l. v.sheet.mine ++ l) (ap (drop (length seen)) grown ∙ drop-append_seam seen (last ∷ [])) in
     let after' : m2 ≡ (freed (published (won v seen) desk'.journal), []) = after ∙ (λ i. (freed (published (was i) desk'.journal), [])) in
-    let view_is : clerk_view id' m2 ≡ clerk_view id (freed (published (won v seen) desk'.journal), []) = λ i. clerk_view (ids i) (after' i) in
-    let journal_is : (clerk_view id' m2).seen ≡ desk'.journal = ap (λ (d : ClerkView). d.seen) view_is in
-    let found_is : (clerk_view id' m2).found ≡ v.sheet.found ++ 0 ∷ [] = ap (λ (d : ClerkView). d.found) view_is in
-    subst (λ (d : ClerkView). Serves 1 d x.request x.answer (clerk_view id' m2)) view (
+    let sheet_is : m2.0.sheet ≡ (freed (published (won v seen) desk'.journal)).sheet = ap (λ (z : Sitter). z.0.sheet) after' in
+    let journal_is : m2.0.sheet.seen ≡ desk'.journal = ap (λ (x : Sheet). x.seen) sheet_is in
+    let found_is : m2.0.sheet.found ≡ v.sheet.found ++ 0 ∷ [] = ap (λ (x : Sheet). x.found) sheet_is in
+    subst (λ (e : SharedView). Serves 1 e c.sheet x.request x.answer m2.0.sheet) own (subst (λ (k : ClerkView). Serves 1 k.desk k.sheet x.request x.answer m2.0.sheet) view (
       seen,
       can.begins,
       (
-        subst (λ (d : DeskView). IsLegal d.opening (clerk_view id' m2).seen) is_desk (subst (λ j. IsLegal desk.opening j) (sym journal_is) (subst (λ o. IsLegal o desk'.journal) opening legal)),
-        subst (λ (d : DeskView). length (clerk_view id' m2).seen ≤ d.room) is_desk (subst (λ j. length j ≤ desk.room) (sym journal_is) (subst (λ n. length desk'.journal ≤ n) room fits)),
+        subst (λ (d : DeskView). IsLegal d.opening m2.0.sheet.seen) is_desk (subst (λ j. IsLegal desk.opening j) (sym journal_is) (subst (λ o. IsLegal o desk'.journal) opening legal)),
+        subst (λ (d : DeskView). length m2.0.sheet.seen ≤ d.room) is_desk (subst (λ j. length j ≤ desk.room) (sym journal_is) (subst (λ n. length desk'.journal ≤ n) room fits)),
       ),
-      one_try (clerk_view id m) (clerk_view id' m2) 0 found_is,
-      view_is ∙ (λ i. record (clerk_view id m) { seen = grown i; mine = mine i; found = sym found_is i }),
-    )
+      one_try (clerk_view id m).desk v.sheet m2.0.sheet 0 found_is,
+      sheet_is ∙ (λ i. record v.sheet { seen = grown i; mine = mine i; found = sym found_is i }),
+    ))
 
 -- a call that won the lock, and added nothing
-pub sees : (id id' : TableId) (m m1 m2 : Sitter) (c : ClerkView) (desk : DeskView) (won_lock : HasWon m desk m1) → clerk_view id m ≡ c → id' ≡ id → m2 ≡ (freed m1.0, []) → Sees 1 c (clerk_view id' m2)
-sees id id' m m1 m2 c desk won_lock view ids after =
+pub sees : (id : TableId) (m m1 m2 : Sitter) (c : ClerkView) (d : SharedView) (desk : DeskView) (won_lock : HasWon m desk m1) → clerk_view id m ≡ c → c.desk ≡ d → m2 ≡ (freed m1.0, []) → Sees 1 d c.sheet m2.0.sheet
+sees id m m1 m2 c d desk won_lock view own after =
     let v : SeatView = m.0 in
     let seen : List EntryView = won_lock.0 in
     let can = won_lock.1 in
     let after' : m2 ≡ (freed (won v seen), []) = after ∙ (λ i. (freed (won_lock.3 i).0, [])) in
-    let view_is : clerk_view id' m2 ≡ clerk_view id (freed (won v seen), []) = λ i. clerk_view (ids i) (after' i) in
-    let seen_is : (clerk_view id' m2).seen ≡ seen = ap (λ (d : ClerkView). d.seen) view_is in
-    let found_is : (clerk_view id' m2).found ≡ v.sheet.found ++ 0 ∷ [] = ap (λ (d : ClerkView). d.found) view_is in
-    subst (λ (d : ClerkView). Sees 1 d (clerk_view id' m2)) view (
-      one_try (clerk_view id m) (clerk_view id' m2) 0 found_is,
+    let sheet_is : m2.0.sheet ≡ (freed (won v seen)).sheet = ap (λ (z : Sitter). z.0.sheet) after' in
+    let seen_is : m2.0.sheet.seen ≡ seen = ap (λ (x : Sheet). x.seen) sheet_is in
+    let found_is : m2.0.sheet.found ≡ v.sheet.found ++ 0 ∷ [] = ap (λ (x : Sheet). x.found) sheet_is in
+    subst (λ (e : SharedView). Sees 1 e c.sheet m2.0.sheet) own (subst (λ (k : ClerkView). Sees 1 k.desk k.sheet m2.0.sheet) view (
+      one_try (clerk_view id m).desk v.sheet m2.0.sheet 0 found_is,
       (subst (CanHave v.about.desk.value) (sym seen_is) can.can_be, subst (GrowsByOthers v.sheet.number v.sheet.seen) (sym seen_is) can.begins),
-      view_is ∙ (λ i. record (clerk_view id m) { seen = sym seen_is i; found = sym found_is i }),
-    )
+      sheet_is ∙ (λ i. record v.sheet { seen = sym seen_is i; found = sym found_is i }),
+    ))
 
 -- the desk that it saw
-pub sees_desk : (id id' : TableId) (m m1 m2 : Sitter) (c : ClerkView) (desk : DeskView) (won_lock : HasWon m desk m1) → clerk_view id m ≡ c → id' ≡ id → m2 ≡ (freed m1.0, [])
-    → desk ≡ desk_with c.desk.start (clerk_view id' m2).seen
-sees_desk id id' m m1 m2 c desk won_lock view ids after =
+pub sees_desk : (id : TableId) (m m1 m2 : Sitter) (c : ClerkView) (d : SharedView) (desk : DeskView) (won_lock : HasWon m desk m1) → clerk_view id m ≡ c → c.desk ≡ d → m2 ≡ (freed m1.0, [])
+    → desk ≡ desk_with d.start m2.0.sheet.seen
+sees_desk id m m1 m2 c d desk won_lock view own after =
     let after' : m2 ≡ (freed (won m.0 won_lock.0), []) = after ∙ (λ i. (freed (won_lock.3 i).0, [])) in
-    let seen_is : (clerk_view id' m2).seen ≡ won_lock.0 = λ i. (clerk_view (ids i) (after' i)).seen in
-    won_lock.2 ∙ (λ i. desk_with (view i).desk.start (sym seen_is i))
+    let seen_is : m2.0.sheet.seen ≡ won_lock.0 = λ i. (after' i).0.sheet.seen in
+    won_lock.2 ∙ (λ i. desk_with (view i).desk.start (sym seen_is i)) ∙ ap (λ (e : SharedView). desk_with e.start m2.0.sheet.seen) own
 
 -- a call that lost its exchange
-pub turned_away : (id id' : TableId) (m m' : Sitter) (c : ClerkView) (holder : ℕ) (lost_lock : HasLost m holder m') → clerk_view id m ≡ c → id' ≡ id → Refuses 1 c (Busy holder) (clerk_view id' m')
-turned_away id id' m m' c holder lost_lock view ids =
-    let view_is : clerk_view id' m' ≡ record (clerk_view id m) { found = m.0.sheet.found ++ (holder + 1) ∷ [] } = λ i. clerk_view (ids i) (lost_lock.2 i) in
-    let found_is : (clerk_view id' m').found ≡ m.0.sheet.found ++ (holder + 1) ∷ [] = ap (λ (d : ClerkView). d.found) view_is in
-    subst (λ (d : ClerkView). Refuses 1 d (Busy holder) (clerk_view id' m')) view (
-      one_try (clerk_view id m) (clerk_view id' m') (holder + 1) found_is,
+pub turned_away : (id : TableId) (m m' : Sitter) (c : ClerkView) (d : SharedView) (holder : ℕ) (lost_lock : HasLost m holder m') → clerk_view id m ≡ c → c.desk ≡ d → Refuses 1 d c.sheet (Busy holder) m'.0.sheet
+turned_away id m m' c d holder lost_lock view own =
+    let sheet_is : m'.0.sheet ≡ record m.0.sheet { found = m.0.sheet.found ++ (holder + 1) ∷ [] } = λ i. (lost_lock.2 i).0.sheet in
+    let found_is : m'.0.sheet.found ≡ m.0.sheet.found ++ (holder + 1) ∷ [] = ap (λ (x : Sheet). x.found) sheet_is in
+    subst (λ (e : SharedView). Refuses 1 e c.sheet (Busy holder) m'.0.sheet) own (subst (λ (k : ClerkView). Refuses 1 k.desk k.sheet (Busy holder) m'.0.sheet) view (
+      one_try (clerk_view id m).desk m.0.sheet m'.0.sheet (holder + 1) found_is,
       (omega arith, (let known = lost_lock.0 in omega arith), λ same. lost_lock.1 (omega arith)),
       ap length found_is ∙ length-append m.0.sheet.found ((holder + 1) ∷ []),
-      view_is ∙ (λ i. record (clerk_view id m) { found = sym found_is i }),
-    )
+      sheet_is ∙ (λ i. record m.0.sheet { found = sym found_is i }),
+    ))
 
 -- a load of the front word
-pub reads_front : (id id' : TableId) (m m' : Sitter) (c : ClerkView) (word : ℕ) → clerk_view id m ≡ c → id' ≡ id → reads m word m' → Reads c word (clerk_view id' m')
-reads_front id id' m m' c word view ids r =
+pub reads_front : (id : TableId) (m m' : Sitter) (c : ClerkView) (d : SharedView) (word : ℕ) → clerk_view id m ≡ c → c.desk ≡ d → reads m word m' → Reads d c.sheet word m'.0.sheet
+reads_front id m m' c d word view own r =
     let v : SeatView = m.0 in
-    let view_is : clerk_view id' m' ≡ clerk_view id (has_read v r.0 word, m.1) = λ i. clerk_view (ids i) (r.4 i) in
-    let seen_is : (clerk_view id' m').seen ≡ r.0 = ap (λ (d : ClerkView). d.seen) view_is in
-    subst (λ (d : ClerkView). Reads d word (clerk_view id' m')) view (
+    let sheet_is : m'.0.sheet ≡ (has_read v r.0 word).sheet = λ i. (r.4 i).0.sheet in
+    let seen_is : m'.0.sheet.seen ≡ r.0 = ap (λ (x : Sheet). x.seen) sheet_is in
+    subst (λ (e : SharedView). Reads e c.sheet word m'.0.sheet) own (subst (λ (k : ClerkView). Reads k.desk k.sheet word m'.0.sheet) view (
       (subst (CanHave v.about.desk.value) (sym seen_is) r.1.can_be, subst (GrowsByOthers v.sheet.number v.sheet.seen) (sym seen_is) r.1.begins),
       r.3 ∙ ap length (sym seen_is),
-      view_is ∙ (λ i. record (clerk_view id m) { seen = sym seen_is i; read = v.sheet.read ++ word ∷ [] }),
-    )
+      sheet_is ∙ (λ i. record v.sheet { seen = sym seen_is i; read = v.sheet.read ++ word ∷ [] }),
+    ))
 
--- the clerk after exchanges that it lost
-abbrev pub after_losses : ClerkView → List ℕ → ClerkView
-after_losses c words = record c { found = c.found ++ words }
+-- what the clerk knows after exchanges that it lost
+abbrev pub after_losses : Sheet → List ℕ → Sheet
+after_losses x words = record x { found = x.found ++ words }
 
 -- one exchange more, after those that were lost
-module _ (c c' : ClerkView) (lost : List ℕ) (tries : ℕ) (others : All (IsAnothers c) lost) where
-  tries_later : (word : ℕ) → length lost < tries → Tries 1 (after_losses c lost) word c' → Tries tries c word c'
+module _ (d : SharedView) (x x' : Sheet) (lost : List ℕ) (tries : ℕ) (others : All (IsAnothers d x) lost) where
+  tries_later : (word : ℕ) → length lost < tries → Tries 1 d (after_losses x lost) word x' → Tries tries d x word x'
   tries_later word few t = (
     lost ++ t.0,
-    All-append (IsAnothers c) lost t.0 others (λ k d inside. t.1 k d inside),
+    All-append (IsAnothers d x) lost t.0 others (λ k e inside. t.1 k e inside),
     (let none = t.2 in omega (arith, length-append lost t.0)),
-    t.3 ∙ (append_assoc c.found lost (t.0 ++ word ∷ []) ∙ ap (λ l. c.found ++ l) (sym (append_assoc lost t.0 (word ∷ [])))),
+    t.3 ∙ (append_assoc x.found lost (t.0 ++ word ∷ []) ∙ ap (λ l. x.found ++ l) (sym (append_assoc lost t.0 (word ∷ [])))),
   )
 
-  sees_later : length lost < tries → Sees 1 (after_losses c lost) c' → Sees tries c c'
+  sees_later : length lost < tries → Sees 1 d (after_losses x lost) x' → Sees tries d x x'
   sees_later few s = (tries_later 0 few s.0, s.1, s.2)
 
-  pub serves_later : (request : RequestView) (answer : Answer) → length lost < tries → Serves 1 (after_losses c lost) request answer c' → Serves tries c request answer c'
+  pub serves_later : (request : RequestView) (answer : Answer) → length lost < tries → Serves 1 d (after_losses x lost) request answer x' → Serves tries d x request answer x'
   serves_later request answer few s = (s.0, s.1, s.2, tries_later 0 few s.3, s.4)
 
   -- refused while tries were left, but not because of the lock
-  pub full_later : length lost < tries → Refuses 1 (after_losses c lost) JournalFull c' → Refuses tries c JournalFull c'
+  pub full_later : length lost < tries → Refuses 1 d (after_losses x lost) JournalFull x' → Refuses tries d x JournalFull x'
   full_later few r = (sees_later few r.0, r.1)
 
-  pub no_memory_later : length lost < tries → Refuses 1 (after_losses c lost) NoMemory c' → Refuses tries c NoMemory c'
+  pub no_memory_later : length lost < tries → Refuses 1 d (after_losses x lost) NoMemory x' → Refuses tries d x NoMemory x'
   no_memory_later few r = (sees_later few r.0, r.1)
 
   -- refused at the last of the tries
-  pub refuses_last : (fault : SharedFault) → length lost + 1 ≡ tries → Refuses 1 (after_losses c lost) fault c' → Refuses tries c fault c'
-  refuses_last (Busy holder) last r = (tries_later (holder + 1) (omega arith) r.0, r.1, (let count = r.2 in omega (arith, length-append c.found lost)), r.3)
+  pub refuses_last : (fault : SharedFault) → length lost + 1 ≡ tries → Refuses 1 d (after_losses x lost) fault x' → Refuses tries d x fault x'
+  refuses_last (Busy holder) last r = (tries_later (holder + 1) (omega arith) r.0, r.1, (let count = r.2 in omega (arith, length-append x.found lost)), r.3)
   refuses_last JournalFull last r = full_later (omega arith) r
   refuses_last NoMemory last r = no_memory_later (omega arith) r
 
@@ -154,13 +155,13 @@ none_lost [] few = refl
 none_lost (word ∷ words) few = absurd (omega arith)
 
 -- one more lost exchange
-pub loses_again : (c c' : ClerkView) (lost : List ℕ) (holder : ℕ) → All (IsAnothers c) lost → Refuses 1 (after_losses c lost) (Busy holder) c'
-    → All (IsAnothers c) (lost ++ (holder + 1) ∷ []) × (c' ≡ after_losses c (lost ++ (holder + 1) ∷ []))
-loses_again c c' lost holder others r = (
-  All-append (IsAnothers c) lost ((holder + 1) ∷ []) others (All-cons (IsAnothers c) (holder + 1) [] r.1 (All-nil (IsAnothers c))),
+pub loses_again : (d : SharedView) (x x' : Sheet) (lost : List ℕ) (holder : ℕ) → All (IsAnothers d x) lost → Refuses 1 d (after_losses x lost) (Busy holder) x'
+    → All (IsAnothers d x) (lost ++ (holder + 1) ∷ []) × (x' ≡ after_losses x (lost ++ (holder + 1) ∷ []))
+loses_again d x x' lost holder others r = (
+  All-append (IsAnothers d x) lost ((holder + 1) ∷ []) others (All-cons (IsAnothers d x) (holder + 1) [] r.1 (All-nil (IsAnothers d x))),
   (
-      let found_is : c'.found ≡ c.found ++ (lost ++ (holder + 1) ∷ []) = r.0.3 ∙ (ap (λ l. (c.found ++ lost) ++ (l ++ (holder + 1) ∷ [])) (none_lost r.0.0 r.0.2) ∙ append_assoc c.found lost ((holder + 1) ∷ [])) in
-      r.3 ∙ (λ i. record c { found = found_is i })
+      let found_is : x'.found ≡ x.found ++ (lost ++ (holder + 1) ∷ []) = r.0.3 ∙ (ap (λ l. (x.found ++ lost) ++ (l ++ (holder + 1) ∷ [])) (none_lost r.0.0 r.0.2) ∙ append_assoc x.found lost ((holder + 1) ∷ [])) in
+      r.3 ∙ (λ i. record x { found = found_is i })
       ),
 )
 

@@ -8,9 +8,10 @@ use Rattle.atomic_table.specs.Table.{State, Final, Seen}
 use Rattle.pb_core.specs.Request.{EntryView}
 use Rattle.pb_desk.specs.Desk.{DeskView}
 use Rattle.pb_shared.specs.Clerk.{SharedView, ClerkView, AreAll, Begins, IsMergeOf, IsHeldByAnother, desk_with, entries_of}
-use Rattle.pb_shared.specs.Rule.{history, RoleFits, Runs, DeskRule}
+use Rattle.pb_shared.specs.Rule.{RoleFits, Runs, DeskRule}
+use Rattle.pb_shared.specs.Inner.Rule.{history}
 use Rattle.pb_shared.specs.Seats.{shared_view}
-use Rattle.pb_shared.specs.Inner.Seats.{newcomer, sheet_of}
+use Rattle.pb_shared.specs.Inner.Seats.{newcomer}
 use Rattle.pb_shared.specs.declared.seat_view.About.{About}
 use Rattle.pb_shared.specs.declared.seat_view.Role.TheVariants.{Guest}
 use Rattle.pb_shared.specs.declared.seat_view.SeatView.{SeatView}
@@ -27,9 +28,9 @@ length_map f [] = refl
 length_map f (x ∷ xs) = ap suc (length_map f xs)
 
 -- the sheets of all clerks that were handed back are true
-of_clerks : (P : Sheet → Type 0) (clerks : List ClerkView) (sheets : List Sheet) → sheets ≡ map sheet_of clerks → All P sheets → All (λ c. P (sheet_of c)) clerks
+of_clerks : (P : Sheet → Type 0) (clerks : List ClerkView) (sheets : List Sheet) → sheets ≡ map (λ (c : ClerkView). c.sheet) clerks → All P sheets → All (λ c. P c.sheet) clerks
 of_clerks P clerks sheets same all k d inside =
-    let n = length_map sheet_of clerks in subst P (get_or-map sheet_of clerks k d) (subst (All P) same all k (sheet_of d) (omega arith))
+    let n = length_map (λ (c : ClerkView). c.sheet) clerks in subst P (get_or-map (λ (c : ClerkView). c.sheet) clerks k d) (subst (All P) same all k d.sheet (omega arith))
 
 -- the last state, as it was when the table was closed
 pub record IsLast (a : About) (word : ℕ) (slot : Option DeskView) (id : ℕ) (v : SeatView) : Type 0 where
@@ -37,8 +38,8 @@ pub record IsLast (a : About) (word : ℕ) (slot : Option DeskView) (id : ℕ) (
   pub later : List EntryView
   pub seat_of : ℕ → ℕ
   pub views : List SeatView
-  pub runs : Runs a word home later seat_of views
-  pub guest : RoleFits a word home later seat_of Guest id v
+  pub runs : Runs a word home (history a later) later seat_of views
+  pub guest : RoleFits a word home (history a later) later seat_of Guest id v
   pub back : word ≡ 0 → slot ≡ Some (desk_with a.desk.value (history a later))
 
 pub ends : (a : About) (id : ℕ) (v : SeatView) (words : List ℕ) (slots : List S) (word : ℕ) (slot : Option DeskView) → v.role ≡ Guest → Final (Seen (DeskRule a) id v) words slots
@@ -48,13 +49,13 @@ ends a id v words slots word slot role f found took =
     let rule : DeskRule a s = f.1.0 in
     let lock : ℕ = rule.0 in let home : Slot = rule.1 in let later : List EntryView = rule.2 in let seat_of : ℕ → ℕ = rule.3 in
     let same : lock ≡ word = some-injective lock word (ap (λ (l : List ℕ). get_elem? l 0) (sym rule.4 ∙ f.2) ∙ found) in
-    let runs : Runs a word home later seat_of s.views = subst (λ n. Runs a n home later seat_of s.views) same rule.6 in record {
+    let runs : Runs a word home (history a later) later seat_of s.views = subst (λ n. Runs a n home (history a later) later seat_of s.views) same rule.6 in record {
       home = home;
       later = later;
       seat_of = seat_of;
       views = s.views;
       runs = runs;
-      guest = subst (λ ρ. RoleFits a word home later seat_of ρ id v) role (runs.each id v f.1.1);
+      guest = subst (λ ρ. RoleFits a word home (history a later) later seat_of ρ id v) role (runs.each id v f.1.1);
       back = λ free.
           let d : DeskView = desk_with a.desk.value (history a later) in
           let at_home : get_elem? s.homes 0 ≡ some (some (Some d)) = ap (λ (h : List Slot). get_elem? h 0) rule.5 ∙ ap some (runs.free free) in
@@ -70,7 +71,7 @@ some_inside x y e = ap (desk_in x) e
 
 -- the desk comes back with the merge of the clerks' entries as its journal
 pub merges : (a : About) (tid : TableId) (id : ℕ) (v : SeatView) (d : SharedView) (clerks : List ClerkView) (word : ℕ) (slot : Option DeskView) (desk : DeskView) → IsLast a word slot id v
-    → shared_view tid a ≡ d → v.returned ≡ map sheet_of clerks → word ≡ 0 → slot ≡ Some desk → (desk ≡ desk_with d.start desk.journal) × IsMergeOf d clerks desk.journal
+    → shared_view tid a ≡ d → v.returned ≡ map (λ (c : ClerkView). c.sheet) clerks → word ≡ 0 → slot ≡ Some desk → (desk ≡ desk_with d.start desk.journal) × IsMergeOf d clerks desk.journal
 merges a tid id v d clerks word slot desk last view same free is =
     let runs = last.runs in
     let whole : List EntryView = history a last.later in
@@ -90,7 +91,7 @@ merges a tid id v d clerks word slot desk last view same free is =
 
 -- the lock is held for a clerk who was not handed back
 pub is_held : (a : About) (tid : TableId) (id : ℕ) (v : SeatView) (d : SharedView) (clerks : List ClerkView) (word : ℕ) (slot : Option DeskView) → IsLast a word slot id v
-    → shared_view tid a ≡ d → v.returned ≡ map sheet_of clerks → word ≢ 0 → IsHeldByAnother d clerks word
+    → shared_view tid a ≡ d → v.returned ≡ map (λ (c : ClerkView). c.sheet) clerks → word ≢ 0 → IsHeldByAnother d clerks word
 is_held a tid id v d clerks zero slot last view same held = absurd (held refl)
 is_held a tid id v d clerks (suc holder) slot last view same held =
     subst (λ (e : SharedView). IsHeldByAnother e clerks (suc holder)) view (
@@ -105,7 +106,7 @@ is_held a tid id v d clerks (suc holder) slot last view same held =
 pub not_held : (d : SharedView) (clerks : List ClerkView) (word : ℕ) → AreAll d clerks → IsHeldByAnother d clerks word → ⊥
 not_held d clerks word all h =
     let at = all h.0 h.1 in
-    let number : ClerkView → ℕ = λ c. c.number in
+    let number : ClerkView → ℕ = λ c. c.sheet.number in
     let n = length_map number clerks in
     let inside = at.1 in
     h.3 at.0 (newcomer d h.0) (omega arith) (sym (get_or-map number clerks at.0 (newcomer d h.0)) ∙ at.2)

@@ -12,7 +12,8 @@ use Rattle.pb_core.specs.Request.{EntryView}
 use Rattle.pb_desk.specs.Desk.{DeskView}
 use Rattle.pb_desk.specs.Replay.{IsLegal}
 use Rattle.pb_shared.specs.Clerk.{Begins, CanHave, GrowsByOthers, desk_with, entries_of}
-use Rattle.pb_shared.specs.Rule.{history, ClerkFits, RoleFits, Runs, DeskRule, Sitter}
+use Rattle.pb_shared.specs.Rule.{ClerkFits, RoleFits, Runs, DeskRule}
+use Rattle.pb_shared.specs.Inner.Rule.{history, Sitter}
 use Rattle.pb_shared.specs.Inner.Plays.{CanSee, won, lost, published, freed, has_read, tries_lock, publishes, frees, reads}
 use Rattle.pb_shared.specs.declared.seat_view.About.{About}
 use Rattle.pb_shared.specs.declared.seat_view.Role.TheVariants.{Clerk}
@@ -41,7 +42,7 @@ Goes a id me i f then s = (w : SeatView) × (act : Act S) × Valid s.homes me.1 
 abbrev GoesOn : About → ℕ → Sitter → ℕ → (ℕ → ℕ) → (ℕ → Sitter → Type 0) → Type 0
 GoesOn a id me i f then =
     (views : List SeatView) (lock : ℕ) (home : Slot) (later : List EntryView) (seat_of : ℕ → ℕ)
-    → Runs a lock home later seat_of views → get_elem? views id ≡ some me.0 → Goes a id me i f then (running lock (length (history a later)) home views)
+    → Runs a lock home (history a later) later seat_of views → get_elem? views id ≡ some me.0 → Goes a id me i f then (running lock (length (history a later)) home views)
 
 goes_on : (a : About) (slots id : ℕ) (me : Sitter) (i : ℕ) (f : ℕ → ℕ) (then : ℕ → Sitter → Type 0) → GoesOn a id me i f then → Allows (DeskRule a) slots id me i f then
 goes_on a slots id me i f then go s r count at small =
@@ -50,9 +51,9 @@ goes_on a slots id me i f then go s r count at small =
 
 -- the clerk at this seat
 module _ (a : About) (lock : ℕ) (home : Slot) (later : List EntryView) (seat_of : ℕ → ℕ) (views : List SeatView) (id : ℕ) (v : SeatView) (role : v.role ≡ Clerk)
-    (r : Runs a lock home later seat_of views) (at : get_elem? views id ≡ some v) where
-  pub fits : ClerkFits a lock home later seat_of id v
-  fits = subst (λ ρ. RoleFits a lock home later seat_of ρ id v) role (r.each id v at)
+    (r : Runs a lock home (history a later) later seat_of views) (at : get_elem? views id ≡ some v) where
+  pub fits : ClerkFits a lock home (history a later) later seat_of id v
+  fits = subst (λ ρ. RoleFits a lock home (history a later) later seat_of ρ id v) role (r.each id v at)
 
   can_see : CanSee v (history a later)
   can_see = record {
@@ -61,35 +62,35 @@ module _ (a : About) (lock : ℕ) (home : Slot) (later : List EntryView) (seat_o
   }
 
   -- a step that changes neither the lock nor the slot nor the history
-  quiet : (w : SeatView) → w.role ≡ Clerk → (Holds v → Holds w) → ClerkFits a lock home later seat_of id w → Runs a lock home later seat_of (set views id w)
+  quiet : (w : SeatView) → w.role ≡ Clerk → (Holds v → Holds w) → ClerkFits a lock home (history a later) later seat_of id w → Runs a lock home (history a later) later seat_of (set views id w)
   quiet w role' keep own = record {
     can_be = r.can_be;
     by_clerks = r.by_clerks;
     holder = λ n e. stays_there Holds views id v w at keep (seat_of n) (r.holder n e);
     free = r.free;
     in_slot = r.in_slot;
-    each = each_of (λ j u. RoleFits a lock home later seat_of u.role j u) views id w (subst (λ ρ. RoleFits a lock home later seat_of ρ id w) (sym role') own) (λ j u other there. r.each j u there);
+    each = each_of (λ j u. RoleFits a lock home (history a later) later seat_of u.role j u) views id w (subst (λ ρ. RoleFits a lock home (history a later) later seat_of ρ id w) (sym role') own) (λ j u other there. r.each j u there);
   }
 
   -- a step of the clerk who holds the lock before it or after it
   moves : (lock' : ℕ) (home' : Slot) (later' more : List EntryView) → later' ≡ later ++ more → ((n : ℕ) → n ≢ v.sheet.number → (lock ≢ n + 1) × (lock' ≢ n + 1) × (entries_of n more ≡ []))
-      → (w : SeatView) → w.role ≡ Clerk → ClerkFits a lock' home' later' seat_of id w
+      → (w : SeatView) → w.role ≡ Clerk → ClerkFits a lock' home' (history a later') later' seat_of id w
       → CanHave a.desk.value (history a later') → All (λ x. x.clerk < a.clerks) more
       → ((n : ℕ) → lock' ≡ n + 1 → (u : SeatView) × (get_elem? (set views id w) (seat_of n) ≡ some u) × Holds u)
       → (lock' ≡ 0 → home' ≡ some (Some (desk_with a.desk.value (history a later')))) → ((x : Option DeskView) → home' ≡ some x → x ≡ Some (desk_with a.desk.value (history a later')))
-      → Runs a lock' home' later' seat_of (set views id w)
+      → Runs a lock' home' (history a later') later' seat_of (set views id w)
   moves lock' home' later' more grows others w role' own can' by' holder' free' in_slot' = record {
     can_be = can';
     by_clerks = subst (All (λ (x : EntryView). x.clerk < a.clerks)) (sym grows) (All-append (λ (x : EntryView). x.clerk < a.clerks) later more r.by_clerks by');
     holder = holder';
     free = free';
     in_slot = in_slot';
-    each = each_of (λ j u. RoleFits a lock' home' later' seat_of u.role j u) views id w (subst (λ ρ. RoleFits a lock' home' later' seat_of ρ id w) (sym role') own)
+    each = each_of (λ j u. RoleFits a lock' home' (history a later') later' seat_of u.role j u) views id w (subst (λ ρ. RoleFits a lock' home' (history a later') later' seat_of ρ id w) (sym role') own)
         (λ j u other there. seat_moves a lock lock' home home' later later' more seat_of grows v.sheet.number others u.role j u (λ same. other (sym same ∙ fits.sheet.its_seat)) (r.each j u there));
   }
 
 -- the lock is free, or a clerk's
-pub lock_known : (a : About) (lock : ℕ) (home : Slot) (later : List EntryView) (seat_of : ℕ → ℕ) (views : List SeatView) → Runs a lock home later seat_of views → lock ≤ a.clerks
+pub lock_known : (a : About) (lock : ℕ) (home : Slot) (later : List EntryView) (seat_of : ℕ → ℕ) (views : List SeatView) → Runs a lock home (history a later) later seat_of views → lock ≤ a.clerks
 lock_known a zero home later seat_of views r = omega arith
 lock_known a (suc n) home later seat_of views r =
     let h = r.holder n (sym (add-one n)) in
@@ -220,7 +221,7 @@ loads a slots id me role = goes_on a slots id me 1 (λ n. n) (reads me) (λ view
 
 -- the store that frees the lock, with what is in the slot after it
 free_from : (a : About) (lock : ℕ) (home home' : Slot) (later : List EntryView) (seat_of : ℕ → ℕ) (views : List SeatView) (id : ℕ) (v : SeatView) → v.role ≡ Clerk → v.holds ≡ true
-    → Runs a lock home later seat_of views → get_elem? views id ≡ some v → home' ≡ some (Some (desk_with a.desk.value (history a later))) → Runs a 0 home' later seat_of (set views id (freed v))
+    → Runs a lock home (history a later) later seat_of views → get_elem? views id ≡ some v → home' ≡ some (Some (desk_with a.desk.value (history a later))) → Runs a 0 home' (history a later) later seat_of (set views id (freed v))
 free_from a lock home home' later seat_of views id v role on r at back =
     let k : ℕ = v.sheet.number in
     let own = fits a lock home later seat_of views id v role r at in

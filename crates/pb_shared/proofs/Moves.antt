@@ -10,7 +10,8 @@ use Rattle.atomic_table.proofs.Lists.{at_set, set_here, set_else}
 use Rattle.pb_core.specs.Request.{EntryView}
 use Rattle.pb_desk.specs.Desk.{DeskView}
 use Rattle.pb_shared.specs.Clerk.{Begins, GrowsByOthers, blank, entries_of}
-use Rattle.pb_shared.specs.Rule.{history, SheetFits, RoleFits}
+use Rattle.pb_shared.specs.Rule.{SheetFits, RoleFits}
+use Rattle.pb_shared.specs.Inner.Rule.{history}
 use Rattle.pb_shared.specs.declared.seat_view.About.{About}
 use Rattle.pb_shared.specs.declared.seat_view.Role.{Role}
 use Rattle.pb_shared.specs.declared.seat_view.Role.TheVariants.{Stock, Clerk, Guest, Spent}
@@ -61,7 +62,7 @@ module _ (a : About) (lock lock' : ℕ) (home home' : mathlib.Core.Option.Option
   longer : (front : List EntryView) → Begins front (history a later) → Begins front (history a later')
   longer front b = subst (λ l. Begins front (history a l)) (sym grows) (subst (Begins front) (sym (history-more a later more)) (Begins-more front (history a later) more b))
 
-  pub sheet_moves : (seat : ℕ) (holds : Bool) (x : Sheet) → x.number ≢ mover → SheetFits a lock home later seat_of seat holds x → (holds ≡ false) × SheetFits a lock' home' later' seat_of seat holds x
+  pub sheet_moves : (seat : ℕ) (holds : Bool) (x : Sheet) → x.number ≢ mover → SheetFits a lock home (history a later) later seat_of seat holds x → (holds ≡ false) × SheetFits a lock' home' (history a later') later' seat_of seat holds x
   sheet_moves seat holds x other f =
       let o = others x.number other in
       let idle : holds ≡ false = sym f.holding ∙ ne_eqb lock (x.number + 1) o.0 in (
@@ -79,7 +80,7 @@ module _ (a : About) (lock lock' : ℕ) (home home' : mathlib.Core.Option.Option
       )
 
   -- what another seat knows stays true
-  pub seat_moves : (role : Role) (seat : ℕ) (v : SeatView) → seat_of mover ≢ seat → RoleFits a lock home later seat_of role seat v → RoleFits a lock' home' later' seat_of role seat v
+  pub seat_moves : (role : Role) (seat : ℕ) (v : SeatView) → seat_of mover ≢ seat → RoleFits a lock home (history a later) later seat_of role seat v → RoleFits a lock' home' (history a later') later' seat_of role seat v
   seat_moves Stock seat v apart f =
       (f.0, λ n from below. let b = f.1 n from below in (sheet_moves seat false (blank a.desk.value.journal n) (λ same. apart (ap seat_of (sym same) ∙ b.its_seat)) b).1)
   seat_moves Clerk seat v apart f =
@@ -95,7 +96,7 @@ module _ (a : About) (lock lock' : ℕ) (home home' : mathlib.Core.Option.Option
 
 -- a clerk gets another seat, the sheet and the seat of whoever stays
 module _ (a : About) (lock : ℕ) (home : mathlib.Core.Option.Option (Option DeskView)) (later : List EntryView) (seat_of seat_of' : ℕ → ℕ) where
-  pub sheet_stays : (seat seat' : ℕ) (holds : Bool) (x : Sheet) → seat_of' x.number ≡ seat' → SheetFits a lock home later seat_of seat holds x → SheetFits a lock home later seat_of' seat' holds x
+  pub sheet_stays : (seat seat' : ℕ) (holds : Bool) (x : Sheet) → seat_of' x.number ≡ seat' → SheetFits a lock home (history a later) later seat_of seat holds x → SheetFits a lock home (history a later) later seat_of' seat' holds x
   sheet_stays seat seat' holds x its f = record {
     known = f.known;
     its_seat = its;
@@ -107,7 +108,7 @@ module _ (a : About) (lock : ℕ) (home : mathlib.Core.Option.Option (Option Des
     read = f.read;
   }
 
-  pub seat_stays : (role : Role) (seat : ℕ) (v : SeatView) → ((n : ℕ) → seat_of n ≡ seat → seat_of' n ≡ seat) → RoleFits a lock home later seat_of role seat v → RoleFits a lock home later seat_of' role seat v
+  pub seat_stays : (role : Role) (seat : ℕ) (v : SeatView) → ((n : ℕ) → seat_of n ≡ seat → seat_of' n ≡ seat) → RoleFits a lock home (history a later) later seat_of role seat v → RoleFits a lock home (history a later) later seat_of' role seat v
   seat_stays Stock seat v same f = (f.0, λ n from below. let b = f.1 n from below in sheet_stays seat seat false (blank a.desk.value.journal n) (same n b.its_seat) b)
   seat_stays Clerk seat v same f = record {
     about = f.about;

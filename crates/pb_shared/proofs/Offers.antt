@@ -10,8 +10,8 @@ use Rattle.pb_core.specs.Request.{EntryView}
 use Rattle.pb_desk.specs.Desk.{DeskView}
 use Rattle.pb_desk.specs.Replay.{IsLegal, most_clerks}
 use Rattle.pb_shared.specs.Clerk.{SharedView, ClerkView, blank, desk_with}
-use Rattle.pb_shared.specs.Rule.{DeskRule, Sitter}
-use Rattle.pb_shared.specs.Inner.Rule.{seated, stock}
+use Rattle.pb_shared.specs.Rule.{DeskRule}
+use Rattle.pb_shared.specs.Inner.Rule.{seated, stock, Sitter}
 use Rattle.pb_shared.specs.Steps.{StepRule, knowing}
 use Rattle.pb_shared.specs.Inner.Plays.{tries_lock, frees, publishes, reads, dealt_left, dealt_right}
 use Rattle.pb_shared.specs.Seats.{shared_view, clerk_view, IsIdle}

@@ -11,8 +11,8 @@ use Rattle.atomic_table.proofs.Lists.{set_again, set_else, at_longer}
 use Rattle.pb_core.specs.Request.{EntryView}
 use Rattle.pb_desk.specs.Replay.{IsLegal}
 use Rattle.pb_shared.specs.Clerk.{CanHave, blank, desk_with}
-use Rattle.pb_shared.specs.Rule.{history, SheetFits, RoleFits, Runs, DeskRule}
-use Rattle.pb_shared.specs.Inner.Rule.{seated, stock}
+use Rattle.pb_shared.specs.Rule.{SheetFits, RoleFits, Runs, DeskRule}
+use Rattle.pb_shared.specs.Inner.Rule.{history, seated, stock}
 use Rattle.pb_shared.specs.Steps.{StepRule}
 use Rattle.pb_shared.specs.Inner.Plays.{visits, dealt_left, dealt_right, note_of, informed, handed, nobody}
 use Rattle.pb_shared.specs.declared.seat_view.About.{About}
@@ -36,9 +36,9 @@ holds_not v no_clerk h = true≢false (sym (ap is_clerk h.0) ∙ no_clerk)
 
 module _ (a : About) (lock : ℕ) (home : Slot) (later : List EntryView) (seat_of : ℕ → ℕ) where
   -- only the views change, and who holds what
-  views_change : (seat_of' : ℕ → ℕ) (views views' : List SeatView) → Runs a lock home later seat_of views
+  views_change : (seat_of' : ℕ → ℕ) (views views' : List SeatView) → Runs a lock home (history a later) later seat_of views
       → ((n : ℕ) → lock ≡ n + 1 → (v : SeatView) × (get_elem? views' (seat_of' n) ≡ some v) × Holds v)
-      → ((j : ℕ) (v : SeatView) → get_elem? views' j ≡ some v → RoleFits a lock home later seat_of' v.role j v) → Runs a lock home later seat_of' views'
+      → ((j : ℕ) (v : SeatView) → get_elem? views' j ≡ some v → RoleFits a lock home (history a later) later seat_of' v.role j v) → Runs a lock home (history a later) later seat_of' views'
   views_change seat_of' views views' r holder each = record {
     can_be = r.can_be;
     by_clerks = r.by_clerks;
@@ -49,10 +49,10 @@ module _ (a : About) (lock : ℕ) (home : Slot) (later : List EntryView) (seat_o
   }
 
   -- one seat more, which is no clerk's
-  comes : (views : List SeatView) (w : SeatView) → Runs a lock home later seat_of views → RoleFits a lock home later seat_of w.role (length views) w → Runs a lock home later seat_of (views ++ w ∷ [])
+  comes : (views : List SeatView) (w : SeatView) → Runs a lock home (history a later) later seat_of views → RoleFits a lock home (history a later) later seat_of w.role (length views) w → Runs a lock home (history a later) later seat_of (views ++ w ∷ [])
   comes views w r own = views_change seat_of views (views ++ w ∷ []) r
       (λ n is. let h = r.holder n is in (h.0, at_longer views (w ∷ []) (seat_of n) h.0 h.1, h.2))
-      (each_and (λ j u. RoleFits a lock home later seat_of u.role j u) views w own r.each)
+      (each_and (λ j u. RoleFits a lock home (history a later) later seat_of u.role j u) views w own r.each)
 
 -- the table at the start
 pub starts : (a : About) → IsLegal a.desk.value.opening a.desk.value.journal → length a.desk.value.journal ≤ a.desk.value.room
@@ -73,7 +73,7 @@ starts a legal room =
         holder = λ n is. absurd (omega arith);
         free = λ _. λ i. some (Some (desk_with a.desk.value (sym same i)));
         in_slot = λ x is. some-injective x (Some (desk_with a.desk.value (history a []))) (sym is ∙ (λ i. some (Some (desk_with a.desk.value (sym same i)))));
-        each = each_and (λ j u. RoleFits a 0 home [] seat_of u.role j u) [] (stock a) (
+        each = each_and (λ j u. RoleFits a 0 home (history a []) [] seat_of u.role j u) [] (stock a) (
           refl,
           λ n from below. record {
             known = below;
@@ -102,7 +102,7 @@ comes_to_finish a slots s r count small =
         seat_of,
         r.4,
         r.5,
-        comes a lock home later seat_of s.views w r.6 (refl, (later, refl), All-nil (SheetFits a lock home later seat_of (length s.views) false)),
+        comes a lock home later seat_of s.views w r.6 (refl, (later, refl), All-nil (SheetFits a lock home (history a later) later seat_of (length s.views) false)),
       ),
       (told_visit a slots (slice_index s.words 0) (w, []) refl, refl),
     )
@@ -120,18 +120,18 @@ writes a id v role s r at =
       seat_of,
       r.4,
       r.5,
-      comes a lock home later seat_of s.views w r.6 (own.about, (own.sheet.begins.0, own.sheet.begins.1), All-nil (SheetFits a lock home later seat_of (length s.views) false)),
+      comes a lock home later seat_of s.views w r.6 (own.about, (own.sheet.begins.0, own.sheet.begins.1), All-nil (SheetFits a lock home (history a later) later seat_of (length s.views) false)),
     )
 
 -- what the seat knows that is another's no more
-module _ (a : About) (lock : ℕ) (home : Slot) (later : List EntryView) (seat_of seat_of' : ℕ → ℕ) (views : List SeatView) (id other : ℕ) (v w both : SeatView) (r : Runs a lock home later seat_of views)
+module _ (a : About) (lock : ℕ) (home : Slot) (later : List EntryView) (seat_of seat_of' : ℕ → ℕ) (views : List SeatView) (id other : ℕ) (v w both : SeatView) (r : Runs a lock home (history a later) later seat_of views)
     (at : get_elem? views id ≡ some v) (apart : other ≢ id) (that : get_elem? views other ≡ some w) where
   -- a seat takes in what another knows, which has it no more
   merges : (keep : Holds v → Holds both) → (none_of : ¬ (Holds w)) → ((n : ℕ) → lock ≡ n + 1 → seat_of' n ≡ seat_of n)
       → ((j : ℕ) → j ≢ id → j ≢ other → (n : ℕ) → seat_of n ≡ j → seat_of' n ≡ j)
-      → RoleFits a lock home later seat_of' both.role id both → Runs a lock home later seat_of' (set (set views id both) other nobody)
+      → RoleFits a lock home (history a later) later seat_of' both.role id both → Runs a lock home (history a later) later seat_of' (set (set views id both) other nobody)
   merges keep none_of held still own =
-      let Fits : ℕ → SeatView → Type 0 = λ j u. RoleFits a lock home later seat_of' u.role j u in
+      let Fits : ℕ → SeatView → Type 0 = λ j u. RoleFits a lock home (history a later) later seat_of' u.role j u in
       views_change a lock home later seat_of seat_of' views (set (set views id both) other nobody) r
       (λ n is. let h = r.holder n is in
       subst (λ j. (u : SeatView) × (get_elem? (set (set views id both) other nobody) j ≡ some u) × Holds u) (sym (held n is))
@@ -148,7 +148,7 @@ tells a id other v w role role' s r at apart that =
     let both : SeatView = informed v w in
     let there_ : get_elem? s.views other ≡ some w = sym (set_else s.views id other both apart) ∙ that in
     let own = fits a lock home later seat_of s.views id v role r.6 at in
-    let its : RoleFits a lock home later seat_of Guest other w = subst (λ ρ. RoleFits a lock home later seat_of ρ other w) role' (r.6.each other w there_) in (
+    let its : RoleFits a lock home (history a later) later seat_of Guest other w = subst (λ ρ. RoleFits a lock home (history a later) later seat_of ρ other w) role' (r.6.each other w there_) in (
       lock,
       home,
       later,
@@ -157,7 +157,7 @@ tells a id other v w role role' s r at apart that =
       r.5,
       merges a lock home later seat_of seat_of s.views id other v w both r.6 at apart there_
           (λ h. h) (holds_not w (ap is_clerk role')) (λ n is. refl) (λ j _ _ n e. e)
-          (subst (λ ρ. RoleFits a lock home later seat_of ρ id both) (sym role) record {
+          (subst (λ ρ. RoleFits a lock home (history a later) later seat_of ρ id both) (sym role) record {
             about = own.about;
             sheet = own.sheet;
             told = its.1;
@@ -188,9 +188,9 @@ deals a id v role few s r at =
     let seat : ℕ = length views' in
     let seat_of' : ℕ → ℕ = reseated seat_of k seat in
     let runs = r.6 in
-    let own : RoleFits a lock home later seat_of Stock id v = subst (λ ρ. RoleFits a lock home later seat_of ρ id v) role (runs.each id v at) in
+    let own : RoleFits a lock home (history a later) later seat_of Stock id v = subst (λ ρ. RoleFits a lock home (history a later) later seat_of ρ id v) role (runs.each id v at) in
     let its = own.1 k (omega arith) few in
-    let Fits : ℕ → SeatView → Type 0 = λ j u. RoleFits a lock home later seat_of' u.role j u in (
+    let Fits : ℕ → SeatView → Type 0 = λ j u. RoleFits a lock home (history a later) later seat_of' u.role j u in (
       lock,
       home,
       later,
@@ -205,11 +205,11 @@ deals a id v role few s r at =
           (h.0, at_longer views' (right ∷ []) (seat_of n) h.0 h.1, h.2))
           (each_and Fits views' right record {
             about = own.0;
-            sheet = subst (λ (z : About). SheetFits a lock home later seat_of' seat false (blank z.desk.value.journal k)) (sym own.0) (sheet_stays a lock home later seat_of seat_of' id seat false (blank a.desk.value.journal k) (reseated-here seat_of k seat k refl) its);
+            sheet = subst (λ (z : About). SheetFits a lock home (history a later) later seat_of' seat false (blank z.desk.value.journal k)) (sym own.0) (sheet_stays a lock home later seat_of seat_of' id seat false (blank a.desk.value.journal k) (reseated-here seat_of k seat k refl) its);
             told = (history a later, refl);
             brought = λ is. absurd (true≢false (sym is));
           } (each_of Fits s.views id left
-          (subst (λ ρ. RoleFits a lock home later seat_of' ρ id left) (sym role) (
+          (subst (λ ρ. RoleFits a lock home (history a later) later seat_of' ρ id left) (sym role) (
             own.0,
             λ n from below.
                 let other : n ≢ k = λ same. omega arith in
@@ -228,7 +228,7 @@ hands_back a id other v w role role' idle s r at apart that =
     let both : SeatView = handed v w in
     let seat_of' : ℕ → ℕ = reseated seat_of k id in
     let there_ : get_elem? s.views other ≡ some w = sym (set_else s.views id other both apart) ∙ that in
-    let own : RoleFits a lock home later seat_of Guest id v = subst (λ ρ. RoleFits a lock home later seat_of ρ id v) role (r.6.each id v at) in
+    let own : RoleFits a lock home (history a later) later seat_of Guest id v = subst (λ ρ. RoleFits a lock home (history a later) later seat_of ρ id v) role (r.6.each id v at) in
     let its = (fits a lock home later seat_of s.views other w role' r.6 there_).sheet in (
       lock,
       home,
@@ -241,11 +241,11 @@ hands_back a id other v w role role' idle s r at apart that =
           (λ h. true≢false (sym h.1 ∙ idle))
           (λ n is. reseated-else seat_of k id n (λ same. not_its lock k (its.holding ∙ idle) (is ∙ ap (λ m. m + 1) same)))
           (λ j not_id not_other n e. reseated-else seat_of k id n (λ same. not_other (sym e ∙ (ap seat_of same ∙ its.its_seat))) ∙ e)
-          (subst (λ ρ. RoleFits a lock home later seat_of' ρ id both) (sym role) (
+          (subst (λ ρ. RoleFits a lock home (history a later) later seat_of' ρ id both) (sym role) (
             own.0,
             own.1,
-            All-cons (SheetFits a lock home later seat_of' id false) w.sheet v.returned
-                (sheet_stays a lock home later seat_of seat_of' other id false w.sheet (reseated-here seat_of k id k refl) (subst (λ b. SheetFits a lock home later seat_of other b w.sheet) idle its))
+            All-cons (SheetFits a lock home (history a later) later seat_of' id false) w.sheet v.returned
+                (sheet_stays a lock home later seat_of seat_of' other id false w.sheet (reseated-here seat_of k id k refl) (subst (λ b. SheetFits a lock home (history a later) later seat_of other b w.sheet) idle its))
                 (λ n d inside. let x = own.2 n d inside in
                 let y = slice_index_or v.returned n d in
                 sheet_stays a lock home later seat_of seat_of' id id false y (dite (ℕ_discrete y.number k) (λ same. reseated-here seat_of k id y.number same) (λ other_. reseated-else seat_of k id y.number other_ ∙ x.its_seat)) x),

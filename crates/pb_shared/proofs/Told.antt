@@ -8,8 +8,7 @@ use Rattle.atomic_table.specs.Table.{State, Step, step, Allows}
 use Rattle.pb_core.specs.Request.{EntryView}
 use Rattle.pb_desk.specs.Desk.{DeskView}
 use Rattle.pb_shared.specs.Clerk.{Begins, blank}
-use Rattle.pb_shared.specs.Rule.{Sitter}
-use Rattle.pb_shared.specs.Inner.Rule.{stock}
+use Rattle.pb_shared.specs.Inner.Rule.{stock, Sitter}
 use Rattle.pb_shared.specs.Steps.{StepRule, is_front_load, is_try}
 use Rattle.pb_shared.specs.Inner.Plays.{has_read, lost, published, tries_lock, publishes, frees, reads, visits, won}
 use Rattle.pb_shared.specs.declared.seat_view.About.{About}

@@ -2,7 +2,7 @@
 use Rattle.std.specs.Prelude.{◌≡◌, ◌≢◌, ℕ, ◌+◌, ◌<◌, ◌≤◌, ◌==◌, ⊤, Bool, true, false, List, [], ◌∷◌, ◌++◌, length, All, Option, Some}
 use mathlib.Core.Option as slot
 use lib.ListN.{get_elem?}
-use Rattle.atomic_table.specs.Table.{Me, State}
+use Rattle.atomic_table.specs.Table.{State}
 use Rattle.pb_core.specs.Request.{EntryView}
 use Rattle.pb_desk.specs.Desk.{DeskView}
 use Rattle.pb_shared.specs.Clerk.{Begins, CanHave, GrowsByOthers, blank, desk_with, entries_of}
@@ -12,19 +12,7 @@ use Rattle.pb_shared.specs.declared.seat_view.Role.TheVariants.{Stock, Clerk, Gu
 use Rattle.pb_shared.specs.declared.seat_view.SeatView.{SeatView}
 use Rattle.pb_shared.specs.declared.seat_view.Sheet.{Sheet}
 
--- what a seat knows, and what it has taken out of the slot
-abbrev pub Sitter : Type 0
-Sitter = Me (Option DeskView) SeatView
-
--- the one history: the journal at the start, and what was served since
-abbrev pub history : About → List EntryView → List EntryView
-history a later = a.desk.value.journal ++ later
-
--- the desk with that history as its journal
-abbrev pub desk_after : About → List EntryView → DeskView
-desk_after a later = desk_with a.desk.value (history a later)
-
-module _ (a : About) (lock : ℕ) (home : slot.Option (Option DeskView)) (later : List EntryView)
+module _ (a : About) (lock : ℕ) (home : slot.Option (Option DeskView)) (journal later : List EntryView)
     (seat_of : ℕ → ℕ) where
   -- a clerk's sheet is true: the seat is its own; what it has seen begins the history, what came after is
   -- other clerks', and nothing did while it holds the lock; past the start, its own entries are those of its
@@ -33,10 +21,10 @@ module _ (a : About) (lock : ℕ) (home : slot.Option (Option DeskView)) (later 
   pub record SheetFits (seat : ℕ) (holds : Bool) (x : Sheet) : Type 0 where
     pub known : x.number < a.clerks
     pub its_seat : seat_of x.number ≡ seat
-    pub begins : GrowsByOthers x.number x.seen (history a later)
+    pub begins : GrowsByOthers x.number x.seen journal
     pub mine : entries_of x.number later ≡ x.mine
     pub holding : (lock == x.number + 1) ≡ holds
-    pub whole : holds ≡ true → x.seen ≡ history a later
+    pub whole : holds ≡ true → x.seen ≡ journal
     pub found : All (λ word. (word ≤ a.clerks) × (word ≢ x.number + 1)) x.found
     pub read : All (λ word. word ≤ length x.seen) x.read
 
@@ -45,8 +33,8 @@ module _ (a : About) (lock : ℕ) (home : slot.Option (Option DeskView)) (later 
   pub record ClerkFits (seat : ℕ) (v : SeatView) : Type 0 where
     pub about : v.about ≡ a
     pub sheet : SheetFits seat v.holds v.sheet
-    pub told : Begins v.told (history a later)
-    pub brought : v.home ≡ true → (v.holds ≡ true) × (home ≡ slot.some (Some (desk_after a later)))
+    pub told : Begins v.told journal
+    pub brought : v.home ≡ true → (v.holds ≡ true) × (home ≡ slot.some (Some (desk_with a.desk.value journal)))
 
   -- what a seat knows is true: the clerks in stock have made no call; what a note has seen begins the
   -- history; the sheets of clerks who were handed back are true
@@ -55,23 +43,23 @@ module _ (a : About) (lock : ℕ) (home : slot.Option (Option DeskView)) (later 
       → SheetFits seat false (blank a.desk.value.journal number))
   RoleFits Clerk seat v = ClerkFits seat v
   RoleFits Guest seat v =
-      (v.about ≡ a) × Begins v.sheet.seen (history a later) × All (SheetFits seat false) v.returned
+      (v.about ≡ a) × Begins v.sheet.seen journal × All (SheetFits seat false) v.returned
   RoleFits Spent seat v = ⊤
 
-  -- what is true of the running desk, with this lock word, this in the slot and these views, where this was
-  -- served since the start
+  -- what is true of the running desk, with this lock word, this in the slot and these views, where this is the
+  -- journal, and this was served since the start
   pub record Runs (views : List SeatView) : Type 0 where
-    pub can_be : CanHave a.desk.value (history a later)
+    pub can_be : CanHave a.desk.value journal
     pub by_clerks : All (λ x. x.clerk < a.clerks) later
     pub holder : (number : ℕ) → lock ≡ number + 1 → (v : SeatView)
         × (get_elem? views (seat_of number) ≡ slot.some v) × ((v.role ≡ Clerk) × (v.holds ≡ true))
-    pub free : lock ≡ 0 → home ≡ slot.some (Some (desk_after a later))
-    pub in_slot : (x : Option DeskView) → home ≡ slot.some x → x ≡ Some (desk_after a later)
+    pub free : lock ≡ 0 → home ≡ slot.some (Some (desk_with a.desk.value journal))
+    pub in_slot : (x : Option DeskView) → home ≡ slot.some x → x ≡ Some (desk_with a.desk.value journal)
     pub each : (seat : ℕ) (v : SeatView) → get_elem? views seat ≡ slot.some v → RoleFits v.role seat v
 
--- There is one history, from the journal at the start on. The words are the lock and the history's length
+-- There is one history: the journal at the start, and what was served since. The words are the lock and the history's length
 abbrev pub DeskRule : About → State (Option DeskView) SeatView → Type 0
 DeskRule a s =
     (lock : ℕ) × (home : slot.Option (Option DeskView)) × (later : List EntryView) × (seat_of : ℕ → ℕ)
-    × (s.words ≡ lock ∷ length (history a later) ∷ []) × (s.homes ≡ home ∷ [])
-    × Runs a lock home later seat_of s.views
+    × (s.words ≡ lock ∷ length (a.desk.value.journal ++ later) ∷ []) × (s.homes ≡ home ∷ [])
+    × Runs a lock home (a.desk.value.journal ++ later) later seat_of s.views

@@ -28,7 +28,7 @@ impl Clerk {
 
     /// The clerk's number, from 0. It is below the number of clerks of its desk.
     pub fn number(&self) -> u32
-        ensures number { result ≡ self.now.number }
+        ensures number { result ≡ self.now.sheet.number }
         ensures known { result < self.now.desk.clerks }
     {
         self.number

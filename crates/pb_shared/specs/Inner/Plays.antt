@@ -4,8 +4,7 @@ use Rattle.pb_core.specs.Request.{EntryView}
 use Rattle.pb_desk.specs.Desk.{DeskView}
 use Rattle.pb_desk.specs.declared.version.Version.TheVariants.{Two}
 use Rattle.pb_shared.specs.Clerk.{Begins, CanHave, GrowsByOthers, blank, desk_with}
-use Rattle.pb_shared.specs.Rule.{Sitter}
-use Rattle.pb_shared.specs.Inner.Rule.{seated}
+use Rattle.pb_shared.specs.Inner.Rule.{seated, Sitter}
 use Rattle.pb_shared.specs.declared.seat_view.About.{About}
 use Rattle.pb_shared.specs.declared.seat_view.Role.TheVariants.{Clerk, Guest, Spent}
 use Rattle.pb_shared.specs.declared.seat_view.SeatView.{SeatView}

@@ -3,22 +3,16 @@ use Rattle.std.specs.Prelude.{◌≡◌, ◌≢◌, ℕ, ◌+◌, ◌<◌, List,
 use Rattle.atomic_table.specs.Seated.{TableId}
 use Rattle.pb_core.specs.Request.{EntryView}
 use Rattle.pb_desk.specs.Desk.{DeskView}
-use Rattle.pb_shared.specs.Clerk.{SharedView, ClerkView, blank, clerk_of, desk_with}
-use Rattle.pb_shared.specs.Rule.{Sitter}
-use Rattle.pb_shared.specs.Inner.Rule.{stock}
+use Rattle.pb_shared.specs.Clerk.{SharedView, ClerkView, blank, desk_with}
+use Rattle.pb_shared.specs.Inner.Rule.{stock, Sitter}
 use Rattle.pb_shared.specs.Inner.Plays.{CanSee, won, lost}
 use Rattle.pb_shared.specs.declared.seat_view.About.{About}
-use Rattle.pb_shared.specs.declared.seat_view.Sheet.{Sheet}
 use Rattle.pb_shared.specs.declared.seat_view.Role.TheVariants.{Clerk}
 use Rattle.pb_shared.specs.Seats.{IsTable}
 
 -- a clerk who has made no call
 abbrev pub newcomer : SharedView → ℕ → ClerkView
-newcomer d number = clerk_of d (blank d.start.journal number)
-
--- what a clerk's seat knows of it
-abbrev pub sheet_of : ClerkView → Sheet
-sheet_of c = record { number = c.number; seen = c.seen; mine = c.mine; found = c.found; read = c.read }
+newcomer d number = record { desk = d; sheet = blank d.start.journal number }
 
 -- an exchange won the lock: the desk was taken out, with the whole history as its journal, which is what the
 -- clerk has now seen

@@ -17,10 +17,10 @@ impl SharedDesk {
         requires own { clerk.old.desk ≡ self.now }
         requires f { F.IsAlwaysCallable f }
         ensures same { clerk.new.desk ≡ clerk.old.desk }
-        ensures seen { OnOk result (Sees 1 clerk.old clerk.new) }
+        ensures seen { OnOk result (Sees 1 self.now clerk.old.sheet clerk.new.sheet) }
         ensures answer { IfOk result (λ answer.
-            FnOnceReturnsAt F.FnOnce f (desk_with self.now.start clerk.new.seen) answer) }
-        ensures err { IfErr result (λ busy. Refuses 1 clerk.old (fault.Busy busy.0) clerk.new) }
+            FnOnceReturnsAt F.FnOnce f (desk_with self.now.start clerk.new.sheet.seen) answer) }
+        ensures err { IfErr result (λ busy. Refuses 1 self.now clerk.old.sheet (fault.Busy busy.0) clerk.new.sheet) }
     {
         let desk = self.take_desk(&mut clerk.seat, clerk.number)?;
         let answer = f(&desk);
@@ -32,7 +32,7 @@ impl SharedDesk {
     pub fn front(&self, clerk: &mut Clerk) -> u32
         requires own { clerk.old.desk ≡ self.now }
         ensures same { clerk.new.desk ≡ clerk.old.desk }
-        ensures front { Reads clerk.old result clerk.new }
+        ensures front { Reads self.now clerk.old.sheet result clerk.new.sheet }
     {
         self.table.shared.load::<Read>(&mut clerk.seat, FRONT) as u32
     }

@@ -24,8 +24,8 @@ impl SharedDesk {
         requires own { clerk.old.desk ≡ self.now }
         requires note { note.desk ≡ self.now }
         ensures same { clerk.new.desk ≡ clerk.old.desk }
-        ensures clerk { Reads clerk.old (length clerk.new.seen) clerk.new }
-        ensures note { Begins note.seen clerk.new.seen }
+        ensures clerk { Reads self.now clerk.old.sheet (length clerk.new.sheet.seen) clerk.new.sheet }
+        ensures note { Begins note.sheet.seen clerk.new.sheet.seen }
     {
         let Note { seat } = note;
         self.table.shared.join_seat::<Tell>(&mut clerk.seat, seat);

@@ -1,7 +1,5 @@
-ghost use Rattle.std.specs.Prelude.{◌≡◌, ◌<◌, ◌≤◌, All, IfOk, IfErr, OnOk};
-ghost use Rattle.pb_desk.specs.Replay.{most_clerks};
-ghost use Rattle.pb_shared.specs.Clerk.{AreNewcomers};
-ghost use Rattle.pb_shared.specs.Refusal.{HandsBack};
+ghost use Rattle.std.specs.Prelude.{◌≡◌, ◌⊎◌, All, IfOk, IfErr, OnOk};
+ghost use Rattle.pb_shared.specs.Clerk.{AreClerks, AreNewcomers};
 ghost use Rattle.pb_shared.specs.Inner.Seats.{IsLaid};
 
 use super::SharedDesk;
@@ -25,8 +23,10 @@ impl SharedDesk {
         ensures ok { IfOk result (λ shared. (shared.0.start ≡ desk) × (shared.0.clerks ≡ clerks)
             × AreNewcomers shared.0 shared.1.items) }
         ensures own { IfOk result (λ shared. All (λ clerk. clerk.desk ≡ shared.0) shared.1.items) }
-        ensures range { OnOk result ((0 < clerks) × (clerks ≤ most_clerks)) }
-        ensures err { IfErr result (λ fault. HandsBack desk clerks fault) }
+        ensures range { OnOk result (AreClerks clerks) }
+        ensures err { IfErr result (λ fault.
+            ((fault ≡ ShareFault.ClerkCount desk) × ¬ AreClerks clerks)
+            ⊎ ((fault ≡ ShareFault.NoMemory desk) × AreClerks clerks)) }
     {
         if clerks == 0 || clerks > MOST_CLERKS {
             return Err(ShareFault::ClerkCount(desk));
@@ -49,7 +49,7 @@ impl SharedDesk {
 /// A table with the desk in its slot, and its first seat, which has all clerks in stock. Without memory the
 /// desk comes back.
 fn lay_table(alloc: Global, desk: Desk, clerks: u32) -> Result<(DeskTable, Place), Desk>
-    requires { (0 < clerks) × (clerks ≤ most_clerks) }
+    requires { AreClerks clerks }
     ensures ok { IfOk result (λ laid.
         IsLaid desk clerks laid.0.shared.table_id laid.0.shared.key laid.1.table_id laid.1.me) }
     ensures err { IfErr result (λ back. back ≡ desk) }

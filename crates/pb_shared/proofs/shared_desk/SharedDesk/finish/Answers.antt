@@ -1,7 +1,6 @@
 use Rattle.std.proofs.Common.{◌≡◌, ◌∙◌, ◌++◌, ◌∷◌, [], All, length, map, ap, sym, subst, arith, refl, append_assoc}
 use mathlib.Core.List.{append-nil}
 use Rattle.pb_shared.specs.Clerk.{ClerkView}
-use Rattle.pb_shared.specs.Inner.Seats.{sheet_of}
 use Rattle.pb_shared.specs.declared.seat_view.SeatView.{SeatView}
 use Rattle.pb_shared.proofs.Offers.{clerk_sits}
 use Rattle.pb_shared.proofs.SeatSteps.{comes_to_finish, hands_back}
@@ -32,7 +31,7 @@ returns-then-word-ne0-clause-err c =
     let none_left : length c.loop-clerk.clerks.items ≡ 0 = let ok = c.loop-clerk.clerks.ok in let n = c.in_default.ensures.cases.0 in omega arith in
     let taken = emptied c.loop-clerk.clerks.items so_far.0 c.args.clerks.items none_left so_far.1 in
     let last = ends c.self.inside.table.shared.key c.loop-clerk.seat.id c.loop-clerk.seat.me.0 _ _ c.word-word.result c.take-slot.result so_far.3 c.close_with-closed.ensures.values.2 c.word-word.ensures c.take-slot.ensures.value in
-    is_held c.self.inside.table.shared.key c.self.inside.table.shared.table_id _ _ _ _ _ _ last c.self.view_is (so_far.2 ∙ ap (map sheet_of) taken) c.if-word-ne0.true
+    is_held c.self.inside.table.shared.key c.self.inside.table.shared.table_id _ _ _ _ _ _ last c.self.view_is (so_far.2 ∙ ap (map (λ (k : ClerkView). k.sheet)) taken) c.if-word-ne0.true
 
 pub returns-then-word-ne0-clause-all : goal.returns-then-word-ne0-clause-all
 returns-then-word-ne0-clause-all c = λ all.
@@ -41,7 +40,7 @@ returns-then-word-ne0-clause-all c = λ all.
     let taken = emptied c.loop-clerk.clerks.items so_far.0 c.args.clerks.items none_left so_far.1 in
     let last = ends c.self.inside.table.shared.key c.loop-clerk.seat.id c.loop-clerk.seat.me.0 _ _ c.word-word.result c.take-slot.result so_far.3 c.close_with-closed.ensures.values.2 c.word-word.ensures c.take-slot.ensures.value in
     absurd (not_held c.args.self c.args.clerks.items c.word-word.result all
-    (is_held c.self.inside.table.shared.key c.self.inside.table.shared.table_id _ _ _ _ _ _ last c.self.view_is (so_far.2 ∙ ap (map sheet_of) taken) c.if-word-ne0.true))
+    (is_held c.self.inside.table.shared.key c.self.inside.table.shared.table_id _ _ _ _ _ _ last c.self.view_is (so_far.2 ∙ ap (map (λ (k : ClerkView). k.sheet)) taken) c.if-word-ne0.true))
 
 pub unwrap-requires : goal.unwrap-requires
 unwrap-requires c =
@@ -55,7 +54,7 @@ returns-clause-ok c =
     let none_left : length c.loop-clerk.clerks.items ≡ 0 = let ok = c.loop-clerk.clerks.ok in let n = c.in_default.ensures.cases.0 in omega arith in
     let taken = emptied c.loop-clerk.clerks.items so_far.0 c.args.clerks.items none_left so_far.1 in
     let last = ends c.self.inside.table.shared.key c.loop-clerk.seat.id c.loop-clerk.seat.me.0 _ _ c.word-word.result c.take-slot.result so_far.3 c.close_with-closed.ensures.values.2 c.word-word.ensures c.take-slot.ensures.value in
-    merges c.self.inside.table.shared.key c.self.inside.table.shared.table_id _ _ _ _ _ _ _ last c.self.view_is (so_far.2 ∙ ap (map sheet_of) taken) c.if-word-ne0.false c.unwrap.ensures
+    merges c.self.inside.table.shared.key c.self.inside.table.shared.table_id _ _ _ _ _ _ _ last c.self.view_is (so_far.2 ∙ ap (map (λ (k : ClerkView). k.sheet)) taken) c.if-word-ne0.false c.unwrap.ensures
 
 pub loop-clerk-init : goal.loop-clerk-init
 loop-clerk-init c =
@@ -70,7 +69,7 @@ loop-clerk-preserved c =
     let both = c.join_seat.ensures.2 in (
       clerk ∷ so_far.0,
       sym (append_assoc left (clerk ∷ []) so_far.0) ∙ (ap (λ l. l ++ so_far.0) (sym c.in-Some.ensures.items) ∙ so_far.1),
-      ap (λ m. m.0.returned) both ∙ (λ i. sheet_of (c.clerk.view_is i) ∷ so_far.2 i),
+      ap (λ m. m.0.returned) both ∙ (λ i. (c.clerk.view_is i).sheet ∷ so_far.2 i),
       ap (λ m. m.0.role) both ∙ so_far.3,
       c.join_seat.ensures.0 ∙ so_far.4,
     )

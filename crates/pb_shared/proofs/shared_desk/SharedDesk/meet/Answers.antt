@@ -25,7 +25,6 @@ load-requires c = let words = c.self.invariant.words in (
 pub returns-clause-clerk : goal.returns-clause-clerk
 returns-clause-clerk c =
     let told = c.join_seat.ensures in
-    let after = clerk_view c.load.new.seat.table_id c.load.new.seat.me in
     let front =
-    reads_front c.join_seat.new.seat.table_id c.load.new.seat.table_id c.join_seat.new.seat.me c.load.new.seat.me c.args.clerk.now c.load.result ((λ i. clerk_view (told.0 i) (told.2 i)) ∙ c.clerk.view_is) c.load.ensures.0 c.load.ensures.2.1 in
-    subst (λ n. Reads c.args.clerk.now n after) front.1 front
+    reads_front c.join_seat.new.seat.table_id c.join_seat.new.seat.me c.load.new.seat.me c.args.clerk.now c.args.self.now c.load.result ((λ i. clerk_view (told.0 i) (told.2 i)) ∙ c.clerk.view_is) c.requires.own c.load.ensures.2.1 in
+    subst (λ n. Reads c.args.self.now c.args.clerk.now.sheet n c.load.new.seat.me.0.sheet) front.1 front

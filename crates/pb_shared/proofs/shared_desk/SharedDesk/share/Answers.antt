@@ -1,4 +1,4 @@
-use Rattle.std.proofs.Common.{◌≡◌, ◌+◌, [], length, slice_get, inl, inr, ⊎_elim, refl, sym, ap, ◌∙◌, arith, add-one, length-append}
+use Rattle.std.proofs.Common.{◌≡◌, ◌+◌, [], length, slice_get, inl, ⊎_elim, refl, sym, ap, ◌∙◌, arith, add-one, length-append}
 use Rattle.pb_shared.specs.Clerk.{blank}
 use Rattle.pb_shared.specs.Inner.Rule.{seated}
 use Rattle.pb_shared.specs.Steps.{knowing}
@@ -54,4 +54,4 @@ returns-clause-ok c =
     (laid.desk_is, clerks, ((let count = so_far.2 in omega arith), λ i below. so_far.4 i (omega arith)))
 
 pub returns-then-clerks-eq0-clause-err : goal.returns-then-clerks-eq0-clause-err
-returns-then-clerks-eq0-clause-err c = (refl, ⊎_elim (λ none. inl none) (λ many. inr many.1) c.then-clerks-eq0.either)
+returns-then-clerks-eq0-clause-err c = inl (refl, λ are. ⊎_elim (λ none. let some = are.0 in omega arith) (λ many. let few = are.1 in let more = many.1 in omega arith) c.then-clerks-eq0.either)
