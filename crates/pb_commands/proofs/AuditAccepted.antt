@@ -1,15 +1,14 @@
 -- A file and a journal that have a text get it, unless a device fails or memory is refused; and they have one at most.
 use Rattle.std.proofs.Common.{◌≡◌, ◌<◌, ◌^◌, ℕ, ◌++◌, List, Option, Some, None, Bool, true, false, refl, sym, ◌∙◌, ap, subst, arith}
-use Rattle.std.specs.Prelude.{All, IfSome, IsErrAnd, MatchBool, Result}
-use Rattle.std.proofs.lemmas.List.Elements.{All-nil}
+use Rattle.std.specs.Prelude.{IfSome, IsErrAnd, MatchBool, Result}
 use Rattle.pb_core.specs.Election.{ElectionView}
-use Rattle.pb_core.specs.Request.{EntryView, RequestView, Cast, Replace, Withdraw, Shut}
-use Rattle.pb_desk.proofs.AuditLaws.{no_fault}
+use Rattle.pb_core.specs.Request.{EntryView}
+use Rattle.pb_desk.proofs.AuditLaws.{no_fault, small_numbers}
 use Rattle.pb_desk.proofs.RowLaws.{rows_of-injective}
 use Rattle.pb_desk.specs.Audit.{IsFaultOfJournal, IsSound}
 use Rattle.pb_desk.specs.Desk.{DeskView, closed_election, standing_of}
 use Rattle.pb_desk.specs.Opening.{OpeningView}
-use Rattle.pb_desk.specs.Rows.{HasSmallNumbers, IsEntry, IsRequest, places_of, rows_of}
+use Rattle.pb_desk.specs.Rows.{rows_of}
 use Rattle.pb_desk.specs.declared.audit_fault.AuditFault.{AuditFault}
 use Rattle.pb_desk.specs.declared.audit_fault.AuditFault.TheVariants as audit
 use Rattle.pb_read.proofs.Uniqueness.{one_election}
@@ -19,7 +18,6 @@ use Rattle.pb_read.specs.declared.fault.ReadFault.{ReadFault}
 use Rattle.pb_rounds.specs.declared.count_fault.CountFault.{CountFault}
 use Rattle.pb_rounds.specs.declared.count_fault.CountFault.TheVariants as count
 use Rattle.pb_rounds.specs.declared.options.CountOptions.{CountOptions}
-use Rattle.pb_rows.specs.Numbers.{AreNumbers}
 use Rattle.pb_rows.specs.Reading.{records_of}
 use Rattle.pb_rows.specs.Writing.{text_of_row}
 use Rattle.pb_script.specs.Serving.{program_room}
@@ -31,17 +29,6 @@ use Rattle.pb_commands.specs.Fault.{merged}
 use Rattle.pb_commands.specs.declared.fault.AppFault.{AppFault}
 use Rattle.pb_commands.specs.declared.fault.AppFault.TheVariants.{Read, Audit, Count}
 use Rattle.pb_commands.proofs.Accepted.{count_from_outside, given_fault, one_report, read_from_outside}
-
-request_places : (r : RequestView) → IsRequest r → AreNumbers (places_of r)
-request_places (Cast voter ballot) is = is.1.are_numbers
-request_places (Replace voter ballot) is = is.1.are_numbers
-request_places (Withdraw voter) is = All-nil (λ place. place < 2 ^ 32)
-request_places Shut is = All-nil (λ place. place < 2 ^ 32)
-
-small_numbers : (journal : List EntryView) → All IsEntry journal → All HasSmallNumbers journal
-small_numbers journal entries = λ k d below.
-    let is = entries k d below in
-    record { clerk = is.by_clerk; places = request_places _ is.request; answer = is.answer }
 
 -- these bytes are those of one desk at most
 pub one_desk : (bytes journal : List ℕ) (d other : DeskView) → IsDeskOf bytes journal d → IsDeskOf bytes journal other → d ≡ other

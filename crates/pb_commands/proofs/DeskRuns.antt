@@ -36,16 +36,16 @@ row_after clerks (b ∷ before) row rest (x ∷ xs) rows = row_after clerks befo
 -- a script has no fault but the reader's and memory's
 script_from_outside : (clerks : ℕ) (records : List Fields) (said : List ScriptRowView) (fault : ScriptFault) → IsScript clerks records said → IsFaultOfScript clerks records fault →
     IsFromOutside (merged (Script fault))
-script_from_outside clerks records said fault is fails = by fault fails.left fails.records_are fails.next
+script_from_outside clerks records said fault is fails = by fault fails.1 fails.2 fails.4
   where
-    by : (fault : ScriptFault) (left : List Fields) → records ≡ fails.before ++ left → IsNextScriptFault clerks (length fails.before) left fault → IsFromOutside (merged (Script fault))
+    by : (fault : ScriptFault) (left : List Fields) → records ≡ fails.0 ++ left → IsNextScriptFault clerks (length fails.0) left fault → IsFromOutside (merged (Script fault))
     by (script.ReadFailed row) left are next = refl
-    by (script.BadRow row) [] are next = absurd next.2
+    by (script.BadRow row) [] are next = cc
     by (script.BadRow row) (fields ∷ rest) are next =
         let P : List Fields → Type 0 = λ all. AllZip (IsScriptRow clerks) all said in
-        absurd (next.2 (row_after clerks fails.before fields rest said (subst P are is.rows)))
-    by script.TooManyRows [] are next = absurd next.1
-    by script.TooManyRows (fields ∷ rest) are next = let few = is.few in absurd (omega (arith, next.0, ap length are, length-append fails.before (fields ∷ rest)))
+        absurd (next.2 (row_after clerks fails.0 fields rest said (subst P are is.rows)))
+    by script.TooManyRows [] are next = cc
+    by script.TooManyRows (fields ∷ rest) are next = let few = is.few in absurd (omega (arith, next, ap length are, length-append fails.0 (fields ∷ rest)))
     by script.NoMemory left are next = refl
 
 -- the script is not served

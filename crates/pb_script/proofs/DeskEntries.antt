@@ -1,5 +1,5 @@
 -- The journal of a script's requests can be written: each entry has the form of a journal's.
-use Rattle.std.proofs.Common.{◌≡◌, ◌∙◌, ℕ, ◌<◌, ◌≤◌, ◌^◌, List, [], ◌∷◌, ◌++◌, length, get_or, map, Bool, true, false, cond, Option, Some, None, refl, sym, ap, subst, arith, min}
+use Rattle.std.proofs.Common.{◌≡◌, ◌∙◌, ℕ, ◌<◌, ◌^◌, List, [], ◌∷◌, length, map, Bool, true, false, cond, Some, refl, sym, subst, arith}
 use Rattle.std.specs.List.{AllZip, filter, find}
 use Rattle.std.specs.Option.{option_map_or}
 use Rattle.std.specs.Prelude.{All, ◌==◌, nat_le}
@@ -10,16 +10,21 @@ use Rattle.pb_core.specs.Request.{EntryView, RequestView, Cast, Replace, Withdra
 use Rattle.pb_core.specs.declared.answer.Answer.{Answer}
 use Rattle.pb_core.specs.declared.answer.Answer.TheVariants.{Done, DeskShut, UnknownPlace, AlreadyCast, NoBallot, VoterLimit, TooLong}
 use Rattle.pb_desk.specs.Opening.{OpeningView}
-use Rattle.pb_desk.specs.Replay.{IsAnswered, IsLegal, IsLegalFrom, most_clerks, opened}
-use Rattle.pb_desk.specs.Rows.{IsAnswer, IsBallotList, IsEntry, IsRequest}
+use Rattle.pb_desk.proofs.Replays.{entry_by_entry}
+use Rattle.pb_desk.proofs.RowForms.{can_be_asked, small_place}
+use Rattle.pb_desk.specs.Inner.Legal.{IsLegalFrom}
+use Rattle.pb_desk.specs.Inner.RowReading.{IsAnswer}
+use Rattle.pb_desk.specs.Replay.{IsLegal, opened}
+use Rattle.pb_desk.specs.Rows.{IsEntry, IsRequest}
 use Rattle.pb_desk.specs.Standing.{Standing}
-use Rattle.pb_desk.specs.Step.{answer_of, first_unknown, has_ballot, is_too_long, open_answer_of, step, unless_refused}
+use Rattle.pb_desk.specs.Step.{answer_of, has_ballot, is_too_long, open_answer_of, places_of, step}
 use Rattle.pb_rows.specs.Numbers.{AreNumbers}
 use Rattle.pb_rows.specs.Reading.{Fields}
 use Rattle.pb_shared.specs.Clerk.{entries_of}
-use Rattle.pb_script.specs.Script.{IsScript, IsScriptRow, ScriptRowView, asked_by, clerks_within}
+use Rattle.pb_script.specs.Script.{IsScript, IsScriptRow, ScriptRowView}
 use Rattle.pb_script.specs.Inner.Script.{AreAsked}
-use Rattle.pb_script.specs.Serving.{AreClerks, ServesScript, ShutAtEnd, requests_of}
+use Rattle.pb_shared.specs.Clerk.{AreClerks}
+use Rattle.pb_script.specs.Serving.{ServesScript, ShutAtEnd, requests_of}
 use Rattle.pb_script.specs.Inner.Serving.{ServesAll}
 
 cond_answer : (test : Bool) (a b : Answer) → IsAnswer a → IsAnswer b → IsAnswer (cond test a b)
@@ -35,27 +40,28 @@ found_place test (p ∷ ps) otherwise are is = by (test p) (found_place test ps 
     by true later = All-head (λ q. q < 2 ^ 32) p ps are
     by false later = later
 
--- the answer to a ballot of numbers
-ballot_answer : (o : OpeningView) (ballot : List ℕ) (otherwise : Answer) → AreNumbers ballot → IsAnswer otherwise → IsAnswer (unless_refused o ballot otherwise)
-ballot_answer o ballot otherwise are is = found_place _ ballot _ are (cond_answer (is_too_long o ballot) TooLong otherwise tt is)
+-- what an open desk answers names no place
+open_answer : (ballots : List (List ℕ × List ℕ)) (request : RequestView) → IsAnswer (open_answer_of ballots request)
+unfolding open_answer_of
+open_answer ballots (Cast voter ballot) = cond_answer (has_ballot ballots voter) AlreadyCast _ tt (cond_answer (nat_le most_voters (length ballots)) VoterLimit Done tt tt)
+open_answer ballots (Replace voter ballot) = cond_answer (has_ballot ballots voter) Done NoBallot tt tt
+open_answer ballots (Withdraw voter) = cond_answer (has_ballot ballots voter) Done NoBallot tt tt
+open_answer ballots Shut = tt
 
 -- what a desk answers to a request that can be asked
 IsAnswer-of : (o : OpeningView) (s : Standing) (request : RequestView) → IsRequest request → IsAnswer (answer_of o s request)
-unfolding answer_of open_answer_of
-IsAnswer-of o s (Cast voter ballot) is =
-    cond_answer s.is_shut DeskShut _ tt (ballot_answer o ballot _ is.1.are_numbers
-    (cond_answer (has_ballot s.ballots voter) AlreadyCast _ tt (cond_answer (nat_le most_voters (length s.ballots)) VoterLimit Done tt tt)))
-IsAnswer-of o s (Replace voter ballot) is =
-    cond_answer s.is_shut DeskShut _ tt (ballot_answer o ballot _ is.1.are_numbers (cond_answer (has_ballot s.ballots voter) Done NoBallot tt tt))
-IsAnswer-of o s (Withdraw voter) is = cond_answer s.is_shut DeskShut _ tt (cond_answer (has_ballot s.ballots voter) Done NoBallot tt tt)
-IsAnswer-of o s Shut is = cond_answer s.is_shut DeskShut Done tt tt
+unfolding answer_of
+IsAnswer-of o s request is =
+    let ballot = places_of request in
+    cond_answer s.is_shut DeskShut _ tt
+    (found_place _ ballot _ is.ballot.1 (cond_answer (is_too_long o.version o.election.max_length ballot) TooLong _ tt (open_answer s.ballots request)))
 
 -- the entries of a legal journal, where each request can be asked
 legal_entries : (o : OpeningView) (s : Standing) (journal : List EntryView) → IsLegalFrom o s journal → All (λ x. IsRequest x.request) journal → All IsEntry journal
 legal_entries o s [] legal can = All-nil IsEntry
 legal_entries o s (x ∷ xs) legal can =
     let request = All-head (λ (y : EntryView). IsRequest y.request) x xs can in
-    let entry : IsEntry x = record { by_clerk = legal.0.by_clerk; request = request; answer = subst IsAnswer (sym legal.0.answer) (IsAnswer-of o s x.request request) } in
+    let entry : IsEntry x = record { by_clerk = legal.0.by_clerk; request = request; answer = small_place x.answer (subst IsAnswer (sym legal.0.answer) (IsAnswer-of o s x.request request)) } in
     All-cons IsEntry x xs entry (legal_entries o (step o s x.request) xs legal.1 (All-tail (λ (y : EntryView). IsRequest y.request) x xs can))
 
 -- each row of a script asks what can be asked
@@ -98,13 +104,13 @@ ended_requests true clerks records script journal is serves =
     let P : EntryView → Type 0 = λ x. IsRequest x.request in
     let last : EntryView = record { clerk = 0; request = Shut; answer = serves.1 } in
     let Q : List EntryView → Type 0 = All P in
-    subst Q (sym serves.3) (All-append P serves.0 (last ∷ []) (served_requests clerks records script serves.0 is serves.2) (All-cons P last [] tt (All-nil P)))
+    subst Q (sym serves.3) (All-append P serves.0 (last ∷ []) (served_requests clerks records script serves.0 is serves.2) (All-cons P last [] (can_be_asked Shut tt) (All-nil P)))
 
 -- the journal of a run that serves a script can be written
 pub served_entries : (shuts : Bool) (o : OpeningView) (clerks : ℕ) (records : List Fields) (script : List ScriptRowView) (journal : List EntryView) → IsScript clerks records script →
     ShutAtEnd shuts (ServesScript clerks script) journal → IsLegal o journal → All IsEntry journal
 served_entries shuts o clerks records script journal is serves legal =
-    legal_entries o (opened o.election) journal legal (ended_requests shuts clerks records script journal is serves)
+    legal_entries o (opened o.election) journal (entry_by_entry o journal legal) (ended_requests shuts clerks records script journal is serves)
 
 -- lists that are the rows of a script, served, are the script, served
 script_served : (clerks : ℕ) (script : List ScriptRowView) (lists : List (List RequestView)) (journal : List EntryView) → AreClerks clerks → AreAsked clerks script lists →

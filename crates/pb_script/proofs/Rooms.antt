@@ -1,5 +1,5 @@
 -- A desk of the program has room for all that the clerks of a script ask.
-use Rattle.std.proofs.Common.{◌≡◌, ◌≢◌, ◌∙◌, ℕ, zero, suc, ◌+◌, ◌-◌, ◌*◌, ◌<◌, ◌≤◌, List, [], ◌∷◌, length, get_or, take, drop, map, true, false, cond, refl, sym, ap, subst, inl, inr, arith}
+use Rattle.std.proofs.Common.{◌≡◌, ◌≢◌, ℕ, zero, suc, ◌+◌, ◌-◌, ◌*◌, ◌<◌, ◌≤◌, List, [], ◌∷◌, length, get_or, take, drop, map, true, false, cond, refl, sym, ap, inl, inr, arith}
 use Rattle.std.specs.Prelude.{All, ◌==◌}
 use Rattle.std.proofs.lemmas.Bool.{cases_eq, cases_lt, eq-eqb, ne_eqb}
 use Rattle.std.proofs.lemmas.List.{length-map, length-take}
@@ -8,7 +8,7 @@ use Rattle.pb_core.specs.Request.{EntryView, RequestView}
 use Rattle.pb_desk.specs.Replay.{most_clerks}
 use Rattle.pb_shared.specs.Clerk.{entries_of}
 use Rattle.pb_script.specs.Script.{most_rows}
-use Rattle.pb_script.specs.Serving.{program_room, requests_of}
+use Rattle.pb_script.specs.Serving.{program_room}
 use Rattle.pb_script.specs.Inner.Serving.{ServesAll, ServesUpTo, list_of}
 
 -- how many entries of a journal are this clerk's

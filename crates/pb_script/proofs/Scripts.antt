@@ -4,14 +4,14 @@ use Rattle.std.specs.List.{AllZip, filter}
 use Rattle.std.specs.Prelude.{All, ◌==◌, map, cond, IfErr, IsErrAnd, Result, Ok, Err}
 use Rattle.std.proofs.lemmas.Bool.{cases_eq, eq-eqb, ne_eqb}
 use Rattle.std.proofs.lemmas.List.{append-nil, append_assoc, get_or_default, length-map, map-append, length-set, length-replicate, get_or-replicate, get_or-set_same, get_or-set_other}
-use Rattle.std.proofs.lemmas.List.Elements.{filter-append}
+use Rattle.std.proofs.lemmas.List.Elements.{All-cons, All-nil, filter-append}
 use Rattle.std.proofs.lemmas.List.Sums.{count_by-le-length, length-filter}
 use Rattle.pb_core.specs.Request.{RequestView}
 use Rattle.pb_rows.specs.Reading.{Fields, IsNext}
-use Rattle.pb_script.specs.Script.{IsScript, IsScriptRow, ScriptRowView, asked_by, clerks_within, most_rows}
-use Rattle.pb_script.specs.Inner.Script.{AreAsked}
-use Rattle.pb_script.specs.ScriptReading.{IsFaultOfScript, IsNextScriptFault, NoneLeft}
-use Rattle.pb_script.specs.Inner.ScriptReading.{HaveAsked, HaveGone, SplitsScript, TakesScriptRow}
+use Rattle.pb_script.specs.Script.{HasScriptForm, IsScriptRow, ScriptRowView, asked_by, most_rows}
+use Rattle.pb_script.specs.Inner.Script.{AreAsked, clerks_within}
+use Rattle.pb_script.specs.ScriptReading.{IsFaultOfScript, IsNextScriptFault}
+use Rattle.pb_script.specs.Inner.ScriptReading.{HaveAsked, HaveGone, NoneLeft, SplitsScript, TakesScriptRow}
 use Rattle.pb_script.specs.declared.script_fault.ScriptFault.{ScriptFault}
 use Rattle.pb_script.specs.declared.script_fault.ScriptFault.TheVariants.{NoMemory}
 
@@ -84,7 +84,7 @@ HaveAsked-more clerks all left after count x lists new have takes is =
       have_gone = one_more all left after have.gone takes.fields have.have_gone takes.next;
       rows = AllZip-push (IsScriptRow clerks) have.gone have.script takes.fields x have.rows takes.row;
       count_is = omega arith;
-      lists_are = AreAsked-more clerks have.script x lists new have.lists_are takes.row.by_clerk is;
+      lists_are = AreAsked-more clerks have.script x lists new have.lists_are (let by = takes.row.by_clerk in omega (arith, by.0, by.1)) is;
     }
   where
     one_more : (all left after : Option (List Fields)) (gone : List Fields) (fields : Fields) → HaveGone all gone left → IsNext left after true fields → HaveGone all (gone ++ fields ∷ []) after
@@ -103,30 +103,39 @@ HaveAsked-end clerks (Some rows) left count lists have none few =
   where
     gone_is : (left : Option (List Fields)) → HaveGone (Some rows) have.gone left → NoneLeft left → rows ≡ have.gone
     gone_is None is none = absurd is
-    gone_is (Some []) is none = is ∙ append-nil have.gone
-    gone_is (Some (row ∷ rest)) is none = absurd none
+    gone_is (Some rest) is none = is ∙ ap (λ more. have.gone ++ more) none ∙ append-nil have.gone
 
     all_gone : rows ≡ have.gone
     all_gone = gone_is left have.have_gone none
+
+-- the rows of a script have its form
+of_form : (clerks : ℕ) (records : List Fields) (script : List ScriptRowView) → AllZip (IsScriptRow clerks) records script → All (HasScriptForm clerks) records
+of_form clerks [] [] rows = All-nil (HasScriptForm clerks)
+of_form clerks [] (x ∷ xs) rows = absurd rows
+of_form clerks (r ∷ rs) [] rows = absurd rows
+of_form clerks (r ∷ rs) (x ∷ xs) rows = All-cons (HasScriptForm clerks) r rs (x, rows.0) (of_form clerks rs xs rows.1)
 
 -- the next row has a fault
 pub HaveAsked-fault : (clerks : ℕ) (all left : Option (List Fields)) (count : ℕ) (lists : List (List RequestView)) (fault : ScriptFault) → HaveAsked clerks all left count lists →
     IfSome left (λ left. IsNextScriptFault clerks count left fault) → IfSome all (λ rows. IsFaultOfScript clerks rows fault)
 HaveAsked-fault clerks None left count lists fault have next = tt
 HaveAsked-fault clerks (Some rows) None count lists fault have next = absurd have.have_gone
-HaveAsked-fault clerks (Some rows) (Some rest) count lists fault have next = record {
-  before = have.gone;
-  script = have.script;
-  left = rest;
-  records_are = have.have_gone;
-  rows = have.rows;
-  next = let P : ℕ → Type 0 = λ n. IsNextScriptFault clerks n rest fault in subst P (sym have.count_is) next;
-}
+HaveAsked-fault clerks (Some rows) (Some rest) count lists fault have next = (
+  have.gone,
+  rest,
+  have.have_gone,
+  of_form clerks have.gone have.script have.rows,
+  (let P : ℕ → Type 0 = λ n. IsNextScriptFault clerks n rest fault in subst P (sym have.count_is) next),
+)
 
 -- refused memory is no fault of the rows
 pub memory_fault : (clerks : ℕ) (all : Option (List Fields)) → IfSome all (λ rows. IsFaultOfScript clerks rows NoMemory)
 memory_fault clerks None = tt
-memory_fault clerks (Some rows) = record { before = []; script = []; left = rows; records_are = refl; rows = tt; next = tt }
+memory_fault clerks (Some rows) = ([], rows, refl, All-nil (HasScriptForm clerks), no_memory rows)
+  where
+    no_memory : (left : List Fields) → IsNextScriptFault clerks 0 left NoMemory
+    no_memory [] = refl
+    no_memory (fields ∷ rest) = refl
 
 pub error_of_memory : {A : Type 0} (clerks : ℕ) (all : Option (List Fields)) (r : Result A ScriptFault) → IsErrAnd r (λ fault. fault ≡ NoMemory) →
     IfErr r (λ fault. IfSome all (λ rows. IsFaultOfScript clerks rows fault))

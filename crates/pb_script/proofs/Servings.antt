@@ -1,7 +1,6 @@
 -- How the clerks' requests come into one journal.
-use Rattle.std.proofs.Common.{◌≡◌, ◌≢◌, ◌∙◌, ℕ, ◌+◌, ◌<◌, ◌≤◌, ◌⊎◌, inl, inr, List, [], ◌∷◌, ◌++◌, length, get_or, take, drop, map, true, false, Bool, cond, refl, sym, ap, subst, arith, ◌-◌, length-drop}
-use Rattle.std.specs.List.{filter}
-use Rattle.std.specs.Prelude.{All, ◌==◌, IfErr, IfOk, IsErrAnd, Result, Ok, Err}
+use Rattle.std.proofs.Common.{◌≡◌, ◌≢◌, ◌∙◌, ℕ, ◌+◌, ◌<◌, ◌⊎◌, inl, inr, List, [], ◌∷◌, ◌++◌, length, get_or, take, drop, map, true, false, cond, refl, sym, ap, subst, arith, ◌-◌, length-drop}
+use Rattle.std.specs.Prelude.{All, ◌==◌, IfOk, Result, Ok, Err}
 use Rattle.std.proofs.lemmas.Bool.{cases_eq, eq-eqb, ne_eqb}
 use Rattle.std.proofs.lemmas.List.{append-nil, append_assoc, get_or-map, get_or_default, length-map, map-append, drop-map, take_all, take_more, take-append-drop}
 use Rattle.std.proofs.lemmas.Option.{get_or_from_slice_get}
@@ -9,13 +8,13 @@ use Rattle.std.proofs.lemmas.List.Elements.{All-append, All-cons, All-head, All-
 use Rattle.pb_core.specs.Request.{EntryView, RequestView}
 use Rattle.pb_core.specs.declared.answer.Answer.{Answer}
 use Rattle.pb_desk.specs.Desk.{DeskView}
-use Rattle.pb_shared.specs.Clerk.{AreAll, AreNewcomers, Begins, ClerkView, IsMergeOf, SharedView, Serves, entries_of}
-use Rattle.pb_shared.specs.Refusal.{HandsBack}
+use Rattle.pb_shared.specs.Clerk.{AreAll, AreClerks, AreNewcomers, Begins, ClerkView, IsMergeOf, SharedView, Serves, entries_of}
+use Rattle.pb_shared.specs.declared.seat_view.Sheet.{Sheet}
 use Rattle.pb_shared.specs.Inner.Seats.{newcomer}
 use Rattle.pb_shared.specs.declared.share_fault.ShareFault.{ShareFault}
 use Rattle.pb_shared.specs.declared.share_fault.ShareFault.TheVariants as share
 use Rattle.pb_script.specs.declared.serve_script.Returned.{Returned}
-use Rattle.pb_script.specs.Serving.{AreClerks, requests_of}
+use Rattle.pb_script.specs.Serving.{requests_of}
 use Rattle.pb_script.specs.Inner.Serving.{AppendsFor, AreBack, AreCounts, HasServed, IsServingFault, ServesUpTo, list_of, unshared}
 
 -- an element of a list, read through a function
@@ -32,17 +31,17 @@ rest_through f n items list is =
 
 -- one request more that a clerk served
 pub HasServed-more : (d : SharedView) (number : ℕ) (requests : List RequestView) (c c' : ClerkView) (served : ℕ) (request : RequestView) (answer : Answer) (tries : ℕ) →
-    HasServed d number requests c served → Serves tries c request answer c' → (served < length requests) × (request ≡ get_or requests served request) →
+    HasServed d number requests c served → c'.desk ≡ c.desk → Serves tries d c.sheet request answer c'.sheet → (served < length requests) × (request ≡ get_or requests served request) →
     HasServed d number requests c' (served + 1)
-HasServed-more d number requests c c' served request answer tries so_far serves next =
+HasServed-more d number requests c c' served request answer tries so_far same serves next =
     let is = serves.4 in
-    let x : EntryView = record { clerk = c.number; request = request; answer = answer } in
+    let x : EntryView = record { clerk = c.sheet.number; request = request; answer = answer } in
     record {
-      own = ap (λ (v : ClerkView). v.desk) is ∙ so_far.own;
-      number_is = ap (λ (v : ClerkView). v.number) is ∙ so_far.number_is;
+      own = same ∙ so_far.own;
+      number_is = ap (λ (v : Sheet). v.number) is ∙ so_far.number_is;
       within = omega (arith, next.0);
       mine =
-          ap (λ (v : ClerkView). map (λ (y : EntryView). y.request) v.mine) is ∙ map-append (λ (y : EntryView). y.request) c.mine (x ∷ [])
+          ap (λ (v : Sheet). map (λ (y : EntryView). y.request) v.mine) is ∙ map-append (λ (y : EntryView). y.request) c.sheet.mine (x ∷ [])
           ∙ ap (λ l. l ++ request ∷ []) so_far.mine ∙ ap (λ r. take served requests ++ r ∷ []) next.1 ∙ sym (take_more requests served request next.0);
     }
 
@@ -123,7 +122,7 @@ some_element (x ∷ xs) i below = x
 -- what came back of the clerks' work
 pub AreBack-from : (d : SharedView) (lists : List (List RequestView)) (jobs : List ClerkView) (back : List Returned) → AreNewcomers d jobs → length back ≡ length jobs →
     ((i : ℕ) (r : Returned) → i < length jobs → (job : ClerkView) × ((e : ClerkView) → get_or jobs i e ≡ job)
-    × HasServed d job.number (list_of lists job.number) (get_or back i r).clerk (get_or back i r).served) →
+    × HasServed d job.sheet.number (list_of lists job.sheet.number) (get_or back i r).clerk (get_or back i r).served) →
     AreBack d lists (map (λ (r : Returned). r.clerk) back) (map (λ (r : Returned). r.served) back)
 AreBack-from d lists jobs back fresh count gives = record {
   clerks_count = length-map back (λ (r : Returned). r.clerk) ∙ count ∙ fresh.0;
@@ -137,7 +136,7 @@ AreBack-from d lists jobs back fresh count gives = record {
       let job : work.0 ≡ newcomer d number = sym (work.1 work.0) ∙ get_or_from_slice_get jobs number (newcomer d number) work.0 (fresh.1 number below) in
       let clerk : (get_or back number r).clerk ≡ c = sym (is ∙ get_or-map (λ (r : Returned). r.clerk) back number r c inside) in
       let served : (get_or back number r).served ≡ get_or (map (λ (r : Returned). r.served) back) number 0 = sym (get_or-map (λ (r : Returned). r.served) back number r 0 inside) in
-      let P : ClerkView → ClerkView → ℕ → Type 0 = λ j c n. HasServed d j.number (list_of lists j.number) c n in
+      let P : ClerkView → ClerkView → ℕ → Type 0 = λ j c n. HasServed d j.sheet.number (list_of lists j.sheet.number) c n in
       subst (P (newcomer d number) c) served (subst (λ v. P (newcomer d number) v (get_or back number r).served) clerk
       (subst (λ j. P j (get_or back number r).clerk (get_or back number r).served) job work.2));
 }
@@ -165,8 +164,8 @@ AreAll-back d lists clerks served back number below =
     let size = back.clerks_count in
     let inside : number < length clerks = omega arith in
     let c = clerk_back d lists clerks served back number below in
-    let count = length-map clerks (λ (v : ClerkView). v.number) in
-    (number, omega arith, get_or-map (λ (v : ClerkView). v.number) clerks number c.0 number inside ∙ ap (λ (v : ClerkView). v.number) (sym c.1) ∙ c.2.number_is)
+    let count = length-map clerks (λ (v : ClerkView). v.sheet.number) in
+    (number, omega arith, get_or-map (λ (v : ClerkView). v.sheet.number) clerks number c.0 number inside ∙ ap (λ (v : ClerkView). v.sheet.number) (sym c.1) ∙ c.2.number_is)
 
 pub AreCounts-back : (d : SharedView) (lists : List (List RequestView)) (clerks : List ClerkView) (served : List ℕ) → length lists ≡ d.clerks → AreBack d lists clerks served → AreCounts lists served
 AreCounts-back d lists clerks served one_each back = record {
@@ -183,9 +182,9 @@ ServesUpTo-merged d lists clerks served journal empty one_each back merge = reco
       let size = back.clerks_count in
       let c = clerk_back d lists clerks served back k (omega arith) in
       let inside : k < length clerks = omega arith in
-      let Q : ClerkView → Type 0 = λ v. Begins v.seen journal × (entries_of v.number merge.later ≡ v.mine) in
+      let Q : ClerkView → Type 0 = λ v. Begins v.sheet.seen journal × (entries_of v.sheet.number merge.later ≡ v.sheet.mine) in
       let agrees = subst Q (sym c.1) (merge.agrees k c.0 inside) in
-      let mine : entries_of k merge.later ≡ c.0.mine = let P : ℕ → Type 0 = λ n. entries_of n merge.later ≡ c.0.mine in subst P c.2.number_is agrees.1 in
+      let mine : entries_of k merge.later ≡ c.0.sheet.mine = let P : ℕ → Type 0 = λ n. entries_of n merge.later ≡ c.0.sheet.mine in subst P c.2.number_is agrees.1 in
       ap (requests_of k) all ∙ ap (map (λ (y : EntryView). y.request)) mine ∙ c.2.mine;
   by_clerks = let P : List EntryView → ℕ → Type 0 = λ j n. All (λ x. x.clerk < n) j in
       subst (λ j. P j (length lists)) (sym all) (subst (P merge.later) (sym one_each) merge.by_clerks);
@@ -201,9 +200,7 @@ AreBack-same d lists clerks clerks' served served' back is are =
     subst (λ c. P c served') (sym is) (subst (P clerks) (sym are) back)
 
 -- a desk that is not shared
-pub unserved : (clerks : ℕ) (d : DeskView) (fault : ShareFault) → HandsBack d clerks fault → IsServingFault clerks (unshared fault)
-unserved clerks d (share.ClerkCount desk) back = λ are.
-    let some = are.0 in
-    let few = are.1 in
-    elim back.1 [ inl none ↦ absurd (omega arith) | inr many ↦ absurd (omega arith) ]
-unserved clerks d (share.NoMemory desk) back = tt
+pub unserved : (clerks : ℕ) (d : DeskView) (fault : ShareFault) → ((fault ≡ share.ClerkCount d) × ¬ AreClerks clerks) ⊎ ((fault ≡ share.NoMemory d) × AreClerks clerks) →
+    IsServingFault clerks (unshared fault)
+unserved clerks d fault (inl back) = let P : ShareFault → Type 0 = λ f. IsServingFault clerks (unshared f) in subst P (sym back.0) back.1
+unserved clerks d fault (inr back) = let P : ShareFault → Type 0 = λ f. IsServingFault clerks (unshared f) in subst P (sym back.0) tt

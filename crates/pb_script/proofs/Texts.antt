@@ -1,5 +1,5 @@
 -- What is answered about the bytes of a script, where they may be known.
-use Rattle.std.proofs.Common.{◌≡◌, ◌∙◌, ℕ, ◌≤◌, List, Bool, length, Option, Some, None, sym, ap, subst}
+use Rattle.std.proofs.Common.{◌≡◌, ◌∙◌, ℕ, ◌≤◌, List, Bool, length, Option, Some, None, ap, subst}
 use Rattle.std.specs.Prelude.{IfSome}
 use Rattle.pb_core.specs.Election.{ElectionView}
 use Rattle.pb_core.specs.Request.{RequestView}
@@ -8,12 +8,11 @@ use Rattle.pb_desk.specs.Opening.{OpeningView}
 use Rattle.pb_desk.specs.Replay.{IsLegal}
 use Rattle.pb_desk.specs.Rows.{journal_text}
 use Rattle.pb_rows.specs.Reading.{Fields, records_of}
-use Rattle.pb_script.specs.ScriptReading.{IsFaultOfScript}
 use Rattle.pb_script.specs.Inner.ScriptReading.{SplitsScript}
 use Rattle.pb_script.specs.Served.{IsServeFault, IsServed}
-use Rattle.pb_script.specs.Serving.{AreClerks, ShutAtEnd, program_room}
+use Rattle.pb_shared.specs.Clerk.{AreClerks}
+use Rattle.pb_script.specs.Serving.{ShutAtEnd, program_room}
 use Rattle.pb_script.specs.Inner.Serving.{IsServingFault, ServesAll, opening_of}
-use Rattle.pb_script.specs.declared.script_fault.ScriptFault.{ScriptFault}
 use Rattle.pb_script.specs.declared.script_fault.ScriptFault.TheVariants as script
 use Rattle.pb_script.specs.declared.serve_fault.ServeFault.{ServeFault}
 use Rattle.pb_script.specs.declared.serve_fault.ServeFault.TheVariants.{Script, ClerkCount}

@@ -1,12 +1,13 @@
 -- A script: the requests of a run's clerks, one a row.
-use Rattle.std.specs.Prelude.{◌≡◌, ℕ, ◌<◌, ◌≤◌, ◌==◌, List, [], ◌∷◌, decimal, filter, length, map, min}
+use Rattle.std.specs.Prelude.{◌≡◌, ℕ, ◌<◌, ◌≤◌, ◌==◌, List, [], ◌∷◌, decimal, filter, length, map}
 use Rattle.std.specs.List.{AllZip}
 use Rattle.std.specs.Str.{trim}
 use Rattle.csv.specs.Records.{AllText}
 use Rattle.pb_core.specs.Ballot.{HasSameMembers}
 use Rattle.pb_core.specs.Request.{RequestView}
 use Rattle.pb_desk.specs.Replay.{most_clerks}
-use Rattle.pb_desk.specs.Rows.{IsRequest, places_of, voter_of, word_of}
+use Rattle.pb_desk.specs.Rows.{IsRequest, word_of}
+use Rattle.pb_desk.specs.Step.{places_of, voter_of}
 use Rattle.pb_rows.specs.Numbers.{AreNumbers, places_text}
 use Rattle.pb_rows.specs.Reading.{Fields}
 
@@ -15,15 +16,12 @@ pub record ScriptRowView : Type 0 where
   pub clerk : ℕ
   pub request : RequestView
 
--- a run has this many clerks at most; they are numbered from 0
-abbrev pub clerks_within : ℕ → ℕ
-clerks_within clerks = min clerks most_clerks
-
--- The row of a script for this many clerks that says this, four fields of text: the clerk; the request; the
--- voter, round whom white space does not count; and the places of the ballot, in any order and with repeats.
+-- The row of a script for this many clerks that says this, four fields of text: the clerk, from 0, who is one of
+-- them and of 64; the request; the voter, round whom white space does not count; and the places of the ballot, in
+-- any order and with repeats.
 pub record IsScriptRow (clerks : ℕ) (row : Fields) (x : ScriptRowView) : Type 0 where
   pub is_text : AllText row
-  pub by_clerk : x.clerk < clerks_within clerks
+  pub by_clerk : (x.clerk < clerks) × (x.clerk < most_clerks)
   pub can_be : IsRequest x.request
   pub voter : List ℕ
   pub places : List ℕ

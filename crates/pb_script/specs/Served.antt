@@ -6,9 +6,10 @@ use Rattle.pb_desk.specs.Audit.{IsSound}
 use Rattle.pb_desk.specs.Rows.{journal_text}
 use Rattle.pb_desk.specs.declared.version.Version.TheVariants.{Two}
 use Rattle.pb_rows.specs.Reading.{Fields}
+use Rattle.pb_shared.specs.Clerk.{AreClerks}
 use Rattle.pb_script.specs.Script.{IsScript, ScriptRowView}
 use Rattle.pb_script.specs.ScriptReading.{IsFaultOfScript}
-use Rattle.pb_script.specs.Serving.{AreClerks, ServesScript, ShutAtEnd, program_room}
+use Rattle.pb_script.specs.Serving.{ServesScript, ShutAtEnd, program_room}
 use Rattle.pb_script.specs.declared.serve_fault.ServeFault.{ServeFault}
 use Rattle.pb_script.specs.declared.serve_fault.ServeFault.TheVariants.{Script, ClerkCount}
 

@@ -1,12 +1,9 @@
 -- How the requests of a run's clerks come into one journal.
-use Rattle.std.specs.Prelude.{◌≡◌, ℕ, ◌<◌, ◌≤◌, ◌++◌, Bool, true, false, List, [], ◌∷◌, All, map}
+use Rattle.std.specs.Prelude.{◌≡◌, ℕ, ◌<◌, ◌++◌, Bool, true, false, List, [], ◌∷◌, All, map}
 use Rattle.pb_core.specs.Request.{EntryView, RequestView, Shut}
 use Rattle.pb_core.specs.declared.answer.Answer.{Answer}
-use Rattle.pb_desk.specs.Replay.{most_clerks}
 use Rattle.pb_shared.specs.Clerk.{entries_of}
-use Rattle.pb_shared.specs.declared.share_fault.ShareFault.TheVariants as share
 use Rattle.pb_script.specs.Script.{ScriptRowView, asked_by}
-use Rattle.pb_script.specs.declared.script_fault.ScriptFault.TheVariants as script
 
 -- how many entries a desk of the program has room for
 abbrev pub program_room : ℕ
@@ -29,7 +26,3 @@ ShutAtEnd false IsJournal journal = IsJournal journal
 ShutAtEnd true IsJournal journal =
     (before : List EntryView) × (answer : Answer) × IsJournal before
     × (journal ≡ before ++ record { clerk = 0; request = Shut; answer = answer } ∷ [])
-
--- a desk is shared among 1 to 64 clerks
-abbrev pub AreClerks : ℕ → Type 0
-AreClerks clerks = (0 < clerks) × (clerks ≤ most_clerks)

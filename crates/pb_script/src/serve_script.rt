@@ -5,10 +5,11 @@ ghost use Rattle.pb_core.specs.Request.{asked};
 ghost use Rattle.pb_desk.specs.Replay.{IsLegal, most_clerks};
 ghost use Rattle.pb_desk.specs.Rows.{journal_text};
 ghost use Rattle.pb_rows.specs.Reading.{records_of};
-ghost use Rattle.pb_shared.specs.Clerk.{AreNewcomers, desk_with};
-ghost use Rattle.pb_script.specs.Script.{clerks_within, most_rows};
+ghost use Rattle.pb_shared.specs.Clerk.{AreClerks, AreNewcomers, desk_with};
+ghost use Rattle.pb_script.specs.Script.{most_rows};
 ghost use Rattle.pb_script.specs.Served.{IsServeFault, IsServed};
-ghost use Rattle.pb_script.specs.Serving.{ShutAtEnd, AreClerks, program_room};
+ghost use Rattle.pb_script.specs.Serving.{ShutAtEnd, program_room};
+ghost use Rattle.pb_script.specs.Inner.Script.{clerks_within};
 ghost use Rattle.pb_script.specs.Inner.Serving.{AppendsFor, AreCounts, HasServed, ServesAll, ServesUpTo, AreBack, IsServingFault, list_of, opening_of, unshared};
 
 use crate::requests::Requests;
@@ -50,10 +51,10 @@ struct Returned {
 /// memory is refused for.
 fn serve_own<G: Gate>(shared: &SharedDesk, gate: &G, clerk: Clerk, lists: &[Requests]) -> Returned
     requires own { clerk.desk ≡ shared.now }
-    requires fresh { clerk.mine ≡ [] }
+    requires fresh { clerk.sheet.mine ≡ [] }
     requires one_each { length lists.now ≡ shared.now.clerks }
     requires few { All (λ list. length list ≤ most_rows) lists.now }
-    ensures { HasServed shared.now clerk.number (list_of lists.now clerk.number) result.clerk result.served }
+    ensures { HasServed shared.now clerk.sheet.number (list_of lists.now clerk.sheet.number) result.clerk result.served }
 {
     let mut clerk = clerk;
     let number = clerk.number();
@@ -135,9 +136,9 @@ fn serve_side_by_side<T: Threads + Sync, G: Gate>(
         rt,
         clerks,
         &|clerk: Clerk| -> Returned
-            requires { (clerk.desk ≡ shared.now) × (clerk.mine ≡ []) × (length lists.now ≡ shared.now.clerks)
+            requires { (clerk.desk ≡ shared.now) × (clerk.sheet.mine ≡ []) × (length lists.now ≡ shared.now.clerks)
                 × All (λ list. length list ≤ most_rows) lists.now }
-            ensures { HasServed shared.entry.now clerk.number (list_of lists.entry.now clerk.number)
+            ensures { HasServed shared.entry.now clerk.sheet.number (list_of lists.entry.now clerk.sheet.number)
                 result.clerk result.served }
         { serve_own(shared, gate, clerk, lists) },
     )

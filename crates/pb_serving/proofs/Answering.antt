@@ -16,8 +16,7 @@ use Rattle.pb_rows.proofs.RowsText.{text_of_rows-append}
 use Rattle.pb_rows.specs.Reading.{Fields}
 use Rattle.pb_rows.specs.Writing.{text_of_row, text_of_rows}
 use Rattle.pb_script.specs.Script.{HasScriptForm}
-use Rattle.pb_script.specs.ScriptReading.{NoneLeft}
-use Rattle.pb_script.specs.Inner.ScriptReading.{HaveGone}
+use Rattle.pb_script.specs.Inner.ScriptReading.{HaveGone, NoneLeft}
 use Rattle.pb_script.specs.declared.script_fault.ScriptFault.TheVariants.{BadRow}
 use Rattle.pb_commands.specs.Fault.{fields_of, line}
 use Rattle.pb_commands.specs.declared.fault.AppFault.TheVariants.{Script}
@@ -203,7 +202,7 @@ pub done : (all left : Option (List Fields)) (old now : List EntryView) (before 
     → IfSome all (λ records. (text : List ℕ) × Answers records old now text × Appends before after text × (bad + length now ≡ length records + length old))
 done None left old now before after row bad p none = tt
 done (Some records) None old now before after row bad p none = absurd p.have_gone
-done (Some records) (Some (fields ∷ rest)) old now before after row bad p none = absurd none
+done (Some records) (Some (fields ∷ rest)) old now before after row bad p none = cc none
 done (Some records) (Some []) old now before after row bad p none =
     let all : records ≡ p.gone = p.have_gone ∙ append-nil p.gone in
     let sums = p.bad_is in

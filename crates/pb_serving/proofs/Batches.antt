@@ -5,8 +5,7 @@ use Rattle.std.specs.Prelude.{MatchOption}
 use Rattle.pb_desk.specs.Replay.{most_clerks}
 use Rattle.pb_rows.specs.Reading.{Fields, IsNext}
 use Rattle.pb_script.specs.RequestRows.{TakesRequestRow}
-use Rattle.pb_script.specs.ScriptReading.{NoneLeft}
-use Rattle.pb_script.specs.Inner.ScriptReading.{HaveGone}
+use Rattle.pb_script.specs.Inner.ScriptReading.{HaveGone, NoneLeft}
 use Rattle.pb_script.specs.declared.request_rows.RequestRow.{RequestRow}
 use Rattle.pb_script.specs.declared.request_rows.RequestRow.TheVariants as row
 use Rattle.pb_durable.specs.declared.asked.Asked.{Asked}
@@ -55,5 +54,5 @@ pub asks_clerks : (rows : List Fields) (asks : List Asked) → AllZip Asks rows 
 asks_clerks [] [] each k d below = absurd (omega (arith, below))
 asks_clerks [] (a ∷ asks) each k d below = absurd each
 asks_clerks (row ∷ rows) [] each k d below = absurd (omega (arith, below))
-asks_clerks (row ∷ rows) (a ∷ asks) each zero d below = let is = each.0.by_clerk in omega (arith, is)
+asks_clerks (row ∷ rows) (a ∷ asks) each zero d below = let is = each.0.by_clerk in omega (arith, is.0)
 asks_clerks (row ∷ rows) (a ∷ asks) each (suc k) d below = asks_clerks rows asks each.1 k d (omega (arith, below))

@@ -3,7 +3,9 @@ use Rattle.std.specs.Prelude.{◌≡◌, ℕ, List, [], ◌∷◌, ◌++◌, sli
 use Rattle.std.specs.Str.{trim}
 use Rattle.pb_core.specs.Ballot.{HasSameMembers}
 use Rattle.pb_core.specs.Request.{RequestView}
-use Rattle.pb_desk.specs.Rows.{IsRequest, places_of, voter_of, word_of}
+use Rattle.pb_desk.specs.Inner.RowReading.{CanBeAsked}
+use Rattle.pb_desk.specs.Rows.{word_of}
+use Rattle.pb_desk.specs.Step.{places_of, voter_of}
 use Rattle.pb_rows.specs.Numbers.{AreNumbers, places_text}
 use Rattle.pb_script.specs.Script.{ScriptRowView}
 
@@ -15,7 +17,7 @@ pub record ListsPlaces (field ballot : List ℕ) : Type 0 where
 
 -- the fields for what is asked, voter and places are those of this request
 pub record AsksFor (word voter places : List ℕ) (request : RequestView) : Type 0 where
-  pub can_be : IsRequest request
+  pub can_be : CanBeAsked request
   pub word_is : word ≡ word_of request
   pub voter_is : trim voter ≡ voter_of request
   pub lists : ListsPlaces places (places_of request)

@@ -1,5 +1,5 @@
 -- How far a script was read.
-use Rattle.std.specs.Prelude.{◌≡◌, ℕ, ◌+◌, ◌++◌, ⊤, true, List, length, Option, None, Some}
+use Rattle.std.specs.Prelude.{◌≡◌, ℕ, ◌++◌, ⊤, true, List, [], length, Option, None, Some, IfSome}
 use Rattle.std.specs.List.{AllZip}
 use Rattle.pb_core.specs.Request.{RequestView}
 use Rattle.pb_rows.specs.Reading.{Fields, IsNext}
@@ -9,6 +9,10 @@ use Rattle.pb_script.specs.Script.{IsScript, IsScriptRow, ScriptRowView}
 use Rattle.pb_script.specs.Inner.Script.{AreAsked}
 use Rattle.pb_script.specs.declared.script_fault.ScriptFault.{ScriptFault}
 use Rattle.pb_script.specs.declared.script_fault.ScriptFault.TheVariants.{ReadFailed}
+
+-- where it is known which records are left, there is none
+abbrev pub NoneLeft : Option (List Fields) → Type 0
+NoneLeft left = IfSome left (λ records. records ≡ [])
 
 -- the records are a script for this many clerks, in which each asks this
 abbrev pub SplitsScript : ℕ → List Fields → List (List RequestView) → Type 0

@@ -4,13 +4,13 @@ use Rattle.pb_core.specs.Election.{ElectionView}
 use Rattle.pb_core.specs.Request.{EntryView, RequestView}
 use Rattle.pb_desk.specs.Opening.{OpeningView}
 use Rattle.pb_desk.specs.declared.version.Version.TheVariants.{Two}
-use Rattle.pb_shared.specs.Clerk.{ClerkView, SharedView}
+use Rattle.pb_shared.specs.Clerk.{AreClerks, ClerkView, SharedView}
 use Rattle.pb_shared.specs.declared.share_fault.ShareFault.{ShareFault}
 use Rattle.pb_shared.specs.declared.share_fault.ShareFault.TheVariants as share
 use Rattle.pb_script.specs.declared.script_fault.ScriptFault.TheVariants as script
 use Rattle.pb_script.specs.declared.serve_fault.ServeFault.{ServeFault}
 use Rattle.pb_script.specs.declared.serve_fault.ServeFault.TheVariants.{Script, ClerkCount}
-use Rattle.pb_script.specs.Serving.{requests_of, AreClerks}
+use Rattle.pb_script.specs.Serving.{requests_of}
 
 -- the requests of each clerk, by its number
 abbrev pub list_of : List (List RequestView) → ℕ → List RequestView
@@ -47,9 +47,9 @@ pub record AppendsFor (clerk : ℕ) (requests : List RequestView) (before after 
 pub record HasServed (d : SharedView) (number : ℕ) (requests : List RequestView) (c : ClerkView)
     (served : ℕ) : Type 0 where
   pub own : c.desk ≡ d
-  pub number_is : c.number ≡ number
+  pub number_is : c.sheet.number ≡ number
   pub within : served ≤ length requests
-  pub mine : map (λ x. x.request) c.mine ≡ take served requests
+  pub mine : map (λ x. x.request) c.sheet.mine ≡ take served requests
 
 -- all clerks are back, in the order of their numbers: each has served the first of its requests, this many
 pub record AreBack (d : SharedView) (lists : List (List RequestView)) (clerks : List ClerkView)

@@ -5,8 +5,7 @@ use Rattle.pb_core.specs.Request.{asked}
 use Rattle.pb_desk.specs.Replay.{most_clerks}
 use Rattle.pb_rows.specs.Reading.{Fields}
 use Rattle.pb_script.specs.Script.{HasScriptForm, IsScriptRow}
-use Rattle.pb_script.specs.ScriptReading.{NoneLeft}
-use Rattle.pb_script.specs.Inner.ScriptReading.{HaveGone}
+use Rattle.pb_script.specs.Inner.ScriptReading.{HaveGone, NoneLeft}
 use Rattle.pb_durable.specs.declared.asked.Asked.{Asked}
 use Rattle.pb_serving.specs.declared.batch.BatchEnd.{BatchEnd}
 use Rattle.pb_serving.specs.declared.batch.BatchEnd.TheVariants.{More, Bad, Over, ReadFailed}

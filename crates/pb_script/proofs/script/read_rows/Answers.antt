@@ -1,5 +1,5 @@
 use Rattle.std.proofs.Common.{arith}
-use Rattle.pb_script.proofs.Scripts.{HaveAsked-few, HaveAsked-more, HaveAsked-start}
+use Rattle.pb_script.proofs.Scripts.{HaveAsked-fault, HaveAsked-few, HaveAsked-more, HaveAsked-start}
 use Rattle.pb_script.proofs.script.read_rows.Goals as goal
 
 pub rows-init : goal.rows-init
@@ -17,3 +17,7 @@ rows-preserved g c =
 pub returns-in-Ok-None-clause-few : goal.returns-in-Ok-None-clause-few
 returns-in-Ok-None-clause-few g c =
     HaveAsked-few c.args.clerks c.args.records.now.left c.rows.records.left c.rows.rows c.rows.lists.items c.rows.invariant.1 c.rows.invariant.0
+
+pub returns-in-Err-clause-fault : goal.returns-in-Err-clause-fault
+returns-in-Err-clause-fault g c =
+    HaveAsked-fault c.args.clerks c.args.records.now.left c.rows.records.left c.rows.rows c.rows.lists.items c.in-Err.fault c.rows.invariant.1 c.in-Err.ensures.fault

@@ -3,6 +3,7 @@ use Rattle.pb_desk.specs.Replay.{most_clerks}
 use Rattle.pb_script.specs.Serving.{program_room}
 use Rattle.pb_script.proofs.DeskEntries.{ended_serves}
 use Rattle.pb_script.proofs.Rooms.{room_for_last}
+use Rattle.pb_script.proofs.Servings.{unserved}
 use Rattle.pb_script.proofs.serve_script.serve_all.Goals as goal
 
 pub ended-requires : goal.ended-requires
@@ -17,3 +18,6 @@ pub returns-clause-serves : goal.returns-clause-serves
 returns-clause-serves g c =
     ended_serves c.args.shuts c.args.lists.now c.in_ok-desk.desk.journal c.in_ok-ended.field-0.journal c.in_ok-desk.ensures.serves
     c.in_ok-ended.ensures.journal
+
+pub returns-in-Err-clause-err : goal.returns-in-Err-clause-err
+returns-in-Err-clause-err g c = rw c.unshared.ensures (unserved c.args.clerks c.in-Ok.desk c.in-Err.fault c.in-Err.ensures.err)

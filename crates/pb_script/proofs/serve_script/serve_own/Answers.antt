@@ -21,5 +21,5 @@ loop-request-preserved g c =
     let serves = c.in-Ok.ensures.ok in (
       ap (λ n. n + 1) count,
       HasServed-more c.args.shared.now number (list_of lists number) c.loop-request.clerk c.serve_within.new.clerk c.loop-request.served
-          (asked c.request-item.result) c.in-Ok.field-0 100000 c.loop-request.invariant.1 serves served,
+          (asked c.request-item.result) c.in-Ok.field-0 100000 c.loop-request.invariant.1 c.serve_within.ensures.same serves served,
     )
