@@ -16,6 +16,8 @@ mod faults;
 #[cfg(test)]
 mod serving;
 #[cfg(test)]
+mod share_faults;
+#[cfg(test)]
 mod sharing;
 #[cfg(test)]
 mod withdrawals;

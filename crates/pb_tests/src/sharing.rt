@@ -2,7 +2,7 @@
 
 ghost use Rattle.std.specs.Prelude.{◌≡◌, ◌<◌, All};
 
-use crate::checks::{same, shows, tells};
+use crate::checks::same;
 use crate::elections::voter_id;
 use crate::serving::{desk_with_room, has_text, is_served, request};
 use pb_core::answer::Answer;
@@ -13,7 +13,6 @@ use pb_shared::clerk::Clerk;
 use pb_shared::share_fault::ShareFault;
 use pb_shared::shared_desk::SharedDesk;
 use pb_shared::shared_fault::SharedFault;
-use pb_shared::unfinished::Unfinished;
 use std::alloc::Global;
 use std::process::Abort;
 use std::sync::atomic::AtomicU32;
@@ -497,41 +496,4 @@ fn a_shut_desk_comes_back(rt: HostRuntime) {
     asks_by(&rt, alloc, &shared, &mut clerks, 0, &SHUT);
     let text = "journal;2\n1;5;cast;ann;0;done\n2;0;shut;;;done\n";
     leaves_voters(&rt, finishes(&rt, alloc, shared, clerks, text), 4);
-}
-
-/// Why a request is not served, and what is said of it.
-const FAULTS: &[(SharedFault, &str)] = &[
-    (SharedFault::Busy(3), "1 Busy: clerk 3 holds the lock"),
-    (
-        SharedFault::JournalFull,
-        "2 JournalFull: the journal is full",
-    ),
-    (SharedFault::NoMemory, "3 NoMemory: out of memory"),
-];
-
-#[test]
-fn tells_faults(rt: HostRuntime) {
-    for (fault, wanted) in FAULTS {
-        let named = (fault.number(), fault.name());
-        tells(&rt, rt.alloc(), named, fault, wanted);
-    }
-    shows(&rt, rt.alloc(), &Busy(3), "clerk 3 holds the lock");
-    shows(&rt, rt.alloc(), &Unfinished(4), "the lock word is 4");
-}
-
-/// The fault tells this of itself.
-fn tells_share_fault(rt: &impl Abort, alloc: Global, fault: ShareFault, wanted: &str) {
-    let named = (fault.number(), fault.name());
-    tells(rt, alloc, named, &fault, wanted);
-    drop(fault);
-}
-
-#[test]
-fn tells_share_faults(rt: HostRuntime) {
-    let count = ShareFault::ClerkCount(desk_with_room(&rt, rt.alloc(), 1));
-    let wanted = "1 ClerkCount: the number of clerks is not 1 to 64";
-    tells_share_fault(&rt, rt.alloc(), count, wanted);
-    let memory = ShareFault::NoMemory(desk_with_room(&rt, rt.alloc(), 1));
-    let wanted = "2 NoMemory: out of memory";
-    tells_share_fault(&rt, rt.alloc(), memory, wanted);
 }
