@@ -14,10 +14,10 @@ use Rattle.pb_shared.specs.declared.seat_view.Sheet.{Sheet}
 
 module _ (a : About) (lock : ℕ) (home : slot.Option (Option DeskView)) (journal later : List EntryView)
     (seat_of : ℕ → ℕ) where
-  -- a clerk's sheet is true: the seat is its own; what it has seen begins the history, what came after is
-  -- other clerks', and nothing did while it holds the lock; past the start, its own entries are those of its
-  -- number; each lock word that it found is 0, or another clerk's number and 1; no front word that it read is
-  -- above the length of what it has seen
+  -- a clerk's sheet is true, where `journal` is the history and `later` is what was served since the start: the
+  -- seat is its own; what it has seen begins the history, what came after is other clerks', and nothing did while
+  -- it holds the lock; past the start, its own entries are those of its number; each lock word that it found is 0,
+  -- or another clerk's number and 1; no front word that it read is above the length of what it has seen
   pub record SheetFits (seat : ℕ) (holds : Bool) (x : Sheet) : Type 0 where
     pub known : x.number < a.clerks
     pub its_seat : seat_of x.number ≡ seat
@@ -46,8 +46,7 @@ module _ (a : About) (lock : ℕ) (home : slot.Option (Option DeskView)) (journa
       (v.about ≡ a) × Begins v.sheet.seen journal × All (SheetFits seat false) v.returned
   RoleFits Spent seat v = ⊤
 
-  -- what is true of the running desk, with this lock word, this in the slot and these views, where this is the
-  -- journal, and this was served since the start
+  -- what is true of the running desk, with this lock word, this in the slot and these views
   pub record Runs (views : List SeatView) : Type 0 where
     pub can_be : CanHave a.desk.value journal
     pub by_clerks : All (λ x. x.clerk < a.clerks) later
