@@ -34,8 +34,9 @@ DEFINITION = re.compile(r"^(?:abbrev |unfoldable |opaque )?pub (?:record |data )
 CONSTRUCTOR = re.compile(r"^  (?:pub )?([^\s:]+) :")
 IMPORT = re.compile(r"use Rattle\.(\w+)\.specs\.([\w.]+)\.\{([^}]*)\}")
 MODULE_IMPORT = re.compile(r"use Rattle\.(\w+)\.specs\.([\w.]+?) as (\w+)")
-# A type that is declared in code: specs name it by its module, and its variants by `TheVariants`.
-DECLARED = re.compile(r"^declared\.(?:[a-z]\w*\.)*(\w+)(?:\.TheVariants)?$")
+# A type that is declared in code: specs name it by its module, its variants by `TheVariants`, and its declaration, with the
+# variants in order, by `the_type` of `contracts`.
+DECLARED = re.compile(r"^(?:declared|contracts)\.(?:[a-z]\w*\.)*(\w+)(?:\.TheVariants)?$")
 TYPE = re.compile(r"(?:pub(?:\(\w+\))? )?(?:struct|enum|trait) (\w+)")
 # What holds between any two atomic steps of threads, and what a step may tell: no single contract names it.
 RULES = (

@@ -3,4 +3,5 @@ pub mod Election
 pub mod Money
 pub mod MoneyFault
 pub mod MoneyText
+pub mod Numbered
 pub mod Request

@@ -1,9 +1,8 @@
 -- The faults' numbers and names.
-use Rattle.std.specs.Prelude.{ℕ, List, codes}
+use Rattle.std.specs.Prelude.{ℕ, List, [], ◌∷◌}
+use Rattle.pb_core.specs.Numbered.{numbered}
+use Rattle.pb_core.specs.contracts.money_fault.MoneyFault.{the_type}
 use Rattle.pb_core.specs.declared.money_fault.MoneyFault.{MoneyFault}
-use Rattle.pb_core.specs.declared.money_fault.MoneyFault.TheVariants.{BadMoney, MoneyTooFine, MoneyTooLarge}
 
 abbrev pub numbered_name : MoneyFault → ℕ × List ℕ
-numbered_name BadMoney = (1, codes "BadMoney")
-numbered_name MoneyTooFine = (2, codes "MoneyTooFine")
-numbered_name MoneyTooLarge = (3, codes "MoneyTooLarge")
+numbered_name fault = numbered the_type ("BadMoney" ∷ "MoneyTooFine" ∷ "MoneyTooLarge" ∷ []) fault

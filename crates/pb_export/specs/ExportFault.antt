@@ -1,10 +1,8 @@
 -- The faults' numbers and names.
-use Rattle.std.specs.Prelude.{ℕ, List, codes}
+use Rattle.std.specs.Prelude.{ℕ, List, [], ◌∷◌}
+use Rattle.pb_core.specs.Numbered.{numbered}
+use Rattle.pb_export.specs.contracts.export_fault.ExportFault.{the_type}
 use Rattle.pb_export.specs.declared.export_fault.ExportFault.{ExportFault}
-use Rattle.pb_export.specs.declared.export_fault.ExportFault.TheVariants.{SectionWord, CommaInId, OfNoFile, NoMemory}
 
 abbrev pub numbered_name : ExportFault → ℕ × List ℕ
-numbered_name SectionWord = (1, codes "SectionWord")
-numbered_name CommaInId = (2, codes "CommaInId")
-numbered_name OfNoFile = (3, codes "OfNoFile")
-numbered_name NoMemory = (4, codes "NoMemory")
+numbered_name fault = numbered the_type ("SectionWord" ∷ "CommaInId" ∷ "OfNoFile" ∷ "NoMemory" ∷ []) fault

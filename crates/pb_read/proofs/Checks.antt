@@ -11,12 +11,11 @@ use Rattle.pb_rows.specs.Reading.{Fields, IsNext}
 use Rattle.pb_read.proofs.DraftFacts.{explains}
 use Rattle.pb_read.proofs.GoesOn.{AllText-from_test, test-from_AllText}
 use Rattle.pb_read.proofs.Tracking.{cut_short, ended, explained, first_at, tracks_more, tracks_start}
-use Rattle.pb_read.specs.Inner.Checking.{EndsAt, Going, IsGoing, IsRefusal, IsVerdict, Judges, JudgesEnd, JudgesRow, LeadsTo, LeftHas, NextHas, text_fault}
+use Rattle.pb_read.specs.Inner.Checking.{EndsAt, IsGoing, IsRefusal, IsVerdict, Judges, JudgesEnd, JudgesRow, LeadsTo, LeftHas, text_fault}
 use Rattle.pb_read.proofs.Uniqueness.{refused_from_outside}
-use Rattle.pb_read.specs.FirstFault.{IsFaultAt, IsFromOutside, IsReachedAt}
+use Rattle.pb_read.specs.FirstFault.{IsFaultAt, IsFromOutside}
 use Rattle.pb_read.specs.Listed.{AreListed, is_of_row, may_be_of_row, without}
 use Rattle.pb_read.specs.Inner.Machine.{Explains, Position, lowest_kind, row_fault, start}
-use Rattle.pb_read.specs.Inner.Progresses.{EndsWith}
 use Rattle.pb_read.specs.Rows.{trimmed}
 use Rattle.pb_read.specs.Stages.{next_row, the_end}
 use Rattle.pb_read.specs.StandsFor.{StandsFor, most_records}
