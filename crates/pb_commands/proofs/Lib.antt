@@ -1,7 +1,5 @@
 pub mod RowsGrown
 pub mod ReportSums
-pub mod ElectedPlaces
-pub mod Printables
 pub mod Closings
 pub mod AuditWritten
 pub mod Accepted
@@ -12,7 +10,6 @@ pub mod Recounts
 pub mod TableAccepted
 pub mod ClosedDesks
 pub mod ClosedTables
-pub mod Tellable
 pub mod TablesTell
 pub mod TableRows
 pub mod TableHeads

@@ -1,12 +1,15 @@
 -- The rows of a table, one after the other.
-use Rattle.std.proofs.Common.{◌≡◌, ℕ, ◌+◌, ◌<◌, List, [], ◌∷◌, ◌++◌, decimal, get_or, length, map, sym, ◌∙◌, ap, arith}
+use Rattle.std.proofs.Common.{◌≡◌, ℕ, ◌+◌, ◌<◌, List, [], ◌∷◌, ◌++◌, Err, Ok, decimal, get_or, length, map, sym, ◌∙◌, ap, arith}
+use Rattle.std.specs.Prelude.{OnOk, Result, slice_index_or}
 use Rattle.std.specs.List.{range_with_len}
 use Rattle.std.proofs.lemmas.List.FromFn.{map-range_with_len_more}
 use Rattle.std.proofs.lemmas.List.{get_or-map}
-use Rattle.pb_core.specs.Election.{ElectionView, ProjectView, VoterView}
+use Rattle.pb_core.specs.Election.{ElectionView, ProjectView, VoterView, voter_ids}
 use Rattle.pb_core.specs.MoneyText.{money_text}
-use Rattle.pb_reasons.specs.Reasons.{VoterReasonView, project_reason, voter_reason}
+use Rattle.pb_reasons.specs.Reasons.{project_reason, voter_payments, voter_reason}
+use Rattle.pb_reasons.specs.declared.payment.Payment.{Payment}
 use Rattle.pb_reasons.specs.declared.project_reason.ProjectReason.{ProjectReason}
+use Rattle.pb_reasons.specs.declared.voter_reason.VoterReason.{VoterReason}
 use Rattle.pb_rounds.specs.Outcome.{Settled}
 use Rattle.pb_rows.specs.Reading.{Fields}
 use Rattle.pb_rows.specs.Writing.{text_of_row, text_of_rows}
@@ -14,7 +17,7 @@ use Rattle.pb_commands.proofs.ReportSums.{id_at-known}
 use Rattle.pb_reasons.proofs.WinnerSums.{cost_at-known}
 use Rattle.pb_commands.proofs.RowsGrown.{none_grown, row_grown}
 use Rattle.pb_commands.specs.Report.{id_at}
-use Rattle.pb_commands.specs.Tables.{ending_fields, name_at, project_row, reason_fields, voter_row}
+use Rattle.pb_commands.specs.Tables.{ending_fields, name_at, payments_text, project_row, voter_row}
 
 -- the columns, and this many rows
 abbrev pub TableSoFar : Fields → (ℕ → Fields) → ℕ → (old new : List ℕ) → Type 0
@@ -44,8 +47,17 @@ project_row_read e o place p known is reason reason_is =
 
 -- the row of a voter, as it is written
 pub voter_row_read : (e : ElectionView) (o : Settled) (voter : ℕ) (v : VoterView) → voter < length e.voters → v ≡ get_or e.voters voter v
-    → (id : List ℕ) → id ≡ v.id → (reason : VoterReasonView) → reason ≡ voter_reason e o voter → id ∷ reason_fields reason ≡ voter_row e o voter
-voter_row_read e o voter v known is id id_is reason reason_is =
-    ap (λ (r : VoterReasonView). id ∷ reason_fields r) reason_is
-    ∙ ap (λ (i : List ℕ). i ∷ reason_fields (voter_reason e o voter))
+    → (id : List ℕ) → id ≡ v.id → (r : VoterReason) → r ≡ voter_reason e o voter → (payments : List Payment) → payments ≡ voter_payments e o voter
+    → id ∷ decimal r.votes ∷ decimal r.elected ∷ money_text r.paid ∷ money_text r.left ∷ payments_text payments ∷ [] ≡ voter_row e o voter
+voter_row_read e o voter v known is id id_is r r_is payments payments_is =
+    ap (λ (r : VoterReason). id ∷ decimal r.votes ∷ decimal r.elected ∷ money_text r.paid ∷ money_text r.left ∷ payments_text payments ∷ []) r_is
+    ∙ ap (λ (i : List ℕ). i ∷ decimal (voter_reason e o voter).votes ∷ decimal (voter_reason e o voter).elected ∷ money_text (voter_reason e o voter).paid ∷ money_text (voter_reason e o voter).left ∷ payments_text payments ∷ [])
     (id_is ∙ ap (λ (u : VoterView). u.id) is ∙ sym (get_or-map (λ (u : VoterView). u.id) e.voters voter v [] known))
+    ∙ ap (λ (ps : List Payment). slice_index_or (voter_ids e) voter [] ∷ decimal (voter_reason e o voter).votes ∷ decimal (voter_reason e o voter).elected ∷ money_text (voter_reason e o voter).paid ∷ money_text (voter_reason e o voter).left ∷ payments_text ps ∷ []) payments_is
+
+-- a table whose columns stand there, and whose rows are put where memory suffices
+pub rows_put : {E : Type 0} (r : Result (Unit {0}) E) (columns : Fields) (rows : List Fields) (old middle new : List ℕ)
+    → OnOk r ((old : List ℕ) → middle ≡ old ++ text_of_row columns → new ≡ old ++ text_of_rows (columns ∷ rows)) → middle ≡ old ++ text_of_row columns
+    → OnOk r (new ≡ old ++ text_of_rows (columns ∷ rows))
+rows_put {E} (Ok x) columns rows old middle new puts put = puts old put
+rows_put {E} (Err x) columns rows old middle new puts put = tt

@@ -1,15 +1,16 @@
 -- What the tables of a count tell, and that they agree with its report.
-use Rattle.std.proofs.Common.{◌≡◌, ◌≢◌, ℕ, ◌+◌, ◌-◌, ◌<◌, ◌≤◌, List, [], ◌∷◌, length, get_or, false, Some, refl, sym, ◌∙◌, ap, inl, inr, arith}
+use Rattle.std.proofs.Common.{◌≡◌, ℕ, ◌+◌, ◌-◌, ◌<◌, ◌≤◌, List, [], ◌∷◌, length, get_or, false, Some, refl, sym, ◌∙◌, ap, inl, inr, arith}
 use Rattle.std.specs.Prelude.{◌==◌, count_by, slice_get, slice_index, sum, sum_by}
 use Rattle.std.specs.List.{AllZip, range_with_len}
-use Rattle.std.proofs.lemmas.Bool.{cases_lt, eq-eqb, lt-ltb, ne_eqb, true≢false}
+use Rattle.std.proofs.lemmas.Bool.{cases_lt, eq-eqb, lt-ltb, true≢false}
 use Rattle.std.proofs.lemmas.List.{get_or_default, length-map}
 use Rattle.std.proofs.lemmas.List.FromFn.{fill_by_all}
-use Rattle.std.proofs.lemmas.List.Sums.{fails_before_first, position_or_len_is, sum-map, sum_by-cons}
+use Rattle.std.proofs.lemmas.List.Sums.{fails_before_first, sum-map, sum_by-cons}
 use Rattle.std.proofs.lemmas.Option.{none-some, same_Some, slice_get_past, slice_get_read}
 use Rattle.pb_core.specs.Election.{ElectionView, IsElection}
 use Rattle.pb_price.specs.Price.{total_rest}
 use Rattle.pb_price.specs.Supporters.{SupportView, cost_at, support_of, supporters_at}
+use Rattle.pb_reasons.proofs.Due.{round_is}
 use Rattle.pb_reasons.proofs.Told.{elected_has_round}
 use Rattle.pb_reasons.specs.Reasons.{all_payments, ending_of, paid_for, project_reason, round_of, voter_reason}
 use Rattle.pb_reasons.specs.declared.project_reason.Ending.TheVariants as ending
@@ -22,8 +23,8 @@ use Rattle.pb_rounds.specs.Outcome.{OutcomeView, settled}
 use Rattle.pb_rounds.specs.PriceSystem.{PaysFor}
 use Rattle.pb_rounds.specs.Run.{ElectedView, is_elected}
 use Rattle.pb_rounds.specs.declared.options.CountOptions.{CountOptions}
-use Rattle.pb_commands.proofs.ElectedPlaces.{count_elects_projects}
-use Rattle.pb_commands.proofs.Tellable.{count_can_be_told}
+use Rattle.pb_reasons.proofs.ElectedPlaces.{count_elects_projects}
+use Rattle.pb_reasons.proofs.Tellable.{count_can_be_told}
 use Rattle.pb_reasons.specs.Totals.{collected_for}
 
 -- a project that is not elected has no round
@@ -52,14 +53,6 @@ missing_told e options o place h counted known none =
 pub share_told : (e : ElectionView) (options : CountOptions) (o : OutcomeView) (voter : ℕ) → IsElection e → IsCountOf e options o → voter < length e.voters
     → (voter_reason e (settled o) voter).paid + (voter_reason e (settled o) voter).left ≡ o.share
 share_told e options o voter h counted known = (count_can_be_told e options o h counted).price_system.endowed voter known
-
--- the round of an elected project is the one that elected it, since no two of them are the same project
-round_is : (elected : List ElectedView) → ((i j : ℕ) (d : ElectedView) → i < j → j < length elected → (get_or elected i d).place ≢ (get_or elected j d).place)
-    → (round : ℕ) (w : ElectedView) → round < length elected → get_or elected round w ≡ w → round_of elected w.place ≡ round
-round_is elected apart round w below here =
-    position_or_len_is (λ (u : ElectedView). u.place == w.place) elected round w (omega arith)
-    (λ k before. ne_eqb _ _ (λ same. apart k round w before below (same ∙ ap (λ (u : ElectedView). u.place) (sym here))))
-    (λ _. eq-eqb _ _ (ap (λ (u : ElectedView). u.place) here))
 
 read_here : (elected : List ElectedView) (round : ℕ) (w : ElectedView) → slice_get elected round ≡ Some w → (round < length elected) × (get_or elected round w ≡ w)
 read_here elected round w is = elim (cases_lt round (length elected)) [

@@ -4,7 +4,7 @@ use Rattle.std.specs.List.{join_with_byte, range_with_len}
 use Rattle.pb_core.specs.Election.{ElectionView, voter_ids}
 use Rattle.pb_core.specs.MoneyText.{money_text}
 use Rattle.pb_price.specs.Supporters.{cost_at, support_of}
-use Rattle.pb_reasons.specs.Reasons.{VoterReasonView, project_reason, voter_reason}
+use Rattle.pb_reasons.specs.Reasons.{project_reason, voter_payments, voter_reason}
 use Rattle.pb_reasons.specs.declared.payment.Payment.{Payment}
 use Rattle.pb_reasons.specs.declared.project_reason.Ending.{Ending}
 use Rattle.pb_reasons.specs.declared.project_reason.Ending.TheVariants.{Won, Lost}
@@ -36,14 +36,12 @@ abbrev pub payments_text : List Payment → List ℕ
 payments_text payments =
     join_with_byte 44 (map (λ p. decimal p.place ++ (codes ":" ++ money_text p.amount)) payments)
 
--- the fields on what a ballot came to
-abbrev pub reason_fields : VoterReasonView → Fields
-reason_fields r =
-    decimal r.votes ∷ decimal r.elected ∷ money_text r.paid ∷ money_text r.left ∷ payments_text r.payments ∷ []
-
 -- the row of the voter at this position
 abbrev pub voter_row : ElectionView → Settled → ℕ → Fields
-voter_row e o voter = slice_index_or (voter_ids e) voter [] ∷ reason_fields (voter_reason e o voter)
+voter_row e o voter =
+    let r = voter_reason e o voter in
+    slice_index_or (voter_ids e) voter [] ∷ decimal r.votes ∷ decimal r.elected ∷ money_text r.paid
+    ∷ money_text r.left ∷ payments_text (voter_payments e o voter) ∷ []
 
 -- a table of an outcome, as text: its columns, and then a row each, in the order of the file
 unfoldable pub table_of : Table → ElectionView → Settled → List ℕ

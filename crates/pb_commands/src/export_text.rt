@@ -1,8 +1,6 @@
 // The file of a counted election, as text.
 
 ghost use Rattle.std.specs.Prelude.{◌≡◌, ◌++◌, IfErr, IfOk, OnOk, string_bytes};
-ghost use Rattle.pb_reasons.specs.Reasons.{AreReasons, CanBeTold};
-ghost use Rattle.pb_rounds.specs.Outcome.{settled};
 ghost use Rattle.pb_commands.specs.Inner.Exporting.{IsStopped};
 ghost use Rattle.pb_commands.specs.Exported.{IsExportOf, completion_text, is_won, rule_text, selected_of, votes_of};
 ghost use Rattle.pb_commands.specs.Fault.{merged};
@@ -13,11 +11,10 @@ use pb_core::election::Election;
 use pb_core::no_memory::NoMemory;
 use pb_export::Told;
 use pb_export::write_pb::write_pb;
-use pb_reasons::{Ending, Reasons};
+use pb_reasons::{Ending, ProjectTeller};
 use pb_rounds::count::count;
 use pb_rounds::measure::Measure;
 use pb_rounds::options::{Completion, CountOptions};
-use pb_rounds::outcome::Outcome;
 use std::alloc::Global;
 use std::thread::Threads;
 
@@ -32,13 +29,11 @@ pub(crate) fn export_text<T: Threads + Sync>(
     ensures fault { IfErr result (IsStopped options.now election.now) }
     ensures merged { IfErr result (λ fault. merged fault ≡ fault) }
 {
-    // What is true of every election is true of its reasons.
-    let _budget = election.budget();
     let outcome = count(rt, alloc, election, options)?;
     let rule = rule_text(alloc, options)?;
-    let reasons = Reasons::of(alloc, election, &outcome)?;
-    let votes = votes_of(alloc, election, &outcome, &reasons)?;
-    let selected = selected_of(alloc, election, &outcome, &reasons)?;
+    let teller = ProjectTeller::of(alloc, election, &outcome)?;
+    let votes = votes_of(alloc, election, &teller)?;
+    let selected = selected_of(alloc, election, &teller)?;
     let told = Told {
         rule: rule.as_str(),
         votes: votes.as_slice(),
@@ -52,16 +47,14 @@ pub(crate) fn export_text<T: Threads + Sync>(
 fn votes_of(
     alloc: Global,
     election: &Election,
-    outcome: &Outcome,
-    reasons: &Reasons,
+    teller: &ProjectTeller,
 ) -> Result<Vec<u32>, NoMemory>
-    requires told { CanBeTold election.now (settled outcome.now) }
-    requires own { AreReasons election.now (settled outcome.now) reasons.now }
-    ensures { IfOk result (λ votes. votes.items ≡ votes_of election.now (settled outcome.now)) }
+    requires { teller.now.0 ≡ election.now }
+    ensures { IfOk result (λ votes. votes.items ≡ votes_of election.now teller.now.1) }
 {
     let mut votes = Vec::new(alloc);
     for place in 0..election.projects().len() {
-        let reason = reasons.project(election, outcome, place as u32);
+        let reason = teller.tell(place as u32);
         votes.push(reason.votes)?;
     }
     Ok(votes)
@@ -71,16 +64,14 @@ fn votes_of(
 fn selected_of(
     alloc: Global,
     election: &Election,
-    outcome: &Outcome,
-    reasons: &Reasons,
+    teller: &ProjectTeller,
 ) -> Result<Vec<bool>, NoMemory>
-    requires told { CanBeTold election.now (settled outcome.now) }
-    requires own { AreReasons election.now (settled outcome.now) reasons.now }
-    ensures { IfOk result (λ selected. selected.items ≡ selected_of election.now (settled outcome.now)) }
+    requires { teller.now.0 ≡ election.now }
+    ensures { IfOk result (λ selected. selected.items ≡ selected_of election.now teller.now.1) }
 {
     let mut selected = Vec::new(alloc);
     for place in 0..election.projects().len() {
-        let reason = reasons.project(election, outcome, place as u32);
+        let reason = teller.tell(place as u32);
         selected.push(is_won(&reason.ending))?;
     }
     Ok(selected)

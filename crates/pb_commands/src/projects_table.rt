@@ -1,12 +1,12 @@
 // The table of projects: who won and why, who lost and by how much.
 
-ghost use Rattle.std.specs.Prelude.{◌≡◌, ◌<◌, ◌++◌, ◌∷◌, [], OnOk, decimal, length, map, string_bytes};
+ghost use Rattle.std.specs.Prelude.{◌≡◌, ◌++◌, ◌∷◌, ℕ, List, [], OnOk, decimal, length, map, string_bytes};
 ghost use Rattle.std.specs.List.{range_with_len};
 ghost use Rattle.pb_core.specs.MoneyText.{money_text};
 ghost use Rattle.pb_rounds.specs.Outcome.{settled};
 ghost use Rattle.pb_rows.specs.Reading.{Fields};
 ghost use Rattle.pb_rows.specs.Writing.{text_of_row, text_of_rows};
-ghost use Rattle.pb_reasons.specs.Reasons.{AreReasons, CanBeTold};
+ghost use Rattle.pb_reasons.specs.Reasons.{IsCounted};
 ghost use Rattle.pb_commands.specs.Tables.{ending_fields, project_row};
 ghost use Rattle.pb_commands.specs.Inner.Tables.{project_columns};
 
@@ -14,7 +14,7 @@ use itoa::Buffer;
 use pb_core::election::Election;
 use pb_core::no_memory::NoMemory;
 use pb_core::project::Project;
-use pb_reasons::{Ending, Lost, ProjectReason, Reasons, Won};
+use pb_reasons::{Ending, Lost, ProjectReason, ProjectTeller, Won};
 use pb_rounds::outcome::Outcome;
 use pb_rows::RowsWriter;
 use std::alloc::Global;
@@ -35,10 +35,8 @@ pub(crate) fn put_projects(
     alloc: Global,
     election: &Election,
     outcome: &Outcome,
-    reasons: &Reasons,
 ) -> Result<(), NoMemory>
-    requires told { CanBeTold election.now (settled outcome.now) }
-    requires own { AreReasons election.now (settled outcome.now) reasons.now }
+    requires { IsCounted election.now outcome.now }
     ensures { OnOk result (rows.new.text ≡ rows.old.text
         ++ text_of_rows (project_columns
         ∷ map (project_row election.now (settled outcome.now)) (range_with_len 0 (length election.now.projects)))) }
@@ -56,9 +54,27 @@ pub(crate) fn put_projects(
         "left",
         "missing",
     ])?;
+    let teller = ProjectTeller::of(alloc, election, outcome)?;
+    let put = put_each(rows, alloc, election, &teller);
+    drop(teller);
+    put
+}
+
+/// Writes a row for each of the election's projects after the columns.
+fn put_each(
+    rows: &mut RowsWriter,
+    alloc: Global,
+    election: &Election,
+    teller: &ProjectTeller,
+) -> Result<(), NoMemory>
+    requires { teller.now.0 ≡ election.now }
+    ensures { OnOk result ((old : List ℕ) → rows.old.text ≡ old ++ text_of_row project_columns → rows.new.text ≡ old
+        ++ text_of_rows (project_columns
+        ∷ map (project_row election.now teller.now.1) (range_with_len 0 (length election.now.projects)))) }
+{
     let projects = election.projects();
     for place in 0..projects.len() {
-        let reason = reasons.project(election, outcome, place as u32);
+        let reason = teller.tell(place as u32);
         put_project(rows, alloc, place as u32, &projects[place], &reason)?;
     }
     Ok(())

@@ -2,7 +2,7 @@
 
 ghost use Rattle.std.specs.Prelude.{◌≡◌, ◌<◌, ◌++◌, ◌∷◌, [], All, OnOk, codes, decimal, length, map};
 ghost use Rattle.pb_core.specs.MoneyText.{money_text};
-ghost use Rattle.pb_reasons.specs.Reasons.{CanBeTold};
+ghost use Rattle.pb_reasons.specs.Reasons.{IsCounted};
 ghost use Rattle.pb_rounds.specs.Outcome.{settled};
 ghost use Rattle.pb_rows.specs.Writing.{text_of_row, text_of_rows};
 ghost use Rattle.pb_commands.specs.Report.{closing_rows, elected_row, opening_rows, report_of};
@@ -25,9 +25,11 @@ pub(crate) fn put_report(
     election: &Election,
     outcome: &Outcome,
 ) -> Result<(), NoMemory>
-    requires { CanBeTold election.now (settled outcome.now) }
+    requires { IsCounted election.now outcome.now }
     ensures { OnOk result (rows.new.text ≡ rows.old.text ++ report_of election.now (settled outcome.now)) }
 {
+    // What is true of every election is true of the places of its elected projects.
+    let _budget = election.budget();
     put_opening(rows, alloc, election, outcome)?;
     put_elected(rows, alloc, election, outcome.elected.as_slice())?;
     put_closing(rows, alloc, Totals::of(election, outcome))?;

@@ -131,8 +131,6 @@ pub(crate) fn put_count<T: Threads + Sync, G: Gate>(
         × IsReportOf election.now options.now text × (rows.new.text ≡ rows.old.text ++ text)) }
     ensures fault { IfErr result (IsCountFault election.now options.now) }
 {
-    // What is true of every election bounds the sums of its report.
-    let _budget = election.budget();
     let outcome = count_watched(rt, alloc, election, options, gate)?;
     put_report(rows, alloc, election, &outcome)?;
     Ok(())

@@ -2,7 +2,7 @@
 
 ghost use Rattle.std.specs.Prelude.{◌≡◌, ◌≢◌, ◌++◌, ℕ, List, IfErr, IfOk, IfSome, OnOk};
 ghost use Rattle.pb_read.specs.StandsFor.{StandsFor};
-ghost use Rattle.pb_reasons.specs.Reasons.{CanBeTold};
+ghost use Rattle.pb_reasons.specs.Reasons.{IsCounted};
 ghost use Rattle.pb_rounds.specs.Counted.{IsCountFault};
 ghost use Rattle.pb_rounds.specs.Outcome.{settled};
 ghost use Rattle.pb_rows.specs.Reading.{records_of};
@@ -23,7 +23,6 @@ use pb_core::election::Election;
 use pb_core::no_memory::NoMemory;
 use pb_price::gate::Gate;
 use pb_read::read_pb;
-use pb_reasons::Reasons;
 use pb_rounds::count::count_watched;
 use pb_rounds::count_fault::CountFault;
 use pb_rounds::options::CountOptions;
@@ -154,7 +153,7 @@ fn put_counted<T: Threads + Sync, G: Gate>(
         × IsTableOf table options.now election.now text × (rows.new.text ≡ rows.old.text ++ text)) }
     ensures fault { IfErr result (IsCountFault election.now options.now) }
 {
-    // What is true of every election is true of its reasons.
+    // What is true of every election is true of its payments.
     let _budget = election.budget();
     let outcome = count_watched(rt, alloc, election, options, gate)?;
     put_outcome(rows, alloc, election, &outcome, table)?;
@@ -169,15 +168,12 @@ fn put_outcome(
     outcome: &Outcome,
     table: Table,
 ) -> Result<(), NoMemory>
-    requires { CanBeTold election.now (settled outcome.now) }
+    requires { IsCounted election.now outcome.now }
     ensures { OnOk result (rows.new.text
         ≡ rows.old.text ++ table_of table election.now (settled outcome.now)) }
 {
-    let reasons = Reasons::of(alloc, election, outcome)?;
-    let put = match table {
-        Table::Projects => put_projects(rows, alloc, election, outcome, &reasons),
-        Table::Voters => put_voters(rows, alloc, election, outcome, &reasons),
-    };
-    drop(reasons);
-    put
+    match table {
+        Table::Projects => put_projects(rows, alloc, election, outcome),
+        Table::Voters => put_voters(rows, alloc, election, outcome),
+    }
 }

@@ -1,8 +1,7 @@
 // The page of an outcome.
 
-ghost use Rattle.std.specs.Prelude.{IfOk};
-ghost use Rattle.pb_reasons.specs.Reasons.{AreReasons, CanBeTold};
-ghost use Rattle.pb_rounds.specs.Outcome.{settled};
+ghost use Rattle.std.specs.Prelude.{◌≡◌, ◌<◌, All, IfOk, length};
+ghost use Rattle.pb_reasons.specs.Reasons.{IsCounted};
 ghost use Rattle.pb_page.specs.Page.{IsPage};
 
 use crate::budget::{put_budget, put_head, put_summary};
@@ -15,7 +14,7 @@ use crate::winners::put_winners;
 use crate::written_page::Page;
 use pb_core::election::Election;
 use pb_core::no_memory::NoMemory;
-use pb_reasons::{Reasons, Totals};
+use pb_reasons::{ProjectTeller, Totals};
 use pb_rounds::outcome::Outcome;
 use std::alloc::Global;
 
@@ -28,13 +27,15 @@ pub fn page_of(
     outcome: &Outcome,
     facts: &Facts,
 ) -> Result<Vec<u8>, NoMemory>
-    requires { CanBeTold election.now (settled outcome.now) }
+    requires { IsCounted election.now outcome.now }
     ensures { IfOk result (λ text. IsPage text.items) }
 {
-    let reasons = Reasons::of(alloc, election, outcome)?;
+    // What is true of every election is true of the places of its elected projects.
+    let _budget = election.budget();
+    let teller = ProjectTeller::of(alloc, election, outcome)?;
     let mut page = Page::start(alloc);
-    let put = put_all(&mut page, alloc, election, outcome, &reasons, facts);
-    drop(reasons);
+    let put = put_all(&mut page, alloc, election, outcome, &teller, facts);
+    drop(teller);
     match put {
         Ok(()) => page.finish(),
         Err(refused) => {
@@ -50,19 +51,20 @@ fn put_all(
     alloc: Global,
     election: &Election,
     outcome: &Outcome,
-    reasons: &Reasons,
+    teller: &ProjectTeller,
     facts: &Facts,
 ) -> Result<(), NoMemory>
-    requires told { CanBeTold election.now (settled outcome.now) }
-    requires own { AreReasons election.now (settled outcome.now) reasons.now }
+    requires counted { IsCounted election.now outcome.now }
+    requires own { teller.now.0 ≡ election.now }
+    requires known { All (λ w. w.place < length election.now.projects) outcome.now.elected }
 {
     let elected = outcome.elected.as_slice();
     put_head(page, alloc, facts.title)?;
     let spent = Totals::of(election, outcome).spent;
     put_summary(page, alloc, election, elected.len() as u64, spent)?;
     put_budget(page, alloc, election, elected, spent)?;
-    put_winners(page, alloc, election, outcome, reasons, elected)?;
-    put_others(page, alloc, election, outcome, reasons)?;
+    put_winners(page, alloc, election, teller, elected)?;
+    put_others(page, alloc, election, teller, elected.len())?;
     put_voters(page, alloc, election, elected)?;
     put_rule(page, alloc, &facts.options, outcome)?;
     put_check(page, alloc, facts)

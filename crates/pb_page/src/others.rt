@@ -1,7 +1,6 @@
 // The projects that did not win.
 
-ghost use Rattle.pb_reasons.specs.Reasons.{AreReasons, CanBeTold};
-ghost use Rattle.pb_rounds.specs.Outcome.{settled};
+ghost use Rattle.std.specs.Prelude.{◌≡◌};
 
 use crate::budget::ten_thousandths;
 use crate::part::Part;
@@ -11,22 +10,20 @@ use pb_core::election::Election;
 use pb_core::no_memory::NoMemory;
 use pb_core::project::Project;
 use pb_markup::Value;
-use pb_reasons::{Ending, ProjectReason, Reasons};
-use pb_rounds::outcome::Outcome;
+use pb_reasons::{Ending, ProjectReason, ProjectTeller};
 use std::alloc::Global;
 
-/// The projects that did not win, in the order of the file.
+/// The projects that did not win, in the order of the file; so many are elected.
 pub(crate) fn put_others(
     page: &mut Page,
     alloc: Global,
     election: &Election,
-    outcome: &Outcome,
-    reasons: &Reasons,
+    teller: &ProjectTeller,
+    elected: usize,
 ) -> Result<(), NoMemory>
-    requires told { CanBeTold election.now (settled outcome.now) }
-    requires own { AreReasons election.now (settled outcome.now) reasons.now }
+    requires { teller.now.0 ≡ election.now }
 {
-    if outcome.elected.len() == election.projects().len() {
+    if elected == election.projects().len() {
         return put_nothing(
             page,
             alloc,
@@ -36,7 +33,7 @@ pub(crate) fn put_others(
         );
     }
     page.put(alloc, Part::OthersOpening, &[])?;
-    put_rows(page, alloc, election, outcome, reasons)?;
+    put_rows(page, alloc, election, teller)?;
     page.put(alloc, Part::TableClosing, &[])
 }
 
@@ -45,15 +42,13 @@ fn put_rows(
     page: &mut Page,
     alloc: Global,
     election: &Election,
-    outcome: &Outcome,
-    reasons: &Reasons,
+    teller: &ProjectTeller,
 ) -> Result<(), NoMemory>
-    requires told { CanBeTold election.now (settled outcome.now) }
-    requires own { AreReasons election.now (settled outcome.now) reasons.now }
+    requires { teller.now.0 ≡ election.now }
 {
     let projects = election.projects();
     for place in 0..projects.len() {
-        let reason = reasons.project(election, outcome, place as u32);
+        let reason = teller.tell(place as u32);
         put_other(page, alloc, &projects[place], &reason)?;
     }
     Ok(())

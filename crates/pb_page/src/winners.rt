@@ -1,8 +1,6 @@
 // The projects that won.
 
-ghost use Rattle.std.specs.Prelude.{◌<◌, All, length};
-ghost use Rattle.pb_reasons.specs.Reasons.{AreReasons, CanBeTold};
-ghost use Rattle.pb_rounds.specs.Outcome.{settled};
+ghost use Rattle.std.specs.Prelude.{◌≡◌, ◌<◌, All, length};
 
 use crate::budget::ten_thousandths;
 use crate::part::Part;
@@ -12,8 +10,8 @@ use pb_core::money::Money;
 use pb_core::no_memory::NoMemory;
 use pb_core::project::Project;
 use pb_markup::Value;
-use pb_reasons::{Ending, ProjectReason, Reasons};
-use pb_rounds::outcome::{Elected, Outcome};
+use pb_reasons::{Ending, ProjectReason, ProjectTeller};
+use pb_rounds::outcome::Elected;
 use std::alloc::Global;
 
 /// What a project is called: its name, or its id where it has none.
@@ -47,12 +45,10 @@ pub(crate) fn put_winners(
     page: &mut Page,
     alloc: Global,
     election: &Election,
-    outcome: &Outcome,
-    reasons: &Reasons,
+    teller: &ProjectTeller,
     elected: &[Elected],
 ) -> Result<(), NoMemory>
-    requires told { CanBeTold election.now (settled outcome.now) }
-    requires own { AreReasons election.now (settled outcome.now) reasons.now }
+    requires own { teller.now.0 ≡ election.now }
     requires known { All (λ w. w.place < length election.now.projects) elected.now }
 {
     if elected.is_empty() {
@@ -61,7 +57,7 @@ pub(crate) fn put_winners(
     let projects = election.projects();
     page.put(alloc, Part::WinnersOpening, &[])?;
     for winner in elected {
-        let reason = reasons.project(election, outcome, winner.place);
+        let reason = teller.tell(winner.place);
         let project = &projects[winner.place as usize];
         put_winner(page, alloc, project, &reason, election.budget())?;
     }

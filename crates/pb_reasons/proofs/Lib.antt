@@ -1,6 +1,11 @@
+pub mod ElectedPlaces
+pub mod Printables
+pub mod Tellable
+pub mod Turns
+pub mod Due
 pub mod Told
-pub mod Found
 pub mod Paying
 pub mod Reasoned
+pub mod Listing
 pub mod VoterTold
 pub mod WinnerSums

@@ -9,7 +9,7 @@ use Rattle.pb_price.specs.Price.{paid_at}
 use Rattle.pb_price.specs.Supporters.{IsSupport, SupportView, supporters_at}
 use Rattle.pb_rounds.specs.Run.{ElectedView, charged}
 use Rattle.pb_rounds.proofs.ChargeStep.{charge_step-collected}
-use Rattle.pb_reasons.specs.Replay.{paid_by_supporters, row_of}
+use Rattle.pb_reasons.specs.Inner.Replay.{paid_by_supporters, row_of}
 
 -- one more supporter paid
 pub row_more : (supporters : List ℕ) (price : ℕ) (before : List ℕ) (i : ℕ) → IsStrictlyIncreasing supporters → i < length supporters

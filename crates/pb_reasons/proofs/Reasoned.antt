@@ -1,10 +1,9 @@
 -- What reasons tell, from what they keep.
-use Rattle.std.proofs.Common.{◌≡◌, ℕ, ◌+◌, ◌-◌, ◌<◌, ◌≤◌, List, [], ◌∷◌, ◌++◌, length, get_or, take, map, true, cond, Some, None, refl, sym, ◌∙◌, ap, subst, arith}
-use Rattle.std.specs.Prelude.{◌==◌, All, count_by, filter, slice_index, slice_index_or, nat_lt, slice_get, replicate}
-use Rattle.std.specs.List.Sorted.{IsStrictlyIncreasing}
-use Rattle.std.proofs.lemmas.Bool.{cond-true, eq-eqb, lt-ltb, true≢false}
-use Rattle.std.proofs.lemmas.List.{get_or-map, get_or_default, get_or_past, length-map, map_more, append-nil}
-use Rattle.std.proofs.lemmas.List.Elements.{All-head, All-tail, Contains-get_or, filter-append}
+use Rattle.std.proofs.Common.{◌≡◌, ℕ, ◌+◌, ◌-◌, ◌<◌, ◌≤◌, List, [], ◌∷◌, length, get_or, map, true, cond, Some, None, refl, sym, ◌∙◌, ap, subst, arith}
+use Rattle.std.specs.Prelude.{◌==◌, All, count_by, slice_index, slice_index_or, slice_get, replicate}
+use Rattle.std.proofs.lemmas.Bool.{cond-true, eq-eqb, true≢false}
+use Rattle.std.proofs.lemmas.List.{get_or-map, get_or_default, get_or_past, length-map}
+use Rattle.std.proofs.lemmas.List.Elements.{All-head, All-tail, Contains-get_or}
 use Rattle.std.proofs.lemmas.List.Sums.{fails_before_first, sum_by-cons}
 use Rattle.std.proofs.lemmas.Option.{slice_get_read, slice_get_past}
 use Rattle.pb_core.specs.Election.{ElectionView, ProjectView}
@@ -12,12 +11,13 @@ use Rattle.pb_price.specs.Supporters.{IsSupport, cost_at, support_of, supporters
 use Rattle.pb_price.specs.Price.{total_rest}
 use Rattle.pb_rounds.specs.Outcome.{Settled}
 use Rattle.pb_rounds.specs.Run.{ElectedView, is_listed}
-use Rattle.pb_rounds.proofs.Listed.{listed_from_contains, rises_within}
+use Rattle.pb_rounds.proofs.Listed.{listed_from_contains}
 use Rattle.pb_rounds.proofs.Collected.{length-rises}
 use Rattle.pb_rounds.proofs.Explained.{supporters_rise}
-use Rattle.pb_reasons.specs.Reasons.{AreReasons, CanBeTold, ReasonsView, all_payments, ending_of, paid_for, project_reason, round_of}
-use Rattle.pb_reasons.specs.Replay.{paid_by_supporters}
-use Rattle.pb_reasons.specs.declared.payment.Payment.{Payment}
+use Rattle.pb_reasons.specs.Reasons.{all_payments, ending_of, paid_for, project_reason, round_of}
+use Rattle.pb_reasons.specs.Inner.Told.{CanBeTold}
+use Rattle.pb_reasons.specs.Inner.Kept.{AreReasons, ReasonsView}
+use Rattle.pb_reasons.specs.Inner.Replay.{paid_by_supporters}
 use Rattle.pb_reasons.specs.declared.project_reason.Ending.{Ending}
 use Rattle.pb_reasons.specs.declared.project_reason.Ending.TheVariants.{Won, Lost}
 use Rattle.pb_reasons.proofs.Told.{IsRow, length-paid_by_supporters, length-paid_in_turn, round_elects, row_at}
@@ -138,30 +138,3 @@ module _ (e : ElectionView) (o : Settled) (r : ReasonsView) (own : AreReasons e 
   few_projects h =
       let own_support : IsSupport (support_of e) = subst IsSupport own.supporters h in
       (omega (arith, own_support.few_projects, as_many_costs), own_support.few_voters)
-
--- a ballot approves no more projects than there are
-pub few_places : (projects : ℕ) (ballot : List ℕ) → IsStrictlyIncreasing ballot → All (λ place. place < projects) ballot → length ballot ≤ projects
-few_places projects ballot rise known =
-    let few = length-rises ballot 0 projects (rises_within ballot 0 projects (λ _. omega arith) known rise) (omega arith) in omega (arith, few)
-
--- the payments of the places so far with one more
-pub record IsListing (paid : ℕ → ℕ) (places : List ℕ) (payments : List Payment) : Type 0 where
-  pub is : payments ≡ filter (λ (p : Payment). nat_lt 0 p.amount) (map (λ place. record { place = place; amount = paid place }) places)
-
-module _ (paid : ℕ → ℕ) (ballot : List ℕ) (i : ℕ) (below : i < length ballot) (payments : List Payment) (so_far : IsListing paid (take i ballot) payments) where
-  more : filter (λ (p : Payment). nat_lt 0 p.amount) (map (λ place. record { place = place; amount = paid place }) (take (i + 1) ballot))
-      ≡ payments ++ cond (nat_lt 0 (paid (get_or ballot i 0))) (record { place = get_or ballot i 0; amount = paid (get_or ballot i 0) } ∷ []) []
-  more =
-      ap (filter (λ (p : Payment). nat_lt 0 p.amount)) (map_more (λ place. record { place = place; amount = paid place }) ballot i 0 below)
-      ∙ filter-append (λ (p : Payment). nat_lt 0 p.amount) (map (λ place. record { place = place; amount = paid place }) (take i ballot)) (record { place = get_or ballot i 0; amount = paid (get_or ballot i 0) } ∷ []) ∙ ap (λ ps. ps ++ cond (nat_lt 0 (paid (get_or ballot i 0))) (record { place = get_or ballot i 0; amount = paid (get_or ballot i 0) } ∷ []) []) (sym so_far.is)
-
-  pub listing_more : (amount : ℕ) → amount ≡ paid (get_or ballot i 0) → 0 < amount
-      → IsListing paid (take (i + 1) ballot) (payments ++ record { place = get_or ballot i 0; amount = amount } ∷ [])
-  listing_more amount is some = record {
-    is = sym (more ∙ rw (← is, lt-ltb 0 amount some) refl);
-  }
-
-  pub listing_same : paid (get_or ballot i 0) ≡ 0 → IsListing paid (take (i + 1) ballot) payments
-  listing_same zero_paid = record {
-    is = sym (more ∙ rw zero_paid (append-nil payments));
-  }

@@ -10,7 +10,7 @@ use Rattle.pb_rounds.specs.Payments.{paid_in_turn}
 use Rattle.pb_rounds.specs.Run.{ElectedView, charged, is_elected, is_listed}
 use Rattle.pb_rounds.proofs.Charged.{payment_at}
 use Rattle.pb_reasons.specs.Reasons.{round_of}
-use Rattle.pb_reasons.specs.Replay.{paid_by_supporters}
+use Rattle.pb_reasons.specs.Inner.Replay.{paid_by_supporters}
 
 -- what the supporters paid in a round, and what each voter paid there
 pub record IsRow (supporters row all : List ℕ) : Type 0 where

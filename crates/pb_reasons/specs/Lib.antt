@@ -1,3 +1,3 @@
 pub mod Reasons
-pub mod Replay
 pub mod Totals
+pub mod Inner

@@ -1,20 +1,19 @@
 -- Why an outcome is as it is, project by project and voter by voter.
-use Rattle.std.specs.Prelude.{◌≡◌, ℕ, ◌+◌, ◌-◌, ◌<◌, ◌≤◌, ◌^◌, ◌==◌, List, [], All, Option, Some, None, count_by, filter, length, map, nat_lt, replicate, slice_get, slice_index, slice_index_or, sum_by}
+use Rattle.std.specs.Prelude.{ℕ, ◌+◌, ◌-◌, ◌==◌, List, [], Option, Some, None, count_by, filter, length, map, nat_lt, replicate, slice_get, slice_index, slice_index_or, sum_by}
 use Rattle.std.specs.List.{position_or_len}
 use Rattle.pb_core.specs.Election.{ElectionView}
 use Rattle.pb_price.specs.Price.{total_rest}
-use Rattle.pb_price.specs.Supporters.{SupportView, ballot_at, cost_at, support_of, supporters_at}
-use Rattle.pb_rounds.specs.Count.{spent_on}
-use Rattle.pb_rounds.specs.Outcome.{Settled}
+use Rattle.pb_price.specs.Supporters.{ballot_at, cost_at, support_of, supporters_at}
+use Rattle.pb_rounds.specs.Counted.{IsCountOf}
+use Rattle.pb_rounds.specs.Outcome.{OutcomeView, Settled}
 use Rattle.pb_rounds.specs.Payments.{paid_in_turn}
-use Rattle.pb_rounds.specs.PriceSystem.{IsPriceSystem}
 use Rattle.pb_rounds.specs.Run.{ElectedView, is_elected}
-use Rattle.pb_reasons.specs.Replay.{paid_by_supporters}
-use Rattle.pb_reasons.specs.Totals.{collected_for}
+use Rattle.pb_rounds.specs.declared.options.CountOptions.{CountOptions}
 use Rattle.pb_reasons.specs.declared.payment.Payment.{Payment}
 use Rattle.pb_reasons.specs.declared.project_reason.Ending.{Ending}
 use Rattle.pb_reasons.specs.declared.project_reason.Ending.TheVariants.{Won, Lost}
 use Rattle.pb_reasons.specs.declared.project_reason.ProjectReason.{ProjectReason}
+use Rattle.pb_reasons.specs.declared.voter_reason.VoterReason.{VoterReason}
 
 -- what each voter pays for each of the elected of an outcome, in order of election, out of the share
 abbrev pub all_payments : ElectionView → Settled → List (List ℕ)
@@ -51,50 +50,21 @@ project_reason e o place = record {
   ending = ending_of e o place (slice_get o.elected (round_of o.elected place));
 }
 
--- what contracts see of what a voter's ballot came to
-pub record VoterReasonView : Type 0 where
-  pub votes : ℕ
-  pub elected : ℕ
-  pub paid : ℕ
-  pub left : ℕ
-  pub payments : List Payment
+-- what the ballot of the voter at this position came to
+abbrev pub voter_reason : ElectionView → Settled → ℕ → VoterReason
+voter_reason e o voter = record {
+  votes = length (ballot_at e voter);
+  elected = count_by (is_elected o.elected) (ballot_at e voter);
+  paid = sum_by (λ row. slice_index row voter) (all_payments e o);
+  left = slice_index o.rests voter;
+}
 
--- what the ballot of the voter at this position came to; the payments above 0 are listed, places rising
-abbrev pub voter_reason : ElectionView → Settled → ℕ → VoterReasonView
-voter_reason e o voter =
-    let ballot = ballot_at e voter in
-    record {
-      votes = length ballot;
-      elected = count_by (is_elected o.elected) ballot;
-      paid = sum_by (λ row. slice_index row voter) (all_payments e o);
-      left = slice_index o.rests voter;
-      payments = filter (λ p. nat_lt 0 p.amount)
-          (map (λ place. record { place = place; amount = paid_for e o place voter }) ballot);
-    }
+-- the voter's payments above 0, places rising
+abbrev pub voter_payments : ElectionView → Settled → ℕ → List Payment
+voter_payments e o voter =
+    filter (λ p. nat_lt 0 p.amount)
+    (map (λ place. record { place = place; amount = paid_for e o place voter }) (ballot_at e voter))
 
--- an outcome that can be told: its payments are a price system of it, and its sums are amounts of 64 bits
-pub record CanBeTold (e : ElectionView) (o : Settled) : Type 0 where
-  pub known : All (λ w. w.place < length e.projects) o.elected
-  pub few : length o.elected ≤ length e.projects
-  pub one_each : length o.rests ≡ length e.voters
-  pub spent : spent_on (support_of e) o.elected < 2 ^ 64
-  pub collected : collected_for o.elected < 2 ^ 64
-  pub price_system : IsPriceSystem (support_of e) o.share o.elected o.rests (all_payments e o)
-
--- the number of each project's round
-pub record AreRounds (projects : ℕ) (elected : List ElectedView) (rounds : List ℕ) : Type 0 where
-  pub one_each : length rounds ≡ projects
-  pub numbered : (place : ℕ) → place < projects → slice_index rounds place ≡ round_of elected place
-
--- what contracts see of reasons: the supporters, the rounds, and what the supporters of each of the elected paid
-pub record ReasonsView : Type 0 where
-  pub supporters : SupportView
-  pub rounds : List ℕ
-  pub paid : List (List ℕ)
-
--- these are the reasons of this outcome
-pub record AreReasons (e : ElectionView) (o : Settled) (r : ReasonsView) : Type 0 where
-  pub supporters : r.supporters ≡ support_of e
-  pub rounds : AreRounds (length e.projects) o.elected r.rounds
-  pub paid : r.paid
-      ≡ paid_by_supporters (support_of e) (replicate (length e.voters) o.share) o.elected
+-- an outcome that a count of the election comes to
+abbrev pub IsCounted : ElectionView → OutcomeView → Type 0
+IsCounted e o = (options : CountOptions) × IsCountOf e options o

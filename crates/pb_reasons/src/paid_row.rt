@@ -1,6 +1,4 @@
-ghost use Rattle.std.specs.Prelude.{◌≡◌, ℕ, List, [], ◌∷◌, ◌++◌, IfOk, OnOk, length, map, if◌then◌else◌};
-ghost use Rattle.std.specs.List.Sorted.{IsStrictlyIncreasing};
-ghost use Rattle.pb_rounds.specs.Run.{is_listed};
+ghost use Rattle.std.specs.Prelude.{◌≡◌, ℕ, List, [], ◌∷◌, ◌++◌, IfOk, OnOk};
 
 use pb_core::money::Money;
 use pb_core::no_memory::NoMemory;
@@ -40,18 +38,5 @@ impl PaidRow {
     {
         self.amounts.push(amount)?;
         Ok(())
-    }
-}
-
-/// What this voter paid, where these are the amounts that these supporters paid; nothing where the voter is none of them.
-pub(crate) fn amount_of(amounts: &[Money], supporters: &[u32], voter: u32) -> Money
-    requires one_each { length amounts.now ≡ length supporters.now }
-    requires rise { IsStrictlyIncreasing supporters.now }
-    ensures { (f : ℕ → ℕ) → amounts.now ≡ map f supporters.now
-        → result ≡ (if is_listed supporters.now voter then f voter else 0) }
-{
-    match supporters.binary_search(&voter) {
-        Ok(position) => amounts[position],
-        Err(_) => Money(0),
     }
 }

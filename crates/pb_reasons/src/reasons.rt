@@ -2,17 +2,16 @@
 
 ghost use Rattle.std.specs.Prelude.{◌≡◌, ◌<◌, IfOk, length};
 ghost use Rattle.pb_rounds.specs.Outcome.{settled};
-ghost use Rattle.pb_reasons.specs.Reasons.{AreReasons, CanBeTold, project_reason, voter_reason};
+ghost use Rattle.pb_reasons.specs.Inner.Kept.{AreReasons};
+ghost use Rattle.pb_reasons.specs.Inner.Told.{CanBeTold};
+ghost use Rattle.pb_reasons.specs.Reasons.{project_reason};
 
 use crate::ending::{lost, won};
-use crate::paid_row::{PaidRow, amount_of};
-use crate::payment::Payment;
+use crate::paid_row::PaidRow;
 use crate::project_reason::{Ending, ProjectReason};
 use crate::replay::replay;
 use crate::rounds::rounds_of;
-use crate::voter_reason::VoterReason;
 use pb_core::election::Election;
-use pb_core::money::Money;
 use pb_core::no_memory::NoMemory;
 use pb_price::supporters::Supporters;
 use pb_rounds::outcome::Outcome;
@@ -21,14 +20,14 @@ use std::marker::Model;
 
 /// Why an outcome is as it is: who paid what for each elected project.
 #[derive(Drop)]
-pub struct Reasons {
+pub(crate) struct Reasons {
     supporters: Supporters,
     rounds: Vec<u32>,
     paid: Vec<PaidRow>,
 }
 
 impl Model for Reasons {
-    ghost use Rattle.pb_reasons.specs.Reasons.{ReasonsView};
+    ghost use Rattle.pb_reasons.specs.Inner.Kept.{ReasonsView};
 
     ghost Value = { ReasonsView };
 
@@ -41,7 +40,11 @@ impl Model for Reasons {
 
 impl Reasons {
     /// The reasons of the outcome of a count of this election.
-    pub fn of(alloc: Global, election: &Election, outcome: &Outcome) -> Result<Reasons, NoMemory>
+    pub(crate) fn of(
+        alloc: Global,
+        election: &Election,
+        outcome: &Outcome,
+    ) -> Result<Reasons, NoMemory>
         requires { CanBeTold election.now (settled outcome.now) }
         ensures { IfOk result (AreReasons election.now (settled outcome.now)) }
     {
@@ -57,7 +60,12 @@ impl Reasons {
     }
 
     /// Why the project at this place is elected, or is not.
-    pub fn project(&self, election: &Election, outcome: &Outcome, place: u32) -> ProjectReason
+    pub(crate) fn project(
+        &self,
+        election: &Election,
+        outcome: &Outcome,
+        place: u32,
+    ) -> ProjectReason
         requires told { CanBeTold election.now (settled outcome.now) }
         requires own { AreReasons election.now (settled outcome.now) self.now }
         requires known { place < length election.now.projects }
@@ -77,52 +85,5 @@ impl Reasons {
             votes: supporters.len() as u32,
             ending,
         }
-    }
-
-    /// What the ballot of the voter at this position came to.
-    pub fn voter(
-        &self,
-        alloc: Global,
-        election: &Election,
-        outcome: &Outcome,
-        voter: u32,
-    ) -> Result<VoterReason, NoMemory>
-        requires told { CanBeTold election.now (settled outcome.now) }
-        requires own { AreReasons election.now (settled outcome.now) self.now }
-        requires known { voter < length election.now.voters }
-        ensures { IfOk result (λ reason. reason ≡ voter_reason election.now (settled outcome.now) voter) }
-    {
-        let owner = &election.voters()[voter as usize];
-        let ballot = owner.ballot.places();
-        let mut elected = 0;
-        let mut payments = Vec::new(alloc);
-        for place in ballot {
-            let round = self.rounds[*place as usize] as usize;
-            let amount = if round < self.paid.len() {
-                elected += 1;
-                amount_of(
-                    self.paid[round].amounts(),
-                    self.supporters.of(*place),
-                    voter,
-                )
-            } else {
-                Money(0)
-            };
-            if amount.0 > 0 {
-                payments.push(Payment {
-                    place: *place,
-                    amount,
-                })?;
-            }
-        }
-        let share = outcome.share;
-        let left = outcome.rests[voter as usize];
-        Ok(VoterReason {
-            votes: ballot.len() as u32,
-            elected,
-            paid: Money(share.0 - left.0),
-            left,
-            payments,
-        })
     }
 }

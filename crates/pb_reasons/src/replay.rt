@@ -3,7 +3,7 @@
 ghost use Rattle.std.specs.Prelude.{◌≡◌, ◌<◌, All, IfOk, OnOk, length, map, min, replicate, slice_index};
 ghost use Rattle.std.specs.List.Sorted.{IsStrictlyIncreasing};
 ghost use Rattle.pb_rounds.specs.Run.{charged};
-ghost use Rattle.pb_reasons.specs.Replay.{paid_by_supporters};
+ghost use Rattle.pb_reasons.specs.Inner.Replay.{paid_by_supporters};
 
 use crate::paid_row::PaidRow;
 use pb_core::money::Money;

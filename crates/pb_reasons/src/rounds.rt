@@ -1,7 +1,7 @@
 // Which round elected which project.
 
 ghost use Rattle.std.specs.Prelude.{◌<◌, ◌^◌, All, IfOk, length};
-ghost use Rattle.pb_reasons.specs.Reasons.{AreRounds};
+ghost use Rattle.pb_reasons.specs.Inner.Kept.{AreRounds};
 
 use pb_core::no_memory::NoMemory;
 use pb_rounds::outcome::Elected;

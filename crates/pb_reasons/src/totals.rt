@@ -3,8 +3,7 @@
 ghost use Rattle.std.specs.Prelude.{◌≡◌, ◌<◌, ◌^◌, All, length};
 ghost use Rattle.pb_price.specs.Supporters.{support_of};
 ghost use Rattle.pb_rounds.specs.Count.{spent_on};
-ghost use Rattle.pb_rounds.specs.Outcome.{settled};
-ghost use Rattle.pb_reasons.specs.Reasons.{CanBeTold};
+ghost use Rattle.pb_reasons.specs.Reasons.{IsCounted};
 ghost use Rattle.pb_reasons.specs.Totals.{collected_for, totals_of};
 
 use pb_core::election::Election;
@@ -23,9 +22,11 @@ pub struct Totals {
 impl Totals {
     /// The totals of the outcome of a count of this election.
     pub fn of(election: &Election, outcome: &Outcome) -> Totals
-        requires { CanBeTold election.now (settled outcome.now) }
+        requires { IsCounted election.now outcome.now }
         ensures { result ≡ totals_of election.now outcome.now.elected }
     {
+        // What is true of every election bounds the sums of its outcome.
+        let _budget = election.budget();
         let elected = outcome.elected.as_slice();
         let spent = spent_for(election, elected);
         let surplus = collected_for(elected).saturating_sub(spent);

@@ -1,14 +1,14 @@
-use Rattle.pb_commands.proofs.Tellable.{count_can_be_told}
+use Rattle.std.proofs.Common.{◌∙◌, ap, length}
+use Rattle.std.proofs.lemmas.List.FromFn.{length-map-range_with_len}
 use Rattle.pb_commands.proofs.export_text.export_text.Goals as goal
 
 pub of-requires : goal.of-requires
-of-requires g c =
-    count_can_be_told c.args.election.now c.args.options.now c.in_ok-outcome.outcome c.budget-budget.ensures.is_election c.in_ok-outcome.ensures.counted
+of-requires g c = (c.args.options.now, c.in_ok-outcome.ensures.counted)
 
-pub votes_of-requires-clause-told : goal.votes_of-requires-clause-told
-votes_of-requires-clause-told g c =
-    count_can_be_told c.args.election.now c.args.options.now c.in_ok-outcome.outcome c.budget-budget.ensures.is_election c.in_ok-outcome.ensures.counted
+pub write_pb-requires-clause-votes : goal.write_pb-requires-clause-votes
+write_pb-requires-clause-votes g c =
+    ap length (c.as_slice.ensures.value ∙ c.in_ok-votes.ensures) ∙ length-map-range_with_len _ 0 (length c.args.election.now.projects)
 
-pub selected_of-requires-clause-told : goal.selected_of-requires-clause-told
-selected_of-requires-clause-told g c =
-    count_can_be_told c.args.election.now c.args.options.now c.in_ok-outcome.outcome c.budget-budget.ensures.is_election c.in_ok-outcome.ensures.counted
+pub write_pb-requires-clause-selected : goal.write_pb-requires-clause-selected
+write_pb-requires-clause-selected g c =
+    ap length (c.as_slice-2.ensures.value ∙ c.in_ok-selected.ensures) ∙ length-map-range_with_len _ 0 (length c.args.election.now.projects)

@@ -1,12 +1,11 @@
 use Rattle.std.proofs.Common.{ap, ◌∙◌}
 use Rattle.pb_reasons.specs.Reasons.{project_reason}
 use Rattle.pb_reasons.specs.declared.project_reason.ProjectReason.{ProjectReason}
-use Rattle.pb_rounds.specs.Outcome.{settled}
 use Rattle.pb_commands.proofs.Exports.{one_put}
 use Rattle.pb_commands.specs.Exported.{is_won}
 use Rattle.pb_commands.proofs.export_text.selected_of.Goals as goal
 
 pub loop-place-preserved : goal.loop-place-preserved
 loop-place-preserved c =
-    one_put (λ place. is_won (project_reason c.args.election.now (settled c.args.outcome.now) place).ending) c.loop-place.place c.loop-place.selected.items c.push.new.self.items c.is_won.result
-    c.loop-place.invariant c.in_ok-push.ensures.items (c.is_won.ensures ∙ ap (λ (r : ProjectReason). is_won r.ending) c.project-reason.ensures)
+    one_put (λ place. is_won (project_reason c.args.election.now c.args.teller.now.1 place).ending) c.loop-place.place c.loop-place.selected.items c.push.new.self.items c.is_won.result
+    c.loop-place.invariant c.in_ok-push.ensures.items (c.is_won.ensures ∙ ap (λ (r : ProjectReason). is_won r.ending) (rw c.requires at c.tell-reason.ensures))

@@ -1,8 +1,7 @@
 use Rattle.std.proofs.Common.{◌≡◌, map}
 use Rattle.std.specs.List.{range_with_len}
 use Rattle.pb_reasons.specs.Reasons.{project_reason}
-use Rattle.pb_rounds.specs.Outcome.{settled}
 use Rattle.pb_commands.proofs.export_text.votes_of.Given as goal
 
 abbrev pub invariant-loop-place : goal.invariant-loop-place
-invariant-loop-place l = l.votes.items ≡ map (λ place. (project_reason l.election (settled l.outcome) place).votes) (range_with_len 0 l.place)
+invariant-loop-place l = l.votes.items ≡ map (λ place. (project_reason l.election l.teller.1 place).votes) (range_with_len 0 l.place)

@@ -1,21 +1,12 @@
-use Rattle.std.proofs.Common.{◌<◌, ◌∙◌, ap, length}
+use Rattle.std.proofs.Common.{length, map}
+use Rattle.std.specs.List.{range_with_len}
 use Rattle.pb_rounds.specs.Outcome.{settled}
-use Rattle.pb_rows.specs.Writing.{text_of_row}
-use Rattle.std.specs.Prelude.{◌++◌}
-use Rattle.pb_commands.proofs.TableRows.{columns_put, project_row_read, row_put}
-use Rattle.pb_commands.specs.Tables.{project_row}
+use Rattle.pb_commands.proofs.TableRows.{rows_put}
 use Rattle.pb_commands.specs.Inner.Tables.{project_columns}
+use Rattle.pb_commands.specs.Tables.{project_row}
 use Rattle.pb_commands.proofs.projects_table.put_projects.Goals as goal
 
-pub loop-place-init : goal.loop-place-init
-loop-place-init c = columns_put project_columns (project_row c.args.election.now (settled c.args.outcome.now)) c.args.rows.now.text c.put_row.new.self.text c.in_ok-put_row.ensures.text
-
-pub loop-place-preserved : goal.loop-place-preserved
-loop-place-preserved c =
-    let e = c.args.election.now in
-    let o = settled c.args.outcome.now in
-    let place = c.loop-place.place in
-    let known : place < length e.projects = rw (← c.projects-projects.ensures.projects) c.loop-place-test.true in
-    let row = project_row_read e o place c.index-projects-place.result known (rw c.projects-projects.ensures.projects at c.index-projects-place.is) c.project-reason.result c.project-reason.ensures in
-    row_put project_columns (project_row e o) place c.args.rows.now.text c.loop-place.rows.text c.put_project.new.rows.text c.loop-place.invariant
-    (c.in_ok-put_project.ensures ∙ ap (λ fields. c.loop-place.rows.text ++ text_of_row fields) row)
+pub returns : goal.returns
+returns c =
+    rows_put c.put_each-put.result project_columns (map (project_row c.args.election.now (settled c.args.outcome.now)) (range_with_len 0 (length c.args.election.now.projects)))
+    c.args.rows.now.text c.put_row.new.self.text c.put_each-put.new.rows.text (rw c.in_ok-teller.ensures at c.put_each-put.ensures) c.in_ok-put_row.ensures.text

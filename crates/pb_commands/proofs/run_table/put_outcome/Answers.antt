@@ -4,18 +4,13 @@ use Rattle.pb_commands.proofs.TableHeads.{projects_head, voters_head}
 use Rattle.pb_commands.specs.Tables.{project_row, table_of, voter_row}
 use Rattle.pb_rounds.specs.Outcome.{settled}
 use Rattle.pb_commands.proofs.run_table.put_outcome.Goals as goal
-use Rattle.pb_commands.proofs.run_table.put_outcome.Goals.{in-Projects, in-Voters}
 
-pub returns : goal.returns
+pub returns-in-Projects : goal.returns-in-Projects
 unfolding table_of
-returns c =
-    let e = c.args.election.now in
-    let o = settled c.args.outcome.now in
-    elim c.match-table.branch [
-      | in-Projects w ↦
-          rw (w.put-is, w.rows-is, w.in-Projects.is)
-          (rw (projects_head (map (project_row e o) (range_with_len 0 (length e.projects)))) at w.put_projects-put.ensures)
-      | in-Voters w ↦
-          rw (w.put-is, w.rows-is, w.in-Voters.is)
-          (rw (voters_head (map (voter_row e o) (range_with_len 0 (length e.voters)))) at w.put_voters-put.ensures)
-    ]
+returns-in-Projects c =
+    rw c.in-Projects.is (rw (projects_head (map (project_row c.args.election.now (settled c.args.outcome.now)) (range_with_len 0 (length c.args.election.now.projects)))) at c.put_projects.ensures)
+
+pub returns-in-Voters : goal.returns-in-Voters
+unfolding table_of
+returns-in-Voters c =
+    rw c.in-Voters.is (rw (voters_head (map (voter_row c.args.election.now (settled c.args.outcome.now)) (range_with_len 0 (length c.args.election.now.voters)))) at c.put_voters.ensures)

@@ -2,7 +2,7 @@ use Rattle.std.proofs.Common.{◌≡◌, drop, length, ◌∙◌, ap, arith}
 use Rattle.pb_rounds.specs.Run.{ElectedView, charged}
 use Rattle.pb_price.specs.Supporters.{supporters_at}
 use Rattle.pb_rounds.proofs.Charged.{length-charged}
-use Rattle.pb_reasons.specs.Replay.{row_of}
+use Rattle.pb_reasons.specs.Inner.Replay.{row_of}
 use Rattle.pb_reasons.proofs.Paying.{paid_all, paid_more, whole_part}
 use Rattle.pb_reasons.proofs.replay.replay.Goals as goal
 

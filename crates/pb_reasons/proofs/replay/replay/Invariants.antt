@@ -1,6 +1,6 @@
 use Rattle.std.proofs.Common.{◌≡◌, ◌++◌, drop, length}
 use Rattle.std.specs.Prelude.{replicate}
-use Rattle.pb_reasons.specs.Replay.{paid_by_supporters}
+use Rattle.pb_reasons.specs.Inner.Replay.{paid_by_supporters}
 use Rattle.pb_reasons.proofs.replay.replay.Given as goal
 
 abbrev pub invariant-loop-winner : goal.invariant-loop-winner

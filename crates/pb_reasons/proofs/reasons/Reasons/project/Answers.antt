@@ -2,7 +2,7 @@ use Rattle.std.proofs.Common.{◌≡◌, ◌<◌, ◌≤◌, [], length, get_or,
 use Rattle.std.proofs.lemmas.List.{get_or_default}
 use Rattle.pb_price.specs.Supporters.{support_of, supporters_at}
 use Rattle.pb_rounds.specs.Outcome.{OutcomeView, settled}
-use Rattle.pb_reasons.specs.Reasons.{AreReasons}
+use Rattle.pb_reasons.specs.Inner.Kept.{AreReasons}
 use Rattle.pb_reasons.specs.declared.project_reason.Ending.TheVariants.{Won, Lost}
 use Rattle.pb_reasons.proofs.Reasoned.{as_many_rows, cost_read, few_amounts, few_projects, few_support, has_place, project_lost, project_won, round_read, too_short}
 use Rattle.pb_reasons.proofs.reasons.Reasons.project.Goals as goal

@@ -1,14 +1,14 @@
 -- The outcome of a count can be told.
 use Rattle.pb_core.specs.Election.{ElectionView, IsElection}
 use Rattle.pb_price.proofs.SupporterLists.{IsSupport-support_of}
-use Rattle.pb_reasons.specs.Reasons.{CanBeTold}
+use Rattle.pb_reasons.specs.Inner.Told.{CanBeTold}
 use Rattle.pb_rounds.proofs.Counted.{is_computed, settled_run}
 use Rattle.pb_rounds.proofs.Settled.{settled_has_rests, settled_is_paid_in_turn}
 use Rattle.pb_rounds.specs.Counted.{IsCountOf}
 use Rattle.pb_rounds.specs.Outcome.{OutcomeView, settled}
 use Rattle.pb_rounds.specs.declared.options.CountOptions.{CountOptions}
-use Rattle.pb_commands.proofs.ElectedPlaces.{count_elects_projects}
-use Rattle.pb_commands.proofs.Printables.{sums_are_amounts}
+use Rattle.pb_reasons.proofs.ElectedPlaces.{count_elects_projects}
+use Rattle.pb_reasons.proofs.Printables.{sums_are_amounts}
 
 pub count_can_be_told : (e : ElectionView) (options : CountOptions) (o : OutcomeView) → IsElection e → IsCountOf e options o → CanBeTold e (settled o)
 count_can_be_told e options o h counted =
@@ -19,6 +19,7 @@ count_can_be_told e options o h counted =
     record {
       known = places.known;
       few = places.few;
+      apart = places.apart;
       one_each = settled_has_rests options.measure e support o.share o.raised o run;
       spent = sums.0;
       collected = sums.1;

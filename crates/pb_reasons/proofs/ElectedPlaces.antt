@@ -1,5 +1,5 @@
 -- The outcome of a count elects projects of the election, at most as many as there are.
-use Rattle.std.proofs.Common.{◌≡◌, ◌≢◌, ℕ, zero, suc, ◌<◌, ◌≤◌, List, [], length, true, Option, Some, None, refl, sym, ◌∙◌, ap, arith}
+use Rattle.std.proofs.Common.{◌≡◌, ℕ, zero, suc, ◌<◌, ◌≤◌, List, [], length, true, Option, Some, None, refl, sym, ◌∙◌, ap, arith}
 use Rattle.std.specs.Prelude.{All, AllPairs, option_map, replicate}
 use Rattle.std.specs.List.{range_with_len}
 use Rattle.std.specs.Option.{option_map_or}
@@ -18,9 +18,7 @@ use Rattle.pb_rounds.specs.Outcome.{Settled, settled_by}
 use Rattle.pb_rounds.specs.Run.{ElectedView, best_of, charged, elected_by, is_listed, outcome_of, run_from, run_of, then_run, without}
 use Rattle.pb_rounds.specs.declared.measure.Measure.{Measure}
 use Rattle.pb_rounds.specs.declared.options.CountOptions.{CountOptions}
-
-abbrev pub AreApart : ElectedView → ElectedView → Type 0
-AreApart v w = v.place ≢ w.place
+use Rattle.pb_reasons.specs.Inner.Told.{AreApart}
 
 -- at most this many are elected, all from those that were left, and no two are the same
 pub record IsDrawn (rounds : ℕ) (left : List ℕ) (elected : List ElectedView) : Type 0 where

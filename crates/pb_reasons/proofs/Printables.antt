@@ -13,7 +13,7 @@ use Rattle.pb_rounds.specs.PriceSystem.{HasPriceSystem, PaysFor}
 use Rattle.pb_rounds.specs.Run.{ElectedView}
 use Rattle.pb_rounds.specs.declared.options.CountOptions.{CountOptions}
 use Rattle.pb_reasons.specs.Totals.{collected_for}
-use Rattle.pb_commands.proofs.ElectedPlaces.{count_elects_projects}
+use Rattle.pb_reasons.proofs.ElectedPlaces.{count_elects_projects}
 
 -- a known project has at most as many supporters as there are voters
 few_supporters : (e : ElectionView) (place : ℕ) → place < length e.projects → length (supporters_at (support_of e) place) ≤ length e.voters

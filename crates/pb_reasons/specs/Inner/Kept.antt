@@ -1,0 +1,26 @@
+-- What is kept to tell reasons from; private contracts speak of it.
+use Rattle.std.specs.Prelude.{◌≡◌, ℕ, ◌<◌, List, length, replicate, slice_index}
+use Rattle.pb_core.specs.Election.{ElectionView}
+use Rattle.pb_price.specs.Supporters.{SupportView, support_of}
+use Rattle.pb_rounds.specs.Outcome.{Settled}
+use Rattle.pb_rounds.specs.Run.{ElectedView}
+use Rattle.pb_reasons.specs.Reasons.{round_of}
+use Rattle.pb_reasons.specs.Inner.Replay.{paid_by_supporters}
+
+-- the number of each project's round
+pub record AreRounds (projects : ℕ) (elected : List ElectedView) (rounds : List ℕ) : Type 0 where
+  pub one_each : length rounds ≡ projects
+  pub numbered : (place : ℕ) → place < projects → slice_index rounds place ≡ round_of elected place
+
+-- what contracts see of reasons: the supporters, the rounds, and what the supporters of each of the elected paid
+pub record ReasonsView : Type 0 where
+  pub supporters : SupportView
+  pub rounds : List ℕ
+  pub paid : List (List ℕ)
+
+-- these are the reasons of this outcome
+pub record AreReasons (e : ElectionView) (o : Settled) (r : ReasonsView) : Type 0 where
+  pub supporters : r.supporters ≡ support_of e
+  pub rounds : AreRounds (length e.projects) o.elected r.rounds
+  pub paid : r.paid
+      ≡ paid_by_supporters (support_of e) (replicate (length e.voters) o.share) o.elected

@@ -1,0 +1,24 @@
+-- What is true of every outcome of a count; private contracts speak of it.
+use Rattle.std.specs.Prelude.{◌≡◌, ◌≢◌, ◌<◌, ◌≤◌, ◌^◌, All, AllPairs, length}
+use Rattle.pb_core.specs.Election.{ElectionView}
+use Rattle.pb_price.specs.Supporters.{support_of}
+use Rattle.pb_rounds.specs.Count.{spent_on}
+use Rattle.pb_rounds.specs.Outcome.{Settled}
+use Rattle.pb_rounds.specs.PriceSystem.{IsPriceSystem}
+use Rattle.pb_rounds.specs.Run.{ElectedView}
+use Rattle.pb_reasons.specs.Reasons.{all_payments}
+use Rattle.pb_reasons.specs.Totals.{collected_for}
+
+-- two of the elected are not the same project
+abbrev pub AreApart : ElectedView → ElectedView → Type 0
+AreApart v w = v.place ≢ w.place
+
+-- an outcome that can be told: its payments are a price system of it, and its sums are amounts of 64 bits
+pub record CanBeTold (e : ElectionView) (o : Settled) : Type 0 where
+  pub known : All (λ w. w.place < length e.projects) o.elected
+  pub few : length o.elected ≤ length e.projects
+  pub apart : AllPairs AreApart o.elected
+  pub one_each : length o.rests ≡ length e.voters
+  pub spent : spent_on (support_of e) o.elected < 2 ^ 64
+  pub collected : collected_for o.elected < 2 ^ 64
+  pub price_system : IsPriceSystem (support_of e) o.share o.elected o.rests (all_payments e o)

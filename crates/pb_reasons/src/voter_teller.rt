@@ -1,0 +1,158 @@
+// What the ballots came to, told voter by voter.
+
+ghost use Rattle.std.specs.Prelude.{◌≡◌, ◌<◌, All, ◌^◌, IfOk, OnOk, count_by, filter, length, map, nat_lt, slice_index};
+ghost use Rattle.pb_rounds.specs.Outcome.{settled};
+ghost use Rattle.pb_reasons.specs.Inner.Told.{CanBeTold};
+ghost use Rattle.pb_reasons.specs.Inner.Turns.{amount_at};
+ghost use Rattle.pb_reasons.specs.Reasons.{IsCounted, voter_payments, voter_reason};
+
+use crate::payment::Payment;
+use crate::purse::Purse;
+use crate::rounds::rounds_of;
+use crate::voter_reason::VoterReason;
+use pb_core::election::Election;
+use pb_core::money::Money;
+use pb_core::no_memory::NoMemory;
+use pb_rounds::outcome::Outcome;
+use std::alloc::Global;
+use std::marker::Model;
+
+/// Tells what the ballots of a counted election came to, one voter after the other.
+///
+/// A contract sees the election and its outcome.
+#[derive(Drop)]
+pub struct VoterTeller<'a> {
+    kept: Kept<'a>,
+}
+
+impl<'a> Model for VoterTeller<'a> {
+    ghost use Rattle.pb_core.specs.Election.{ElectionView};
+    ghost use Rattle.pb_rounds.specs.Outcome.{Settled};
+
+    ghost Value = { ElectionView × Settled };
+
+    ghost view = { λ t. t.kept };
+}
+
+impl<'a> VoterTeller<'a> {
+    /// A teller of the outcome of a count of this election.
+    pub fn of(
+        alloc: Global,
+        election: &'a Election,
+        outcome: &'a Outcome,
+    ) -> Result<VoterTeller<'a>, NoMemory>
+        requires { IsCounted election.now outcome.now }
+        ensures { IfOk result (λ teller. teller ≡ (election.now, settled outcome.now)) }
+    {
+        let kept = Kept::of(alloc, election, outcome)?;
+        Ok(VoterTeller { kept })
+    }
+
+    /// What the ballot of the voter at this position came to; the payments come into the list, in place of what it held.
+    pub fn tell(&mut self, voter: u32, payments: &mut Vec<Payment>) -> Result<VoterReason, NoMemory>
+        requires { voter < length self.old.0.voters }
+        ensures reason { IfOk result (λ reason. reason ≡ voter_reason self.old.0 self.old.1 voter) }
+        ensures payments { OnOk result (payments.new.items ≡ voter_payments self.old.0 self.old.1 voter) }
+        ensures same { self.new ≡ self.old }
+    {
+        self.kept.tell(voter, payments)
+    }
+}
+
+/// What it takes to tell of voters.
+#[derive(Drop)]
+struct Kept<'a> {
+    election: &'a Election,
+    outcome: &'a Outcome,
+    rounds: Vec<u32>,
+    purse: Purse,
+}
+
+impl<'a> Model for Kept<'a> {
+    ghost use Rattle.std.specs.Prelude.{◌≡◌, length};
+    ghost use Rattle.pb_core.specs.Election.{ElectionView};
+    ghost use Rattle.pb_rounds.specs.Outcome.{Settled, settled};
+    ghost use Rattle.pb_reasons.specs.Inner.Kept.{AreRounds};
+    ghost use Rattle.pb_reasons.specs.Inner.Told.{CanBeTold};
+
+    ghost Value = { ElectionView × Settled };
+
+    ghost view = { λ k. (k.election.now, settled k.outcome.now) };
+
+    ghost invariant = { λ k. CanBeTold k.election.now (settled k.outcome.now)
+        × AreRounds (length k.election.now.projects) k.outcome.now.elected k.rounds.items
+        × (length k.purse ≡ length k.outcome.now.elected) };
+}
+
+impl<'a> Kept<'a> {
+    fn of(alloc: Global, election: &'a Election, outcome: &'a Outcome) -> Result<Kept<'a>, NoMemory>
+        requires { IsCounted election.now outcome.now }
+        ensures { IfOk result (λ kept. kept ≡ (election.now, settled outcome.now)) }
+    {
+        let elected = outcome.elected.as_slice();
+        let rounds = rounds_of(alloc, elected, election.projects().len())?;
+        let purse = Purse::with_rounds(alloc, elected.len())?;
+        Ok(Kept {
+            election,
+            outcome,
+            rounds,
+            purse,
+        })
+    }
+
+    fn tell(&mut self, voter: u32, payments: &mut Vec<Payment>) -> Result<VoterReason, NoMemory>
+        requires { voter < length self.old.0.voters }
+        ensures reason { IfOk result (λ reason. reason ≡ voter_reason self.old.0 self.old.1 voter) }
+        ensures payments { OnOk result (payments.new.items ≡ voter_payments self.old.0 self.old.1 voter) }
+        ensures same { self.new ≡ self.old }
+    {
+        let election = self.election;
+        let outcome = self.outcome;
+        let owner = &election.voters()[voter as usize];
+        let ballot = owner.ballot.places();
+        let share = outcome.share;
+        let rounds = self.rounds.as_slice();
+        self.purse
+            .pay(rounds, ballot, share, outcome.elected.as_slice())?;
+        let elected = list_payments(rounds, self.purse.amounts(), ballot, payments)?;
+        let left = outcome.rests[voter as usize];
+        Ok(VoterReason {
+            votes: ballot.len() as u32,
+            elected,
+            paid: Money(share.0 - left.0),
+            left,
+        })
+    }
+}
+
+/// Lists the payments above 0 for the ballot's places, in place of what the list held; how many of them have a round.
+fn list_payments(
+    rounds: &[u32],
+    amounts: &[Money],
+    ballot: &[u32],
+    payments: &mut Vec<Payment>,
+) -> Result<u32, NoMemory>
+    requires known { All (λ place. place < length rounds.now) ballot.now }
+    requires few { length ballot.now < 2 ^ 32 }
+    ensures elected { IfOk result (λ elected.
+        elected ≡ count_by (λ place. nat_lt (slice_index rounds.now place) (length amounts.now)) ballot.now) }
+    ensures listed { OnOk result (payments.new.items ≡ filter (λ p. nat_lt 0 p.amount)
+        (map (λ place. record { place = place; amount = amount_at rounds.now amounts.now place }) ballot.now)) }
+{
+    payments.clear();
+    let mut elected = 0;
+    for place in ballot {
+        let round = rounds[*place as usize] as usize;
+        if round < amounts.len() {
+            elected += 1;
+            let amount = amounts[round];
+            if amount.0 > 0 {
+                payments.push(Payment {
+                    place: *place,
+                    amount,
+                })?;
+            }
+        }
+    }
+    Ok(elected)
+}
