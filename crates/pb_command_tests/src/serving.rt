@@ -22,6 +22,18 @@ const AT_HAND: &str = "0;cast;v4;0\n1;cast;v5;1\n0;cast;v4;1\n";
 const ANSWERS: &str =
     "torn;7\nentries;0;open\n1;0;cast;v4;0;done\n2;1;cast;v5;1;done\n3;0;cast;v4;1;already-cast\n";
 
+/// Journals of one row that lacks its line end, and what else stands there; and how many bytes of it are cut off.
+const UNENDED: [(&str, usize); 8] = [
+    ("journal;2\n1;0;cast;v4;0;done", 0),
+    ("journal;2\n1;0;cast;v4;0;done\0", 1),
+    ("journal;2\n1;0;cast;v4;0;done\"", 1),
+    ("journal;2\n1;0;cast;v4;0;done\r", 1),
+    ("journal;2\n1;0;cast;v4;0;done;", 1),
+    ("1;0;cast;v4;0;donee", 1),
+    ("journal;2\n1;0;cast;v4;9;unknown-place 91", 1),
+    ("journal;2\n1;0;cast;v4;91;unknown-place 91", 0),
+];
+
 /// What both ends of a run see.
 #[derive(Drop)]
 struct Seen {
@@ -210,6 +222,18 @@ fn rows_at_hand_share_their_syncs(rt: HostRuntime) {
     same(&rt, seen.syncs.get(), 3, "syncs");
     same(&rt, text.as_slice() == ANSWERS.as_bytes(), true, "answers");
     drop(text);
+}
+
+/// Where a last row lacks its line end, at most one byte in its place is cut off, and the row stands.
+#[test]
+fn a_last_row_gets_its_line_end(rt: HostRuntime) {
+    let seen = Seen::new();
+    for (bytes, cut_off) in UNENDED {
+        let (desk, torn) = opened(&rt, rt.alloc(), &seen, bytes);
+        same(&rt, torn, cut_off, "bytes cut off");
+        same(&rt, desk.desk().entries(), 1, "entries");
+        drop(desk);
+    }
 }
 
 /// A device in memory has what was written and cut, where memory suffices.
