@@ -1,6 +1,6 @@
 // The table of voters: who paid.
 
-ghost use Rattle.std.specs.Prelude.{◌≡◌, ◌++◌, ◌∷◌, ℕ, List, [], IfOk, OnOk, decimal, length, map, string_bytes};
+ghost use Rattle.std.specs.Prelude.{◌≡◌, ◌++◌, ◌∷◌, ℕ, List, [], OnOk, decimal, length, map, string_bytes};
 ghost use Rattle.std.specs.List.{range_with_len};
 ghost use Rattle.pb_core.specs.MoneyText.{money_text};
 ghost use Rattle.pb_rounds.specs.Outcome.{settled};
@@ -11,6 +11,7 @@ ghost use Rattle.pb_commands.specs.Inner.Tables.{voter_columns};
 
 use itoa::Buffer;
 use pb_core::election::Election;
+use pb_core::money::Money;
 use pb_core::no_memory::NoMemory;
 use pb_reasons::{Payment, VoterReason, VoterTeller};
 use pb_rounds::outcome::Outcome;
@@ -50,18 +51,37 @@ fn put_each(
 {
     let voters = election.voters();
     let mut payments = Vec::new(alloc);
+    let mut texts = Texts {
+        paid: String::new(alloc),
+        left: String::new(alloc),
+        payments: String::new(alloc),
+    };
     for position in 0..voters.len() {
         let reason = teller.tell(position as u32, &mut payments)?;
         let voter = &voters[position];
-        put_voter(rows, alloc, voter.id.text(), &reason, payments.as_slice())?;
+        put_voter(
+            rows,
+            &mut texts,
+            voter.id.text(),
+            &reason,
+            payments.as_slice(),
+        )?;
     }
     Ok(())
 }
 
-/// Writes the row of the voter with this id.
+/// The texts of a voter's row, whose memory the next row uses again.
+#[derive(Drop)]
+struct Texts {
+    paid: String,
+    left: String,
+    payments: String,
+}
+
+/// Writes the row of the voter with this id; what the texts held is gone.
 fn put_voter(
     rows: &mut RowsWriter,
-    alloc: Global,
+    texts: &mut Texts,
     id: &str,
     reason: &VoterReason,
     payments: &[Payment],
@@ -72,34 +92,53 @@ fn put_voter(
 {
     let mut vote_digits = Buffer::new();
     let mut elected_digits = Buffer::new();
-    let paid = reason.paid.text(alloc)?;
-    let left = reason.left.text(alloc)?;
-    let payments = payments_text(alloc, payments)?;
+    write_money(&mut texts.paid, reason.paid)?;
+    write_money(&mut texts.left, reason.left)?;
+    write_payments(&mut texts.payments, payments)?;
     rows.put_row(&[
         id,
         vote_digits.format(reason.votes),
         elected_digits.format(reason.elected),
-        paid.as_str(),
-        left.as_str(),
-        payments.as_str(),
+        texts.paid.as_str(),
+        texts.left.as_str(),
+        texts.payments.as_str(),
     ])?;
     Ok(())
 }
 
-/// The payments as text, with `,` between two.
-fn payments_text(alloc: Global, payments: &[Payment]) -> Result<String, NoMemory>
-    ensures { IfOk result (λ text. string_bytes text ≡ payments_text payments.now) }
+/// Writes an amount in place of what the text held.
+fn write_money(text: &mut String, amount: Money) -> Result<(), NoMemory>
+    ensures { OnOk result (string_bytes text.new ≡ money_text amount) }
 {
-    let mut text = String::new(alloc);
+    text.clear();
+    put_money(text, amount)
+}
+
+/// Writes the payments, with `,` between two, in place of what the text held.
+fn write_payments(text: &mut String, payments: &[Payment]) -> Result<(), NoMemory>
+    ensures { OnOk result (string_bytes text.new ≡ payments_text payments.now) }
+{
     let mut digits = Buffer::new();
+    text.clear();
     for (i, payment) in payments.iter().enumerate() {
         if i > 0 {
             text.push_str(",")?;
         }
-        let amount = payment.amount.text(alloc)?;
         text.push_str(digits.format(payment.place))?;
         text.push_str(":")?;
-        text.push_str(amount.as_str())?;
+        put_money(text, payment.amount)?;
     }
-    Ok(text)
+    Ok(())
+}
+
+/// Puts an amount after a text: whole units, a point and two decimals, as `12.30`.
+fn put_money(text: &mut String, amount: Money) -> Result<(), NoMemory>
+    ensures { OnOk result (string_bytes text.new ≡ string_bytes text.old ++ money_text amount) }
+{
+    let mut digits = Buffer::new();
+    text.push_str(digits.format(amount.0 / 100))?;
+    text.push('.')?;
+    text.push(char::from((amount.0 / 10 % 10) as u8 + b'0'))?;
+    text.push(char::from((amount.0 % 10) as u8 + b'0'))?;
+    Ok(())
 }

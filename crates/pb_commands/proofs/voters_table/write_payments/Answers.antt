@@ -2,8 +2,8 @@ use Rattle.std.proofs.Common.{◌≡◌, ◌<◌, ◌++◌, ℕ, List, codes, de
 use Rattle.std.specs.Prelude.{◌⊎◌}
 use Rattle.pb_core.specs.MoneyText.{money_text}
 use Rattle.pb_commands.proofs.PaymentsText.{text_put}
-use Rattle.pb_commands.proofs.voters_table.payments_text.Goals as goal
-use Rattle.pb_commands.proofs.voters_table.payments_text.Goals.{then-i-gt0+in_ok-push_str, else-i-gt0}
+use Rattle.pb_commands.proofs.voters_table.write_payments.Goals as goal
+use Rattle.pb_commands.proofs.voters_table.write_payments.Goals.{then-i-gt0+in_ok-push_str, else-i-gt0}
 
 pub loop-i-preserved : goal.loop-i-preserved
 loop-i-preserved c =
@@ -16,7 +16,6 @@ loop-i-preserved c =
       | else-i-gt0 w ↦ inr (omega (arith, w.if-i-gt0.false), rw w.text-is refl)
     ] in
     let place : string_bytes c.push_str-in-loop-i.new.self ≡ start ++ decimal p.place = rw c.format.ensures.text at c.in_ok-push_str-2.ensures.bytes in
-    let amount : string_bytes c.push_str-in-loop-i-3.new.self ≡ string_bytes c.push_str-in-loop-i-2.new.self ++ money_text p.amount =
-    rw (c.as_str.ensures.value, c.in_ok-amount.ensures) at c.in_ok-push_str-4.ensures.bytes in
-    text_put c.args.payments.now i p c.loop-i-test.true c.index-payments-i.is before start (string_bytes c.push_str-in-loop-i-3.new.self) c.loop-i.invariant begins
+    let amount : string_bytes c.put_money.new.text ≡ string_bytes c.push_str-in-loop-i-2.new.self ++ money_text p.amount = c.in_ok-put_money.ensures in
+    text_put c.args.payments.now i p c.loop-i-test.true c.index-payments-i.is before start (string_bytes c.put_money.new.text) c.loop-i.invariant begins
     (amount ∙ ap (λ (t : List ℕ). t ++ money_text p.amount) (c.in_ok-push_str-3.ensures.bytes ∙ ap (λ (t : List ℕ). t ++ codes ":") place))
