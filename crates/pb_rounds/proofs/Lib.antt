@@ -18,6 +18,7 @@ pub mod RaisesEnd
 pub mod Completing
 pub mod Counted
 pub mod Explained
+pub mod FrontSteps
 pub mod Fronts
 pub mod Listed
 pub mod BestBid

@@ -1,7 +1,7 @@
 use Rattle.std.proofs.Common.{◌≡◌, ◌+◌, ◌<◌, ◌≤◌, ◌∙◌, ◌++◌, drop, get_or, length, map, set, ap, arith, rules}
 use Rattle.std.proofs.lemmas.List.{append-nil, drop_all, get_or_default, take_all}
 use Rattle.std.proofs.lemmas.List.Edits.{map_over_more}
-use Rattle.pb_rounds.proofs.Fronts.{over_here}
+use Rattle.pb_rounds.proofs.FrontSteps.{over_here}
 use Rattle.pb_rounds.proofs.front.add_to_each.Goals as goal
 
 pub overflow_add-index : goal.overflow_add-index

@@ -1,4 +1,4 @@
-use Rattle.pb_rounds.proofs.Fronts.{can_pay_more, pay_all}
+use Rattle.pb_rounds.proofs.FrontSteps.{can_pay_more, pay_all}
 use Rattle.pb_rounds.proofs.front.can_pay.Goals as goal
 
 pub loop-voter-preserved : goal.loop-voter-preserved

@@ -1,6 +1,6 @@
 use Rattle.std.specs.Map.Iter.{deref}
 use Rattle.std.proofs.lemmas.Map.Iter.{rest_all, rest_more}
-use Rattle.pb_rounds.proofs.Fronts.{copying_ends, copying_open, copying_puts, copying_skips, skipped_price}
+use Rattle.pb_rounds.proofs.FrontSteps.{copying_ends, copying_open, copying_puts, copying_skips, skipped_price}
 use Rattle.pb_rounds.proofs.front.copy_up_to.Goals as goal
 
 pub loop-key-init : goal.loop-key-init

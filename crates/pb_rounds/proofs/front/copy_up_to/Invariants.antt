@@ -1,4 +1,4 @@
-use Rattle.pb_rounds.proofs.Fronts.{Copying}
+use Rattle.pb_rounds.proofs.FrontSteps.{Copying}
 use Rattle.pb_rounds.proofs.front.copy_up_to.Given as goal
 
 abbrev pub invariant-loop-key : goal.invariant-loop-key
