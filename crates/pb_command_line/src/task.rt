@@ -98,8 +98,8 @@ impl<'a> Task<'a> {
             | Task::Voters(ballots, _)
             | Task::Export(ballots, _)
             | Task::Page(ballots, ..) => (ballots.file.path(), ballots.journal_path()),
-            Task::Desk(run) => (run.file.path(), run.script.path()),
-            Task::Audit(run) => (run.file.path(), run.journal.path()),
+            Task::Desk(DeskRun { file, script, .. }) => (file.path(), script.path()),
+            Task::Audit(AuditRun { file, journal, .. }) => (file.path(), journal.path()),
             Task::Serve(file, journal) => (Some(file), Some(journal)),
         }
     }
