@@ -9,7 +9,8 @@ use Rattle.pb_durable.proofs.Durable.{stays}
 use Rattle.pb_durable.proofs.Moments.{started, then_runs}
 use Rattle.pb_durable.specs.Device.{LeavesOnly}
 use Rattle.pb_durable.specs.DurableDesk.{IsDurable}
-use Rattle.pb_durable.specs.JournalFile.{StandsFor, StandsForEither}
+use Rattle.pb_durable.specs.Inner.Either.{StandsForEither}
+use Rattle.pb_durable.specs.JournalFile.{StandsFor}
 use Rattle.pb_durable.specs.declared.durable_desk.DurableDesk.{DurableDesk}
 use Rattle.pb_serving.specs.Answered.{StandsWithin}
 

@@ -8,7 +8,7 @@ ghost use Rattle.pb_desk.specs.Replay.{most_clerks, IsLegal};
 ghost use Rattle.pb_desk.specs.Rows.{journal_text, rows_from};
 ghost use Rattle.pb_durable.specs.Device.{LeavesOnly, Only};
 ghost use Rattle.pb_durable.specs.DurableDesk.{entries_of, IsDurable};
-ghost use Rattle.pb_durable.specs.JournalFile.{StandsForEither};
+ghost use Rattle.pb_durable.specs.Inner.Either.{StandsForEither};
 ghost use Rattle.pb_rows.specs.Reading.{records_of, Fields};
 ghost use Rattle.pb_rows.specs.Writing.{text_of_rows};
 ghost use Rattle.pb_script.specs.declared.script_fault.ScriptFault.TheVariants.{BadRow};
