@@ -48,8 +48,8 @@ fault_here now left kept p kind come few lowest =
     explained now kind (kept + 1) (lowest_kind kept p left) (cut_short now left kept p come few (kept + 1) refl) (explains kind _ lowest) (λ k found. first_at now left kept p come few (kept + 1) refl k found)
 
 fault_left : (now left : List Fields) (kept : ℕ) (p : Position) (kind : ReadKind) → HasCome now left kept p → kept ≤ most_records → LeftHas kept (Some left) p kind → IsFaultAt now kind (kept + 1)
-fault_left now left kept p kinds.ReadFailed come few has = cut_short now left kept p come few (kept + 1) refl
-fault_left now left kept p kinds.NoMemory come few has = cut_short now left kept p come few (kept + 1) refl
+fault_left now left kept p kinds.ReadFailed come few has = inr (tt, cut_short now left kept p come few (kept + 1) refl)
+fault_left now left kept p kinds.NoMemory come few has = inr (tt, cut_short now left kept p come few (kept + 1) refl)
 fault_left now left kept p kind come few has = fault_here now left kept p _ come few has
 
 -- one more record is taken out

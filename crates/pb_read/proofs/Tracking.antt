@@ -1,5 +1,5 @@
 -- A file is read record by record: where it has come, and what each end of the reading means.
-use Rattle.std.proofs.Common.{◌≡◌, ◌<◌, ◌≤◌, ◌+◌, ◌==◌, ℕ, true, false, cond, not, List, [], ◌∷◌, ◌++◌, length, Option, Some, None, Result, Ok, Err, refl, ap, sym, ◌∙◌, subst, arith, append_assoc, append-nil, length-append}
+use Rattle.std.proofs.Common.{◌≡◌, ◌<◌, ◌≤◌, ◌+◌, ◌==◌, ℕ, true, false, cond, not, List, [], ◌∷◌, ◌++◌, length, Option, Some, None, Result, Ok, Err, refl, ap, sym, ◌∙◌, subst, arith, inl, inr, append_assoc, append-nil, length-append}
 use Rattle.std.specs.Prelude.{IfErr, IfOk, IfSome, MatchResult, option_map}
 use Rattle.std.proofs.lemmas.Bool.{false≢true, true≢false, ne_eqb, false_from_ne_true}
 use Rattle.std.specs.List.{list_all}
@@ -55,9 +55,9 @@ first_at all left count p come few at is kind lowest =
 
 -- a kind that the checks found
 pub explained : (all : List Fields) (kind : ReadKind) (at : ℕ) (found : Option ReadKind) → IsReachedAt all at → Explains kind found → ((k : ReadKind) → found ≡ Some k → IsFirstFault all k at) → IsFaultAt all kind at
-explained all kinds.ReadFailed at found cut said first = cut
-explained all kinds.NoMemory at found cut said first = cut
-explained all kind at found cut said first = first _ said
+explained all kinds.ReadFailed at found cut said first = inr (tt, cut)
+explained all kinds.NoMemory at found cut said first = inr (tt, cut)
+explained all kind at found cut said first = inl (first _ said)
 
 -- the next record could not be read
 pub stopped : (all left : Option (List Fields)) (count : ℕ) (p : Position) (kind : ReadKind) (at : ℕ) → Tracks all left count p → count ≤ most_records → at ≡ count + 1 → StopsReading kind left → IfSome all (λ records. IsFaultAt records kind at)
@@ -72,9 +72,9 @@ stopped (Some all) (Some left) count p kind at tracks few is stops = go kind sto
         first_at all (r ∷ rest) count p come few at is kinds.NotText (ap (λ t. cond (not t) (Some kinds.NotText) (cond (count == most_records) (Some kinds.TooManyRecords) (row_fault p (next_row (trimmed r))))) test)
 
     go : (k : ReadKind) → StopsReading k (Some left) → IsFaultAt all k at
-    go kinds.ReadFailed s = cut_short all left count p tracks few at is
-    go kinds.NoMemory s = cut_short all left count p tracks few at is
-    go kinds.NotText s = no_text left tracks s
+    go kinds.ReadFailed s = inr (tt, cut_short all left count p tracks few at is)
+    go kinds.NoMemory s = inr (tt, cut_short all left count p tracks few at is)
+    go kinds.NotText s = inl (no_text left tracks s)
     go _ s = absurd s
 
 -- the next record is at fault
@@ -96,8 +96,8 @@ too_many None left after p row tracks next = tt
 too_many (Some all) None after p row tracks next = absurd tracks
 too_many (Some all) (Some []) after p row tracks next = absurd (true≢false next.next)
 too_many (Some all) (Some (r ∷ rest)) after p row tracks next =
-    first_at all (r ∷ rest) most_records p tracks (omega arith) (most_records + 1) refl kinds.TooManyRecords
-    (ap (λ t. cond (not t) (Some kinds.NotText) (cond (most_records == most_records) (Some kinds.TooManyRecords) (row_fault p (next_row (trimmed r))))) (test-from_AllText r (subst AllText next.next.1 next.text)))
+    inl (first_at all (r ∷ rest) most_records p tracks (omega arith) (most_records + 1) refl kinds.TooManyRecords
+    (ap (λ t. cond (not t) (Some kinds.NotText) (cond (most_records == most_records) (Some kinds.TooManyRecords) (row_fault p (next_row (trimmed r))))) (test-from_AllText r (subst AllText next.next.1 next.text))))
 
 -- no record is left
 pub has_ended : (all left after : Option (List Fields)) (count : ℕ) (p : Position) (row : Fields) (at : ℕ) → Tracks all left count p → count ≤ most_records → at ≡ count + 1 → IsNextRow left after false row → HasEnded all at p

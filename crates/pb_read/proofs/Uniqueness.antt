@@ -16,7 +16,6 @@ use Rattle.pb_read.specs.Inner.Machine.{start, run}
 use Rattle.pb_read.specs.Rows.{rows_of}
 use Rattle.pb_read.specs.StandsFor.{Describes, StandsFor}
 use Rattle.pb_read.specs.declared.fault.ReadKind.{ReadKind}
-use Rattle.pb_read.specs.declared.fault.ReadKind.TheVariants as kinds
 use Rattle.pb_read.specs.declared.progress.Stage.TheVariants.{InVotes}
 
 pub one_election : (records : List Fields) (e f : ElectionView) → StandsFor records e → StandsFor records f → e ≡ f
@@ -120,19 +119,16 @@ one_first_fault records k l a b f g = go (cases_order (length f.reached.done) (l
         by_number same (inr (inr higher)) = absurd (true≢false (sym g.applies ∙ sym (same l) ∙ f.lowest l higher))
 
 reached_at : (records : List Fields) (kind : ReadKind) (at : ℕ) → IsFaultAt records kind at → IsReachedAt records at
-reached_at records kinds.ReadFailed at fault = fault
-reached_at records kinds.NoMemory at fault = fault
-reached_at records kind at fault = fault.reached
+reached_at records kind at (inl first) = first.reached
+reached_at records kind at (inr outside) = outside.1
 
 pub refused_from_outside : (records : List Fields) (e : ElectionView) (kind : ReadKind) (at : ℕ) → StandsFor records e → IsFaultAt records kind at → IsFromOutside kind
-refused_from_outside records e kinds.ReadFailed at stands fault = tt
-refused_from_outside records e kinds.NoMemory at stands fault = tt
-refused_from_outside records e kind at stands fault = absurd (no_first_fault records e _ at stands fault)
+refused_from_outside records e kind at stands (inl first) = absurd (no_first_fault records e kind at stands first)
+refused_from_outside records e kind at stands (inr outside) = outside.0
 
 first_unless : (records : List Fields) (kind : ReadKind) (at : ℕ) → IsFaultAt records kind at → ¬ IsFromOutside kind → IsFirstFault records kind at
-first_unless records kinds.ReadFailed at fault inside = absurd (inside tt)
-first_unless records kinds.NoMemory at fault inside = absurd (inside tt)
-first_unless records kind at fault inside = fault
+first_unless records kind at (inl first) inside = first
+first_unless records kind at (inr outside) inside = absurd (inside outside.0)
 
 -- a fault that is not from outside is one
 pub one_fault : (records : List Fields) (k l : ReadKind) (a b : ℕ) → IsFaultAt records k a → IsFaultAt records l b → ¬ IsFromOutside k → ¬ IsFromOutside l → (k ≡ l) × (a ≡ b)

@@ -1,5 +1,5 @@
 -- The first fault of a list of records.
-use Rattle.std.specs.Prelude.{◌≡◌, ◌≤◌, ◌<◌, ◌+◌, ℕ, true, false, List, [], ◌∷◌, ◌++◌, length}
+use Rattle.std.specs.Prelude.{◌≡◌, ◌≤◌, ◌<◌, ◌+◌, ◌⊎◌, ℕ, true, false, List, [], ◌∷◌, ◌++◌, length}
 use Rattle.pb_core.specs.Election.{ElectionView, IsElection}
 use Rattle.pb_rows.specs.Reading.{Fields}
 use Rattle.pb_read.specs.Faults.{applies_after}
@@ -41,15 +41,13 @@ pub record IsFirstFault (records : List Fields) (kind : ReadKind) (at : ℕ) : T
   pub lowest : (other : ReadKind) → number_of other < number_of kind →
       applies_after (length reached.done) stage reached.left other ≡ false
 
--- a fault is the first one; of a failed reader and of refused memory no clause can say at which record they
--- came, but the records before that number have no fault
-abbrev pub IsFaultAt : List Fields → ReadKind → ℕ → Type 0
-IsFaultAt records ReadFailed at = IsReachedAt records at
-IsFaultAt records NoMemory at = IsReachedAt records at
-IsFaultAt records kind at = IsFirstFault records kind at
-
 -- a refusal that no file can rule out
 abbrev pub IsFromOutside : ReadKind → Type 0
 IsFromOutside ReadFailed = Unit {0}
 IsFromOutside NoMemory = Unit {0}
 IsFromOutside kind = ⊥
+
+-- a fault is the first one; of one from outside no clause can say at which record it came, but the records before
+-- that number have no fault
+abbrev pub IsFaultAt : List Fields → ReadKind → ℕ → Type 0
+IsFaultAt records kind at = IsFirstFault records kind at ⊎ (IsFromOutside kind × IsReachedAt records at)
