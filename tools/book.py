@@ -14,7 +14,8 @@ A public contract is that of a function that another crate (or `main`, in the pr
 is reached when such a contract, the model of a public type, or a reached definition names it; and so are the rules
 that hold between any two atomic steps of threads. A type that is declared in code is reached in the same way; one
 that has a model is seen by it, any other by its fields and variants. Words of std and of the toolchain's crates are
-not followed, nor are words that only private contracts name. A crate of tests alone has no contracts.
+not followed, nor are words that only private contracts name, nor those that only the `invariant` of a type's fields
+names: it promises a caller nothing that no contract says. A crate of tests alone has no contracts.
 
 Some definitions compute what others say in the words of a rule, and a law proves the two the same. What is reached by such
 a law alone computes, and is proved the same: it is printed behind the others, is listed by the page in rows that say so,
@@ -53,8 +54,8 @@ COMPUTING_LAWS = {
     ("pb_rounds", "completion_is_its_rule"),
     ("pb_rounds", "count_is_computed"),
 }
-# What an impl has to say besides its meaning: proofs that a law holds.
-PROOFS = {"laws", "total", "matches_partial_cmp", "matches_eq", "respects_eq"}
+# What an impl has to say besides its meaning: what is true of its private fields, and proofs that a law holds.
+NOT_MEANT = {"invariant", "laws", "total", "matches_partial_cmp", "matches_eq", "respects_eq"}
 
 
 @dataclass
@@ -329,7 +330,7 @@ def contracts_of(crate):
                 for kind, note, member in members_of(lines):
                     if kind == "ghost":
                         name = re.match(r"\s*ghost (\w+)", member[0]).group(1)
-                        if name not in PROOFS:
+                        if name not in NOT_MEANT:
                             put(subject, note, member, trait == "Model")
                     elif has_clause(member) and (trait or member[0].strip().startswith("pub ")) and "pub(" not in member[0]:
                         put(subject, note, head_and_clauses(member))

@@ -10,7 +10,7 @@ use Rattle.pb_core.proofs.MoneyBack.{reads_back}
 use Rattle.pb_core.proofs.MoneyParts.{read_parts}
 use Rattle.pb_read.specs.Lengths.{max_length_of}
 use Rattle.pb_read.specs.Rows.{head_of, is_empty, rows_of}
-use Rattle.pb_read.specs.StandsFor.{GivesTerms}
+use Rattle.pb_read.specs.StandsFor.{IsMeta, terms_of}
 use Rattle.pb_export.specs.FileRows.{meta_rows}
 use Rattle.pb_export.proofs.Tidy.{decimal_plain, money_plain, plain_tidy}
 
@@ -34,31 +34,16 @@ limit_back most small =
     ap max_length_of (plain_tidy (decimal most) (decimal_plain most fits))
     ∙ rw (is_some_text (decimal most) (decimal_nonempty most fits)) (rw parts.form (rw parts.decimals_is (rw parts.whole_is (rw numeral.1 (rw (small_enough most small) refl)))))
 
-pub gives_terms : (e : ElectionView) (rule : List ℕ) → e.budget ≤ largest_money → ((most : ℕ) → e.max_length ≡ Some most → most ≤ most_projects) → GivesTerms e.budget e.max_length (rows_of (meta_rows e rule))
+pub gives_terms : (e : ElectionView) (rule : List ℕ) → e.budget ≤ largest_money → ((most : ℕ) → e.max_length ≡ Some most → most ≤ most_projects) → IsMeta (terms_of e) (rows_of (meta_rows e rule))
 unfolding head_of trim_start trim_end chars encode
 gives_terms e rule small limited = go e.max_length limited
   where
     budget : Ok e.budget ≡ money_of (trim (money_text e.budget))
     budget = sym (money_back e.budget small)
 
-    go : (limit : Option ℕ) → ((most : ℕ) → limit ≡ Some most → most ≤ most_projects) → GivesTerms e.budget limit (rows_of (meta_rows (record e { max_length = limit }) rule))
-    go None limited = record {
-      head = _;
-      header = _;
-      body = _;
-      cut = refl;
-      opens = refl;
-      plain = (refl, (refl, (refl, (refl, (refl, (refl, tt))))));
-      says = λ i. record { budget = Some (budget i); approval = Some true; max_length = Ok None };
-    }
+    go : (limit : Option ℕ) → ((most : ℕ) → limit ≡ Some most → most ≤ most_projects) → IsMeta (terms_of (record e { max_length = limit })) (rows_of (meta_rows (record e { max_length = limit }) rule))
+    go None limited =
+        (_, _, ([], _, refl, refl, refl, (refl, (refl, (refl, (refl, (refl, (refl, tt))))))), λ i. record { budget = Some (budget i); approval = Some true; max_length = Ok None })
     go (Some most) limited =
         let back = sym (limit_back most (limited most refl)) in
-        record {
-          head = _;
-          header = _;
-          body = _;
-          cut = refl;
-          opens = refl;
-          plain = (refl, (refl, (refl, (refl, (refl, (refl, (refl, tt)))))));
-          says = λ i. record { budget = Some (budget i); approval = Some true; max_length = back i };
-        }
+        (_, _, ([], _, refl, refl, refl, (refl, (refl, (refl, (refl, (refl, (refl, (refl, tt)))))))), λ i. record { budget = Some (budget i); approval = Some true; max_length = back i })

@@ -108,12 +108,14 @@ tested_file e is =
 -- an election that records stand for is that of a file
 pub of_file : (records : List Fields) (e : ElectionView) → StandsFor records e → is_of_file e ≡ true
 of_file records e stands =
-    let parts = stands.describes.rows.parts in
-    let tidy : AllByRecursion IsTidy (parts.0 ++ parts.1) = subst (AllByRecursion IsTidy) parts.2 (rows_tidy records stands.describes.text) in
-    let front = parts.3 in
-    let section = front.4 in
-    let front_tidy : AllByRecursion IsTidy (front.0 ++ front.1) = subst (AllByRecursion IsTidy) front.2 (AllByRecursion-left IsTidy parts.0 parts.1 tidy) in
-    let section_tidy : AllByRecursion IsTidy (section.head ∷ section.header ∷ section.body) = subst (AllByRecursion IsTidy) section.cut (AllByRecursion-right IsTidy front.0 front.1 front_tidy) in
-    let named = projects_tidy stands.describes.rows.project_columns section.body e.projects section_tidy.1.1 section.says.1 in
-    let limit : (most : ℕ) → e.max_length ≡ Some most → most ≤ most_projects = λ most is. limit_of_value (value_of (codes "max_length") front.3.body) most (sym (ap (λ meta. meta.max_length) front.3.says) ∙ ap Ok is) in
+    let all = stands.describes.rows in
+    let votes = all.3 in
+    let tidy : AllByRecursion IsTidy (votes.0 ++ votes.1 ∷ all.1 ∷ all.2) = subst (AllByRecursion IsTidy) votes.2 (rows_tidy records stands.describes.text) in
+    let front = votes.3 in
+    let projects = front.2 in
+    let front_tidy : AllByRecursion IsTidy (projects.0 ++ projects.1 ∷ front.0 ∷ front.1) = subst (AllByRecursion IsTidy) projects.2 (AllByRecursion-left IsTidy votes.0 (votes.1 ∷ all.1 ∷ all.2) tidy) in
+    let section_tidy : AllByRecursion IsTidy (projects.1 ∷ front.0 ∷ front.1) = AllByRecursion-right IsTidy projects.0 (projects.1 ∷ front.0 ∷ front.1) front_tidy in
+    let named = projects_tidy all.0 front.1 e.projects section_tidy.1.1 front.4 in
+    let metas = projects.3 in
+    let limit : (most : ℕ) → e.max_length ≡ Some most → most ≤ most_projects = λ most is. limit_of_value (value_of (codes "max_length") metas.1) most (sym (ap (λ meta. meta.max_length) metas.3) ∙ ap Ok is) in
     and_from _ _ (tested e.projects named.0 named.1) (small_tested e.max_length limit)

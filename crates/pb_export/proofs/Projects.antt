@@ -1,16 +1,16 @@
 -- PROJECTS, read back.
-use Rattle.std.proofs.Common.{◌≡◌, ◌≢◌, ◌≤◌, ℕ, suc, Bool, true, false, not, List, [], ◌∷◌, decimal, Option, Some, None, refl, ap, sym, ◌∙◌}
+use Rattle.std.proofs.Common.{◌≡◌, ◌≢◌, ◌≤◌, ℕ, suc, Bool, true, false, not, List, [], ◌∷◌, ◌++◌, decimal, Option, Some, None, refl, ap, sym, ◌∙◌}
 use Rattle.std.specs.Prelude.{is_some, slice_index, slice_index_or}
 use Rattle.std.specs.List.{AllByRecursion, AllZip}
 use Rattle.std.specs.Str.{trim, trim_start, trim_end, chars}
 use Rattle.std.proofs.Math.Utf8.{encode}
 use Rattle.std.proofs.lemmas.Bool.{cond-true}
-use Rattle.pb_core.specs.Election.{ProjectView}
+use Rattle.pb_core.specs.Election.{ElectionView, ProjectView}
 use Rattle.pb_core.specs.Money.{largest_money}
 use Rattle.pb_core.specs.MoneyText.{money_text}
 use Rattle.pb_rows.specs.Reading.{Fields}
 use Rattle.pb_read.specs.Rows.{head_of, is_blank, rows_of, trimmed}
-use Rattle.pb_read.specs.StandsFor.{GivesProject, GivesProjects}
+use Rattle.pb_read.specs.StandsFor.{GivesAllButVoters, GivesProject, IsMeta, terms_of}
 use Rattle.pb_export.specs.Export.{is_section_word}
 use Rattle.pb_export.specs.FileRows.{project_row, projects_from, projects_rows, selected_text}
 use Rattle.pb_export.proofs.Metas.{money_back}
@@ -26,6 +26,10 @@ pub record IsWritable (p : ProjectView) : Type 0 where
 -- a row gives a project, where the columns stand as they are written
 abbrev Gives : Fields → ProjectView → Type 0
 Gives = GivesProject (record { id = 0; cost = 1; name = Some 3 })
+
+-- the rows of META and PROJECTS give an election but for its voters, where the columns stand so
+abbrev pub GivesFront : ElectionView → List Fields → Type 0
+GivesFront = GivesAllButVoters (record { id = 0; cost = 1; name = Some 3 })
 
 no_section : {A : Type 0} (found : Option A) → is_some found ≡ false → found ≡ None
 no_section None none = refl
@@ -64,8 +68,10 @@ module _ (votes : List ℕ) (selected : List Bool) where
       rw (row_kept p.id others (projects_from votes selected (suc place) projects) are.0.tidy_id are.0.has_id)
       ((plain_row p.id others are.0.tidy_id are.0.no_head, rest.0), (gives_project p count elected are.0, rest.1))
 
-  pub gives_projects : (projects : List ProjectView) → AllByRecursion IsWritable projects → GivesProjects (record { id = 0; cost = 1; name = Some 3 }) projects (rows_of (projects_rows votes selected projects))
+  -- after META
+  pub gives_projects : (e : ElectionView) (front : List Fields) → IsMeta (terms_of e) front → AllByRecursion IsWritable e.projects →
+      GivesFront e (front ++ rows_of (projects_rows votes selected e.projects))
   unfolding head_of trim_start trim_end chars encode
-  gives_projects projects are =
-      let from = gives_from 0 projects are in
-      record { head = _; header = _; body = rows_of (projects_from votes selected 0 projects); cut = refl; opens = refl; plain = (refl, from.0); says = (refl, from.1) }
+  gives_projects e front before are =
+      let from = gives_from 0 e.projects are in
+      (_, rows_of (projects_from votes selected 0 e.projects), (front, _, refl, before, refl, (refl, from.0)), refl, from.1)

@@ -131,17 +131,13 @@ module _ (e : ElectionView) (rule counts : List ℕ) (selected : List Bool) (is 
   back : records_of (text_of_rows rows) ≡ rows
   back = records_of-text_of_rows rows (ComeBack-ascii rows (All-from_recursion HasField rows fields) (omega arith))
 
+  gives_front : projects.GivesFront e (rows_of (metas ++ middle))
+  gives_front =
+      subst (projects.GivesFront e) (sym (rows_of-append metas middle)) (projects.gives_projects counts selected e (rows_of metas) (gives_terms e rule is.budget_bounded of.limit) writable_projects)
+
   gives : GivesAll (record { voter = 0; vote = 1 }) e (rows_of rows)
-  gives = record {
-    project_columns = record { id = 0; cost = 1; name = Some 3 };
-    parts = (
-      rows_of (metas ++ middle),
-      rows_of last,
-      rows_of-append (metas ++ middle) last,
-      (rows_of metas, rows_of middle, rows_of-append metas middle, gives_terms e rule is.budget_bounded of.limit, projects.gives_projects counts selected e.projects writable_projects),
-      votes.gives_voters (project_ids e) is.projects_differ e.voters writable_voters,
-    );
-  }
+  gives =
+      subst (GivesAll (record { voter = 0; vote = 1 }) e) (sym (rows_of-append (metas ++ middle) last)) (votes.gives_voters e (rows_of (metas ++ middle)) gives_front is.projects_differ writable_voters)
 
   few : length rows ≤ 2000000
   few =

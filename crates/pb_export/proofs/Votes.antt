@@ -1,18 +1,18 @@
 -- VOTES, read back.
-use Rattle.std.proofs.Common.{◌≡◌, ◌≢◌, ◌<◌, ℕ, false, List, [], ◌∷◌, length, map, All, None, refl, sym}
+use Rattle.std.proofs.Common.{◌≡◌, ◌≢◌, ◌<◌, ℕ, false, List, [], ◌∷◌, ◌++◌, length, map, All, None, refl, sym}
 use Rattle.std.specs.Prelude.{slice_index_or}
 use Rattle.std.specs.List.{AllByRecursion, AllZip}
 use Rattle.std.specs.Str.{trim, trim_start, trim_end, chars}
 use Rattle.std.proofs.Math.Utf8.{encode}
 use Rattle.pb_core.specs.Ballot.{IsBallot}
-use Rattle.pb_core.specs.Election.{AreDistinct, VoterView}
+use Rattle.pb_core.specs.Election.{AreDistinct, ElectionView, VoterView, project_ids}
 use Rattle.pb_rows.specs.Reading.{Fields}
 use Rattle.pb_read.specs.Rows.{head_of, rows_of, trimmed}
-use Rattle.pb_read.specs.StandsFor.{GivesVoter, GivesVoters}
+use Rattle.pb_read.specs.StandsFor.{GivesAll, GivesVoter}
 use Rattle.pb_export.specs.Export.{is_section_word}
 use Rattle.pb_export.specs.FileRows.{vote_row, vote_text, votes_rows}
 use Rattle.pb_export.proofs.Pieces.{IsPiece, ballot_back, names_back, pieces_back}
-use Rattle.pb_export.proofs.Projects.{plain_row, row_kept}
+use Rattle.pb_export.proofs.Projects.{GivesFront, plain_row, row_kept}
 
 -- a voter that a file can give, where the projects have these ids
 pub record IsWritable (ids : List (List ℕ)) (v : VoterView) : Type 0 where
@@ -48,8 +48,10 @@ module _ (ids : List (List ℕ)) (distinct : AreDistinct ids) where
       rw (row_kept v.id vote (map (vote_row ids) voters) are.0.tidy_id are.0.has_id)
       ((plain_row v.id vote are.0.tidy_id are.0.no_head, rest.0), (gives_voter v are.0, rest.1))
 
-  pub gives_voters : (voters : List VoterView) → AllByRecursion (IsWritable ids) voters → GivesVoters (record { voter = 0; vote = 1 }) ids voters (rows_of (votes_rows ids voters))
-  unfolding head_of trim_start trim_end chars encode
-  gives_voters voters are =
-      let all = gives_all voters are in
-      record { head = _; header = _; body = rows_of (map (vote_row ids) voters); cut = refl; opens = refl; plain = (refl, all.0); says = (refl, all.1) }
+-- after META and PROJECTS
+pub gives_voters : (e : ElectionView) (front : List Fields) → GivesFront e front → AreDistinct (project_ids e) → AllByRecursion (IsWritable (project_ids e)) e.voters →
+    GivesAll (record { voter = 0; vote = 1 }) e (front ++ rows_of (votes_rows (project_ids e) e.voters))
+unfolding head_of trim_start trim_end chars encode
+gives_voters e front before distinct are =
+    let all = gives_all (project_ids e) distinct e.voters are in
+    (_, _, rows_of (map (vote_row (project_ids e)) e.voters), (front, _, refl, before, refl, (refl, all.0)), refl, all.1)

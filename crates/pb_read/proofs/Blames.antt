@@ -1,5 +1,5 @@
 -- When the reader is at fault, and how many records are read.
-use Rattle.std.proofs.Common.{◌≡◌, ◌≤◌, ℕ, Bool, true, false, cond, List, [], ◌∷◌, Option, Some, None, refl, sym, subst, arith}
+use Rattle.std.proofs.Common.{◌≡◌, ◌≤◌, ℕ, Bool, true, false, cond, List, [], ◌∷◌, Option, Some, None, refl, sym, ◌∙◌, subst, arith}
 use Rattle.std.specs.Prelude.{find}
 use Rattle.std.proofs.lemmas.Bool.{false≢true}
 use Rattle.std.proofs.lemmas.Option.{same_Some}
@@ -8,6 +8,7 @@ use Rattle.pb_rows.specs.Inner.Reading.{HasReadAtMost}
 use Rattle.pb_rows.specs.declared.fault.RecordsFault.{RecordsFault}
 use Rattle.pb_rows.proofs.RecordsRead.{HasReadAtMost-more}
 use Rattle.pb_read.proofs.ListFacts.{some≢none}
+use Rattle.pb_read.proofs.LowestKind.{never_applies}
 use Rattle.pb_read.specs.Faults.{applies}
 use Rattle.pb_read.specs.Inner.Machine.{Explains, Position, row_fault, row_kinds}
 use Rattle.pb_read.specs.Inner.Progresses.{BlamesReader}
@@ -28,7 +29,7 @@ found_passes test (k ∷ ks) kind found = go (test k) refl found (found_passes t
 -- no row, and no end of a file, is the reader's fault
 pub never_read_failed : (p : Position) (n : Next) → row_fault p n ≡ Some kinds.ReadFailed → ⊥
 unfolding row_fault
-never_read_failed p n e = false≢true (found_passes (λ kind. applies kind p n) row_kinds kinds.ReadFailed e)
+never_read_failed p n e = false≢true (sym (never_applies p n) ∙ found_passes (λ kind. applies kind p n) row_kinds kinds.ReadFailed e)
 
 pub blames_none : (kind : ReadKind) (stopped : Option RecordsFault) → BlamesReader kind None → BlamesReader kind stopped
 blames_none kinds.ReadFailed stopped blames = absurd (some≢none (sym blames))

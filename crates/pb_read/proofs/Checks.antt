@@ -10,7 +10,7 @@ use Rattle.pb_core.specs.Election.{ElectionView}
 use Rattle.pb_rows.specs.Reading.{Fields, IsNext}
 use Rattle.pb_read.proofs.DraftFacts.{explains}
 use Rattle.pb_read.proofs.GoesOn.{AllText-from_test, test-from_AllText}
-use Rattle.pb_read.proofs.Tracking.{cut_short, ended, explained, first_at, tracks_more, tracks_start}
+use Rattle.pb_read.proofs.Tracking.{ended, explained, fault_at, tracks_more, tracks_start}
 use Rattle.pb_read.specs.Inner.Checking.{EndsAt, IsGoing, IsRefusal, IsVerdict, Judges, JudgesEnd, JudgesRow, LeadsTo, LeftHas, text_fault}
 use Rattle.pb_read.proofs.Uniqueness.{refused_from_outside}
 use Rattle.pb_read.specs.FirstFault.{IsFaultAt, IsFromOutside}
@@ -45,11 +45,11 @@ come_without now next rest kept p come = record {
 -- the first fault of the records that were not left out
 fault_here : (now left : List Fields) (kept : ℕ) (p : Position) (kind : ReadKind) → HasCome now left kept p → kept ≤ most_records → lowest_kind kept p left ≡ Some kind → IsFaultAt now kind (kept + 1)
 fault_here now left kept p kind come few lowest =
-    explained now kind (kept + 1) (lowest_kind kept p left) (cut_short now left kept p come few (kept + 1) refl) (explains kind _ lowest) (λ k found. first_at now left kept p come few (kept + 1) refl k found)
+    explained now left kept p come few (kept + 1) refl kind (lowest_kind kept p left) (explains kind _ lowest) (λ k found. found)
 
 fault_left : (now left : List Fields) (kept : ℕ) (p : Position) (kind : ReadKind) → HasCome now left kept p → kept ≤ most_records → LeftHas kept (Some left) p kind → IsFaultAt now kind (kept + 1)
-fault_left now left kept p kinds.ReadFailed come few has = cut_short now left kept p come few (kept + 1) refl
-fault_left now left kept p kinds.NoMemory come few has = cut_short now left kept p come few (kept + 1) refl
+fault_left now left kept p kinds.ReadFailed come few has = fault_at now left kept p come few (kept + 1) refl kinds.ReadFailed (inr tt)
+fault_left now left kept p kinds.NoMemory come few has = fault_at now left kept p come few (kept + 1) refl kinds.NoMemory (inr tt)
 fault_left now left kept p kind come few has = fault_here now left kept p _ come few has
 
 -- one more record is taken out

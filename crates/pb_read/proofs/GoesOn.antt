@@ -1,5 +1,5 @@
 -- Records that were read without fault may go on to stand for an election; after a fault nothing helps.
-use Rattle.std.proofs.Common.{◌≡◌, ◌≤◌, ◌+◌, ◌==◌, Bool, true, false, cond, not, List, [], ◌∷◌, ◌++◌, length, map, filter, Option, Some, None, Ok, refl, ap, sym, ◌∙◌, subst, arith, append_assoc, length-append}
+use Rattle.std.proofs.Common.{◌≡◌, ◌≤◌, ◌==◌, Bool, true, false, cond, not, List, [], ◌∷◌, ◌++◌, length, map, filter, Option, Some, None, Ok, refl, ap, sym, ◌∙◌, subst, arith, append_assoc, length-append}
 use Rattle.std.specs.Prelude.{codes}
 use Rattle.std.specs.List.{AllByRecursion, list_all}
 use Rattle.std.specs.Str.{is_utf8, trim_start, trim_end, chars}
@@ -263,11 +263,10 @@ no_fault_so_far done p few so_far =
     (few, way.0, way.1, way.2)
 
 -- the lowest kind that applies is the first fault
-pub first_fault : (done left : List Fields) (p : Position) (kind : ReadKind) → length done ≤ most_records → Reached done p → lowest_kind (length done) p left ≡ Some kind → IsFirstFault (done ++ left) kind (length done + 1)
-first_fault done left p kind few so_far lowest =
+pub first_fault : (done left : List Fields) (p : Position) (kind : ReadKind) → Reached done p → lowest_kind (length done) p left ≡ Some kind → IsFirstFault done left kind
+first_fault done left p kind so_far lowest =
     let found = lowest_applies (length done) p left kind lowest in
     record {
-      reached = record { done = done; left = left; cut = refl; at_is = refl; no_fault_before = no_fault_so_far done p few so_far };
       at_fault = at_fault left lowest;
       stage = p;
       so_far = so_far.at;

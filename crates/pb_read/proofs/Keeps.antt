@@ -30,7 +30,7 @@ use Rattle.pb_read.specs.declared.progress.Stage.TheVariants.{Start, Header, InM
 use Rattle.pb_read.specs.Inner.Machine.{Position, advance, budget_of, limit_of, amount_of, project_of, voter_of, with_project, with_voter, with_row, row_fault}
 use Rattle.pb_read.specs.MetaRows.{meta_of, value_of}
 use Rattle.pb_read.specs.Rows.{field, head_of, is_blank, is_empty, trimmed}
-use Rattle.pb_read.specs.StandsFor.{GivesAllButVoters, GivesProject, GivesProjects, GivesTerms, GivesVoter, GivesVoters, IsHead, IsMeta, IsSection, Then, opening}
+use Rattle.pb_read.specs.StandsFor.{EndsIn, GivesAllButVoters, GivesProject, GivesVoter, IsMeta, opening, terms_of}
 use Rattle.pb_read.specs.Voting.{ballot_of, is_among}
 use Rattle.pb_read.specs.declared.columns.ProjectColumns.{ProjectColumns}
 use Rattle.pb_read.specs.declared.columns.VoteColumns.{VoteColumns}
@@ -154,30 +154,13 @@ with_voter_is_election columns row e tidy is p =
     }) p.room (not_among _ _ p.new_id)
 
 -- a section with one row more
-section_push : (name : Section) (Says Then_says : Fields → List Fields → Type 0) (rows : List Fields) (row : Fields) → (at : IsSection name Says rows) → IsPlain row →
-    Then_says at.header (at.body ++ row ∷ []) → IsSection name Then_says (rows ++ row ∷ [])
-section_push name Says Then_says rows row at is says = record {
-  head = at.head;
-  header = at.header;
-  body = at.body ++ row ∷ [];
-  cut = ap (λ xs. xs ++ row ∷ []) at.cut;
-  opens = at.opens;
-  plain = AllByRecursion-append IsPlain (at.header ∷ at.body) (row ∷ []) at.plain (is, tt);
-  says = says;
-}
+ends_push : (Before : List Fields → Type 0) (name : Section) (body rows : List Fields) (row : Fields) → EndsIn Before name body rows → IsPlain row → EndsIn Before name (body ++ row ∷ []) (rows ++ row ∷ [])
+ends_push Before name body rows row at is =
+    (at.0, at.1, ap (λ xs. xs ++ row ∷ []) at.2 ∙ append_assoc at.0 (at.1 ∷ body) (row ∷ []), at.3, at.4, AllByRecursion-append IsPlain body (row ∷ []) at.5 (is, tt))
 
--- a section with its header row
-section_headed : (name : Section) (Says : Fields → List Fields → Type 0) (rows : List Fields) (row : Fields) → IsHead name rows → IsPlain row → Says row [] → IsSection name Says (rows ++ row ∷ [])
-section_headed name Says rows row at is says =
-    record { head = at.0; header = row; body = []; cut = ap (λ xs. xs ++ row ∷ []) at.1; opens = at.2; plain = (is, tt); says = says }
-
--- one row more after a part
-then_push : (First Second Third : List Fields → Type 0) (rows : List Fields) (row : Fields) → (at : Then First Second rows) → Third (at.1 ++ row ∷ []) → Then First Third (rows ++ row ∷ [])
-then_push First Second Third rows row at third =
-    (at.0, at.1 ++ row ∷ [], ap (λ xs. xs ++ row ∷ []) at.2 ∙ append_assoc at.0 at.1 (row ∷ []), at.3, third)
-
-then_head : (First : List Fields → Type 0) (name : Section) (rows : List Fields) (row : Fields) → First rows → head_of row ≡ Some name → Then First (IsHead name) (rows ++ row ∷ [])
-then_head First name rows row at opens = (rows, row ∷ [], refl, at, (row, refl, opens))
+-- a section's head after other rows
+ends_head : (Before : List Fields → Type 0) (name : Section) (rows : List Fields) (row : Fields) → Before rows → head_of row ≡ Some name → EndsIn Before name [] (rows ++ row ∷ [])
+ends_head Before name rows row before opens = (rows, row, refl, before, opens, tt)
 
 -- one row without fault
 pub kept : (p : Position) (n : Next) (rows : List Fields) (row : Fields) → Follows n row → IsTidy row → row_fault p n ≡ None → IsAt rows p → IsElection p.1 →
@@ -186,54 +169,45 @@ unfolding row_fault
 kept p the_end rows row follows tidy none at sound = absurd follows
 kept p blank rows row follows tidy none at sound = absurd follows
 kept (Start, e) (head section.Meta) rows row follows tidy none at sound =
-    (((row, ap (λ xs. xs ++ row ∷ []) at.0, follows), at.1), sound)
+    ((ends_head (λ front. front ≡ []) section.Meta rows row at.0 follows, at.1), sound)
 kept (Start, e) (head section.Projects) rows row follows tidy none at sound = absurd (some≢none none)
 kept (Start, e) (head section.Votes) rows row follows tidy none at sound = absurd (some≢none none)
 kept (Start, e) (plain r) rows row follows tidy none at sound = absurd (some≢none none)
 kept (Header name, e) (head other) rows row follows tidy none at sound = absurd (some≢none none)
 kept (Header section.Meta, e) (plain r) rows row follows tidy none at sound =
-    ((section_headed section.Meta (λ header body. meta_of [] ≡ meta_of body) rows row at.0 follows.1 refl, at.1), sound)
+    (((row, [], ends_push (λ front. front ≡ []) section.Meta [] rows row at.0 follows.1, refl), at.1), sound)
 kept (Header section.Projects, e) (plain header) rows row follows tidy none at sound =
     let found = project_columns_found e header none in
     let no_project : e.projects ≡ [] = ap (λ (x : ElectionView). x.projects) at.1 in
     let no_voter : e.voters ≡ [] = ap (λ (x : ElectionView). x.voters) at.1 in
-    let says : (project_columns row ≡ Some found.0) × AllZip (GivesProject found.0) [] e.projects = (ap project_columns (sym follows.0) ∙ found.1, subst (λ ps. AllZip (GivesProject found.0) [] ps) (sym no_project) tt) in
-    rw found.1 ((then_push _ _ (GivesProjects found.0 e.projects) rows row at.0 (section_headed section.Projects _ at.0.1 row at.0.4 follows.1 says), no_voter), sound)
+    let names : project_columns row ≡ Some found.0 = ap project_columns (sym follows.0) ∙ found.1 in
+    let gives : AllZip (GivesProject found.0) [] e.projects = subst (λ ps. AllZip (GivesProject found.0) [] ps) (sym no_project) tt in
+    rw found.1 (((row, [], ends_push (IsMeta (terms_of e)) section.Projects [] rows row at.0 follows.1, names, gives), no_voter), sound)
 kept (Header section.Votes, e) (plain header) rows row follows tidy none at sound =
     let found = vote_columns_found e header none in
-    let says : (vote_columns row ≡ Some found.0) × AllZip (GivesVoter found.0 (project_ids e)) [] e.voters = (ap vote_columns (sym follows.0) ∙ found.1, subst (λ vs. AllZip (GivesVoter found.0 (project_ids e)) [] vs) (sym at.1) tt) in
-    rw found.1 (
-      record {
-        project_columns = at.0.0;
-        parts = then_push _ _ (GivesVoters found.0 (project_ids e) e.voters) rows row at.0.1 (section_headed section.Votes _ at.0.1.1 row at.0.1.4 follows.1 says);
-      },
-      sound,
-    )
+    let names : vote_columns row ≡ Some found.0 = ap vote_columns (sym follows.0) ∙ found.1 in
+    let gives : AllZip (GivesVoter found.0 (project_ids e)) [] e.voters = subst (λ vs. AllZip (GivesVoter found.0 (project_ids e)) [] vs) (sym at.1) tt in
+    rw found.1 ((at.0.0, row, [], ends_push (GivesAllButVoters at.0.0 e) section.Votes [] rows row at.0.1 follows.1, names, gives), sound)
 kept (InMeta meta, e) (head section.Meta) rows row follows tidy none at sound = absurd (some≢none none)
 kept (InMeta meta, e) (head section.Projects) rows row follows tidy none at sound =
     let passed = passes_head meta e none in
     let budget : passed.budget ≡ budget_of meta.budget = ap budget_of (sym passed.budget_is) in
     let limit : passed.max_length ≡ limit_of meta.max_length = ap limit_of (sym passed.limit) in
-    let few : passed.budget ≤ largest_money = budget_le at.0.body passed.budget (ap (λ (m : Meta). m.budget) (sym at.0.says) ∙ passed.budget_is) in
+    let few : passed.budget ≤ largest_money = budget_le at.0.1 passed.budget (ap (λ (m : Meta). m.budget) (sym at.0.3) ∙ passed.budget_is) in
     let says : meta ≡ record { budget = Some (Ok (budget_of meta.budget)); approval = Some true; max_length = Ok (limit_of meta.max_length) } =
     (λ i. record { budget = passed.budget_is i; approval = passed.approval i; max_length = passed.limit i })
     ∙ (λ i. record { budget = Some (Ok (budget i)); approval = Some true; max_length = Ok (limit i) }) in (
-      (then_head (GivesTerms (budget_of meta.budget) (limit_of meta.max_length)) section.Projects rows row (subst (λ m. IsMeta m rows) says at.0) follows, refl),
+      (ends_head (IsMeta (terms_of (opening (budget_of meta.budget) (limit_of meta.max_length)))) section.Projects rows row (subst (λ m. IsMeta m rows) says at.0) follows, refl),
       opening_is_election (budget_of meta.budget) (limit_of meta.max_length) (subst (λ b. b ≤ largest_money) budget few),
     )
 kept (InMeta meta, e) (head section.Votes) rows row follows tidy none at sound = absurd (some≢none none)
-kept (InMeta meta, e) (plain r) rows row follows tidy none at sound = (
-  (
-    section_push section.Meta (λ header body. meta ≡ meta_of body) (λ header body. with_row meta r ≡ meta_of body) rows row at.0 follows.1
-        (ap (with_row meta) follows.0 ∙ ap (λ m. with_row m row) at.0.says ∙ sym (meta_of-push at.0.body row)),
-    at.1,
-  ),
-  sound,
-)
+kept (InMeta meta, e) (plain r) rows row follows tidy none at sound =
+    let says : with_row meta r ≡ meta_of (at.0.1 ++ row ∷ []) = ap (with_row meta) follows.0 ∙ ap (λ m. with_row m row) at.0.3 ∙ sym (meta_of-push at.0.1 row) in
+    (((at.0.0, at.0.1 ++ row ∷ [], ends_push (λ front. front ≡ []) section.Meta (at.0.0 ∷ at.0.1) rows row at.0.2 follows.1, says), at.1), sound)
 kept (InProjects columns, e) (head section.Meta) rows row follows tidy none at sound = absurd (some≢none none)
 kept (InProjects columns, e) (head section.Projects) rows row follows tidy none at sound = absurd (some≢none none)
 kept (InProjects columns, e) (head section.Votes) rows row follows tidy none at sound =
-    (((columns, then_head (GivesAllButVoters columns e) section.Votes rows row at.0 follows), at.1), sound)
+    (((columns, ends_head (GivesAllButVoters columns e) section.Votes rows row at.0 follows), at.1), sound)
 kept (InProjects columns, e) (plain r) rows row follows tidy none at sound =
     let passed : PassesProject columns row e = subst (λ x. PassesProject columns x e) follows.0 (passes_project columns r e none) in
     let gives : GivesProject columns row (project_of columns row) = record {
@@ -242,24 +216,18 @@ kept (InProjects columns, e) (plain r) rows row follows tidy none at sound =
       name = refl;
       cost = passed.reads ∙ ap (λ x. Ok (amount_of x)) (sym passed.reads);
     } in
-    let part = at.0.4 in
-    let says : (project_columns part.header ≡ Some columns) × AllZip (GivesProject columns) (part.body ++ row ∷ []) (e.projects ++ project_of columns row ∷ []) =
-    (part.says.0, AllZip-push (GivesProject columns) part.body e.projects row (project_of columns row) part.says.1 gives) in
+    let zip : AllZip (GivesProject columns) (at.0.1 ++ row ∷ []) (e.projects ++ project_of columns row ∷ []) = AllZip-push (GivesProject columns) at.0.1 e.projects row (project_of columns row) at.0.4 gives in
     rw follows.0 (
-      (then_push _ _ (GivesProjects columns (e.projects ++ project_of columns row ∷ [])) rows row at.0 (section_push section.Projects _ _ at.0.1 row part follows.1 says), at.1),
+      ((at.0.0, at.0.1 ++ row ∷ [], ends_push (IsMeta (terms_of e)) section.Projects (at.0.0 ∷ at.0.1) rows row at.0.2 follows.1, at.0.3, zip), at.1),
       with_project_is_election columns row e sound at.1 passed,
     )
 kept (InVotes columns, e) (head name) rows row follows tidy none at sound = absurd (some≢none none)
 kept (InVotes columns, e) (plain r) rows row follows tidy none at sound =
     let passed : PassesVote columns row e = subst (λ x. PassesVote columns x e) follows.0 (passes_vote columns r e none) in
     let gives : GivesVoter columns (project_ids e) row (voter_of columns (project_ids e) row) = record { whole = passed.whole; id = refl; known = passed.known; ballot = refl } in
-    let part = at.parts.4 in
-    let says : (vote_columns part.header ≡ Some columns) × AllZip (GivesVoter columns (project_ids e)) (part.body ++ row ∷ []) (e.voters ++ voter_of columns (project_ids e) row ∷ []) =
-    (part.says.0, AllZip-push (GivesVoter columns (project_ids e)) part.body e.voters row (voter_of columns (project_ids e) row) part.says.1 gives) in
+    let zip : AllZip (GivesVoter columns (project_ids e)) (at.2 ++ row ∷ []) (e.voters ++ voter_of columns (project_ids e) row ∷ []) =
+    AllZip-push (GivesVoter columns (project_ids e)) at.2 e.voters row (voter_of columns (project_ids e) row) at.5 gives in
     rw follows.0 (
-      record {
-        project_columns = at.project_columns;
-        parts = then_push _ _ (GivesVoters columns (project_ids e) (e.voters ++ voter_of columns (project_ids e) row ∷ [])) rows row at.parts (section_push section.Votes _ _ at.parts.1 row part follows.1 says);
-      },
+      (at.0, at.1, at.2 ++ row ∷ [], ends_push (GivesAllButVoters at.0 e) section.Votes (at.1 ∷ at.2) rows row at.3 follows.1, at.4, zip),
       with_voter_is_election columns row e tidy sound passed,
     )

@@ -1,15 +1,22 @@
 -- The first kind that applies, in the order of all kinds, has the lowest number.
-use Rattle.std.proofs.Common.{◌≡◌, ◌<◌, ◌≤◌, ◌+◌, ◌-◌, ◌⊎◌, ℕ, zero, suc, Bool, true, false, cond, List, [], ◌∷◌, Some, refl, ap, sym, ◌∙◌, subst, arith, inl, inr, get_or}
-use Rattle.std.specs.List.{find}
+use Rattle.std.proofs.Common.{◌≡◌, ◌<◌, ◌≤◌, ◌+◌, ◌-◌, ◌⊎◌, ◌==◌, ℕ, zero, suc, Bool, true, false, cond, not, List, [], ◌∷◌, Option, Some, refl, ap, sym, ◌∙◌, subst, arith, inl, inr, get_or}
+use Rattle.std.specs.Prelude.{drop}
+use Rattle.std.specs.List.{find, list_all}
+use Rattle.std.specs.Str.{is_utf8}
 use Rattle.std.proofs.lemmas.Bool.{cases_order}
 use Rattle.std.proofs.lemmas.Option.{same_Some}
 use Rattle.pb_rows.specs.Reading.{Fields}
 use Rattle.pb_read.proofs.ListFacts.{some≢none}
-use Rattle.pb_read.specs.Faults.{applies_after}
+use Rattle.pb_read.specs.Faults.{applies, applies_after}
 use Rattle.pb_read.specs.Kinds.{number_of}
 use Rattle.pb_read.specs.Inner.Machine.{Position, all_kinds, lowest_kind, row_fault}
+use Rattle.pb_read.specs.Rows.{trimmed}
+use Rattle.pb_read.specs.Stages.{Next, the_end, blank, head, plain, next_row}
+use Rattle.pb_read.specs.StandsFor.{most_records}
 use Rattle.pb_read.specs.declared.fault.ReadKind.{ReadKind}
 use Rattle.pb_read.specs.declared.fault.ReadKind.TheVariants as kinds
+use Rattle.pb_read.specs.declared.progress.Stage.TheVariants.{Start, Header, InMeta, InProjects, InVotes}
+use Rattle.pb_read.specs.declared.section.Section.TheVariants as section
 
 -- the numbers of these kinds rise by one
 abbrev NumberedFrom : ℕ → List ReadKind → Type 0
@@ -80,10 +87,53 @@ first_is_lowest test n (x ∷ ks) kind from found = go (test x) refl found (firs
         by other low below rest (inr (inl above)) = rest.1 other (omega (arith, above)) below
         by other low below rest (inr (inr under)) = absurd (omega (arith, low, under))
 
+-- that the reader failed applies nowhere
+pub never_applies : (p : Position) (n : Next) → applies kinds.ReadFailed p n ≡ false
+never_applies (Start, e) n = refl
+never_applies (Header name, e) n = refl
+never_applies (InMeta meta, e) the_end = refl
+never_applies (InMeta meta, e) blank = refl
+never_applies (InMeta meta, e) (head section.Meta) = refl
+never_applies (InMeta meta, e) (head section.Projects) = refl
+never_applies (InMeta meta, e) (head section.Votes) = refl
+never_applies (InMeta meta, e) (plain row) = refl
+never_applies (InProjects columns, e) the_end = refl
+never_applies (InProjects columns, e) blank = refl
+never_applies (InProjects columns, e) (head name) = refl
+never_applies (InProjects columns, e) (plain row) = refl
+never_applies (InVotes columns, e) n = refl
+
+abbrev later_kinds : List ReadKind
+later_kinds = drop 3 all_kinds
+
+-- of the kinds behind those of a record, the first that applies
+later_found : (p : Position) (n : Next) → find (λ kind. applies kind p n) later_kinds ≡ row_fault p n
+unfolding row_fault
+later_found (Start, e) n = refl
+later_found (Header name, e) n = refl
+later_found (InMeta meta, e) the_end = refl
+later_found (InMeta meta, e) blank = refl
+later_found (InMeta meta, e) (head section.Meta) = refl
+later_found (InMeta meta, e) (head section.Projects) = refl
+later_found (InMeta meta, e) (head section.Votes) = refl
+later_found (InMeta meta, e) (plain row) = refl
+later_found (InProjects columns, e) the_end = refl
+later_found (InProjects columns, e) blank = refl
+later_found (InProjects columns, e) (head name) = refl
+later_found (InProjects columns, e) (plain row) = refl
+later_found (InVotes columns, e) n = refl
+
 lowest_is_first : (done : ℕ) (p : Position) (left : List Fields) → find (applies_after done p left) all_kinds ≡ lowest_kind done p left
 unfolding row_fault
-lowest_is_first done p [] = refl
-lowest_is_first done p (next ∷ rest) = refl
+lowest_is_first done (Start, e) [] = refl
+lowest_is_first done (Header name, e) [] = refl
+lowest_is_first done (InMeta meta, e) [] = refl
+lowest_is_first done (InProjects columns, e) [] = refl
+lowest_is_first done (InVotes columns, e) [] = refl
+lowest_is_first done p (next ∷ rest) =
+    let n : Next = next_row (trimmed next) in
+    let kind_after : Option ReadKind → Option ReadKind = λ found. cond (not (list_all is_utf8 next)) (Some kinds.NotText) (cond (done == most_records) (Some kinds.TooManyRecords) found) in
+    ap (λ t. cond t (Some kinds.ReadFailed) (kind_after (find (λ kind. applies kind p n) later_kinds))) (never_applies p n) ∙ ap kind_after (later_found p n)
 
 -- the lowest kind that applies after this many records
 pub lowest_applies : (done : ℕ) (p : Position) (left : List Fields) (kind : ReadKind) → lowest_kind done p left ≡ Some kind →

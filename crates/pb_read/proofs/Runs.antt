@@ -1,5 +1,5 @@
 -- What stands runs: rows that have come so far are read without fault, to that position.
-use Rattle.std.proofs.Common.{◌≡◌, ◌≢◌, ◌<◌, ℕ, true, false, cond, List, [], ◌∷◌, ◌++◌, length, map, All, Contains, Option, Some, None, Ok, Err, refl, ap, sym, ◌∙◌, subst, arith, append_assoc, length-append}
+use Rattle.std.proofs.Common.{◌≡◌, ◌≢◌, ◌<◌, ℕ, false, cond, List, [], ◌∷◌, ◌++◌, length, map, All, Contains, Some, None, Ok, Err, refl, ap, sym, ◌∙◌, subst, arith, append_assoc, length-append}
 use Rattle.std.specs.Option.{option_map_or}
 use Rattle.std.specs.Prelude.{is_none}
 use Rattle.std.specs.List.{AllByRecursion, AllZip}
@@ -17,7 +17,7 @@ use Rattle.pb_read.specs.declared.progress.Stage.TheVariants.{Start, Header, InM
 use Rattle.pb_read.specs.Inner.Machine.{Position, start, advance, amount_of, project_of, voter_of, run, bind, step, step_or, row_fault}
 use Rattle.pb_read.specs.MetaRows.{meta_of}
 use Rattle.pb_read.specs.Rows.{field, head_of, is_blank, is_empty}
-use Rattle.pb_read.specs.StandsFor.{GivesAll, GivesAllButVoters, GivesProject, GivesTerms, GivesVoter, IsHead, IsMeta, Then, opening}
+use Rattle.pb_read.specs.StandsFor.{EndsIn, GivesAll, GivesAllButVoters, GivesProject, GivesVoter, IsMeta, opening, terms_of}
 use Rattle.pb_read.specs.Voting.{is_among}
 use Rattle.pb_read.specs.declared.columns.ProjectColumns.{ProjectColumns}
 use Rattle.pb_read.specs.declared.columns.VoteColumns.{VoteColumns}
@@ -88,36 +88,36 @@ run_meta_body e done (row ∷ body) plain_rows full =
 
 run_meta : (rows : List Fields) (meta : Meta) → AreFull rows → IsMeta meta rows → Runs start rows (InMeta meta, opening 0 None)
 run_meta rows meta full at =
-    let whole : AreFull (at.head ∷ at.header ∷ at.body) = subst AreFull at.cut full in
-    ap (run start) at.cut
-    ∙ run_row start at.head (at.header ∷ at.body) (head section.Meta) (next_head at.head section.Meta whole.0 at.opens) meta_opens
-    ∙ run_row (Header section.Meta, opening 0 None) at.header at.body (plain at.header) (next_plain at.header whole.1.0 at.plain.0) (header_passes (opening 0 None) at.header)
-    ∙ run_meta_body (opening 0 None) [] at.body at.plain.1 whole.1.1
-    ∙ ap (λ m. Ok (InMeta m, opening 0 None)) (sym at.says)
+    let ends = at.2 in
+    let cut : rows ≡ ends.1 ∷ at.0 ∷ at.1 = ends.2 ∙ ap (λ front. front ++ ends.1 ∷ at.0 ∷ at.1) ends.3 in
+    let whole : AreFull (ends.1 ∷ at.0 ∷ at.1) = subst AreFull cut full in
+    ap (run start) cut
+    ∙ run_row start ends.1 (at.0 ∷ at.1) (head section.Meta) (next_head ends.1 section.Meta whole.0 ends.4) meta_opens
+    ∙ run_row (Header section.Meta, opening 0 None) at.0 at.1 (plain at.0) (next_plain at.0 whole.1.0 ends.5.0) (header_passes (opening 0 None) at.0)
+    ∙ run_meta_body (opening 0 None) [] at.1 ends.5.1 whole.1.1
+    ∙ ap (λ m. Ok (InMeta m, opening 0 None)) (sym at.3)
 
--- rows of which the first part runs to a position
-run_then : (First Second : List Fields → Type 0) (p : Position) (rows back : List Fields) → (at : Then First Second rows) → at.1 ≡ back → Runs start at.0 p → run start rows ≡ run p back
-run_then First Second p rows back at is front =
-    ap (run start) (at.2 ∙ ap (λ xs. at.0 ++ xs) is) ∙ run_onto start p at.0 back front
+-- rows that end in a section, where those before it run to a position
+run_ends : (Before : List Fields → Type 0) (name : Section) (body rows : List Fields) (p : Position) → (at : EndsIn Before name body rows) → Runs start at.0 p → run start rows ≡ run p (at.1 ∷ body)
+run_ends Before name body rows p at front = ap (run start) at.2 ∙ run_onto start p at.0 (at.1 ∷ body) front
 
-full_front : (First Second : List Fields → Type 0) (rows : List Fields) → (at : Then First Second rows) → AreFull rows → AreFull at.0
-full_front First Second rows at full = AllByRecursion-left _ at.0 at.1 (subst AreFull at.2 full)
+full_front : (Before : List Fields → Type 0) (name : Section) (body rows : List Fields) → (at : EndsIn Before name body rows) → AreFull rows → AreFull at.0
+full_front Before name body rows at full = AllByRecursion-left _ at.0 (at.1 ∷ body) (subst AreFull at.2 full)
 
-full_back : (First Second : List Fields → Type 0) (rows back : List Fields) → (at : Then First Second rows) → at.1 ≡ back → AreFull rows → AreFull back
-full_back First Second rows back at is full = subst AreFull is (AllByRecursion-right _ at.0 at.1 (subst AreFull at.2 full))
+full_back : (Before : List Fields → Type 0) (name : Section) (body rows : List Fields) → (at : EndsIn Before name body rows) → AreFull rows → AreFull (at.1 ∷ body)
+full_back Before name body rows at full = AllByRecursion-right _ at.0 (at.1 ∷ body) (subst AreFull at.2 full)
 
-run_terms : (budget : ℕ) (max_length : Option ℕ) (e : ElectionView) (row : Fields) (rest : List Fields) → is_blank row ≡ false → head_of row ≡ Some section.Projects →
-    run (InMeta (record { budget = Some (Ok budget); approval = Some true; max_length = Ok max_length }), e) (row ∷ rest) ≡ run (Header section.Projects, opening budget max_length) rest
-run_terms budget max_length e row rest full opens =
-    run_row (InMeta (record { budget = Some (Ok budget); approval = Some true; max_length = Ok max_length }), e) row rest (head section.Projects) (next_head row section.Projects full opens)
-    (head_passes (record { budget = Some (Ok budget); approval = Some true; max_length = Ok max_length }) e budget max_length refl refl refl)
+run_terms : (of e : ElectionView) (row : Fields) (rest : List Fields) → is_blank row ≡ false → head_of row ≡ Some section.Projects →
+    run (InMeta (terms_of of), e) (row ∷ rest) ≡ run (Header section.Projects, opening of.budget of.max_length) rest
+run_terms of e row rest full opens =
+    run_row (InMeta (terms_of of), e) row rest (head section.Projects) (next_head row section.Projects full opens) (head_passes (terms_of of) e of.budget of.max_length refl refl refl)
 
-run_projects_head : (rows : List Fields) (budget : ℕ) (max_length : Option ℕ) → AreFull rows → Then (GivesTerms budget max_length) (IsHead section.Projects) rows → Runs start rows (Header section.Projects, opening budget max_length)
-run_projects_head rows budget max_length full at =
-    let first = at.4 in
-    let back : AreFull (first.0 ∷ []) = full_back _ _ rows (first.0 ∷ []) at first.1 full in
-    run_then _ _ _ rows (first.0 ∷ []) at first.1 (run_meta at.0 _ (full_front _ _ rows at full) at.3)
-    ∙ run_terms budget max_length (opening 0 None) first.0 [] back.0 first.2
+-- rows that end with PROJECTS' head or in PROJECTS, up to behind its head
+run_to_projects : (rows body : List Fields) (e : ElectionView) → AreFull rows → EndsIn (IsMeta (terms_of e)) section.Projects body rows → run start rows ≡ run (Header section.Projects, opening e.budget e.max_length) body
+run_to_projects rows body e full at =
+    run_ends (IsMeta (terms_of e)) section.Projects body rows (InMeta (terms_of e), opening 0 None) at
+    (run_meta at.0 (terms_of e) (full_front (IsMeta (terms_of e)) section.Projects body rows at full) at.3)
+    ∙ run_terms e (opening 0 None) at.1 body (full_back (IsMeta (terms_of e)) section.Projects body rows at full).0 at.4
 
 -- what is true of an element in the middle
 middle : {X : Type 0} (P : X → Type 0) (xs : List X) (y : X) (ys : List X) → All P (xs ++ y ∷ ys) → P y
@@ -172,21 +172,21 @@ run_projects_body columns e qs (p ∷ ps) (row ∷ body) zip plain_rows full is 
 
 run_projects : (rows : List Fields) (columns : ProjectColumns) (e : ElectionView) → AreFull rows → GivesAllButVoters columns e rows → e.voters ≡ [] → IsElection e → Runs start rows (InProjects columns, e)
 run_projects rows columns e full at no_voter is =
-    let part = at.4 in
-    let back : AreFull (part.head ∷ part.header ∷ part.body) = full_back _ _ rows (part.head ∷ part.header ∷ part.body) at part.cut full in
-    run_then _ _ _ rows (part.head ∷ part.header ∷ part.body) at part.cut (run_meta at.0 _ (full_front _ _ rows at full) at.3)
-    ∙ run_terms e.budget e.max_length (opening 0 None) part.head (part.header ∷ part.body) back.0 part.opens
-    ∙ run_row (Header section.Projects, opening e.budget e.max_length) part.header part.body (plain part.header) (next_plain part.header back.1.0 part.plain.0) (project_header_passes (opening e.budget e.max_length) part.header columns part.says.0)
-    ∙ ap (λ o. run (option_map_or (λ c. (InProjects c, opening e.budget e.max_length)) o (Start, opening e.budget e.max_length)) part.body) part.says.0
-    ∙ run_projects_body columns e [] e.projects part.body part.says.1 part.plain.1 back.1.1 (subst (λ vs. IsElection (record e { voters = vs })) no_voter is)
+    let ends = at.2 in
+    let back : AreFull (ends.1 ∷ at.0 ∷ at.1) = full_back (IsMeta (terms_of e)) section.Projects (at.0 ∷ at.1) rows ends full in
+    run_to_projects rows (at.0 ∷ at.1) e full ends
+    ∙ run_row (Header section.Projects, opening e.budget e.max_length) at.0 at.1 (plain at.0) (next_plain at.0 back.1.0 ends.5.0) (project_header_passes (opening e.budget e.max_length) at.0 columns at.3)
+    ∙ ap (λ o. run (option_map_or (λ c. (InProjects c, opening e.budget e.max_length)) o (Start, opening e.budget e.max_length)) at.1) at.3
+    ∙ run_projects_body columns e [] e.projects at.1 at.4 ends.5.1 back.1.1 (subst (λ vs. IsElection (record e { voters = vs })) no_voter is)
     ∙ ap (λ vs. Ok (InProjects columns, record e { voters = vs })) (sym no_voter)
 
-run_votes_head : (rows : List Fields) (columns : ProjectColumns) (e : ElectionView) → AreFull rows → Then (GivesAllButVoters columns e) (IsHead section.Votes) rows → e.voters ≡ [] → IsElection e → Runs start rows (Header section.Votes, e)
-run_votes_head rows columns e full at no_voter is =
-    let first = at.4 in
-    let back : AreFull (first.0 ∷ []) = full_back _ _ rows (first.0 ∷ []) at first.1 full in
-    run_then _ _ (InProjects columns, e) rows (first.0 ∷ []) at first.1 (run_projects at.0 columns e (full_front _ _ rows at full) at.3 no_voter is)
-    ∙ run_row (InProjects columns, e) first.0 [] (head section.Votes) (next_head first.0 section.Votes back.0 first.2) (votes_open columns e)
+-- the same of VOTES
+run_to_votes : (rows body : List Fields) (columns : ProjectColumns) (e : ElectionView) → AreFull rows → EndsIn (GivesAllButVoters columns e) section.Votes body rows → e.voters ≡ [] → IsElection e →
+    run start rows ≡ run (Header section.Votes, e) body
+run_to_votes rows body columns e full at no_voter is =
+    run_ends (GivesAllButVoters columns e) section.Votes body rows (InProjects columns, e) at
+    (run_projects at.0 columns e (full_front (GivesAllButVoters columns e) section.Votes body rows at full) at.3 no_voter is)
+    ∙ run_row (InProjects columns, e) at.1 body (head section.Votes) (next_head at.1 section.Votes (full_back (GivesAllButVoters columns e) section.Votes body rows at full).0 at.4) (votes_open columns e)
 
 vote_passes_at : (columns : VoteColumns) (e : ElectionView) (us vs : List VoterView) (v : VoterView) (row : Fields) → GivesVoter columns (project_ids e) row v → IsElection (record e { voters = us ++ v ∷ vs }) →
     PassesVote columns row (record e { voters = us })
@@ -228,28 +228,26 @@ without_voters_is_election e is = record {
 
 run_votes : (rows : List Fields) (columns : VoteColumns) (e : ElectionView) → AreFull rows → GivesAll columns e rows → IsElection e → Runs start rows (InVotes columns, e)
 run_votes rows columns e full all is =
-    let at = all.parts in
-    let part = at.4 in
+    let ends = all.3 in
     let before : ElectionView = record e { voters = [] } in
-    let back : AreFull (part.head ∷ part.header ∷ part.body) = full_back _ _ rows (part.head ∷ part.header ∷ part.body) at part.cut full in
-    run_then _ _ (InProjects all.project_columns, before) rows (part.head ∷ part.header ∷ part.body) at part.cut
-    (run_projects at.0 all.project_columns before (full_front _ _ rows at full) at.3 refl (without_voters_is_election e is))
-    ∙ run_row (InProjects all.project_columns, before) part.head (part.header ∷ part.body) (head section.Votes) (next_head part.head section.Votes back.0 part.opens) (votes_open all.project_columns before)
-    ∙ run_row (Header section.Votes, before) part.header part.body (plain part.header) (next_plain part.header back.1.0 part.plain.0) (vote_header_passes before part.header columns part.says.0)
-    ∙ ap (λ o. run (option_map_or (λ c. (InVotes c, before)) o (Start, before)) part.body) part.says.0
-    ∙ run_votes_body columns e [] e.voters part.body part.says.1 part.plain.1 back.1.1 is
+    let back : AreFull (ends.1 ∷ all.1 ∷ all.2) = full_back (GivesAllButVoters all.0 e) section.Votes (all.1 ∷ all.2) rows ends full in
+    run_to_votes rows (all.1 ∷ all.2) all.0 before full ends refl (without_voters_is_election e is)
+    ∙ run_row (Header section.Votes, before) all.1 all.2 (plain all.1) (next_plain all.1 back.1.0 ends.5.0) (vote_header_passes before all.1 columns all.4)
+    ∙ ap (λ o. run (option_map_or (λ c. (InVotes c, before)) o (Start, before)) all.2) all.4
+    ∙ run_votes_body columns e [] e.voters all.2 all.5 ends.5.1 back.1.1 is
 
 -- what stands runs, wherever a file has come to
 pub runs : (p : Position) (rows : List Fields) → AreFull rows → IsAt rows p → IsElection p.1 → Runs start rows p
 runs (Start, e) rows full at sound = ap (run start) at.0 ∙ ap (λ x. Ok (Start, x)) (sym at.1)
 runs (Header section.Meta, e) rows full at sound =
-    let first = at.0 in
-    let whole : AreFull (first.0 ∷ []) = subst AreFull first.1 full in
-    ap (run start) first.1
-    ∙ run_row start first.0 [] (head section.Meta) (next_head first.0 section.Meta whole.0 first.2) meta_opens
+    let ends = at.0 in
+    let cut : rows ≡ ends.1 ∷ [] = ends.2 ∙ ap (λ front. front ++ ends.1 ∷ []) ends.3 in
+    let whole : AreFull (ends.1 ∷ []) = subst AreFull cut full in
+    ap (run start) cut
+    ∙ run_row start ends.1 [] (head section.Meta) (next_head ends.1 section.Meta whole.0 ends.4) meta_opens
     ∙ ap (λ x. Ok (Header section.Meta, x)) (sym at.1)
 runs (InMeta meta, e) rows full at sound = run_meta rows meta full at.0 ∙ ap (λ x. Ok (InMeta meta, x)) (sym at.1)
-runs (Header section.Projects, e) rows full at sound = run_projects_head rows e.budget e.max_length full at.0 ∙ ap (λ x. Ok (Header section.Projects, x)) (sym at.1)
+runs (Header section.Projects, e) rows full at sound = run_to_projects rows [] e full at.0 ∙ ap (λ x. Ok (Header section.Projects, x)) (sym at.1)
 runs (InProjects columns, e) rows full at sound = run_projects rows columns e full at.0 at.1 sound
-runs (Header section.Votes, e) rows full at sound = run_votes_head rows at.0.0 e full at.0.1 at.1 sound
+runs (Header section.Votes, e) rows full at sound = run_to_votes rows [] at.0.0 e full at.0.1 at.1 sound
 runs (InVotes columns, e) rows full at sound = run_votes rows columns e full at sound

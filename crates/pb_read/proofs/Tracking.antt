@@ -1,5 +1,5 @@
 -- A file is read record by record: where it has come, and what each end of the reading means.
-use Rattle.std.proofs.Common.{◌≡◌, ◌<◌, ◌≤◌, ◌+◌, ◌==◌, ℕ, true, false, cond, not, List, [], ◌∷◌, ◌++◌, length, Option, Some, None, Result, Ok, Err, refl, ap, sym, ◌∙◌, subst, arith, append_assoc, append-nil, length-append}
+use Rattle.std.proofs.Common.{◌≡◌, ◌<◌, ◌≤◌, ◌+◌, ◌==◌, ◌⊎◌, ℕ, true, false, cond, not, List, [], ◌∷◌, ◌++◌, Option, Some, None, Result, Ok, Err, refl, ap, sym, ◌∙◌, subst, arith, inl, inr, append_assoc, append-nil, length-append}
 use Rattle.std.specs.Prelude.{IfErr, IfOk, IfSome, MatchResult, option_map}
 use Rattle.std.proofs.lemmas.Bool.{false≢true, true≢false, ne_eqb, false_from_ne_true}
 use Rattle.std.specs.List.{list_all}
@@ -11,7 +11,7 @@ use Rattle.pb_read.specs.Inner.Tracking.{HasCome, HasEnded, IsNextRow, Reached, 
 use Rattle.pb_read.proofs.GoesOn.{AllText-from_test, end_stands, first_fault, no_fault_so_far, reached_next, reached_start, test-from_AllText}
 use Rattle.pb_read.proofs.Uniqueness.{one_election, refused_from_outside}
 use Rattle.pb_read.specs.Stages.{next_row, the_end}
-use Rattle.pb_read.specs.FirstFault.{IsReachedAt, IsFaultAt, IsFirstFault, IsFromOutside}
+use Rattle.pb_read.specs.FirstFault.{IsFaultAt, IsFirstFault, IsFromOutside}
 use Rattle.pb_read.specs.Inner.Machine.{Position, start, Explains, advance, lowest_kind, row_fault}
 use Rattle.pb_read.specs.Inner.Progresses.{EndsWith, StopsReading}
 use Rattle.pb_read.specs.Rows.{trimmed}
@@ -38,26 +38,22 @@ tracks_more (Some all) (Some (r ∷ rest)) after count p q row tracks next none 
       reached = subst (Reached (tracks.done ++ next.fields ∷ [])) (sym (goes ∙ ap (λ x. advance p (next_row x)) next.row_is)) (reached_next tracks.done p next.fields tracks.reached next.text (ap (λ x. row_fault p (next_row x)) (sym next.row_is) ∙ none));
     })
 
-pub cut_short : (all left : List Fields) (count : ℕ) (p : Position) → HasCome all left count p → count ≤ most_records → (at : ℕ) → at ≡ count + 1 → IsReachedAt all at
-cut_short all left count p come few at is = record {
-  done = come.done;
-  left = left;
-  cut = come.cut;
-  at_is = is ∙ ap (λ n. n + 1) (sym come.count_is);
-  no_fault_before = no_fault_so_far come.done p (omega (arith, come.count_is, few)) come.reached;
-}
+-- a fault where this many were read
+pub fault_at : (all left : List Fields) (count : ℕ) (p : Position) (come : HasCome all left count p) → count ≤ most_records → (at : ℕ) → at ≡ count + 1 → (kind : ReadKind) → IsFirstFault come.done left kind ⊎ IsFromOutside kind → IsFaultAt all kind at
+fault_at all left count p come few at is kind found =
+    (come.done, left, come.cut, is ∙ ap (λ n. n + 1) (sym come.count_is), no_fault_so_far come.done p (omega (arith, come.count_is, few)) come.reached, found)
 
-pub first_at : (all left : List Fields) (count : ℕ) (p : Position) → HasCome all left count p → count ≤ most_records → (at : ℕ) → at ≡ count + 1 → (kind : ReadKind) → lowest_kind count p left ≡ Some kind → IsFirstFault all kind at
+-- the lowest kind that applies there
+pub first_at : (all left : List Fields) (count : ℕ) (p : Position) → HasCome all left count p → count ≤ most_records → (at : ℕ) → at ≡ count + 1 → (kind : ReadKind) → lowest_kind count p left ≡ Some kind → IsFaultAt all kind at
 first_at all left count p come few at is kind lowest =
-    let here : IsFirstFault (come.done ++ left) kind (length come.done + 1) =
-    first_fault come.done left p kind (omega (arith, come.count_is, few)) come.reached (ap (λ n. lowest_kind n p left) come.count_is ∙ lowest) in
-    subst (λ n. IsFirstFault all kind n) (ap (λ n. n + 1) come.count_is ∙ sym is) (subst (λ xs. IsFirstFault xs kind (length come.done + 1)) (sym come.cut) here)
+    fault_at all left count p come few at is kind (inl (first_fault come.done left p kind come.reached (ap (λ n. lowest_kind n p left) come.count_is ∙ lowest)))
 
 -- a kind that the checks found
-pub explained : (all : List Fields) (kind : ReadKind) (at : ℕ) (found : Option ReadKind) → IsReachedAt all at → Explains kind found → ((k : ReadKind) → found ≡ Some k → IsFirstFault all k at) → IsFaultAt all kind at
-explained all kinds.ReadFailed at found cut said first = cut
-explained all kinds.NoMemory at found cut said first = cut
-explained all kind at found cut said first = first _ said
+pub explained : (all left : List Fields) (count : ℕ) (p : Position) → HasCome all left count p → count ≤ most_records → (at : ℕ) → at ≡ count + 1 → (kind : ReadKind) (found : Option ReadKind) → Explains kind found →
+    ((k : ReadKind) → found ≡ Some k → lowest_kind count p left ≡ Some k) → IsFaultAt all kind at
+explained all left count p come few at is kinds.ReadFailed found said lowest = fault_at all left count p come few at is kinds.ReadFailed (inr tt)
+explained all left count p come few at is kinds.NoMemory found said lowest = fault_at all left count p come few at is kinds.NoMemory (inr tt)
+explained all left count p come few at is kind found said lowest = first_at all left count p come few at is _ (lowest _ said)
 
 -- the next record could not be read
 pub stopped : (all left : Option (List Fields)) (count : ℕ) (p : Position) (kind : ReadKind) (at : ℕ) → Tracks all left count p → count ≤ most_records → at ≡ count + 1 → StopsReading kind left → IfSome all (λ records. IsFaultAt records kind at)
@@ -65,15 +61,15 @@ stopped None left count p kind at tracks few is stops = tt
 stopped (Some all) None count p kind at tracks few is stops = absurd tracks
 stopped (Some all) (Some left) count p kind at tracks few is stops = go kind stops
   where
-    no_text : (left : List Fields) → HasCome all left count p → NextIsNoText (Some left) → IsFirstFault all kinds.NotText at
+    no_text : (left : List Fields) → HasCome all left count p → NextIsNoText (Some left) → IsFaultAt all kinds.NotText at
     no_text [] come none = absurd none
     no_text (r ∷ rest) come none =
         let test : list_all is_utf8 r ≡ false = false_from_ne_true (list_all is_utf8 r) (λ e. none (AllText-from_test r e)) in
         first_at all (r ∷ rest) count p come few at is kinds.NotText (ap (λ t. cond (not t) (Some kinds.NotText) (cond (count == most_records) (Some kinds.TooManyRecords) (row_fault p (next_row (trimmed r))))) test)
 
     go : (k : ReadKind) → StopsReading k (Some left) → IsFaultAt all k at
-    go kinds.ReadFailed s = cut_short all left count p tracks few at is
-    go kinds.NoMemory s = cut_short all left count p tracks few at is
+    go kinds.ReadFailed s = fault_at all left count p tracks few at is kinds.ReadFailed (inr tt)
+    go kinds.NoMemory s = fault_at all left count p tracks few at is kinds.NoMemory (inr tt)
     go kinds.NotText s = no_text left tracks s
     go _ s = absurd s
 
@@ -84,11 +80,10 @@ refused None left after count p row kind at tracks few is next said = tt
 refused (Some all) None after count p row kind at tracks few is next said = absurd tracks
 refused (Some all) (Some []) after count p row kind at tracks few is next said = absurd (true≢false next.next)
 refused (Some all) (Some (r ∷ rest)) after count p row kind at tracks few is next said =
-    explained all kind at _ (cut_short all (r ∷ rest) count p tracks (omega (arith, few)) at is) (subst (λ x. Explains kind (row_fault p (next_row x))) (next.row_is ∙ ap trimmed next.next.1) said)
+    explained all (r ∷ rest) count p tracks (omega (arith, few)) at is kind _ (subst (λ x. Explains kind (row_fault p (next_row x))) (next.row_is ∙ ap trimmed next.next.1) said)
     (λ k found.
-    first_at all (r ∷ rest) count p tracks (omega (arith, few)) at is k
-    (ap (λ t. cond (not t) (Some kinds.NotText) (cond (count == most_records) (Some kinds.TooManyRecords) (row_fault p (next_row (trimmed r))))) (test-from_AllText r (subst AllText next.next.1 next.text))
-    ∙ ap (λ t. cond t (Some kinds.TooManyRecords) (row_fault p (next_row (trimmed r)))) (ne_eqb count most_records (λ e. absurd (omega (arith, e, few)))) ∙ found))
+    ap (λ t. cond (not t) (Some kinds.NotText) (cond (count == most_records) (Some kinds.TooManyRecords) (row_fault p (next_row (trimmed r))))) (test-from_AllText r (subst AllText next.next.1 next.text))
+    ∙ ap (λ t. cond t (Some kinds.TooManyRecords) (row_fault p (next_row (trimmed r)))) (ne_eqb count most_records (λ e. absurd (omega (arith, e, few)))) ∙ found)
 
 -- one record too many
 pub too_many : (all left after : Option (List Fields)) (p : Position) (row : Fields) → Tracks all left most_records p → IsNextRow left after true row → IfSome all (λ records. IsFaultAt records kinds.TooManyRecords (most_records + 1))
@@ -117,7 +112,7 @@ ended (Some all) at p e end ends =
 pub ended_at_fault : (all : Option (List Fields)) (at : ℕ) (p : Position) (kind : ReadKind) (number : ℕ) → HasEnded all at p → number ≡ at → Explains kind (row_fault p the_end) → IfSome all (λ records. IsFaultAt records kind number)
 ended_at_fault None at p kind number end same said = tt
 ended_at_fault (Some all) at p kind number end same said =
-    explained all kind number _ (cut_short all [] end.count p end.come end.few number (same ∙ end.at_is)) said (λ k found. first_at all [] end.count p end.come end.few number (same ∙ end.at_is) k found)
+    explained all [] end.count p end.come end.few number (same ∙ end.at_is) kind _ said (λ k found. found)
 
 -- a refusal as the result
 pub as_result : {T : Type 0} (all : Option (List Fields)) (r : Result T ReadFault) (fault : ReadFault) → r ≡ Err fault → IfSome all (λ records. IsFaultAt records fault.kind fault.at) → IfSome all (λ records. IfErr r (λ f. IsFaultAt records f.kind f.at))

@@ -11,12 +11,11 @@ use Rattle.pb_read.proofs.ListFacts.{same_Ok}
 use Rattle.pb_read.proofs.Runs.{runs}
 use Rattle.pb_read.specs.Faults.{applies_after}
 use Rattle.pb_read.specs.Kinds.{number_of}
-use Rattle.pb_read.specs.FirstFault.{HasNoFault, IsAtFault, IsFaultAt, IsFirstFault, IsFromOutside, IsReachedAt}
+use Rattle.pb_read.specs.FirstFault.{HasNoFault, IsAtFault, IsFaultAt, IsFirstFault, IsFromOutside}
 use Rattle.pb_read.specs.Inner.Machine.{start, run}
 use Rattle.pb_read.specs.Rows.{rows_of}
 use Rattle.pb_read.specs.StandsFor.{Describes, StandsFor}
 use Rattle.pb_read.specs.declared.fault.ReadKind.{ReadKind}
-use Rattle.pb_read.specs.declared.fault.ReadKind.TheVariants as kinds
 use Rattle.pb_read.specs.declared.progress.Stage.TheVariants.{InVotes}
 
 pub one_election : (records : List Fields) (e f : ElectionView) → StandsFor records e → StandsFor records f → e ≡ f
@@ -25,9 +24,18 @@ one_election records e f se sf =
     let there = runs (InVotes sf.describes.columns, f) (rows_of records) (rows_of-are_full records) sf.describes.rows sf.describes.is_election in
     ap (λ p. p.1) (same_Ok (sym here ∙ there))
 
+-- the first fault of records, with where they are cut
+record IsFirst (records : List Fields) (kind : ReadKind) (at : ℕ) : Type 0 where
+  done : List Fields
+  left : List Fields
+  cut : records ≡ done ++ left
+  at_is : at ≡ length done + 1
+  no_fault_before : HasNoFault done
+  first : IsFirstFault done left kind
+
 -- what stands has no fault
-pub no_first_fault : (records : List Fields) (e : ElectionView) (kind : ReadKind) (at : ℕ) → StandsFor records e → ¬ IsFirstFault records kind at
-no_first_fault records e kind at stands fault = go fault.reached.done fault.reached.left fault.reached.cut fault.at_fault
+no_first_fault : (records : List Fields) (e : ElectionView) (kind : ReadKind) (at : ℕ) → StandsFor records e → ¬ IsFirst records kind at
+no_first_fault records e kind at stands fault = go fault.done fault.left fault.cut fault.first.at_fault
   where
     go : (done left : List Fields) → records ≡ done ++ left → IsAtFault done left → ⊥
     go done [] cut none = none e (subst (λ xs. StandsFor xs e) (cut ∙ append-nil done) stands)
@@ -65,8 +73,8 @@ regrouped done other next x more tail e same =
     ∙ sym (append_assoc done (next ∷ []) (more ++ tail))
 
 -- a fault does not come after another
-not_after : (records : List Fields) (k l : ReadKind) (a b : ℕ) (f : IsFirstFault records k a) (g : IsFirstFault records l b) → length f.reached.done < length g.reached.done → ⊥
-not_after records k l a b f g shorter = go f.reached.left f.reached.cut f.at_fault
+not_after : (records : List Fields) (k l : ReadKind) (a b : ℕ) (f : IsFirst records k a) (g : IsFirst records l b) → length f.done < length g.done → ⊥
+not_after records k l a b f g shorter = go f.left f.cut f.first.at_fault
   where
     within : (done left : List Fields) (other rest : List Fields) → done ++ left ≡ other ++ rest → length done < length other → (next : Fields) × (more : List Fields) × (other ≡ done ++ next ∷ more)
     within [] left [] rest e l = absurd (omega (arith, l))
@@ -78,61 +86,60 @@ not_after records k l a b f g shorter = go f.reached.left f.reached.cut f.at_fau
         let found = within done left other rest tails (omega (arith, l)) in
         (found.0, found.1, cc (heads, found.2))
 
-    go : (left : List Fields) → records ≡ f.reached.done ++ left → IsAtFault f.reached.done left → ⊥
+    go : (left : List Fields) → records ≡ f.done ++ left → IsAtFault f.done left → ⊥
     go [] cut none =
-        let size : length records ≡ length g.reached.done + length g.reached.left = ap length g.reached.cut ∙ length-append g.reached.done g.reached.left in
-        let all : length records ≡ length f.reached.done = ap length (cut ∙ append-nil f.reached.done) in
+        let size : length records ≡ length g.done + length g.left = ap length g.cut ∙ length-append g.done g.left in
+        let all : length records ≡ length f.done = ap length (cut ∙ append-nil f.done) in
         absurd (omega (arith, size, all, shorter))
     go (next ∷ rest) cut none =
-        let found = within f.reached.done (next ∷ rest) g.reached.done g.reached.left (sym cut ∙ g.reached.cut) shorter in
-        let whole : f.reached.done ++ next ∷ rest ≡ f.reached.done ++ (found.0 ∷ (found.1 ++ g.reached.left)) =
-        sym cut ∙ g.reached.cut ∙ ap (λ xs. xs ++ g.reached.left) found.2 ∙ append_assoc f.reached.done (found.0 ∷ found.1) g.reached.left in
-        let same : next ≡ found.0 = same_head f.reached.done next found.0 rest (found.1 ++ g.reached.left) whole in
-        let way = g.reached.no_fault_before in
+        let found = within f.done (next ∷ rest) g.done g.left (sym cut ∙ g.cut) shorter in
+        let whole : f.done ++ next ∷ rest ≡ f.done ++ (found.0 ∷ (found.1 ++ g.left)) =
+        sym cut ∙ g.cut ∙ ap (λ xs. xs ++ g.left) found.2 ∙ append_assoc f.done (found.0 ∷ found.1) g.left in
+        let same : next ≡ found.0 = same_head f.done next found.0 rest (found.1 ++ g.left) whole in
+        let way = g.no_fault_before in
         none (
-          omega (arith, shorter, way.0, length-append f.reached.done (next ∷ [])),
+          omega (arith, shorter, way.0, length-append f.done (next ∷ [])),
           found.1 ++ way.1,
           way.2,
-          subst (λ xs. Describes xs way.2) (regrouped f.reached.done g.reached.done next found.0 found.1 way.1 found.2 same) way.3,
+          subst (λ xs. Describes xs way.2) (regrouped f.done g.done next found.0 found.1 way.1 found.2 same) way.3,
         )
 
 -- the first fault is one
-one_first_fault : (records : List Fields) (k l : ReadKind) (a b : ℕ) → IsFirstFault records k a → IsFirstFault records l b → (k ≡ l) × (a ≡ b)
-one_first_fault records k l a b f g = go (cases_order (length f.reached.done) (length g.reached.done))
+one_first_fault : (records : List Fields) (k l : ReadKind) (a b : ℕ) → IsFirst records k a → IsFirst records l b → (k ≡ l) × (a ≡ b)
+one_first_fault records k l a b f g = go (cases_order (length f.done) (length g.done))
   where
-    go : (length f.reached.done ≡ length g.reached.done) ⊎ ((length f.reached.done < length g.reached.done) ⊎ (length g.reached.done < length f.reached.done)) → (k ≡ l) × (a ≡ b)
+    go : (length f.done ≡ length g.done) ⊎ ((length f.done < length g.done) ⊎ (length g.done < length f.done)) → (k ≡ l) × (a ≡ b)
     go (inr (inl shorter)) = absurd (not_after records k l a b f g shorter)
     go (inr (inr longer)) = absurd (not_after records l k b a g f longer)
     go (inl same) =
-        let done : f.reached.done ≡ g.reached.done = same_front f.reached.done g.reached.done f.reached.left g.reached.left (sym f.reached.cut ∙ g.reached.cut) same in
-        let left : f.reached.left ≡ g.reached.left = same_rest f.reached.done f.reached.left g.reached.left (sym f.reached.cut ∙ g.reached.cut ∙ ap (λ xs. xs ++ g.reached.left) (sym done)) in
-        let here = runs f.stage (rows_of f.reached.done) (rows_of-are_full f.reached.done) f.so_far f.sound in
-        let there = runs g.stage (rows_of g.reached.done) (rows_of-are_full g.reached.done) g.so_far g.sound in
-        let stage : f.stage ≡ g.stage = same_Ok (sym here ∙ ap (λ xs. run start (rows_of xs)) done ∙ there) in (
+        let done : f.done ≡ g.done = same_front f.done g.done f.left g.left (sym f.cut ∙ g.cut) same in
+        let left : f.left ≡ g.left = same_rest f.done f.left g.left (sym f.cut ∙ g.cut ∙ ap (λ xs. xs ++ g.left) (sym done)) in
+        let here = runs f.first.stage (rows_of f.done) (rows_of-are_full f.done) f.first.so_far f.first.sound in
+        let there = runs g.first.stage (rows_of g.done) (rows_of-are_full g.done) g.first.so_far g.first.sound in
+        let stage : f.first.stage ≡ g.first.stage = same_Ok (sym here ∙ ap (λ xs. run start (rows_of xs)) done ∙ there) in (
           by_number (λ kind i. applies_after (length (done i)) (stage i) (left i) kind) (cases_order (number_of k) (number_of l)),
-          f.reached.at_is ∙ ap (λ n. n + 1) same ∙ sym g.reached.at_is,
+          f.at_is ∙ ap (λ n. n + 1) same ∙ sym g.at_is,
         )
       where
-        by_number : ((kind : ReadKind) → applies_after (length f.reached.done) f.stage f.reached.left kind ≡ applies_after (length g.reached.done) g.stage g.reached.left kind) →
+        by_number : ((kind : ReadKind) → applies_after (length f.done) f.first.stage f.left kind ≡ applies_after (length g.done) g.first.stage g.left kind) →
             (number_of k ≡ number_of l) ⊎ ((number_of k < number_of l) ⊎ (number_of l < number_of k)) → k ≡ l
         by_number same (inl numbers) = same_number k l numbers
-        by_number same (inr (inl lower)) = absurd (true≢false (sym f.applies ∙ same k ∙ g.lowest k lower))
-        by_number same (inr (inr higher)) = absurd (true≢false (sym g.applies ∙ sym (same l) ∙ f.lowest l higher))
-
-reached_at : (records : List Fields) (kind : ReadKind) (at : ℕ) → IsFaultAt records kind at → IsReachedAt records at
-reached_at records kinds.ReadFailed at fault = fault
-reached_at records kinds.NoMemory at fault = fault
-reached_at records kind at fault = fault.reached
+        by_number same (inr (inl lower)) = absurd (true≢false (sym f.first.applies ∙ same k ∙ g.first.lowest k lower))
+        by_number same (inr (inr higher)) = absurd (true≢false (sym g.first.applies ∙ sym (same l) ∙ f.first.lowest l higher))
 
 pub refused_from_outside : (records : List Fields) (e : ElectionView) (kind : ReadKind) (at : ℕ) → StandsFor records e → IsFaultAt records kind at → IsFromOutside kind
-refused_from_outside records e kinds.ReadFailed at stands fault = tt
-refused_from_outside records e kinds.NoMemory at stands fault = tt
-refused_from_outside records e kind at stands fault = absurd (no_first_fault records e _ at stands fault)
+refused_from_outside records e kind at stands fault = go fault.5
+  where
+    go : IsFirstFault fault.0 fault.1 kind ⊎ IsFromOutside kind → IsFromOutside kind
+    go (inl first) = absurd (no_first_fault records e kind at stands (record { done = fault.0; left = fault.1; cut = fault.2; at_is = fault.3; no_fault_before = fault.4; first = first }))
+    go (inr outside) = outside
 
-first_unless : (records : List Fields) (kind : ReadKind) (at : ℕ) → IsFaultAt records kind at → ¬ IsFromOutside kind → IsFirstFault records kind at
-first_unless records kinds.ReadFailed at fault inside = absurd (inside tt)
-first_unless records kinds.NoMemory at fault inside = absurd (inside tt)
-first_unless records kind at fault inside = fault
+first_unless : (records : List Fields) (kind : ReadKind) (at : ℕ) → IsFaultAt records kind at → ¬ IsFromOutside kind → IsFirst records kind at
+first_unless records kind at fault inside = go fault.5
+  where
+    go : IsFirstFault fault.0 fault.1 kind ⊎ IsFromOutside kind → IsFirst records kind at
+    go (inl first) = record { done = fault.0; left = fault.1; cut = fault.2; at_is = fault.3; no_fault_before = fault.4; first = first }
+    go (inr outside) = absurd (inside outside)
 
 -- a fault that is not from outside is one
 pub one_fault : (records : List Fields) (k l : ReadKind) (a b : ℕ) → IsFaultAt records k a → IsFaultAt records l b → ¬ IsFromOutside k → ¬ IsFromOutside l → (k ≡ l) × (a ≡ b)
@@ -141,23 +148,22 @@ one_fault records k l a b f g inside within = one_first_fault records k l a b (f
 -- the records before the one at fault have no fault
 pub none_before : (records : List Fields) (kind : ReadKind) (at : ℕ) → IsFaultAt records kind at → HasNoFault (take (at - 1) records)
 none_before records kind at fault =
-    let reached = reached_at records kind at fault in
-    let size : at - 1 ≡ length reached.done = omega (arith, reached.at_is) in
-    let first : take (at - 1) records ≡ reached.done = (λ i. take (size i) (reached.cut i)) ∙ take-append_seam reached.done reached.left in
-    subst HasNoFault (sym first) reached.no_fault_before
+    let size : at - 1 ≡ length fault.0 = omega (arith, fault.3) in
+    let first : take (at - 1) records ≡ fault.0 = (λ i. take (size i) (fault.2 i)) ∙ take-append_seam fault.0 fault.1 in
+    subst HasNoFault (sym first) fault.4
 
 -- with it they have one
 pub one_with_it : (records : List Fields) (kind : ReadKind) (at : ℕ) → IsFaultAt records kind at → ¬ IsFromOutside kind → at ≤ length records → ¬ HasNoFault (take at records)
-one_with_it records kind at fault inside within = go first.reached.left first.reached.cut first.at_fault
+one_with_it records kind at fault inside within = go found.left found.cut found.first.at_fault
   where
-    first : IsFirstFault records kind at
-    first = first_unless records kind at fault inside
+    found : IsFirst records kind at
+    found = first_unless records kind at fault inside
 
-    go : (left : List Fields) → records ≡ first.reached.done ++ left → IsAtFault first.reached.done left → ¬ HasNoFault (take at records)
+    go : (left : List Fields) → records ≡ found.done ++ left → IsAtFault found.done left → ¬ HasNoFault (take at records)
     go [] cut none =
-        let size : length records ≡ length first.reached.done = ap length (cut ∙ append-nil first.reached.done) in
-        absurd (omega (arith, size, within, first.reached.at_is))
+        let size : length records ≡ length found.done = ap length (cut ∙ append-nil found.done) in
+        absurd (omega (arith, size, within, found.at_is))
     go (next ∷ rest) cut none =
-        let up_to : take at records ≡ first.reached.done ++ next ∷ [] =
-        (λ i. take (first.reached.at_is i) (cut i)) ∙ take-append-add first.reached.done (next ∷ rest) 1 in
+        let up_to : take at records ≡ found.done ++ next ∷ [] =
+        (λ i. take (found.at_is i) (cut i)) ∙ take-append-add found.done (next ∷ rest) 1 in
         subst (λ xs. ¬ HasNoFault xs) (sym up_to) none

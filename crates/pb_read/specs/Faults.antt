@@ -1,5 +1,5 @@
 -- Which faults apply where a file has come so far.
-use Rattle.std.specs.Prelude.{ℕ, Bool, true, false, not, ◌||◌, ◌==◌, nat_le, List, ◌∷◌, length, Result, Ok, Err, is_none, unwrap_or}
+use Rattle.std.specs.Prelude.{ℕ, Bool, true, false, not, ◌||◌, ◌==◌, nat_le, List, [], ◌∷◌, length, Result, Ok, Err, is_none, unwrap_or}
 use Rattle.std.specs.Option.{option_map_or}
 use Rattle.std.specs.List.{list_all}
 use Rattle.std.specs.Result.{is_err, result_unwrap_or}
@@ -10,8 +10,8 @@ use Rattle.pb_core.specs.declared.money_fault.MoneyFault.{MoneyFault}
 use Rattle.pb_core.specs.declared.money_fault.MoneyFault.TheVariants as money
 use Rattle.pb_rows.specs.Reading.{Fields}
 use Rattle.pb_read.specs.Columns.{project_columns, vote_columns, has_fields}
-use Rattle.pb_read.specs.Stages.{Next, the_end, head, plain, next_of}
-use Rattle.pb_read.specs.Rows.{field, is_empty}
+use Rattle.pb_read.specs.Stages.{Next, the_end, head, plain, next_row}
+use Rattle.pb_read.specs.Rows.{field, is_empty, trimmed}
 use Rattle.pb_read.specs.StandsFor.{most_records}
 use Rattle.pb_read.specs.Voting.{is_among, names_only}
 use Rattle.pb_read.specs.declared.fault.ReadKind.{ReadKind}
@@ -26,12 +26,6 @@ fails_by BadMoney (Err money.BadMoney) = true
 fails_by MoneyTooFine (Err money.MoneyTooFine) = true
 fails_by MoneyTooLarge (Err money.MoneyTooLarge) = true
 fails_by kind read = false
-
--- the amount that is judged: the budget at PROJECTS' head, and a project's cost; elsewhere none is at fault
-abbrev pub amount_at : Stage × ElectionView → Next → Result ℕ MoneyFault
-amount_at (InMeta meta, e) (head Projects) = unwrap_or meta.budget (Ok 0)
-amount_at (InProjects columns, e) (plain row) = money_of (field row columns.cost)
-amount_at p next = Ok 0
 
 -- the kinds that apply, each with the places where it can: how far the rows have come, and what comes next;
 -- the first line that fits decides
@@ -59,14 +53,16 @@ applies EmptyId (InProjects columns, e) (plain row) = is_empty (field row column
 applies EmptyId (InVotes columns, e) (plain row) = is_empty (field row columns.voter)
 applies RepeatedProject (InProjects columns, e) (plain row) = is_among (project_ids e) (field row columns.id)
 applies RepeatedVoter (InVotes columns, e) (plain row) = is_among (voter_ids e) (field row columns.voter)
-applies UnknownProject (InVotes columns, e) (plain row) =
-    not (names_only (project_ids e) (field row columns.vote))
+applies UnknownProject (InVotes columns, e) (plain row) = not (names_only (project_ids e) (field row columns.vote))
 applies TooManyProjects (InProjects columns, e) (plain row) = nat_le most_projects (length e.projects)
 applies TooManyVoters (InVotes columns, e) (plain row) = nat_le most_voters (length e.voters)
-applies kind p next = fails_by kind (amount_at p next)
+applies kind (InMeta meta, e) (head Projects) = fails_by kind (unwrap_or meta.budget (Ok 0))
+applies kind (InProjects columns, e) (plain row) = fails_by kind (money_of (field row columns.cost))
+applies kind p next = false
 
 -- the kinds that apply to the first of the records that are left, or to the end of the file, after this many
 abbrev pub applies_after : ℕ → Stage × ElectionView → List Fields → ReadKind → Bool
 applies_after done p (next ∷ rest) NotText = not (list_all is_utf8 next)
 applies_after done p (next ∷ rest) TooManyRecords = done == most_records
-applies_after done p left kind = applies kind p (next_of left)
+applies_after done p (next ∷ rest) kind = applies kind p (next_row (trimmed next))
+applies_after done p [] kind = applies kind p the_end

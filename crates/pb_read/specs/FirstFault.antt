@@ -1,5 +1,5 @@
 -- The first fault of a list of records.
-use Rattle.std.specs.Prelude.{◌≡◌, ◌≤◌, ◌<◌, ◌+◌, ℕ, true, false, List, [], ◌∷◌, ◌++◌, length}
+use Rattle.std.specs.Prelude.{◌≡◌, ◌≤◌, ◌<◌, ◌+◌, ◌⊎◌, ℕ, true, false, List, [], ◌∷◌, ◌++◌, length}
 use Rattle.pb_core.specs.Election.{ElectionView, IsElection}
 use Rattle.pb_rows.specs.Reading.{Fields}
 use Rattle.pb_read.specs.Faults.{applies_after}
@@ -22,34 +22,26 @@ abbrev pub IsAtFault : List Fields → List Fields → Type 0
 IsAtFault done [] = (e : ElectionView) → ¬ StandsFor done e
 IsAtFault done (next ∷ rest) = ¬ HasNoFault (done ++ next ∷ [])
 
--- the records before this one have no fault; they are numbered from 1, and the end of the file counts as one
-pub record IsReachedAt (records : List Fields) (at : ℕ) : Type 0 where
-  pub done : List Fields
-  pub left : List Fields
-  pub cut : records ≡ done ++ left
-  pub at_is : at ≡ length done + 1
-  pub no_fault_before : HasNoFault done
-
--- the first fault is of this kind and stands in this record: no kind of a lower number applies to it
-pub record IsFirstFault (records : List Fields) (kind : ReadKind) (at : ℕ) : Type 0 where
-  pub reached : IsReachedAt records at
-  pub at_fault : IsAtFault reached.done reached.left
+-- the first of the records that are left, or the end of the file, is at fault by this kind: no kind of a lower number
+-- applies to it
+pub record IsFirstFault (done left : List Fields) (kind : ReadKind) : Type 0 where
+  pub at_fault : IsAtFault done left
   pub stage : Stage × ElectionView
-  pub so_far : IsAt (rows_of reached.done) stage
+  pub so_far : IsAt (rows_of done) stage
   pub sound : IsElection stage.1
-  pub applies : applies_after (length reached.done) stage reached.left kind ≡ true
+  pub applies : applies_after (length done) stage left kind ≡ true
   pub lowest : (other : ReadKind) → number_of other < number_of kind →
-      applies_after (length reached.done) stage reached.left other ≡ false
-
--- a fault is the first one; of a failed reader and of refused memory no clause can say at which record they
--- came, but the records before that number have no fault
-abbrev pub IsFaultAt : List Fields → ReadKind → ℕ → Type 0
-IsFaultAt records ReadFailed at = IsReachedAt records at
-IsFaultAt records NoMemory at = IsReachedAt records at
-IsFaultAt records kind at = IsFirstFault records kind at
+      applies_after (length done) stage left other ≡ false
 
 -- a refusal that no file can rule out
 abbrev pub IsFromOutside : ReadKind → Type 0
 IsFromOutside ReadFailed = Unit {0}
 IsFromOutside NoMemory = Unit {0}
 IsFromOutside kind = ⊥
+
+-- a fault of records, which are numbered from 1, as is the end of the file: those before that number have no fault,
+-- and it is the first one; of one from outside no clause can say at which record it came
+abbrev pub IsFaultAt : List Fields → ReadKind → ℕ → Type 0
+IsFaultAt records kind at =
+    (done : List Fields) × (left : List Fields) × (records ≡ done ++ left) × (at ≡ length done + 1)
+    × HasNoFault done × (IsFirstFault done left kind ⊎ IsFromOutside kind)

@@ -27,61 +27,40 @@ pub record GivesProject (columns : ProjectColumns) (row : Fields) (project : Pro
   pub cost : money_of (field row columns.cost) ≡ Ok project.cost
 
 -- a row of VOTES gives a voter, where the projects have these ids
-pub record GivesVoter (columns : VoteColumns) (ids : List (List ℕ)) (row : Fields)
-    (voter : VoterView) : Type 0 where
+pub record GivesVoter (columns : VoteColumns) (ids : List (List ℕ)) (row : Fields) (voter : VoterView) : Type 0 where
   pub whole : has_fields columns.voter columns.vote row ≡ true
   pub id : voter.id ≡ field row columns.voter
   pub known : names_only ids (field row columns.vote) ≡ true
   pub ballot : voter.ballot ≡ ballot_of ids (field row columns.vote)
 
--- a section's head alone
-abbrev pub IsHead : Section → List Fields → Type 0
-IsHead name rows = (head : Fields) × (rows ≡ head ∷ []) × (head_of head ≡ Some name)
+-- rows that end in a section: after rows of some form come its head and these rows, of which none is a head
+abbrev pub EndsIn : (List Fields → Type 0) → Section → List Fields → List Fields → Type 0
+EndsIn Before name body rows =
+    (front : List Fields) × (head : Fields) × (rows ≡ front ++ head ∷ body) × Before front
+    × (head_of head ≡ Some name) × AllByRecursion (λ row. head_of row ≡ None) body
 
--- a section: its head, its header row, and further rows, of which this holds; none but the first is a head
-pub record IsSection (of : Section) (Says : Fields → List Fields → Type 0) (rows : List Fields) : Type 0 where
-  pub head : Fields
-  pub header : Fields
-  pub body : List Fields
-  pub cut : rows ≡ head ∷ header ∷ body
-  pub opens : head_of head ≡ Some of
-  pub plain : AllByRecursion (λ row. head_of row ≡ None) (header ∷ body)
-  pub says : Says header body
-
--- META, whose rows say this
+-- META, whose rows after its header row say this
 abbrev pub IsMeta : Meta → List Fields → Type 0
-IsMeta meta rows = IsSection section.Meta (λ header body. meta ≡ meta_of body) rows
+IsMeta meta rows =
+    (header : Fields) × (body : List Fields) × EndsIn (λ front. front ≡ []) section.Meta (header ∷ body) rows
+    × (meta ≡ meta_of body)
 
--- META that gives a budget, approval as the vote type, and a limit
-abbrev pub GivesTerms : ℕ → Option ℕ → List Fields → Type 0
-GivesTerms budget max_length rows =
-    IsMeta (record { budget = Some (Ok budget); approval = Some true; max_length = Ok max_length }) rows
+-- what META says of an election: its budget, approval as the vote type, and its limit
+abbrev pub terms_of : ElectionView → Meta
+terms_of e = record { budget = Some (Ok e.budget); approval = Some true; max_length = Ok e.max_length }
 
--- PROJECTS with these columns, and a row for each project
-abbrev pub GivesProjects : ProjectColumns → List ProjectView → List Fields → Type 0
-GivesProjects columns projects rows =
-    IsSection section.Projects (λ header body.
-    (project_columns header ≡ Some columns) × AllZip (GivesProject columns) body projects) rows
-
--- VOTES with these columns, and a row for each voter
-abbrev pub GivesVoters : VoteColumns → List (List ℕ) → List VoterView → List Fields → Type 0
-GivesVoters columns ids voters rows =
-    IsSection section.Votes (λ header body.
-    (vote_columns header ≡ Some columns) × AllZip (GivesVoter columns ids) body voters) rows
-
--- rows of one form, and then rows of another
-abbrev pub Then : (First Second : List Fields → Type 0) → List Fields → Type 0
-Then First Second rows =
-    (front : List Fields) × (back : List Fields) × (rows ≡ front ++ back) × First front × Second back
-
--- META and PROJECTS of an election
+-- META and PROJECTS of an election, with these columns, and a row for each project
 abbrev pub GivesAllButVoters : ProjectColumns → ElectionView → List Fields → Type 0
-GivesAllButVoters columns e = Then (GivesTerms e.budget e.max_length) (GivesProjects columns e.projects)
+GivesAllButVoters columns e rows =
+    (header : Fields) × (body : List Fields) × EndsIn (IsMeta (terms_of e)) section.Projects (header ∷ body) rows
+    × (project_columns header ≡ Some columns) × AllZip (GivesProject columns) body e.projects
 
--- META, PROJECTS and VOTES of an election
-pub record GivesAll (columns : VoteColumns) (e : ElectionView) (rows : List Fields) : Type 0 where
-  pub project_columns : ProjectColumns
-  pub parts : Then (GivesAllButVoters project_columns e) (GivesVoters columns (project_ids e) e.voters) rows
+-- these, and VOTES, with these columns, and a row for each voter
+abbrev pub GivesAll : VoteColumns → ElectionView → List Fields → Type 0
+GivesAll columns e rows =
+    (before : ProjectColumns) × (header : Fields) × (body : List Fields)
+    × EndsIn (GivesAllButVoters before e) section.Votes (header ∷ body) rows
+    × (vote_columns header ≡ Some columns) × AllZip (GivesVoter columns (project_ids e)) body e.voters
 
 -- the records are text, and their rows give the election
 pub record Describes (records : List Fields) (e : ElectionView) : Type 0 where

@@ -7,7 +7,8 @@ use Rattle.csv.specs.declared.parser.Config.{Config}
 use Rattle.csv.specs.declared.parser.State.{State}
 use Rattle.csv.specs.declared.parser.State.TheVariants as st
 use Rattle.csv.specs.declared.reader.Reader.{Reader}
-use Rattle.pb_rows.specs.Reading.{Fields, IsNext, IsSetUp, NextIsNoText, fault_of_kind, left_of, left_until, pb_config}
+use Rattle.pb_rows.specs.Inner.Reading.{IsSetUp}
+use Rattle.pb_rows.specs.Reading.{Fields, IsNext, NextIsNoText, fault_of_kind, left_of, left_until, pb_config}
 use Rattle.pb_rows.specs.declared.fault.RecordsFault.TheVariants.{NotText, ReadFailed}
 use Rattle.csv.specs.declared.error.ErrorKind.{ErrorKind}
 use Rattle.csv.specs.declared.error.ErrorKind.TheVariants as kind

@@ -1,10 +1,9 @@
 -- The records of a text.
 use Rattle.std.specs.Prelude.{◌≡◌, ◌+◌, ℕ, Bool, true, false, List, [], ◌∷◌, length, Option, Some, None, option_map, ⊤}
-use Rattle.csv.specs.Reading.{Ready, default_config, has_failed, is_flexible, names_headers, reader_config, reader_state, reader_trim, records, records_from, source_of, strip_bom}
+use Rattle.csv.specs.Reading.{default_config, reader_state, records, records_from, source_of, strip_bom}
 use Rattle.csv.specs.Records.{AllText}
 use Rattle.csv.specs.declared.parser.Config.{Config}
 use Rattle.csv.specs.declared.reader.Reader.{Reader}
-use Rattle.csv.specs.declared.reader.Trim.TheVariants as trim
 use Rattle.csv.specs.declared.error.ErrorKind.{ErrorKind}
 use Rattle.csv.specs.declared.error.ErrorKind.TheVariants as kind
 use Rattle.pb_rows.specs.declared.fault.RecordsFault.{RecordsFault}
@@ -53,15 +52,6 @@ abbrev pub left_until : Option RecordsFault → Bool → Option (List Fields) �
 left_until None false left = left
 left_until None true left = Some []
 left_until (Some fault) has_ended left = None
-
--- a reader of csv that reads records as above
-pub record IsSetUp {R : Type 0} (reader : Reader R) : Type 0 where
-  pub runs : has_failed reader ≡ false
-  pub config : reader_config reader ≡ pb_config
-  pub trim : reader_trim reader ≡ trim.None
-  pub flexible : is_flexible reader ≡ true
-  pub headers : names_headers reader ≡ false
-  pub ready : Ready reader
 
 -- the fault that an error of csv stands for
 abbrev pub fault_of_kind : ErrorKind → RecordsFault

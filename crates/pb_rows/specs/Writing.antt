@@ -1,6 +1,6 @@
 -- The text of rows.
-use Rattle.std.specs.Prelude.{◌≡◌, ◌≢◌, ◌<◌, ◌++◌, ℕ, Bool, false, true, List, [], ◌∷◌, All, length}
-use Rattle.csv.specs.Writing.{default_writer, fields_written, has_written, row_text, writer_pending, writer_setup, writer_under, with_delimiter, with_flexible}
+use Rattle.std.specs.Prelude.{◌≢◌, ◌<◌, ◌++◌, ℕ, Bool, true, List, [], ◌∷◌, All, length}
+use Rattle.csv.specs.Writing.{default_writer, row_text, writer_pending, writer_under, with_delimiter, with_flexible}
 use Rattle.csv.specs.declared.writer.WriterBuilder.{WriterBuilder}
 use Rattle.csv.specs.declared.writer.Writer.{Writer}
 use Rattle.pb_rows.specs.Reading.{Fields}
@@ -28,12 +28,6 @@ text_of_rows (row ∷ rows) = text_of_row row ++ text_of_rows rows
 pub record ComeBack (rows : List Fields) : Type 0 where
   pub some_field : All (λ fields. 0 < length fields) rows
   pub no_mark : (rest : List ℕ) → text_of_rows rows ≢ 0xEF ∷ 0xBB ∷ 0xBF ∷ rest
-
--- a writer of csv that writes rows as above, and stands at the start of one
-pub record IsAtRowStart {W : Type 0} (writer : Writer W) : Type 0 where
-  pub setup : writer_setup writer ≡ pb_writer
-  pub fields : fields_written writer ≡ 0
-  pub clean : has_written writer ≡ false
 
 -- what a writer of csv has written: what is in the writer underneath, and what is not yet there
 abbrev pub written_by : {W : Type 0} → Writer W → (W → List ℕ) → List ℕ

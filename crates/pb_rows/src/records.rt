@@ -25,7 +25,8 @@ pub struct Records<R: Read> {
 impl<R: Read> Model for Records<R> {
     ghost use Rattle.std.specs.Prelude.{◌≡◌, None, Some, true};
     ghost use Rattle.csv.specs.Reading.{has_failed};
-    ghost use Rattle.pb_rows.specs.Reading.{IsSetUp, Left, left_of, left_until};
+    ghost use Rattle.pb_rows.specs.Inner.Reading.{IsSetUp};
+    ghost use Rattle.pb_rows.specs.Reading.{Left, left_of, left_until};
     ghost use Rattle.pb_rows.specs.declared.fault.RecordsFault.TheVariants.{ReadFailed};
 
     ghost Value = { Left };

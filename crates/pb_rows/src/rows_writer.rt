@@ -1,7 +1,8 @@
 // Rows, written as text.
 
 ghost use Rattle.std.specs.Prelude.{◌≡◌, ◌++◌, [], false, map, true, IfOk, IsErr, OnErr, OnOk};
-ghost use Rattle.pb_rows.specs.Writing.{IsAtRowStart, text_of_row, written_by};
+ghost use Rattle.pb_rows.specs.Inner.Writing.{IsAtRowStart};
+ghost use Rattle.pb_rows.specs.Writing.{text_of_row, written_by};
 
 use csv::{Writer, WriterBuilder};
 use std::alloc::{AllocError, Global};
@@ -20,7 +21,8 @@ pub struct RowsWriter {
 
 impl Model for RowsWriter {
     ghost use Rattle.std.specs.Prelude.{◌≡◌, true};
-    ghost use Rattle.pb_rows.specs.Writing.{IsAtRowStart, RowsView, written_by};
+    ghost use Rattle.pb_rows.specs.Inner.Writing.{IsAtRowStart};
+    ghost use Rattle.pb_rows.specs.Writing.{RowsView, written_by};
 
     ghost Value = { RowsView };
 

@@ -1,9 +1,18 @@
--- How far a text was read.
-use Rattle.std.specs.Prelude.{◌≡◌, ◌≤◌, ◌+◌, ◌++◌, ℕ, List, length, Option, Some, None, ⊤}
-use Rattle.csv.specs.Reading.{records}
+-- The reader of a text, and how far it has come.
+use Rattle.std.specs.Prelude.{◌≡◌, ◌≤◌, ◌+◌, ◌++◌, ℕ, true, false, List, length, Option, Some, None, ⊤}
+use Rattle.csv.specs.Reading.{Ready, has_failed, is_flexible, names_headers, reader_config, reader_trim}
+use Rattle.csv.specs.declared.reader.Reader.{Reader}
 use Rattle.csv.specs.declared.reader.Trim.TheVariants as trim
-use Rattle.csv.specs.declared.error.ErrorKind.TheVariants as kind
-use Rattle.pb_rows.specs.Reading.{Fields, records_of}
+use Rattle.pb_rows.specs.Reading.{Fields, pb_config, records_of}
+
+-- a reader of csv that reads records as above
+pub record IsSetUp {R : Type 0} (reader : Reader R) : Type 0 where
+  pub runs : has_failed reader ≡ false
+  pub config : reader_config reader ≡ pb_config
+  pub trim : reader_trim reader ≡ trim.None
+  pub flexible : is_flexible reader ≡ true
+  pub headers : names_headers reader ≡ false
+  pub ready : Ready reader
 
 -- these records were read so far, where the text is known: they, and then those that are left, are all its
 -- records
