@@ -12,7 +12,7 @@ use Rattle.std.proofs.lemmas.Bool.{false≢true}
 use Rattle.std.proofs.lemmas.Slice.Eq.{bytes_eq-Decides}
 use Rattle.pb_core.specs.Election.{ElectionView, VoterView, AreDistinct, IsVoter}
 use Rattle.pb_core.specs.Request.{EntryView}
-use Rattle.pb_desk.specs.Desk.{AreKnown}
+use Rattle.pb_desk.specs.Inner.Desk.{AreKnown}
 use Rattle.pb_desk.specs.Inner.Legal.{voters_of}
 use Rattle.pb_desk.specs.Inner.Sources.{ballot_at, ballots_at, brought, emptied, found_at, AreFound, IsInOrder, IsOwnVoter}
 use Rattle.pb_desk.specs.declared.source.Source.{Source}

@@ -10,7 +10,7 @@ use Rattle.std.proofs.lemmas.Map.{NonePasses, lookup-none}
 use Rattle.std.proofs.lemmas.Slice.Eq.{bytes_eq-Decides}
 use Rattle.pb_core.specs.Election.{ElectionView, VoterView, AreDistinct, IsElection, IsVoter}
 use Rattle.pb_core.specs.Request.{EntryView}
-use Rattle.pb_desk.specs.Desk.{AreKnown, IsStanding}
+use Rattle.pb_desk.specs.Inner.Desk.{AreKnown, IsStanding}
 use Rattle.pb_desk.specs.Replay.{opened}
 use Rattle.pb_desk.specs.Inner.Legal.{ballots_of}
 use Rattle.pb_desk.specs.Inner.Sources.{ballots_at, found_at, opened_from, AreFound, AreSources, IsInOrder}

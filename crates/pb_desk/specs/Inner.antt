@@ -1,5 +1,6 @@
 -- Words that private contracts alone speak of: nobody has to believe them.
 pub mod AuditSteps
+pub mod Desk
 pub mod Legal
 pub mod RowReading
 pub mod Slots

@@ -37,6 +37,14 @@ pub const ROOM: u32 = 4_294_967_295;
 /// enough for a holder without a processor to get one, and for a large journal to grow.
 const TRIES: u32 = 100_000;
 
+/// What the clerks of a shared desk are to do: each serves its own requests, and the gate is called before each.
+#[derive(Drop)]
+struct Work<'a, G> {
+    /// The requests of each clerk, by its number.
+    lists: &'a [Requests],
+    gate: &'a G,
+}
+
 /// A clerk back from its work.
 #[derive(Drop)]
 struct Returned {
@@ -49,19 +57,20 @@ struct Returned {
 
 /// Serves a clerk's requests in their order. It stops at the first that finds the desk busy, or that
 /// memory is refused for.
-fn serve_own<G: Gate>(shared: &SharedDesk, gate: &G, clerk: Clerk, lists: &[Requests]) -> Returned
+fn serve_own<G: Gate>(shared: &SharedDesk, clerk: Clerk, work: &Work<'_, G>) -> Returned
     requires own { clerk.desk ≡ shared.now }
     requires fresh { clerk.sheet.mine ≡ [] }
-    requires one_each { length lists.now ≡ shared.now.clerks }
-    requires few { All (λ list. length list ≤ most_rows) lists.now }
-    ensures { HasServed shared.now clerk.sheet.number (list_of lists.now clerk.sheet.number) result.clerk result.served }
+    requires one_each { length work.now.lists.now ≡ shared.now.clerks }
+    requires few { All (λ list. length list ≤ most_rows) work.now.lists.now }
+    ensures { HasServed shared.now clerk.sheet.number (list_of work.now.lists.now clerk.sheet.number)
+        result.clerk result.served }
 {
     let mut clerk = clerk;
     let number = clerk.number();
     let mut served = 0u32;
     let mut is_out_of_memory = false;
-    for request in lists[number as usize].as_slice() {
-        gate.at(number, served);
+    for request in work.lists[number as usize].as_slice() {
+        work.gate.at(number, served);
         match shared.serve_within(&mut clerk, request, TRIES) {
             Ok(_) => served += 1,
             Err(SharedFault::NoMemory) => {
@@ -122,25 +131,25 @@ fn serve_rest(desk: &mut Desk, lists: &[Requests], served: &[u32]) -> Result<(),
 fn serve_side_by_side<T: Threads + Sync, G: Gate>(
     rt: &T,
     shared: &SharedDesk,
-    gate: &G,
     clerks: Vec<Clerk>,
-    lists: &[Requests],
+    work: &Work<'_, G>,
 ) -> Result<Vec<Returned>, AllocError>
     requires fresh { AreNewcomers shared.now clerks.items }
-    requires one_each { length lists.now ≡ shared.now.clerks }
-    requires few { All (λ list. length list ≤ most_rows) lists.now }
-    ensures { IfOk result (λ back.
-        AreBack shared.now lists.now (map (λ r. r.clerk) back.items) (map (λ r. r.served) back.items)) }
+    requires one_each { length work.now.lists.now ≡ shared.now.clerks }
+    requires few { All (λ list. length list ≤ most_rows) work.now.lists.now }
+    ensures { IfOk result (λ back. AreBack shared.now work.now.lists.now
+        (map (λ r. r.clerk) back.items) (map (λ r. r.served) back.items)) }
 {
     map_vec(
         rt,
         clerks,
         &|clerk: Clerk| -> Returned
-            requires { (clerk.desk ≡ shared.now) × (clerk.sheet.mine ≡ []) × (length lists.now ≡ shared.now.clerks)
-                × All (λ list. length list ≤ most_rows) lists.now }
-            ensures { HasServed shared.entry.now clerk.sheet.number (list_of lists.entry.now clerk.sheet.number)
-                result.clerk result.served }
-        { serve_own(shared, gate, clerk, lists) },
+            requires { (clerk.desk ≡ shared.now) × (clerk.sheet.mine ≡ [])
+                × (length work.now.lists.now ≡ shared.now.clerks)
+                × All (λ list. length list ≤ most_rows) work.now.lists.now }
+            ensures { HasServed shared.entry.now clerk.sheet.number
+                (list_of work.entry.now.lists.now clerk.sheet.number) result.clerk result.served }
+        { serve_own(shared, clerk, work) },
     )
 }
 
@@ -167,15 +176,14 @@ fn serve_together<T: Threads + Sync, G: Gate>(
     alloc: Global,
     shared: &SharedDesk,
     clerks: Vec<Clerk>,
-    lists: &[Requests],
-    gate: &G,
+    work: &Work<'_, G>,
 ) -> Result<(Vec<Clerk>, Vec<u32>), NoMemory>
     requires fresh { AreNewcomers shared.now clerks.items }
-    requires one_each { length lists.now ≡ shared.now.clerks }
-    requires few { All (λ list. length list ≤ most_rows) lists.now }
-    ensures { IfOk result (λ both. AreBack shared.now lists.now both.0.items both.1.items) }
+    requires one_each { length work.now.lists.now ≡ shared.now.clerks }
+    requires few { All (λ list. length list ≤ most_rows) work.now.lists.now }
+    ensures { IfOk result (λ both. AreBack shared.now work.now.lists.now both.0.items both.1.items) }
 {
-    let back = serve_side_by_side(rt, shared, gate, clerks, lists)?;
+    let back = serve_side_by_side(rt, shared, clerks, work)?;
     taken_back(alloc, back)
 }
 
@@ -212,21 +220,20 @@ fn serve_shared<T: Threads + Sync, G: Gate>(
     alloc: Global,
     shared: SharedDesk,
     clerks: Vec<Clerk>,
-    lists: &[Requests],
-    gate: &G,
+    work: &Work<'_, G>,
 ) -> Result<Desk, NoMemory>
     requires empty { shared.start.journal ≡ [] }
     requires room { shared.start.room ≡ program_room }
     requires fresh { AreNewcomers shared clerks.items }
     requires range { shared.clerks ≤ most_clerks }
-    requires one_each { length lists.now ≡ shared.clerks }
-    requires few { All (λ list. length list ≤ most_rows) lists.now }
+    requires one_each { length work.now.lists.now ≡ shared.clerks }
+    requires few { All (λ list. length list ≤ most_rows) work.now.lists.now }
     ensures start { IfOk result (λ desk. desk ≡ desk_with shared.start desk.journal) }
-    ensures serves { IfOk result (λ desk. ServesAll lists.now desk.journal) }
+    ensures serves { IfOk result (λ desk. ServesAll work.now.lists.now desk.journal) }
 {
-    match serve_together(rt, alloc, &shared, clerks, lists, gate) {
+    match serve_together(rt, alloc, &shared, clerks, work) {
         Ok((clerks, served)) => {
-            let desk = closed(shared, clerks, served.as_slice(), lists);
+            let desk = closed(shared, clerks, served.as_slice(), work.lists);
             drop(served);
             desk
         }
@@ -271,21 +278,19 @@ fn unshared(fault: ShareFault) -> ServeFault
     answer
 }
 
-/// This many clerks serve the requests of a script on a shared desk of this election, which is then shut or not.
+/// This many clerks serve the requests of a script on a shared desk of this election.
 fn serve_all<T: Threads + Sync, G: Gate>(
     rt: &T,
     alloc: Global,
     election: Election,
-    lists: &[Requests],
     clerks: u32,
-    shuts: bool,
-    gate: &G,
+    work: &Work<'_, G>,
 ) -> Result<Desk, ServeFault>
-    requires one_each { length lists.now ≡ clerks_within clerks }
-    requires few { All (λ list. length list ≤ most_rows) lists.now }
+    requires one_each { length work.now.lists.now ≡ clerks_within clerks }
+    requires few { All (λ list. length list ≤ most_rows) work.now.lists.now }
     ensures opening { IfOk result (λ desk. desk.opening ≡ opening_of election) }
     ensures room { IfOk result (λ desk. desk.room ≡ program_room) }
-    ensures serves { IfOk result (λ desk. ShutAtEnd shuts (ServesAll lists.now) desk.journal) }
+    ensures serves { IfOk result (λ desk. ServesAll work.now.lists.now desk.journal) }
     ensures clerks { OnOk result (AreClerks clerks) }
     ensures err { IfErr result (IsServingFault clerks) }
 {
@@ -296,8 +301,7 @@ fn serve_all<T: Threads + Sync, G: Gate>(
         Ok(both) => both,
         Err(fault) => return Err(unshared(fault)),
     };
-    let desk = serve_shared(rt, alloc, shared, fresh, lists, gate)?;
-    Ok(ended(desk, shuts)?)
+    Ok(serve_shared(rt, alloc, shared, fresh, work)?)
 }
 
 /// The text of a desk's journal.
@@ -306,8 +310,6 @@ fn written(alloc: Global, desk: Desk) -> Result<Vec<u8>, NoMemory>
     ensures fits { IfOk result (λ text. length desk.journal ≤ desk.room) }
     ensures text { IfOk result (λ text. text.items ≡ journal_text desk.opening.version desk.journal) }
 {
-    // Its journal is legal, and fits the room.
-    let _entries = desk.entries();
     let text = desk.journal_text(alloc);
     drop(desk);
     match text {
@@ -350,7 +352,12 @@ pub fn serve_script<T: Threads + Sync, S: Read + Drop, G: Gate>(
             return Err(ServeFault::Script(fault));
         }
     };
-    let served = serve_all(rt, alloc, election, lists.as_slice(), clerks, shuts, gate);
+    let work = Work {
+        lists: lists.as_slice(),
+        gate,
+    };
+    let served = serve_all(rt, alloc, election, clerks, &work);
     drop(lists);
-    Ok(written(alloc, served?)?)
+    let desk = ended(served?, shuts)?;
+    Ok(written(alloc, desk)?)
 }

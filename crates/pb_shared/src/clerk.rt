@@ -14,7 +14,8 @@ pub struct Clerk {
 
 impl Model for Clerk {
     ghost use Rattle.pb_shared.specs.Clerk.{ClerkView};
-    ghost use Rattle.pb_shared.specs.Seats.{clerk_view, IsIdle};
+    ghost use Rattle.pb_shared.specs.Seats.{clerk_view};
+    ghost use Rattle.pb_shared.specs.Inner.Seats.{IsIdle};
 
     ghost Value = { ClerkView };
 

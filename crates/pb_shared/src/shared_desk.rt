@@ -20,7 +20,8 @@ pub struct SharedDesk {
 
 impl Model for SharedDesk {
     ghost use Rattle.pb_shared.specs.Clerk.{SharedView};
-    ghost use Rattle.pb_shared.specs.Seats.{shared_view, IsTable};
+    ghost use Rattle.pb_shared.specs.Seats.{shared_view};
+    ghost use Rattle.pb_shared.specs.Inner.Seats.{IsTable};
 
     ghost Value = { SharedView };
 

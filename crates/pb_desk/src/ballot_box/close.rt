@@ -2,7 +2,7 @@
 
 ghost use Rattle.std.specs.Prelude.{◌≡◌, ◌≤◌, [], length, IfErr, IfOk};
 ghost use Rattle.std.specs.Vec.{vec_capacity};
-ghost use Rattle.pb_desk.specs.Desk.{IsStanding};
+ghost use Rattle.pb_desk.specs.Inner.Desk.{IsStanding};
 ghost use Rattle.pb_desk.specs.Inner.Legal.{voters_of};
 
 use super::BallotBox;

@@ -1,14 +1,29 @@
--- A clerk's seat while it holds the lock, and after it has served.
-use Rattle.std.specs.Prelude.{◌≡◌, ◌≢◌, ℕ, ◌+◌, ◌<◌, List, [], ◌∷◌, ◌++◌, true, None}
+-- The table of a shared desk, and a clerk's seat between two calls, while it holds the lock, and after it has served.
+use Rattle.std.specs.Prelude.{◌≡◌, ◌≢◌, ℕ, ◌+◌, ◌<◌, ◌≤◌, ◌^◌, List, [], ◌∷◌, ◌++◌, false, true, None}
 use Rattle.atomic_table.specs.Seated.{TableId}
 use Rattle.pb_core.specs.Request.{EntryView}
 use Rattle.pb_desk.specs.Desk.{DeskView}
+use Rattle.pb_desk.specs.Replay.{most_clerks}
 use Rattle.pb_shared.specs.Clerk.{SharedView, ClerkView, blank, desk_with}
 use Rattle.pb_shared.specs.Inner.Rule.{stock, Sitter}
 use Rattle.pb_shared.specs.Inner.Plays.{CanSee, won, lost}
 use Rattle.pb_shared.specs.declared.seat_view.About.{About}
 use Rattle.pb_shared.specs.declared.seat_view.Role.TheVariants.{Clerk}
-use Rattle.pb_shared.specs.Seats.{IsTable}
+
+-- the table of a shared desk has two words and a slot
+pub record IsTable (id : TableId) (a : About) : Type 0 where
+  pub words : id.words ≡ 2
+  pub slots : id.slots ≡ 1
+  pub small : a.desk.value.room < 2 ^ 32
+
+-- the seat of a clerk between two calls: it does not hold the lock, and has taken nothing out
+pub record IsIdle (number : ℕ) (m : Sitter) : Type 0 where
+  pub role : m.0.role ≡ Clerk
+  pub number_is : m.0.sheet.number ≡ number
+  pub known : number < m.0.about.clerks
+  pub few : m.0.about.clerks ≤ most_clerks
+  pub free : m.0.holds ≡ false
+  pub empty : m.1 ≡ []
 
 -- a clerk who has made no call
 abbrev pub newcomer : SharedView → ℕ → ClerkView

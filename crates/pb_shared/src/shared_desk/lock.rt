@@ -3,8 +3,7 @@
 ghost use Rattle.std.specs.Prelude.{◌≡◌, ◌≤◌, length, IfOk, IfErr, []};
 ghost use Rattle.pb_desk.specs.Replay.{IsLegal};
 ghost use Rattle.pb_shared.specs.Inner.Plays.{freed, published};
-ghost use Rattle.pb_shared.specs.Seats.{IsIdle};
-ghost use Rattle.pb_shared.specs.Inner.Seats.{HasWon, HasLost, IsOut, IsDeskOf, HasServed};
+ghost use Rattle.pb_shared.specs.Inner.Seats.{HasWon, HasLost, IsIdle, IsOut, IsDeskOf, HasServed};
 
 use super::SharedDesk;
 use crate::busy::Busy;

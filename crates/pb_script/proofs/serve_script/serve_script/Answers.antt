@@ -1,15 +1,35 @@
-use Rattle.std.proofs.Common.{List, subst}
+use Rattle.std.proofs.Common.{◌∙◌, ◌≤◌, List, length, subst, arith}
 use Rattle.pb_core.specs.Request.{RequestView}
-use Rattle.pb_script.specs.Serving.{ShutAtEnd}
+use Rattle.pb_desk.specs.Replay.{most_clerks}
 use Rattle.pb_script.specs.Inner.Serving.{ServesAll}
+use Rattle.pb_script.proofs.DeskEntries.{ended_serves}
+use Rattle.pb_script.proofs.Rooms.{room_for_last}
 use Rattle.pb_script.proofs.Texts.{script_text}
 use Rattle.pb_script.proofs.serve_script.serve_script.Goals as goal
 
+pub ended-requires : goal.ended-requires
+ended-requires g c =
+    let lists = c.in-Ok.lists.items in
+    let served = c.in_ok-served.field-0 in
+    let count = c.in-Ok.ensures.count in
+    let few : length lists ≤ most_clerks = omega (arith, count) in
+    let P : List (List RequestView) → Type 0 = λ lists. ServesAll lists served.journal in
+    let serves = subst P c.as_slice.ensures.value c.in_ok-served.ensures.serves in
+    room_for_last lists served.journal served.room serves c.in-Ok.ensures.few few c.in_ok-served.ensures.room
+
 pub returns-clause-ok : goal.returns-clause-ok
 returns-clause-ok g c =
-    let desk = c.in_ok-served.ensures in
+    let lists = c.in-Ok.lists.items in
+    let served = c.in_ok-served in
+    let ended = c.in_ok-desk in
     let text = c.in_ok-written.ensures in
-    let P : List (List RequestView) → Type 0 = λ lists. ShutAtEnd c.args.shuts (ServesAll lists) c.in_ok-served.field-0.journal in
-    script_text c.args.clerks c.in-Ok.lists.items c.args.shuts c.args.election _ c.in_ok-served.field-0 c.in_ok-written.field-0.items c.in-Ok.ensures.script
-    (record { in_range = desk.clerks; opening = desk.opening; room = desk.room; serves = subst P c.as_slice.ensures.value desk.serves })
+    let P : List (List RequestView) → Type 0 = λ lists. ServesAll lists served.field-0.journal in
+    let serves = subst P c.as_slice.ensures.value served.ensures.serves in
+    script_text c.args.clerks lists c.args.shuts c.args.election _ ended.desk c.in_ok-written.field-0.items c.in-Ok.ensures.script
+    (record {
+      in_range = served.ensures.clerks;
+      opening = ended.ensures.opening ∙ served.ensures.opening;
+      room = ended.ensures.room ∙ served.ensures.room;
+      serves = ended_serves c.args.shuts lists served.field-0.journal ended.desk.journal serves ended.ensures.journal;
+    })
     (record { legal = text.legal; fits = text.fits; text_is = text.text })

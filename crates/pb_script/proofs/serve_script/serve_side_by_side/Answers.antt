@@ -6,5 +6,5 @@ pub returns : goal.returns
 returns g c =
     if_both c.map_vec.result _ _ _ c.map_vec.ensures.len c.map_vec.ensures.each
     (λ back count each.
-    AreBack-from c.args.shared.now c.args.lists.now c.args.clerks.items back.items c.requires.fresh (sym back.ok.0 ∙ count ∙ c.args.clerks.ok.0)
+    AreBack-from c.args.shared.now c.args.work.now.lists.now c.args.clerks.items back.items c.requires.fresh (sym back.ok.0 ∙ count ∙ c.args.clerks.ok.0)
     (λ i r below. let work = (each i r below).1 in (work.job, work.job_is, work.call.met)))
