@@ -1,8 +1,10 @@
 //! Words for a count's options, and for raises that were spent.
 
 use crate::fields::text_at;
-use crate::rows::{Rows, rows_of};
-use crate::seen::{Section, Seen, Stage};
+use crate::records::Records;
+use crate::section::{Section, Stage};
+use crate::seen::Seen;
+use crate::text::Text;
 use crate::words::Words;
 use csv::ByteRecord;
 use pb_core::money::Money;
@@ -23,7 +25,7 @@ pub fn count_words<R: Files>(
     let mut out = Words::new(alloc);
     match fault {
         CountFault::RaisesSpent => {
-            let budget = budget_of(rt, alloc, path);
+            let budget = budget_of(&Text::of_records(rt, alloc, path));
             put_spent(&mut out, path, options, budget)
         }
         fault => put_option(&mut out, fault, options),
@@ -116,33 +118,35 @@ fn put_amount(out: &mut Words, amount: Money) {
     out.put_number(hundredths)
 }
 
-/// The budget of the file with this path, where it can be read again.
-fn budget_of<R: Files>(rt: &R, alloc: Global, path: Option<&str>) -> Option<Money> {
-    let mut rows = rows_of(rt, alloc, path)?;
-    let budget = read_budget(&mut rows);
-    drop(rows);
+/// The budget of a .pb file, where it can be read again.
+fn budget_of<R: Files>(text: &Text<'_, R>) -> Option<Money> {
+    let mut records = text.records()?;
+    let budget = read_budget(&mut records);
+    drop(records);
     budget
 }
 
 /// The budget that META gives last, and that can be read.
-fn read_budget<F: Read>(rows: &mut Rows<F>) -> Option<Money> {
+fn read_budget<F: Read>(records: &mut Records<F>) -> Option<Money> {
     let mut seen = Seen::nothing();
     let mut budget = None;
     for _ in 0..u64::MAX {
-        if !rows.advance() || seen.stage == Stage::Header(Section::Projects) {
+        if !records.advance() || seen.stage == Stage::Header(Section::Projects) {
             break;
         }
-        budget = budget_after(budget, &seen, &rows.row);
-        let mark = rows.mark();
-        seen.take(&rows.row, mark);
+        budget = budget_after(budget, &seen, &records.last);
+        let mark = records.mark();
+        seen.take(&records.last, mark);
     }
     budget
 }
 
 /// The budget after a further record.
-fn budget_after(before: Option<Money>, seen: &Seen, row: &ByteRecord) -> Option<Money> {
-    if seen.stage == Stage::Rows(Section::Meta) && text_at(row, 0).eq_ignore_ascii_case("budget") {
-        Money::read(text_at(row, 1)).ok()
+fn budget_after(before: Option<Money>, seen: &Seen, record: &ByteRecord) -> Option<Money> {
+    if seen.stage == Stage::Rows(Section::Meta)
+        && text_at(record, 0).eq_ignore_ascii_case("budget")
+    {
+        Money::read(text_at(record, 1)).ok()
     } else {
         before
     }

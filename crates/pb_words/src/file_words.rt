@@ -1,6 +1,7 @@
 //! Words for files: those that cannot be opened, read or written.
 
-use crate::place::{Text, put_number_place};
+use crate::mark_words::put_record_number;
+use crate::text::Text;
 use crate::words::Words;
 use std::alloc::{AllocError, Global};
 use std::fs;
@@ -59,13 +60,12 @@ pub fn write_words(
 
 /// Puts why a file could not be read to its end, at the record with this number.
 pub(crate) fn put_reading_failed<R: Files>(
-    rt: &R,
     out: &mut Words,
-    text: &Text<'_>,
+    text: &Text<'_, R>,
     path: &str,
-    number: u64,
+    at: u64,
 ) {
-    let is_file = match fs::metadata(rt, path) {
+    let is_file = match fs::metadata(text.rt, path) {
         Ok(metadata) if metadata.is_dir() => {
             out.put_name(Some(path));
             return out.put(": this is a folder.\nName a file in it.\n");
@@ -73,9 +73,9 @@ pub(crate) fn put_reading_failed<R: Files>(
         Ok(metadata) => metadata.is_file(),
         Err(_) => false,
     };
-    put_number_place(out, text, number);
+    put_record_number(out, text, at);
     if is_file {
-        put_failure(rt, out, path);
+        put_failure(text.rt, out, path);
     } else {
         out.put(": the reader failed.\n");
     }

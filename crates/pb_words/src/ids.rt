@@ -1,8 +1,9 @@
 // The ids of a file's projects and voters, as far as it was read again.
 
 use crate::fields::is_blank;
-use crate::rows::Mark;
-use crate::seen::{Section, Seen, Stage};
+use crate::mark::Mark;
+use crate::section::{Section, Stage};
+use crate::seen::Seen;
 use csv::ByteRecord;
 use pb_ids::IdTable;
 use pb_read::{ReadFault, ReadKind};
@@ -27,7 +28,7 @@ pub(crate) struct Ids {
     voters: IdTable,
     marks: Vec<Mark>,
     /// The ids of the projects that were not left out.
-    names: Vec<String>,
+    project_ids: Vec<String>,
     compared: Cell<u32>,
 }
 
@@ -43,7 +44,7 @@ impl Ids {
             left_out: IdTable::new(alloc),
             voters: IdTable::new(alloc),
             marks: Vec::new(alloc),
-            names: Vec::new(alloc),
+            project_ids: Vec::new(alloc),
             compared: Cell::new(0),
         }
     }
@@ -94,7 +95,7 @@ impl Ids {
         let place = self.next_place();
         self.projects.insert(self.alloc, id, place)?;
         self.marks.push(mark)?;
-        self.names.push(String::from_str(self.alloc, id)?)?;
+        self.project_ids.push(String::from_str(self.alloc, id)?)?;
         Ok(())
     }
 
@@ -148,21 +149,21 @@ impl Ids {
         count > 1
     }
 
-    /// The place in `names` of the id that is nearest to this one, if one is near: it differs in case alone, or in at
-    /// most a third of the characters. It is looked for a limited number of times.
+    /// The place in `project_ids` of the id that is nearest to this one, if one is near: it differs in case alone, or
+    /// in at most a third of the characters. It is looked for a limited number of times.
     pub(crate) fn nearest(&self, id: &str) -> Result<Option<usize>, AllocError> {
         let compared = self.compared.get();
         if compared >= MOST_COMPARED {
             return Ok(None);
         }
         self.compared.set(compared.saturating_add(1));
-        nearest(self.alloc, self.names.as_slice(), id)
+        nearest(self.alloc, self.project_ids.as_slice(), id)
     }
 
     /// The id of a project that was not left out.
-    pub(crate) fn name(&self, place: usize) -> &str {
-        match self.names.get(place) {
-            Some(name) => name.as_str(),
+    pub(crate) fn project_id(&self, place: usize) -> &str {
+        match self.project_ids.get(place) {
+            Some(id) => id.as_str(),
             None => "",
         }
     }
@@ -172,12 +173,12 @@ fn has_kind(faults: &[ReadFault], kind: ReadKind) -> bool {
     faults.iter().any(|fault| fault.kind == kind)
 }
 
-fn nearest(alloc: Global, names: &[String], id: &str) -> Result<Option<usize>, AllocError> {
+fn nearest(alloc: Global, project_ids: &[String], id: &str) -> Result<Option<usize>, AllocError> {
     let length = id.chars().count();
     let mut best = None;
     let mut least = length / 3 + 1;
-    for place in 0..names.len() {
-        let other = names[place].as_str();
+    for place in 0..project_ids.len() {
+        let other = project_ids[place].as_str();
         if other.eq_ignore_ascii_case(id) {
             return Ok(Some(place));
         }

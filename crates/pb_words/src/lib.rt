@@ -5,7 +5,12 @@
 //! control character into a terminal. Nothing but that each call returns is proved of a word.
 #![tactic(auto)]
 
+mod audit_paths;
+mod audited;
+mod claims;
+mod complaint;
 pub mod count_words;
+mod faulty_record;
 mod fields;
 mod file_words;
 mod ids;
@@ -13,20 +18,24 @@ mod journal_form;
 mod journal_state;
 pub mod journal_words;
 mod looks;
+mod mark;
+mod mark_words;
 mod meta_words;
-mod place;
 mod quote;
 mod read_rules;
 pub mod read_words;
+mod records;
 mod row_form;
-mod rows;
 pub mod script_words;
+mod section;
 mod seen;
 pub mod serve_words;
 mod tally;
+mod text;
 mod walk;
 pub mod warnings;
 mod words;
 
+pub use audit_paths::AuditPaths;
 pub use file_words::{mistaken_words, open_words, write_words};
 pub use tally::Tally;

@@ -1,6 +1,6 @@
 // What a file looks like that is none of the program's texts.
 
-use crate::rows::open_again;
+use crate::text::Text;
 use crate::words::Words;
 use std::io::Read;
 use std::rt::Files;
@@ -23,9 +23,9 @@ impl Looks {
     }
 }
 
-/// What the file with this path looks like by its first bytes; none where they say nothing.
-pub(crate) fn looks_of<R: Files>(rt: &R, path: Option<&str>) -> Option<Looks> {
-    let mut file = open_again(rt, path?)?;
+/// What a text that is a file looks like by its first bytes; none where they say nothing.
+pub(crate) fn looks_of<R: Files>(text: &Text<'_, R>) -> Option<Looks> {
+    let mut file = text.open()?;
     let mut buffer = [0u8; 512];
     let count = match file.read(&mut buffer) {
         Ok(count) => count,

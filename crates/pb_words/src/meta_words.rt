@@ -1,13 +1,15 @@
 // Words for META: its values, which are judged at the head of PROJECTS, and its head.
 
 use crate::fields::{other_separator, text_at};
-use crate::place::{Text, line_of, put_place};
-use crate::read_rules::{put_broken, rule_of};
-use crate::rows::{Mark, Rows, rows_of};
-use crate::seen::{Section, Seen};
+use crate::mark::Mark;
+use crate::mark_words::{line_of, put_mark};
+use crate::read_rules::{put_broken, words_of};
+use crate::records::Records;
+use crate::section::Section;
+use crate::seen::Seen;
+use crate::text::Text;
 use crate::words::Words;
 use pb_read::ReadKind;
-use std::alloc::Global;
 use std::io::Read;
 use std::rt::Files;
 
@@ -31,10 +33,8 @@ fn key_of(kind: ReadKind, seen: &Seen) -> (&'static str, Option<Mark>) {
 
 /// Puts what is wrong with a value of META, and what to do; answers whether it was found.
 pub(crate) fn put_value_words<R: Files>(
-    rt: &R,
-    alloc: Global,
     out: &mut Words,
-    text: &Text<'_>,
+    text: &Text<'_, R>,
     seen: &Seen,
     kind: ReadKind,
 ) -> bool {
@@ -42,15 +42,15 @@ pub(crate) fn put_value_words<R: Files>(
     let Some(mark) = given else {
         return false;
     };
-    let Some(mut rows) = rows_of(rt, alloc, text.path) else {
+    let Some(mut records) = text.records() else {
         return false;
     };
-    let is_there = rows.advance_to(mark.record);
+    let is_there = records.advance_to(mark.at);
     if is_there {
-        put_place(rt, out, text, mark);
-        put_value(out, key, kind, text_at(&rows.row, 1));
+        put_mark(out, text, mark);
+        put_value(out, key, kind, text_at(&records.last, 1));
     }
-    drop(rows);
+    drop(records);
     is_there
 }
 
@@ -59,25 +59,23 @@ fn put_value(out: &mut Words, key: &str, kind: ReadKind, value: &str) {
     out.put(key);
     out.put(": ");
     put_broken(out, kind, value.as_bytes());
-    out.put(rule_of(kind).remedy);
+    out.put(words_of(kind).remedy);
     out.put("\n")
 }
 
 /// Puts which key META lacks, and what to do.
 pub(crate) fn put_missing_key<R: Files>(
-    rt: &R,
-    alloc: Global,
     out: &mut Words,
-    text: &Text<'_>,
+    text: &Text<'_, R>,
     seen: &Seen,
     mark: Mark,
 ) {
-    put_place(rt, out, text, mark);
+    put_mark(out, text, mark);
     let lacks_budget = seen.budget.is_none();
     out.put(": META ends here without the key `");
     out.put(if lacks_budget { "budget" } else { "vote_type" });
     out.put("`.\n");
-    match separator_at(rt, alloc, text, seen.last) {
+    match separator_at(text, seen.last) {
         Some(separator) => put_separator(out, separator),
         None => out.put(if lacks_budget {
             ADD_BUDGET
@@ -88,21 +86,16 @@ pub(crate) fn put_missing_key<R: Files>(
 }
 
 /// What separates the fields of the record with this mark, where it is not `;`.
-fn separator_at<R: Files>(
-    rt: &R,
-    alloc: Global,
-    text: &Text<'_>,
-    mark: Mark,
-) -> Option<&'static str> {
-    let mut rows = rows_of(rt, alloc, text.path)?;
-    let separator = separator_in(&mut rows, mark.record);
-    drop(rows);
+fn separator_at<R: Files>(text: &Text<'_, R>, mark: Mark) -> Option<&'static str> {
+    let mut records = text.records()?;
+    let separator = separator_in(&mut records, mark.at);
+    drop(records);
     separator
 }
 
-fn separator_in<F: Read>(rows: &mut Rows<F>, number: u64) -> Option<&'static str> {
-    if rows.advance_to(number) {
-        other_separator(&rows.row)
+fn separator_in<F: Read>(records: &mut Records<F>, at: u64) -> Option<&'static str> {
+    if records.advance_to(at) {
+        other_separator(&records.last)
     } else {
         None
     }
@@ -118,40 +111,34 @@ pub(crate) fn put_separator(out: &mut Words, separator: &str) {
 }
 
 /// Puts what to do where META's head stands behind the record with this mark, and answers whether it does.
-pub(crate) fn put_late_meta<R: Files>(
-    rt: &R,
-    alloc: Global,
-    out: &mut Words,
-    text: &Text<'_>,
-    first: Mark,
-) -> bool {
-    let Some(mark) = late_meta(rt, alloc, text, first.record) else {
+pub(crate) fn put_late_meta<R: Files>(out: &mut Words, text: &Text<'_, R>, first: Mark) -> bool {
+    let Some(mark) = late_meta(text, first.at) else {
         return false;
     };
     out.put("META stands on line ");
-    out.put_number(line_of(rt, text, mark));
+    out.put_number(line_of(text, mark));
     out.put(": take out what stands before it.\n");
     true
 }
 
 /// Where META's head stands behind the record with this number.
-fn late_meta<R: Files>(rt: &R, alloc: Global, text: &Text<'_>, number: u64) -> Option<Mark> {
-    let mut rows = rows_of(rt, alloc, text.path)?;
-    let mark = late_meta_in(&mut rows, number);
-    drop(rows);
+fn late_meta<R: Files>(text: &Text<'_, R>, at: u64) -> Option<Mark> {
+    let mut records = text.records()?;
+    let mark = late_meta_in(&mut records, at);
+    drop(records);
     mark
 }
 
-fn late_meta_in<F: Read>(rows: &mut Rows<F>, number: u64) -> Option<Mark> {
-    if !rows.advance_to(number) {
+fn late_meta_in<F: Read>(records: &mut Records<F>, at: u64) -> Option<Mark> {
+    if !records.advance_to(at) {
         return None;
     }
     for _ in 0..MOST_BEFORE_META {
-        if !rows.advance() {
+        if !records.advance() {
             return None;
         }
-        if Section::headed_by(&rows.row) == Some(Section::Meta) {
-            return Some(rows.mark());
+        if Section::headed_by(&records.last) == Some(Section::Meta) {
+            return Some(records.mark());
         }
     }
     None

@@ -1,6 +1,7 @@
 // The line of the text at which a record begins, and the quotation mark that makes it run over several lines.
 
-use crate::rows::{Mark, open_at};
+use crate::mark::Mark;
+use crate::text::Text;
 use std::io::Read;
 use std::rt::Files;
 
@@ -127,8 +128,8 @@ fn plain(byte: u8) -> State {
 }
 
 /// What the bytes say of the record with this mark, in a file that is read again.
-pub(crate) fn span_of<R: Files>(rt: &R, path: Option<&str>, mark: Mark) -> Option<Span> {
-    let mut file = open_at(rt, path?, mark.byte)?;
+pub(crate) fn span_of<R: Files>(text: &Text<'_, R>, mark: Mark) -> Option<Span> {
+    let mut file = text.open_at(mark.byte)?;
     let span = scan(&mut file, mark.line);
     drop(file);
     Some(span)

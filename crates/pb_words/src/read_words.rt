@@ -1,20 +1,20 @@
 //! Words for the faults of a .pb file.
 
-use crate::fields::{bytes_at, column_of, other_separator, place_of_no_text, text_at};
+use crate::faulty_record::FaultyRecord;
+use crate::fields::other_separator;
 use crate::file_words::put_reading_failed;
 use crate::ids::Ids;
 use crate::looks::looks_of;
+use crate::mark_words::{line_of, put_mark, put_quotes, put_record_number, put_subject};
 use crate::meta_words::{put_late_meta, put_missing_key, put_separator, put_value_words};
-use crate::place::{Text, line_of, put_number_place, put_place, put_quotes, put_subject};
-use crate::read_rules::{put_broken, rule_of};
-use crate::rows::{Mark, rows_of};
-use crate::seen::{Section, Seen, Stage};
+use crate::read_rules::words_of;
+use crate::section::{Section, Stage};
+use crate::seen::Seen;
+use crate::text::Text;
 use crate::walk::Walk;
 use crate::words::Words;
-use csv::ByteRecord;
 use pb_read::{ReadFault, ReadKind};
 use std::alloc::{AllocError, Global};
-use std::io::Read;
 use std::rt::Files;
 
 /// What to do about a vote for a project that was left out.
@@ -22,24 +22,6 @@ const MEND_PROJECT: &str = "Mend the project's row; the vote may then stand as i
 
 /// What to do about a vote whose ids blanks separate.
 const NO_BLANKS: &str = "The vote has blanks where `,` is due: write `,` between two ids.";
-
-/// What to do about a row that is one field in quotes.
-const NO_QUOTES: &str = "Quotation marks make the whole row one field: take them out.";
-
-/// What to do about the column names of VOTES among the projects.
-const NO_VOTES: &str =
-    "These are the column names of VOTES: put the section's head, VOTES, on a line before them.";
-
-/// What was found where a fault stands.
-#[derive(Clone, Copy)]
-struct Found {
-    kind: ReadKind,
-    seen: Seen,
-    /// The section that is read.
-    section: Section,
-    /// The faulty record; the last one where the fault is the file's end.
-    mark: Mark,
-}
 
 /// Words for a fault of the .pb file with this path; no path is standard input.
 pub fn read_words<R: Files>(
@@ -59,22 +41,18 @@ pub fn list_words<R: Files>(
     faults: &[ReadFault],
 ) -> Result<String, AllocError> {
     let mut out = Words::new(alloc);
-    let text = Text {
-        path,
-        unit: "record",
-        before: 0,
-    };
-    match rows_of(rt, alloc, path) {
-        Some(rows) => {
-            let mut walk = Walk::new(alloc, rows, faults);
+    let text = Text::of_records(rt, alloc, path);
+    match text.records() {
+        Some(records) => {
+            let mut walk = Walk::new(alloc, records, faults);
             for fault in faults {
-                put_fault(rt, alloc, &mut out, &text, &mut walk, *fault);
+                put_fault(&mut out, &text, &mut walk, *fault);
             }
             drop(walk);
         }
         None => {
             for fault in faults {
-                put_unread(rt, &mut out, &text, *fault);
+                put_unread(&mut out, &text, *fault);
             }
         }
     }
@@ -82,70 +60,55 @@ pub fn list_words<R: Files>(
 }
 
 /// Puts what is said of a fault by itself.
-fn put_unread<R: Files>(rt: &R, out: &mut Words, text: &Text<'_>, fault: ReadFault) {
+fn put_unread<R: Files>(out: &mut Words, text: &Text<'_, R>, fault: ReadFault) {
     let at = u64::from(fault.at);
     if fault.kind == ReadKind::ReadFailed {
         if let Some(path) = text.path {
-            return put_reading_failed(rt, out, text, path, at);
+            return put_reading_failed(out, text, path, at);
         }
     }
-    put_alone(out, text, fault.kind, at)
+    put_record_number(out, text, at);
+    put_alone(out, fault.kind)
 }
 
-fn put_alone(out: &mut Words, text: &Text<'_>, kind: ReadKind, at: u64) {
-    let rule = rule_of(kind);
-    put_number_place(out, text, at);
+fn put_alone(out: &mut Words, kind: ReadKind) {
+    let words = words_of(kind);
     out.put(": ");
-    out.put(rule.rule);
+    out.put(words.what);
     out.put(".\n");
-    out.put(rule.remedy);
+    out.put(words.remedy);
     out.put("\n")
 }
 
 /// Puts what is said of the next fault of a file that is read again.
 fn put_fault<R: Files>(
-    rt: &R,
-    alloc: Global,
     out: &mut Words,
-    text: &Text<'_>,
+    text: &Text<'_, R>,
     walk: &mut Walk<R::File>,
     fault: ReadFault,
 ) {
     if fault.kind == ReadKind::ReadFailed {
-        return put_unread(rt, out, text, fault);
+        return put_unread(out, text, fault);
     }
-    if put_looks(rt, out, text, fault.kind) {
+    if put_looks(out, text, fault.kind) {
         return;
     }
     match walk.go_to(u64::from(fault.at)) {
-        Ok(true) => put_here(rt, alloc, out, text, walk, fault),
-        Ok(false) => put_end(rt, out, text, &found_at(walk, fault.kind, false)),
+        Ok(true) => put_here(out, text, walk, fault),
+        Ok(false) => put_end(out, text, &walk.seen, fault.kind),
         Err(_) => out.fail(),
-    }
-}
-
-/// What was found where a walk has come, at a record or at the end.
-fn found_at<F: Read>(walk: &Walk<F>, kind: ReadKind, is_record: bool) -> Found {
-    Found {
-        kind,
-        seen: walk.seen,
-        section: walk.seen.section(),
-        mark: walk.mark(is_record),
     }
 }
 
 /// Puts what is said of a fault of the record that was read last, and leaves the record out.
 fn put_here<R: Files>(
-    rt: &R,
-    alloc: Global,
     out: &mut Words,
-    text: &Text<'_>,
+    text: &Text<'_, R>,
     walk: &mut Walk<R::File>,
     fault: ReadFault,
 ) {
-    let found = found_at(walk, fault.kind, true);
-    if !put_found(rt, alloc, out, text, walk, &found) {
-        put_unread(rt, out, text, fault);
+    if !put_found(out, text, walk, fault.kind) {
+        put_unread(out, text, fault);
     }
     if walk.leave_out().is_err() {
         out.fail();
@@ -153,11 +116,11 @@ fn put_here<R: Files>(
 }
 
 /// Puts what the file looks like that is none, and answers whether it does.
-fn put_looks<R: Files>(rt: &R, out: &mut Words, text: &Text<'_>, kind: ReadKind) -> bool {
+fn put_looks<R: Files>(out: &mut Words, text: &Text<'_, R>, kind: ReadKind) -> bool {
     if kind != ReadKind::NotText && kind != ReadKind::NoSection {
         return false;
     }
-    match looks_of(rt, text.path) {
+    match looks_of(text) {
         Some(looks) => {
             out.put_name(text.path);
             looks.put(out);
@@ -167,186 +130,80 @@ fn put_looks<R: Files>(rt: &R, out: &mut Words, text: &Text<'_>, kind: ReadKind)
     }
 }
 
-/// Puts what is wrong with a record, and what to do; answers whether it was found.
+/// Puts what is wrong with the record that was read last, and what to do; answers whether it was found.
 fn put_found<R: Files>(
-    rt: &R,
-    alloc: Global,
     out: &mut Words,
-    text: &Text<'_>,
+    text: &Text<'_, R>,
     walk: &Walk<R::File>,
-    found: &Found,
+    kind: ReadKind,
 ) -> bool {
-    if found.seen.stage == Stage::Rows(Section::Meta) {
-        match found.kind {
+    let faulty = walk.faulty_record(kind);
+    if faulty.seen.stage == Stage::Rows(Section::Meta) {
+        match kind {
             ReadKind::MissingKey => {
-                put_missing_key(rt, alloc, out, text, &found.seen, found.mark);
+                put_missing_key(out, text, &faulty.seen, faulty.mark);
                 return true;
             }
             ReadKind::NotText | ReadKind::SectionOrder | ReadKind::TooManyRecords => {}
-            kind => return put_value_words(rt, alloc, out, text, &found.seen, kind),
+            kind => return put_value_words(out, text, &faulty.seen, kind),
         }
     }
-    let mut remedy = rule_of(found.kind).remedy;
-    put_place(rt, out, text, found.mark);
-    match found.kind {
+    let mut remedy = words_of(kind).remedy;
+    put_mark(out, text, faulty.mark);
+    match kind {
         ReadKind::RepeatedProject | ReadKind::RepeatedVoter => {
-            put_repeated(rt, out, text, walk, found)
+            put_repeated(out, text, &walk.ids, &faulty)
         }
         ReadKind::UnknownProject => {
-            remedy = put_unknown(rt, out, text, walk, found);
+            remedy = put_unknown(out, text, &walk.ids, &faulty);
         }
-        _ => put_record(out, found, &walk.rows.row),
+        _ => faulty.put(out),
     }
-    put_remedy(rt, alloc, out, text, found, &walk.rows.row, remedy);
+    put_remedy(out, text, &faulty, remedy);
     true
 }
 
 /// Puts what to do about a record.
 fn put_remedy<R: Files>(
-    rt: &R,
-    alloc: Global,
     out: &mut Words,
-    text: &Text<'_>,
-    found: &Found,
-    row: &ByteRecord,
+    text: &Text<'_, R>,
+    faulty: &FaultyRecord<'_>,
     remedy: &str,
 ) {
-    if put_quotes(rt, out, text, found.mark) {
+    if put_quotes(out, text, faulty.mark) {
         return;
     }
-    if found.seen.stage == Stage::Start
-        && found.kind == ReadKind::NoSection
-        && put_late_meta(rt, alloc, out, text, found.mark)
+    if faulty.seen.stage == Stage::Start
+        && faulty.kind == ReadKind::NoSection
+        && put_late_meta(out, text, faulty.mark)
     {
         return;
     }
-    let separator = match found.kind {
-        ReadKind::NoSection | ReadKind::MissingColumn => other_separator(row),
+    let separator = match faulty.kind {
+        ReadKind::NoSection | ReadKind::MissingColumn => other_separator(faulty.record),
         _ => None,
     };
     match separator {
         Some(separator) => put_separator(out, separator),
-        None => out.put_all(&[row_remedy(found, row).unwrap_or(remedy), "\n"]),
+        None => out.put_all(&[faulty.remedy().unwrap_or(remedy), "\n"]),
     }
-}
-
-/// What to do about a row that is in another form than rows have, or in the wrong section.
-fn row_remedy(found: &Found, row: &ByteRecord) -> Option<&'static str> {
-    let is_project = found.seen.stage == Stage::Rows(Section::Projects);
-    if is_project && column_of(row, Section::Votes.id_column()).is_some() {
-        Some(NO_VOTES)
-    } else if found.kind == ReadKind::MissingField
-        && row.len() == 1
-        && bytes_at(row, 0).contains(&b';')
-    {
-        Some(NO_QUOTES)
-    } else {
-        None
-    }
-}
-
-/// Puts what is wrong with a record by itself.
-fn put_record(out: &mut Words, found: &Found, row: &ByteRecord) {
-    let section = found.section;
-    match found.kind {
-        ReadKind::NotText => put_no_text(out, row),
-        ReadKind::NoSection => put_head(out, row, " is no section's head, and META is due.\n"),
-        ReadKind::SectionOrder => put_head(out, row, order_rule(found.seen.stage)),
-        ReadKind::NoHeader => {
-            put_head(out, row, " stands where ");
-            out.put(header_due(section))
-        }
-        ReadKind::MissingColumn => put_no_column(out, section, row),
-        ReadKind::MissingField => put_short(out, found, row),
-        ReadKind::EmptyId => put_value(out, found, section.id_column(), "", found.seen.id(row)),
-        ReadKind::BadMoney
-        | ReadKind::MoneyTooFine
-        | ReadKind::MoneyTooLarge
-        | ReadKind::ZeroCost => {
-            let seen = &found.seen;
-            put_value(
-                out,
-                found,
-                section.value_column(),
-                seen.id(row),
-                seen.value(row),
-            )
-        }
-        kind => out.put_all(&[": ", rule_of(kind).rule, ".\n"]),
-    }
-}
-
-fn put_no_text(out: &mut Words, row: &ByteRecord) {
-    let place = place_of_no_text(row).unwrap_or(0);
-    out.put(", field ");
-    out.put_number((place as u64).saturating_add(1));
-    out.put(": ");
-    out.put_quoted(bytes_at(row, place));
-    out.put(" is not UTF-8 text.\n");
-}
-
-fn put_head(out: &mut Words, row: &ByteRecord, rule: &str) {
-    out.put(": ");
-    out.put_quoted(text_at(row, 0).as_bytes());
-    out.put(rule);
-}
-
-/// What is due where another section's head stands.
-fn order_rule(stage: Stage) -> &'static str {
-    match stage {
-        Stage::Start => " stands where META is due.\n",
-        Stage::Rows(Section::Meta) => " stands where PROJECTS is due.\n",
-        Stage::Rows(Section::Projects) => " stands where VOTES is due.\n",
-        _ => " stands where no further section is due.\n",
-    }
-}
-
-fn put_no_column(out: &mut Words, section: Section, row: &ByteRecord) {
-    let id = section.id_column();
-    let missing = match column_of(row, id) {
-        Some(_) => section.value_column(),
-        None => id,
-    };
-    out.put(": the row of column names begins with ");
-    out.put_quoted(text_at(row, 0).as_bytes());
-    out.put_all(&[" and lacks the column `", missing, "`.\n"]);
-}
-
-fn put_short(out: &mut Words, found: &Found, row: &ByteRecord) {
-    let section = found.section;
-    put_subject(out, section.subject(), found.seen.id(row));
-    let missing = if found.seen.id_place.unwrap_or(0) < row.len() {
-        section.value_column()
-    } else {
-        section.id_column()
-    };
-    out.put_all(&[": the row ends before the column `", missing, "`.\n"]);
-}
-
-/// Puts a value of this column, in the row with this id, and the rule that it breaks.
-fn put_value(out: &mut Words, found: &Found, column: &str, id: &str, value: &str) {
-    out.put(", column ");
-    out.put(column);
-    put_subject(out, found.section.subject(), id);
-    out.put(": ");
-    put_broken(out, found.kind, value.as_bytes())
 }
 
 /// Puts where a repeated id stood first.
 fn put_repeated<R: Files>(
-    rt: &R,
     out: &mut Words,
-    text: &Text<'_>,
-    walk: &Walk<R::File>,
-    found: &Found,
+    text: &Text<'_, R>,
+    ids: &Ids,
+    faulty: &FaultyRecord<'_>,
 ) {
-    let id = found.seen.id(&walk.rows.row);
+    let id = faulty.id();
+    let section = faulty.seen.section();
     out.put(", column ");
-    out.put(found.section.id_column());
+    out.put(section.id_column());
     out.put(": ");
     out.put_quoted(id.as_bytes());
-    match walk.ids.first(found.section, id) {
-        Some(first) => put_first(out, line_of(rt, text, first)),
+    match ids.first(section, id) {
+        Some(first) => put_first(out, line_of(text, first)),
         None => out.put(" stood in an earlier row.\n"),
     }
 }
@@ -359,24 +216,22 @@ fn put_first(out: &mut Words, line: u64) {
 
 /// Puts which id no project has, and the nearest one, or where that project was left out; answers what to do.
 fn put_unknown<R: Files>(
-    rt: &R,
     out: &mut Words,
-    text: &Text<'_>,
-    walk: &Walk<R::File>,
-    found: &Found,
+    text: &Text<'_, R>,
+    ids: &Ids,
+    faulty: &FaultyRecord<'_>,
 ) -> &'static str {
-    let row = &walk.rows.row;
     out.put(", column vote");
-    put_subject(out, "voter", found.seen.id(row));
-    let unknown = walk.ids.unknown_of(found.seen.value(row));
+    put_subject(out, "voter", faulty.id());
+    let unknown = ids.unknown_of(faulty.value());
     out.put(": ");
     out.put_quoted(unknown.as_bytes());
-    match walk.ids.left_out(unknown) {
+    match ids.left_out(unknown) {
         Some(mark) => {
-            put_left_out(out, line_of(rt, text, mark));
+            put_left_out(out, line_of(text, mark));
             MEND_PROJECT
         }
-        None => put_no_project(out, &walk.ids, unknown),
+        None => put_no_project(out, ids, unknown),
     }
 }
 
@@ -397,28 +252,28 @@ fn put_no_project(out: &mut Words, ids: &Ids, unknown: &str) -> &'static str {
         Ok(near) => put_near(out, ids, near),
         Err(_) => out.fail(),
     }
-    rule_of(ReadKind::UnknownProject).remedy
+    words_of(ReadKind::UnknownProject).remedy
 }
 
 fn put_near(out: &mut Words, ids: &Ids, near: Option<usize>) {
     if let Some(place) = near {
         out.put("; the nearest is ");
-        out.put_quoted(ids.name(place).as_bytes())
+        out.put_quoted(ids.project_id(place).as_bytes())
     }
     out.put(".\n")
 }
 
-/// Puts what is missing at the end of the file.
-fn put_end<R: Files>(rt: &R, out: &mut Words, text: &Text<'_>, found: &Found) {
+/// Puts what is missing at the end of the file, where its records say this.
+fn put_end<R: Files>(out: &mut Words, text: &Text<'_, R>, seen: &Seen, kind: ReadKind) {
     out.put_name(text.path);
     out.put(": the file ends");
-    if found.mark.record > 0 {
-        put_last(out, line_of(rt, text, found.mark), found.mark.record)
+    if seen.last.at > 0 {
+        put_last(out, line_of(text, seen.last), seen.last.at)
     }
     out.put(", and ");
-    out.put(due_at_end(found.seen.stage));
-    if !put_quotes(rt, out, text, found.mark) {
-        out.put(rule_of(found.kind).remedy);
+    out.put(seen.stage.due_at_end());
+    if !put_quotes(out, text, seen.last) {
+        out.put(words_of(kind).remedy);
         out.put("\n")
     }
 }
@@ -429,26 +284,4 @@ fn put_last(out: &mut Words, line: u64, record: u64) {
     out.put(" (record ");
     out.put_number(record);
     out.put(")")
-}
-
-/// What is missing where the file ends.
-fn due_at_end(stage: Stage) -> &'static str {
-    match stage {
-        Stage::Start => "META is due.\n",
-        Stage::Header(section) => header_due(section),
-        Stage::Rows(section) => match section {
-            Section::Meta => "PROJECTS is still to come.\n",
-            Section::Projects => "VOTES is still to come.\n",
-            Section::Votes => "a record is missing.\n",
-        },
-    }
-}
-
-/// What is missing where a section has no row of column names.
-fn header_due(section: Section) -> &'static str {
-    match section {
-        Section::Meta => "META's row of column names is due.\n",
-        Section::Projects => "PROJECTS' row of column names is due.\n",
-        Section::Votes => "VOTES' row of column names is due.\n",
-    }
 }

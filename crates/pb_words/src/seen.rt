@@ -1,79 +1,9 @@
 // What the records of a .pb file before a certain one say of its sections.
 
 use crate::fields::{column_of, is_blank, text_at};
-use crate::rows::{Mark, Rows};
+use crate::mark::Mark;
+use crate::section::{Section, Stage};
 use csv::ByteRecord;
-use std::io::Read;
-
-/// A section of a file.
-#[derive(Clone, Copy, PartialEq, Eq)]
-pub(crate) enum Section {
-    Meta,
-    Projects,
-    Votes,
-}
-
-impl Section {
-    /// The section that a record is the head of.
-    pub(crate) fn headed_by(row: &ByteRecord) -> Option<Section> {
-        let word = text_at(row, 0);
-        if word.eq_ignore_ascii_case("META") {
-            Some(Section::Meta)
-        } else if word.eq_ignore_ascii_case("PROJECTS") {
-            Some(Section::Projects)
-        } else if word.eq_ignore_ascii_case("VOTES") {
-            Some(Section::Votes)
-        } else {
-            None
-        }
-    }
-
-    pub(crate) fn name(self) -> &'static str {
-        match self {
-            Section::Meta => "META",
-            Section::Projects => "PROJECTS",
-            Section::Votes => "VOTES",
-        }
-    }
-
-    /// The column of its rows' ids.
-    pub(crate) fn id_column(self) -> &'static str {
-        match self {
-            Section::Meta => "key",
-            Section::Projects => "project_id",
-            Section::Votes => "voter_id",
-        }
-    }
-
-    /// The other column that its rows need.
-    pub(crate) fn value_column(self) -> &'static str {
-        match self {
-            Section::Meta => "value",
-            Section::Projects => "cost",
-            Section::Votes => "vote",
-        }
-    }
-
-    /// What its rows are.
-    pub(crate) fn subject(self) -> &'static str {
-        match self {
-            Section::Meta => "key",
-            Section::Projects => "project",
-            Section::Votes => "voter",
-        }
-    }
-}
-
-/// What may come next.
-#[derive(Clone, Copy, PartialEq, Eq)]
-pub(crate) enum Stage {
-    /// META's head.
-    Start,
-    /// The header row of this section.
-    Header(Section),
-    /// A row of this section, or the next section's head.
-    Rows(Section),
-}
 
 /// What the records say that were looked at so far.
 #[derive(Clone, Copy)]
@@ -117,14 +47,14 @@ impl Seen {
     }
 
     /// Takes a record that has no fault.
-    pub(crate) fn take(&mut self, row: &ByteRecord, mark: Mark) {
-        if is_blank(row) {
+    pub(crate) fn take(&mut self, record: &ByteRecord, mark: Mark) {
+        if is_blank(record) {
             return;
         }
         self.last = mark;
-        match Section::headed_by(row) {
+        match Section::headed_by(record) {
             Some(section) => self.stage = Stage::Header(section),
-            None => self.take_plain(row, mark),
+            None => self.take_plain(record, mark),
         }
     }
 
@@ -137,15 +67,15 @@ impl Seen {
         }
     }
 
-    fn take_plain(&mut self, row: &ByteRecord, mark: Mark) {
+    fn take_plain(&mut self, record: &ByteRecord, mark: Mark) {
         match self.stage {
             Stage::Start => {}
             Stage::Header(section) => {
-                self.id_place = column_of(row, section.id_column());
-                self.value_place = column_of(row, section.value_column());
+                self.id_place = column_of(record, section.id_column());
+                self.value_place = column_of(record, section.value_column());
                 self.stage = Stage::Rows(section);
             }
-            Stage::Rows(Section::Meta) => self.take_key(text_at(row, 0), mark),
+            Stage::Rows(Section::Meta) => self.take_key(text_at(record, 0), mark),
             Stage::Rows(Section::Projects | Section::Votes) => self.count(),
         }
     }

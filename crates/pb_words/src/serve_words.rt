@@ -6,7 +6,7 @@ use std::io::Error;
 
 /// Words for a journal that another run serves.
 pub fn locked_words(alloc: Global, path: &str) -> Result<String, AllocError> {
-    told(
+    path_words(
         alloc,
         path,
         ": another run serves this journal.\nWait until it has ended, or hand your rows to it.\n",
@@ -15,7 +15,7 @@ pub fn locked_words(alloc: Global, path: &str) -> Result<String, AllocError> {
 
 /// Words for a journal that could not be opened or made, for this reason.
 pub fn unopened_words(alloc: Global, path: &str, reason: &Error) -> Result<String, AllocError> {
-    failed(
+    failure_words(
         alloc,
         path,
         reason,
@@ -25,7 +25,7 @@ pub fn unopened_words(alloc: Global, path: &str, reason: &Error) -> Result<Strin
 
 /// Words for a journal, or what is kept beside it, that could not be written, synced or cut, for this reason.
 pub fn unkept_words(alloc: Global, path: &str, reason: &Error) -> Result<String, AllocError> {
-    failed(
+    failure_words(
         alloc,
         path,
         reason,
@@ -47,7 +47,7 @@ pub fn unanswered_words(alloc: Global, reason: Option<&Error>) -> Result<String,
 
 /// Words for a journal that is legal, and not spelled as a desk spells it.
 pub fn spelling_words(alloc: Global, path: &str) -> Result<String, AllocError> {
-    told(
+    path_words(
         alloc,
         path,
         ": its rows are legal, and not spelled as a desk spells them: with other line ends, needless quotation marks, or a byte order mark.\nIt was left as it is. Get the desk's own copy.\n",
@@ -77,7 +77,7 @@ pub fn bad_rows_words(alloc: Global, rows: u64) -> Result<String, AllocError> {
 }
 
 /// The path, and a text.
-fn told(alloc: Global, path: &str, text: &str) -> Result<String, AllocError> {
+fn path_words(alloc: Global, path: &str, text: &str) -> Result<String, AllocError> {
     let mut out = Words::new(alloc);
     out.put_name(Some(path));
     out.put(text);
@@ -85,7 +85,12 @@ fn told(alloc: Global, path: &str, text: &str) -> Result<String, AllocError> {
 }
 
 /// The path, why a call on it failed, and what to do.
-fn failed(alloc: Global, path: &str, reason: &Error, remedy: &str) -> Result<String, AllocError> {
+fn failure_words(
+    alloc: Global,
+    path: &str,
+    reason: &Error,
+    remedy: &str,
+) -> Result<String, AllocError> {
     let mut out = Words::new(alloc);
     out.put_name(Some(path));
     out.put_error(reason);

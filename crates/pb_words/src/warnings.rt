@@ -1,8 +1,10 @@
 //! Warnings of what is accepted in a .pb file, and probably not meant.
 
-use crate::fields::{is_blank, text_at};
-use crate::rows::Mark;
-use crate::seen::{Section, Seen, Stage};
+use crate::claims::{Claims, broken};
+use crate::fields::is_blank;
+use crate::mark::Mark;
+use crate::section::{Section, Stage};
+use crate::seen::Seen;
 use csv::ByteRecord;
 use pb_core::money::Money;
 use pb_core::no_memory::NoMemory;
@@ -44,28 +46,12 @@ const COMMA_IN_ID: usize = 8;
 /// The most warnings of one name.
 const MOST: u64 = 100;
 
-/// A number that META says, and its record.
-#[derive(Clone, Copy)]
-struct Claim {
-    record: u32,
-    /// None where the value is no whole number.
-    number: Option<u64>,
-}
-
-/// What META says that warnings rest on; of a repeated key the last value counts.
-#[derive(Clone, Copy)]
-struct Claims {
-    votes: Option<Claim>,
-    projects: Option<Claim>,
-    max_length: Option<u64>,
-    min_length: Option<u64>,
-    budget: Option<u64>,
-}
-
-/// A project, and the last vote that named it, from 1.
+/// A project, and how it is backed.
 #[derive(Clone, Copy)]
 struct Backed {
-    record: u32,
+    /// The number of its record.
+    at: u32,
+    /// The last vote that named it, from 1; 0 is none.
     vote: u64,
 }
 
@@ -92,13 +78,7 @@ impl Warnings {
         Warnings {
             alloc,
             seen: Seen::nothing(),
-            claims: Claims {
-                votes: None,
-                projects: None,
-                max_length: None,
-                min_length: None,
-                budget: None,
-            },
+            claims: Claims::none(),
             columns: 0,
             places: IdTable::new(alloc),
             projects: Vec::new(alloc),
@@ -108,8 +88,8 @@ impl Warnings {
         }
     }
 
-    /// Warns of a record by the name with this place.
-    fn warn(&mut self, name: usize, record: u32) {
+    /// Warns of the record with this number, by the name with this place.
+    fn warn(&mut self, name: usize, at: u32) {
         if name >= 9 {
             return;
         }
@@ -119,7 +99,7 @@ impl Warnings {
         }
         let warning = Warning {
             name: NAMES[name],
-            number: u64::from(record),
+            number: u64::from(at),
             is_more: false,
         };
         if self.found.push(warning).is_err() {
@@ -127,63 +107,37 @@ impl Warnings {
         }
     }
 
-    /// Takes a row of META.
-    fn take_key(&mut self, row: &ByteRecord, record: u32) {
-        let key = text_at(row, 0);
-        let value = text_at(row, 1);
-        let number = whole_number(value);
-        let claim = if value.is_empty() {
-            None
-        } else {
-            Some(Claim { record, number })
-        };
-        if key.eq_ignore_ascii_case("num_votes") {
-            self.claims.votes = claim;
-        } else if key.eq_ignore_ascii_case("num_projects") {
-            self.claims.projects = claim;
-        } else if key.eq_ignore_ascii_case("max_length") {
-            self.claims.max_length = number;
-        } else if key.eq_ignore_ascii_case("min_length") {
-            self.claims.min_length = number;
-        } else if key.eq_ignore_ascii_case("budget") {
-            self.claims.budget = match Money::read(value) {
-                Ok(budget) => Some(budget.0),
-                Err(_) => None,
-            };
-        }
-    }
-
     /// Takes a project that is accepted.
-    fn take_project(&mut self, row: &ByteRecord, record: u32) -> Result<(), AllocError> {
+    fn take_project(&mut self, row: &ByteRecord, at: u32) -> Result<(), AllocError> {
         let id = self.seen.id(row);
         if id.contains(',') {
-            self.warn(COMMA_IN_ID, record);
+            self.warn(COMMA_IN_ID, at);
         }
         if let (Ok(cost), Some(budget)) = (Money::read(self.seen.value(row)), self.claims.budget) {
             if cost.0 > budget {
-                self.warn(OVER_BUDGET, record);
+                self.warn(OVER_BUDGET, at);
             }
         }
         let place = u32::try_from(self.projects.len()).unwrap_or(u32::MAX);
         self.places.insert(self.alloc, self.seen.id(row), place)?;
-        self.projects.push(Backed { record, vote: 0 })?;
+        self.projects.push(Backed { at, vote: 0 })?;
         Ok(())
     }
 
     /// Takes a vote that is accepted.
-    fn take_vote(&mut self, row: &ByteRecord, record: u32) {
+    fn take_vote(&mut self, row: &ByteRecord, at: u32) {
         if row.len() > self.columns {
-            self.warn(SURPLUS_FIELDS, record);
+            self.warn(SURPLUS_FIELDS, at);
         }
         let length = self.back(row);
         if length == 0 {
-            self.warn(EMPTY_BALLOT, record);
+            self.warn(EMPTY_BALLOT, at);
         }
         if self.claims.max_length.unwrap_or(u64::MAX) < length {
-            self.warn(TOO_LONG_BALLOT, record);
+            self.warn(TOO_LONG_BALLOT, at);
         }
         if length < self.claims.min_length.unwrap_or(0) {
-            self.warn(TOO_SHORT_BALLOT, record);
+            self.warn(TOO_SHORT_BALLOT, at);
         }
     }
 
@@ -202,19 +156,19 @@ impl Warnings {
 
     /// Warns of what is known at the end alone.
     fn take_end(&mut self) {
-        if let Some(record) = broken(self.claims.votes, self.seen.votes) {
-            self.warn(VOTES_MISSING, record);
+        if let Some(at) = broken(self.claims.votes, self.seen.votes) {
+            self.warn(VOTES_MISSING, at);
         }
-        if let Some(record) = broken(self.claims.projects, self.seen.projects) {
-            self.warn(PROJECTS_MISSING, record);
+        if let Some(at) = broken(self.claims.projects, self.seen.projects) {
+            self.warn(PROJECTS_MISSING, at);
         }
         for place in 0..self.projects.len() {
             let unbacked = match self.projects.get(place) {
-                Some(project) if project.vote == 0 => Some(project.record),
+                Some(project) if project.vote == 0 => Some(project.at),
                 _ => None,
             };
-            if let Some(record) = unbacked {
-                self.warn(NO_SUPPORTER, record);
+            if let Some(at) = unbacked {
+                self.warn(NO_SUPPORTER, at);
             }
         }
     }
@@ -249,7 +203,7 @@ impl Warnings {
 impl Watch for Warnings {
     fn see(&mut self, record: &ByteRecord, at: u32, refused: Option<ReadKind>) {
         let mark = Mark {
-            record: u64::from(at),
+            at: u64::from(at),
             ..Mark::start()
         };
         if is_blank(record) {
@@ -265,7 +219,7 @@ impl Watch for Warnings {
         match stage {
             _ if is_head => {}
             Stage::Header(_) => self.columns = record.len(),
-            Stage::Rows(Section::Meta) => self.take_key(record, at),
+            Stage::Rows(Section::Meta) => self.claims.take(record, at),
             Stage::Rows(Section::Projects) => {
                 if self.take_project(record, at).is_err() {
                     self.is_whole = false;
@@ -302,21 +256,4 @@ fn ends_early(faults: &[ReadFault], stage: Stage) -> bool {
         None => false,
     };
     by_fault || stage != Stage::Rows(Section::Votes)
-}
-
-/// The record of a claim that there are other than so many.
-fn broken(claim: Option<Claim>, count: u64) -> Option<u32> {
-    let claim = claim?;
-    if claim.number == Some(count) {
-        return None;
-    }
-    Some(claim.record)
-}
-
-/// The whole number that a value names, perhaps with zeros as decimals.
-fn whole_number(value: &str) -> Option<u64> {
-    match Money::read(value) {
-        Ok(Money(hundredths)) if hundredths % 100 == 0 => Some(hundredths / 100),
-        _ => None,
-    }
 }

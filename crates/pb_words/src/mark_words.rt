@@ -1,7 +1,8 @@
-// Where something stands in a text, in words.
+// Where a record stands in its text, in words.
 
+use crate::mark::Mark;
 use crate::quote::{Span, span_of};
-use crate::rows::Mark;
+use crate::text::Text;
 use crate::words::Words;
 use std::rt::Files;
 
@@ -10,37 +11,26 @@ const UNCLOSED: &str = " and is not closed, so all that follows is one field.
 Close it, or double it where it belongs to the text.
 ";
 
-/// The text that words speak of.
-#[derive(Clone, Copy)]
-pub(crate) struct Text<'a> {
-    /// Its path; none is standard input.
-    pub(crate) path: Option<&'a str>,
-    /// What its records are called.
-    pub(crate) unit: &'static str,
-    /// How many records come before the one with number 1.
-    pub(crate) before: u64,
-}
-
 /// Puts where a record stands that was not read again: `standard input: record 32`.
-pub(crate) fn put_number_place(out: &mut Words, text: &Text<'_>, number: u64) {
+pub(crate) fn put_record_number<R>(out: &mut Words, text: &Text<'_, R>, at: u64) {
     out.put_name(text.path);
     out.put_all(&[": ", text.unit, " "]);
-    out.put_number(number);
+    out.put_number(at);
 }
 
 /// Puts where a record begins: `city.pb: line 39 (record 32)`.
-pub(crate) fn put_place<R: Files>(rt: &R, out: &mut Words, text: &Text<'_>, mark: Mark) {
+pub(crate) fn put_mark<R: Files>(out: &mut Words, text: &Text<'_, R>, mark: Mark) {
     out.put_name(text.path);
     out.put(": line ");
-    out.put_number(line_of(rt, text, mark));
+    out.put_number(line_of(text, mark));
     out.put_all(&[" (", text.unit, " "]);
-    out.put_number(mark.record.saturating_sub(text.before));
+    out.put_number(mark.at.saturating_sub(text.before));
     out.put(")");
 }
 
 /// The line at which a record begins.
-pub(crate) fn line_of<R: Files>(rt: &R, text: &Text<'_>, mark: Mark) -> u64 {
-    match span_of(rt, text.path, mark) {
+pub(crate) fn line_of<R: Files>(text: &Text<'_, R>, mark: Mark) -> u64 {
+    match span_of(text, mark) {
         Some(span) => span.begins,
         None => mark.line,
     }
@@ -56,8 +46,8 @@ pub(crate) fn put_subject(out: &mut Words, subject: &str, id: &str) {
 
 /// Puts what is to be said of quotation marks, where the record runs over several lines by one; answers
 /// whether one is never closed.
-pub(crate) fn put_quotes<R: Files>(rt: &R, out: &mut Words, text: &Text<'_>, mark: Mark) -> bool {
-    match span_of(rt, text.path, mark) {
+pub(crate) fn put_quotes<R: Files>(out: &mut Words, text: &Text<'_, R>, mark: Mark) -> bool {
+    match span_of(text, mark) {
         Some(span) => put_span(out, &span),
         None => false,
     }
@@ -66,7 +56,7 @@ pub(crate) fn put_quotes<R: Files>(rt: &R, out: &mut Words, text: &Text<'_>, mar
 fn put_span(out: &mut Words, span: &Span) -> bool {
     match span.unclosed() {
         Some(opened) => {
-            put_opening(out, opened);
+            put_quote_opening(out, opened);
             out.put(UNCLOSED);
             true
         }
@@ -79,14 +69,14 @@ fn put_span(out: &mut Words, span: &Span) -> bool {
 
 fn put_over(out: &mut Words, over: Option<(u64, u64)>) {
     if let Some((opens, closes)) = over {
-        put_opening(out, opens);
+        put_quote_opening(out, opens);
         out.put(" and is closed on line ");
         out.put_number(closes);
         out.put(", so the lines between are one field.\n")
     }
 }
 
-fn put_opening(out: &mut Words, line: u64) {
+fn put_quote_opening(out: &mut Words, line: u64) {
     out.put("A quotation mark opens on line ");
     out.put_number(line)
 }

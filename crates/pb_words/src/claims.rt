@@ -1,0 +1,80 @@
+// What META says that warnings rest on.
+
+use crate::fields::text_at;
+use csv::ByteRecord;
+use pb_core::money::Money;
+
+/// A number that a row of META says.
+#[derive(Clone, Copy)]
+pub(crate) struct Claim {
+    /// The number of its record.
+    at: u32,
+    /// None where the value is no whole number.
+    number: Option<u64>,
+}
+
+/// What META says that warnings rest on; of a repeated key the last value counts.
+#[derive(Clone, Copy)]
+pub(crate) struct Claims {
+    pub(crate) votes: Option<Claim>,
+    pub(crate) projects: Option<Claim>,
+    pub(crate) max_length: Option<u64>,
+    pub(crate) min_length: Option<u64>,
+    pub(crate) budget: Option<u64>,
+}
+
+impl Claims {
+    /// META has said nothing yet.
+    pub(crate) fn none() -> Claims {
+        Claims {
+            votes: None,
+            projects: None,
+            max_length: None,
+            min_length: None,
+            budget: None,
+        }
+    }
+
+    /// Takes a row of META, the record with this number.
+    pub(crate) fn take(&mut self, row: &ByteRecord, at: u32) {
+        let key = text_at(row, 0);
+        let value = text_at(row, 1);
+        let number = whole_number(value);
+        let claim = if value.is_empty() {
+            None
+        } else {
+            Some(Claim { at, number })
+        };
+        if key.eq_ignore_ascii_case("num_votes") {
+            self.votes = claim;
+        } else if key.eq_ignore_ascii_case("num_projects") {
+            self.projects = claim;
+        } else if key.eq_ignore_ascii_case("max_length") {
+            self.max_length = number;
+        } else if key.eq_ignore_ascii_case("min_length") {
+            self.min_length = number;
+        } else if key.eq_ignore_ascii_case("budget") {
+            self.budget = match Money::read(value) {
+                Ok(budget) => Some(budget.0),
+                Err(_) => None,
+            };
+        }
+    }
+}
+
+/// The number of a claim's record, where the claim is of other than so many.
+pub(crate) fn broken(claim: Option<Claim>, count: u64) -> Option<u32> {
+    let claim = claim?;
+    if claim.number == Some(count) {
+        return None;
+    }
+    Some(claim.at)
+}
+
+/// The whole number that a value names, perhaps with zeros as decimals.
+fn whole_number(value: &str) -> Option<u64> {
+    match Money::read(value) {
+        Ok(Money(hundredths)) if hundredths % 100 == 0 => Some(hundredths / 100),
+        _ => None,
+    }
+}

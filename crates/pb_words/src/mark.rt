@@ -1,0 +1,23 @@
+// Where a record begins in its text.
+
+/// Where a record begins in its text. The bytes before it may end with blank lines that are no records.
+#[derive(Clone, Copy)]
+pub(crate) struct Mark {
+    /// The record's number, from 1.
+    pub(crate) at: u64,
+    /// How many bytes come before it.
+    pub(crate) byte: u64,
+    /// The line of those bytes' end, from 1.
+    pub(crate) line: u64,
+}
+
+impl Mark {
+    /// The start of a text.
+    pub(crate) fn start() -> Mark {
+        Mark {
+            at: 0,
+            byte: 0,
+            line: 1,
+        }
+    }
+}
