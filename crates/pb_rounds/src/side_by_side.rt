@@ -88,55 +88,199 @@ fn try_group<R: Threads + Sync, G: Gate, A: Allocator + Copy + Send + Sync>(
     thread::for_each_chunk_mut(group.pricing.rt, trials.as_mut_slice(), 1, &try_one);
 }
 
-/// Tries raises side by side, one for each trial, from this number of raises on, none before which decides: how many raises
-/// the completion decides on, where one of these decides. The first of them that does counts, whatever the later ones say.
-/// Where none does, the last trial has whom the last of these raises elects. The front is that of the first of these raises.
-fn try_raises<R: Threads + Sync, G: Gate, A: Allocator + Copy + Send + Sync, B: Allocator>(
-    pricing: &Pricing<R, G, A>,
-    election: &Election<B>,
-    front: &Front<'_, A>,
-    trials: &mut Vec<Trial<A>, A>,
+/// What a completion by raises uses again from raise to raise.
+#[derive(Drop)]
+struct Team<A: Allocator> {
+    /// A trial for each raise of a group.
+    trials: Vec<Trial<A>, A>,
+    /// The trial that jumps ahead.
+    ahead: Trial<A>,
+    pace: Pace,
+}
+
+/// A completion by raises: what it counts, what each raise adds to the share, and how many there may be.
+#[derive(Drop)]
+struct Raising<'a, R, G, A: Allocator, B: Allocator> {
+    pricing: &'a Pricing<'a, R, G, A>,
+    election: &'a Election<B>,
     step: Money,
     max_raises: u32,
-    next: u32,
-) -> Result<Option<u32>, NoMemory>
-    requires given { CanComplete election.now pricing.now.workers pricing.now.supporters.now step max_raises }
-    requires front { IsFront front.now }
-    requires of { IsFrontAt pricing.now.measure pricing.now.supporters.now (share_after election.now step next) front.now }
-    requires some { 0 < length trials.old.items }
-    requires few { next + length trials.old.items ≤ max_raises + 1 }
-    requires tried { (raises : ℕ) → raises < next
-        → is_decisive pricing.now.measure election.now step raises ≡ false }
-    ensures len { length trials.new.items ≡ length trials.old.items }
-    ensures decided { IfOk result (λ found. MatchOption found
-        ((raises : ℕ) → raises < next + length trials.old.items
-        → is_decisive pricing.now.measure election.now step raises ≡ false)
-        (λ raises. (raises ≤ max_raises)
-        × (add1_of pricing.now.measure election.now step max_raises ≡ Some raises))) }
-    ensures last { IfOk result (λ found. (d : _) → found ≡ None
-        → (slice_index_or trials.new.items (length trials.old.items - 1) d).outcome.elected
-        ≡ elected_after pricing.now.measure election.now step (next + length trials.old.items - 1)) }
+}
+
+impl<'a, R, G, A, B> Raising<'a, R, G, A, B>
+where
+    R: Threads + Sync,
+    G: Gate,
+    A: Allocator + Copy + Send + Sync,
+    B: Allocator,
 {
-    let group = Group {
-        pricing,
-        front,
-        budget: election.budget(),
-        opening: opening_share(election),
-        step,
-        next,
-    };
-    try_group(&group, trials);
-    drop(group);
-    for i in 0..trials.len() {
-        let raised = next + i as u32;
-        let end = trials[i].end?;
-        match end {
-            RaiseEnd::Over => return Ok(Some(raised - 1)),
-            RaiseEnd::Exhausted => return Ok(Some(raised)),
-            RaiseEnd::GoesOn => {}
+    /// Tries raises side by side, one for each trial, from this number of raises on, none before which decides: how many
+    /// raises the completion decides on, where one of these decides. The first of them that does counts, whatever the later
+    /// ones say. Where none does, the last trial has whom the last of these raises elects. The front is that of the first of
+    /// these raises.
+    fn try_raises(
+        &self,
+        front: &Front<'_, A>,
+        trials: &mut Vec<Trial<A>, A>,
+        next: u32,
+    ) -> Result<Option<u32>, NoMemory>
+        requires given { CanComplete self.now.election.now self.now.pricing.now.workers
+            self.now.pricing.now.supporters.now self.now.step self.now.max_raises }
+        requires front { IsFront front.now }
+        requires of { IsFrontAt self.now.pricing.now.measure self.now.pricing.now.supporters.now
+            (share_after self.now.election.now self.now.step next) front.now }
+        requires some { 0 < length trials.old.items }
+        requires few { next + length trials.old.items ≤ self.now.max_raises + 1 }
+        requires tried { (raises : ℕ) → raises < next
+            → is_decisive self.now.pricing.now.measure self.now.election.now self.now.step raises ≡ false }
+        ensures len { length trials.new.items ≡ length trials.old.items }
+        ensures decided { IfOk result (λ found. MatchOption found
+            ((raises : ℕ) → raises < next + length trials.old.items
+            → is_decisive self.now.pricing.now.measure self.now.election.now self.now.step raises ≡ false)
+            (λ raises. (raises ≤ self.now.max_raises)
+            × (add1_of self.now.pricing.now.measure self.now.election.now self.now.step self.now.max_raises
+            ≡ Some raises))) }
+        ensures last { IfOk result (λ found. (d : _) → found ≡ None
+            → (slice_index_or trials.new.items (length trials.old.items - 1) d).outcome.elected
+            ≡ elected_after self.now.pricing.now.measure self.now.election.now self.now.step
+            (next + length trials.old.items - 1)) }
+    {
+        let group = Group {
+            pricing: self.pricing,
+            front,
+            budget: self.election.budget(),
+            opening: opening_share(self.election),
+            step: self.step,
+            next,
+        };
+        try_group(&group, trials);
+        drop(group);
+        for i in 0..trials.len() {
+            let raised = next + i as u32;
+            let end = trials[i].end?;
+            match end {
+                RaiseEnd::Over => return Ok(Some(raised - 1)),
+                RaiseEnd::Exhausted => return Ok(Some(raised)),
+                RaiseEnd::GoesOn => {}
+            }
         }
+        Ok(None)
     }
-    Ok(None)
+
+    /// Whether every raise from this number on up to the target elects what the last one tried elected, so that none of
+    /// them decides as that did not. Then the last trial has whom the target elects.
+    fn jump(
+        &self,
+        last: &mut Trial<A>,
+        ahead: &mut Trial<A>,
+        next: u32,
+        target: u32,
+    ) -> Result<bool, NoMemory>
+        requires given { CanComplete self.now.election.now self.now.pricing.now.workers
+            self.now.pricing.now.supporters.now self.now.step target }
+        requires next { (0 < next) × (next ≤ target) }
+        requires tried { (raises : ℕ) → raises < next
+            → is_decisive self.now.pricing.now.measure self.now.election.now self.now.step raises ≡ false }
+        requires last { last.old.outcome.elected
+            ≡ elected_after self.now.pricing.now.measure self.now.election.now self.now.step (next - 1) }
+        ensures decided { IfOk result (λ jumped. jumped ≡ true → (raises : ℕ) → raises < target + 1
+            → is_decisive self.now.pricing.now.measure self.now.election.now self.now.step raises ≡ false) }
+        ensures last { IfOk result (λ jumped. jumped ≡ true → last.new.outcome.elected
+            ≡ elected_after self.now.pricing.now.measure self.now.election.now self.now.step target) }
+        ensures stays { IfOk result (λ jumped. jumped ≡ false
+            → last.new.outcome.elected ≡ last.old.outcome.elected) }
+    {
+        let share = raised_share(opening_share(self.election), target, self.step);
+        let elected = last.outcome.elected.as_slice();
+        let (measure, supporters) = (self.pricing.measure, self.pricing.supporters);
+        let (queue, outcome) = (&mut ahead.queue, &mut ahead.outcome);
+        let keeps = keeps(measure, supporters, share, elected, queue, outcome)?;
+        if keeps {
+            swap(&mut last.outcome, &mut ahead.outcome);
+        }
+        Ok(keeps)
+    }
+
+    /// Jumps ahead from the last raise that was tried, as far as that goes: the number of raises that is tried next, none
+    /// before which decides.
+    fn jump_ahead(
+        &self,
+        last: &mut Trial<A>,
+        ahead: &mut Trial<A>,
+        pace: &mut Pace,
+        from: u32,
+    ) -> Result<u32, NoMemory>
+        requires given { CanComplete self.now.election.now self.now.pricing.now.workers
+            self.now.pricing.now.supporters.now self.now.step self.now.max_raises }
+        requires from { (0 < from) × (from ≤ self.now.max_raises + 1) }
+        requires tried { (raises : ℕ) → raises < from
+            → is_decisive self.now.pricing.now.measure self.now.election.now self.now.step raises ≡ false }
+        requires last { last.old.outcome.elected
+            ≡ elected_after self.now.pricing.now.measure self.now.election.now self.now.step (from - 1) }
+        ensures range { IfOk result (λ next. (from ≤ next) × (next ≤ self.now.max_raises + 1)) }
+        ensures tried { IfOk result (λ next. (raises : ℕ) → raises < next
+            → is_decisive self.now.pricing.now.measure self.now.election.now self.now.step raises ≡ false) }
+    {
+        let mut next = from;
+        if !pace.is_due() {
+            return Ok(next);
+        }
+        for _ in 0..MOST_JUMPS {
+            let target = pace.target(next, self.max_raises);
+            if target <= next {
+                return Ok(next);
+            }
+            if self.jump(last, ahead, next, target)? {
+                next = target + 1;
+                pace.won();
+            } else if !pace.lost() {
+                return Ok(next);
+            }
+        }
+        Ok(next)
+    }
+
+    /// How many raises the completion decides on, from this number on, none before which decides. They are tried in groups
+    /// that grow until each worker has a raise, or each processor where those are fewer. After each group raises are jumped
+    /// over, as far as they elect the same.
+    fn decide(&self, team: &mut Team<A>, from: u32) -> Result<Option<u32>, NoMemory>
+        requires given { CanComplete self.now.election.now self.now.pricing.now.workers
+            self.now.pricing.now.supporters.now self.now.step self.now.max_raises }
+        requires from { from ≤ self.now.max_raises + 1 }
+        requires few { length team.old.trials.items ≤ 64 }
+        requires tried { (raises : ℕ) → raises < from
+            → is_decisive self.now.pricing.now.measure self.now.election.now self.now.step raises ≡ false }
+        ensures { IfOk result (λ found.
+            (add1_of self.now.pricing.now.measure self.now.election.now self.now.step self.now.max_raises ≡ found)
+            × MatchOption found ⊤ (λ raises. raises ≤ self.now.max_raises)) }
+    {
+        let pricing = self.pricing;
+        let supporters = pricing.supporters;
+        let processors = processors(pricing.rt);
+        let workers = workers_for_trials(pricing.workers, supporters);
+        let opening = opening_share(self.election);
+        let mut front = Front::open(pricing.alloc, pricing.measure, supporters, opening)?;
+        let mut next = from;
+        while next <= self.max_raises {
+            let left = self.max_raises + 1 - next;
+            let share = raised_share(opening, next, self.step);
+            pricing.gate.raised(next, share);
+            front.extend(share)?;
+            resize(pricing.alloc, &mut team.trials, workers, processors, left)?;
+            if let Some(raises) = self.try_raises(&front, &mut team.trials, next)? {
+                return Ok(Some(raises));
+            }
+            tell_pace(&mut team.pace, team.trials.as_slice());
+            let count = team.trials.len();
+            next = self.jump_ahead(
+                &mut team.trials[count - 1],
+                &mut team.ahead,
+                &mut team.pace,
+                next + count as u32,
+            )?;
+        }
+        Ok(None)
+    }
 }
 
 /// How many processors there are, or as many as a number can say where that is not known.
@@ -172,156 +316,11 @@ fn resize<A: Allocator + Copy>(
     Ok(())
 }
 
-/// Whether every raise from this number on up to the target elects what the last one tried elected, so that none of them decides
-/// as that did not. Then the last trial has whom the target elects.
-fn jump<R: Threads + Sync, G: Gate, A: Allocator + Copy + Send + Sync, B: Allocator>(
-    pricing: &Pricing<R, G, A>,
-    election: &Election<B>,
-    step: Money,
-    last: &mut Trial<A>,
-    ahead: &mut Trial<A>,
-    next: u32,
-    target: u32,
-) -> Result<bool, NoMemory>
-    requires given { CanComplete election.now pricing.now.workers pricing.now.supporters.now step target }
-    requires next { (0 < next) × (next ≤ target) }
-    requires tried { (raises : ℕ) → raises < next
-        → is_decisive pricing.now.measure election.now step raises ≡ false }
-    requires last { last.old.outcome.elected
-        ≡ elected_after pricing.now.measure election.now step (next - 1) }
-    ensures decided { IfOk result (λ jumped. jumped ≡ true → (raises : ℕ) → raises < target + 1
-        → is_decisive pricing.now.measure election.now step raises ≡ false) }
-    ensures last { IfOk result (λ jumped. jumped ≡ true → last.new.outcome.elected
-        ≡ elected_after pricing.now.measure election.now step target) }
-    ensures stays { IfOk result (λ jumped. jumped ≡ false
-        → last.new.outcome.elected ≡ last.old.outcome.elected) }
-{
-    let share = raised_share(opening_share(election), target, step);
-    let elected = last.outcome.elected.as_slice();
-    let (measure, supporters) = (pricing.measure, pricing.supporters);
-    let (queue, outcome) = (&mut ahead.queue, &mut ahead.outcome);
-    let keeps = keeps(measure, supporters, share, elected, queue, outcome)?;
-    if keeps {
-        swap(&mut last.outcome, &mut ahead.outcome);
-    }
-    Ok(keeps)
-}
-
-/// Jumps ahead from the last raise that was tried, as far as that goes: the number of raises that is tried next, none before
-/// which decides.
-fn jump_ahead<R: Threads + Sync, G: Gate, A: Allocator + Copy + Send + Sync, B: Allocator>(
-    pricing: &Pricing<R, G, A>,
-    election: &Election<B>,
-    step: Money,
-    max_raises: u32,
-    last: &mut Trial<A>,
-    ahead: &mut Trial<A>,
-    pace: &mut Pace,
-    from: u32,
-) -> Result<u32, NoMemory>
-    requires given { CanComplete election.now pricing.now.workers pricing.now.supporters.now step max_raises }
-    requires from { (0 < from) × (from ≤ max_raises + 1) }
-    requires tried { (raises : ℕ) → raises < from
-        → is_decisive pricing.now.measure election.now step raises ≡ false }
-    requires last { last.old.outcome.elected
-        ≡ elected_after pricing.now.measure election.now step (from - 1) }
-    ensures range { IfOk result (λ next. (from ≤ next) × (next ≤ max_raises + 1)) }
-    ensures tried { IfOk result (λ next. (raises : ℕ) → raises < next
-        → is_decisive pricing.now.measure election.now step raises ≡ false) }
-{
-    let mut next = from;
-    if !pace.is_due() {
-        return Ok(next);
-    }
-    for _ in 0..MOST_JUMPS {
-        let target = pace.target(next, max_raises);
-        if target <= next {
-            return Ok(next);
-        }
-        if jump(pricing, election, step, last, ahead, next, target)? {
-            next = target + 1;
-            pace.won();
-        } else if !pace.lost() {
-            return Ok(next);
-        }
-    }
-    Ok(next)
-}
-
 /// Tells the pace of each trial of a group, in order.
 fn tell_pace<A: Allocator>(pace: &mut Pace, trials: &[Trial<A>]) {
     for trial in trials {
         pace.tried(trial.spent);
     }
-}
-
-/// What a completion by raises uses again from raise to raise.
-#[derive(Drop)]
-struct Team<A: Allocator> {
-    /// A trial for each raise of a group.
-    trials: Vec<Trial<A>, A>,
-    /// The trial that jumps ahead.
-    ahead: Trial<A>,
-    pace: Pace,
-}
-
-/// How many raises the completion decides on, from this number on, none before which decides. They are tried in groups that
-/// grow until each worker has a raise, or each processor where those are fewer. After each group raises are jumped over, as far
-/// as they elect the same.
-fn decide<R: Threads + Sync, G: Gate, A: Allocator + Copy + Send + Sync, B: Allocator>(
-    pricing: &Pricing<R, G, A>,
-    election: &Election<B>,
-    team: &mut Team<A>,
-    step: Money,
-    max_raises: u32,
-    from: u32,
-) -> Result<Option<u32>, NoMemory>
-    requires given { CanComplete election.now pricing.now.workers pricing.now.supporters.now step max_raises }
-    requires from { from ≤ max_raises + 1 }
-    requires few { length team.old.trials.items ≤ 64 }
-    requires tried { (raises : ℕ) → raises < from
-        → is_decisive pricing.now.measure election.now step raises ≡ false }
-    ensures { IfOk result (λ found.
-        (add1_of pricing.now.measure election.now step max_raises ≡ found)
-        × MatchOption found ⊤ (λ raises. raises ≤ max_raises)) }
-{
-    let processors = processors(pricing.rt);
-    let workers = workers_for_trials(pricing.workers, pricing.supporters);
-    let opening = opening_share(election);
-    let mut front = Front::open(pricing.alloc, pricing.measure, pricing.supporters, opening)?;
-    let mut next = from;
-    while next <= max_raises {
-        let left = max_raises + 1 - next;
-        let share = raised_share(opening, next, step);
-        pricing.gate.raised(next, share);
-        front.extend(share)?;
-        resize(pricing.alloc, &mut team.trials, workers, processors, left)?;
-        let found = try_raises(
-            pricing,
-            election,
-            &front,
-            &mut team.trials,
-            step,
-            max_raises,
-            next,
-        )?;
-        if let Some(raises) = found {
-            return Ok(Some(raises));
-        }
-        tell_pace(&mut team.pace, team.trials.as_slice());
-        let count = team.trials.len();
-        next = jump_ahead(
-            pricing,
-            election,
-            step,
-            max_raises,
-            &mut team.trials[count - 1],
-            &mut team.ahead,
-            &mut team.pace,
-            next + count as u32,
-        )?;
-    }
-    Ok(None)
 }
 
 /// Completes by raises from this number on, none before which decides. The raise that is answered is run once more, with all
@@ -351,7 +350,13 @@ pub(crate) fn complete_by_trials<
         ahead: Trial::new(pricing.alloc),
         pace: Pace::new(),
     };
-    let found = decide(pricing, election, &mut team, step, max_raises, from);
+    let raising = Raising {
+        pricing,
+        election,
+        step,
+        max_raises,
+    };
+    let found = raising.decide(&mut team, from);
     drop(team);
     match found? {
         Some(raises) => Ok(outcome_after(pricing, election, step, raises)?),

@@ -46,7 +46,8 @@ impl<A: Allocator> Trial<A> {
         }
     }
 
-    /// How a run at this share ends, and whom it elects, unless it is over. It begins behind the front.
+    /// How a run at this share ends, and whom it elects, unless it is over. It begins behind the front, and goes no further
+    /// once the elected cost more than the budget.
     pub(crate) fn end_of(
         &mut self,
         front: &Front<'_, A>,
@@ -60,50 +61,26 @@ impl<A: Allocator> Trial<A> {
         requires small { share ≤ largest_share }
         ensures { IfOk result (IsTried front.now.measure front.now.support budget share self.new.outcome.elected) }
     {
-        let mut spent = 0;
+        let supporters = front.supporters;
+        let most = u128::from(budget.0);
         let (queue, marks) = (&mut self.queue, &mut self.marks);
-        let outcome = &mut self.outcome;
-        let end = end_at(front, budget, share, queue, marks, &mut spent, outcome)?;
-        self.spent = spent;
-        Ok(end)
-    }
-}
-
-/// How a run at this share ends, and whom it elects, into an outcome whose lists are used again. It begins behind the front, and
-/// goes no further once the elected cost more than the budget. `spent` becomes what they cost together, in hundredths.
-fn end_at<A: Allocator + Copy>(
-    front: &Front<'_, A>,
-    budget: Money,
-    share: Money,
-    queue: &mut BTreeSet<Key, A>,
-    marks: &mut Vec<bool, A>,
-    spent: &mut u128,
-    outcome: &mut Outcome<A>,
-) -> Result<RaiseEnd, NoMemory>
-    requires front { IsFront front.now }
-    requires from { front.now.outcome.share ≤ share }
-    requires small { share ≤ largest_share }
-    ensures { IfOk result (IsTried front.now.measure front.now.support budget share outcome.new.elected) }
-{
-    let supporters = front.supporters;
-    let most = u128::from(budget.0);
-    let mut sum = front.start(share, queue, marks, outcome)?;
-    *spent = sum;
-    if sum > most {
-        return Ok(RaiseEnd::Over);
-    }
-    while let Some(best) = next_best(supporters, outcome.rests.as_slice(), &None, queue)? {
-        elect(supporters, best, outcome)?;
-        let place = best.place();
-        mark(marks, place);
-        sum += u128::from(supporters.cost(place).0);
-        *spent = sum;
-        if sum > most {
+        let (spent, outcome) = (&mut self.spent, &mut self.outcome);
+        *spent = front.start(share, queue, marks, outcome)?;
+        if *spent > most {
             return Ok(RaiseEnd::Over);
         }
+        while let Some(best) = next_best(supporters, outcome.rests.as_slice(), &None, queue)? {
+            elect(supporters, best, outcome)?;
+            let place = best.place();
+            mark(marks, place);
+            *spent += u128::from(supporters.cost(place).0);
+            if *spent > most {
+                return Ok(RaiseEnd::Over);
+            }
+        }
+        if is_exhausted(supporters, budget, *spent, marks.as_slice()) {
+            return Ok(RaiseEnd::Exhausted);
+        }
+        Ok(RaiseEnd::GoesOn)
     }
-    if is_exhausted(supporters, budget, sum, marks.as_slice()) {
-        return Ok(RaiseEnd::Exhausted);
-    }
-    Ok(RaiseEnd::GoesOn)
 }

@@ -1,13 +1,13 @@
 use Rattle.std.proofs.Common.{◌≡◌, ◌-◌, ◌∙◌, rules}
 use Rattle.pb_rounds.proofs.Trials.{jumped, keeps_after}
-use Rattle.pb_rounds.proofs.side_by_side.jump.Goals as goal
+use Rattle.pb_rounds.proofs.side_by_side.Raising.jump.Goals as goal
 
 pub returns-then-keeps-clause-decided : goal.returns-then-keeps-clause-decided
 returns-then-keeps-clause-decided g c it_is raises below =
-    let m = c.args.pricing.now.measure in
-    let e = c.args.election.now in
+    let m = c.args.self.now.pricing.now.measure in
+    let e = c.args.self.now.election.now in
     let seen : c.as_slice-elected.result.now ≡ c.args.last.now.outcome.elected = search rules in
-    let keeps = keeps_after m e c.args.pricing.now.supporters.now c.requires.given.own_supporters c.args.step c.args.target c.opening_share.result c.raised_share-share.result
+    let keeps = keeps_after m e c.args.self.now.pricing.now.supporters.now c.requires.given.own_supporters c.args.self.now.step c.args.target c.opening_share.result c.raised_share-share.result
     c.opening_share.ensures.share c.raised_share-share.ensures.share (c.args.next - 1) c.as_slice-elected.result.now (seen ∙ c.requires.last)
     (c.in_ok-keeps.ensures.keeps it_is) in
-    jumped m e c.args.step c.args.next c.args.target c.requires.next.0 c.requires.tried keeps raises below
+    jumped m e c.args.self.now.step c.args.next c.args.target c.requires.next.0 c.requires.tried keeps raises below

@@ -8,11 +8,11 @@ use Rattle.pb_rounds.specs.Inner.Bounds.{HasBounds}
 use Rattle.pb_rounds.specs.Inner.Queue.{AreMarked}
 use Rattle.pb_rounds.proofs.BoundQueue.{found_at}
 use Rattle.pb_rounds.proofs.TrialRounds.{Trying, best_known, best_price, ends_exhausted, ends_going_on, fewer_rounds, mark_known, over_budget, spent_fits, trying_more}
-use Rattle.pb_rounds.proofs.trial.end_at.Goals as goal
+use Rattle.pb_rounds.proofs.trial.Trial.end_of.Goals as goal
 
-pub returns-then-sum-most : goal.returns-then-sum-most
-returns-then-sum-most g c =
-    front_over c.args.front.now c.requires.front c.args.share c.requires.from c.requires.small c.args.budget c.in_ok-sum.sum c.in_ok-sum.ensures.spent (omega arith)
+pub returns-then-spent-most : goal.returns-then-spent-most
+returns-then-spent-most g c =
+    front_over c.args.front.now c.requires.front c.args.share c.requires.from c.requires.small c.args.budget c.in_ok-spent.field-0 c.in_ok-spent.ensures.spent (omega arith)
     c.start.new.outcome.elected
 
 pub loop-best-init : goal.loop-best-init
@@ -21,9 +21,9 @@ loop-best-init g c =
     record {
       is_support = subst IsSupport (sym same) c.requires.front.is_support;
       within = omega arith;
-      trying = subst (λ (s : SupportView). Trying c.args.front.now.measure s c.args.share c.start.new.queue.keys c.start.new.outcome c.start.new.marks.items c.in_ok-sum.sum) (sym same)
-          (front_tries c.args.front.now c.requires.front c.args.share c.requires.from c.requires.small c.start.new.queue.keys c.in_ok-sum.ensures.queue c.start.new.outcome c.in_ok-sum.ensures.outcome
-          c.start.new.marks.items c.in_ok-sum.ensures.marks c.in_ok-sum.sum c.in_ok-sum.ensures.spent);
+      trying = subst (λ (s : SupportView). Trying c.args.front.now.measure s c.args.share c.start.new.queue.keys c.start.new.outcome c.start.new.marks.items c.in_ok-spent.field-0) (sym same)
+          (front_tries c.args.front.now c.requires.front c.args.share c.requires.from c.requires.small c.start.new.queue.keys c.in_ok-spent.ensures.queue c.start.new.outcome c.in_ok-spent.ensures.outcome
+          c.start.new.marks.items c.in_ok-spent.ensures.marks c.in_ok-spent.field-0 c.in_ok-spent.ensures.spent);
     }
 
 pub next_best-requires-clause-bounds : goal.next_best-requires-clause-bounds
@@ -57,7 +57,7 @@ mark-requires g c =
     let same : c.as_slice.result.now ≡ c.loop-best.outcome.rests = search rules in
     let found = found_at c.args.front.now.measure c.front.inside.supporters.now c.loop-best.outcome.rests c.as_slice.result.now t.bounded.left same None c.loop-best.queue.keys c.next_best.new.queue.keys
     c.in_ok-best.field-0 (Some c.in-Some.best) (c.in_ok-best.ensures c.args.front.now.measure t.bounded.left) c.in-Some.is t.bounded.bounds in
-    let known = mark_known c.args.front.now.measure c.front.inside.supporters.now c.loop-best.invariant.is_support c.args.share c.loop-best.queue.keys c.loop-best.outcome c.loop-best.marks.items c.loop-best.sum t c.in-Some.best c.next_best.new.queue.keys found in
+    let known = mark_known c.args.front.now.measure c.front.inside.supporters.now c.loop-best.invariant.is_support c.args.share c.loop-best.queue.keys c.loop-best.outcome c.loop-best.marks.items c.loop-best.spent t c.in-Some.best c.next_best.new.queue.keys found in
     omega (arith, known, c.place-place.ensures)
 
 pub cost-requires : goal.cost-requires
@@ -69,28 +69,28 @@ cost-requires g c =
     let known = best_known c.args.front.now.measure c.front.inside.supporters.now c.args.share t.bounded.left c.loop-best.outcome t.bounded.progress c.in-Some.best found.0 in
     omega (arith, known, c.place-place.ensures)
 
-pub overflow_add-sum : goal.overflow_add-sum
-overflow_add-sum g c =
+pub overflow_add-spent : goal.overflow_add-spent
+overflow_add-spent g c =
     let t = c.loop-best.invariant.trying in
     let same : c.as_slice.result.now ≡ c.loop-best.outcome.rests = search rules in
     let found = found_at c.args.front.now.measure c.front.inside.supporters.now c.loop-best.outcome.rests c.as_slice.result.now t.bounded.left same None c.loop-best.queue.keys c.next_best.new.queue.keys
     c.in_ok-best.field-0 (Some c.in-Some.best) (c.in_ok-best.ensures c.args.front.now.measure t.bounded.left) c.in-Some.is t.bounded.bounds in
-    let cost : c.from-sum.result ≡ cost_at c.front.inside.supporters.now c.in-Some.best.place =
-    c.from-sum.ensures ∙ c.from.view_is ∙ c.cost.ensures.cost ∙ ap (cost_at c.front.inside.supporters.now) c.place-place.ensures in
-    let fits = spent_fits c.args.front.now.measure c.front.inside.supporters.now c.loop-best.invariant.is_support c.args.share c.loop-best.queue.keys c.loop-best.outcome c.loop-best.marks.items c.loop-best.sum t c.in-Some.best c.next_best.new.queue.keys found in
+    let cost : c.from-in-Some.result ≡ cost_at c.front.inside.supporters.now c.in-Some.best.place =
+    c.from-in-Some.ensures ∙ c.from.view_is ∙ c.cost.ensures.cost ∙ ap (cost_at c.front.inside.supporters.now) c.place-place.ensures in
+    let fits = spent_fits c.args.front.now.measure c.front.inside.supporters.now c.loop-best.invariant.is_support c.args.share c.loop-best.queue.keys c.loop-best.outcome c.loop-best.marks.items c.loop-best.spent t c.in-Some.best c.next_best.new.queue.keys found in
     omega (arith, fits, cost)
 
-pub returns-then-sum-most-2 : goal.returns-then-sum-most-2
-returns-then-sum-most-2 g c =
+pub returns-then-spent-most-2 : goal.returns-then-spent-most-2
+returns-then-spent-most-2 g c =
     let support : c.front.inside.supporters.now ≡ c.args.front.now.support = ap (λ (f : FrontView). f.support) c.front.view_is in
     let t = c.loop-best.invariant.trying in
     let same : c.as_slice.result.now ≡ c.loop-best.outcome.rests = search rules in
     let found = found_at c.args.front.now.measure c.front.inside.supporters.now c.loop-best.outcome.rests c.as_slice.result.now t.bounded.left same None c.loop-best.queue.keys c.next_best.new.queue.keys
     c.in_ok-best.field-0 (Some c.in-Some.best) (c.in_ok-best.ensures c.args.front.now.measure t.bounded.left) c.in-Some.is t.bounded.bounds in
-    let cost : c.from-sum.result ≡ cost_at c.front.inside.supporters.now c.in-Some.best.place =
-    c.from-sum.ensures ∙ c.from.view_is ∙ c.cost.ensures.cost ∙ ap (cost_at c.front.inside.supporters.now) c.place-place.ensures in
+    let cost : c.from-in-Some.result ≡ cost_at c.front.inside.supporters.now c.in-Some.best.place =
+    c.from-in-Some.ensures ∙ c.from.view_is ∙ c.cost.ensures.cost ∙ ap (cost_at c.front.inside.supporters.now) c.place-place.ensures in
     subst (λ (s : SupportView). IsTried c.args.front.now.measure s c.args.budget c.args.share c.elect.new.outcome.elected Over) support
-    (over_budget c.args.front.now.measure c.front.inside.supporters.now c.loop-best.invariant.is_support c.args.share c.loop-best.queue.keys c.loop-best.outcome c.loop-best.marks.items c.loop-best.sum t c.in-Some.best c.next_best.new.queue.keys found c.elect.new.outcome c.in_ok-elect.ensures (c.loop-best.sum + c.from-sum.result) (ap (λ n. c.loop-best.sum + n) cost) c.args.budget (omega arith) c.elect.new.outcome.elected)
+    (over_budget c.args.front.now.measure c.front.inside.supporters.now c.loop-best.invariant.is_support c.args.share c.loop-best.queue.keys c.loop-best.outcome c.loop-best.marks.items c.loop-best.spent t c.in-Some.best c.next_best.new.queue.keys found c.elect.new.outcome c.in_ok-elect.ensures (c.loop-best.spent + c.from-in-Some.result) (ap (λ n. c.loop-best.spent + n) cost) c.args.budget (omega arith) c.elect.new.outcome.elected)
 
 pub loop-best-smaller : goal.loop-best-smaller
 loop-best-smaller g c =
@@ -106,12 +106,12 @@ loop-best-preserved g c =
     let same : c.as_slice.result.now ≡ c.loop-best.outcome.rests = search rules in
     let found = found_at c.args.front.now.measure c.front.inside.supporters.now c.loop-best.outcome.rests c.as_slice.result.now t.bounded.left same None c.loop-best.queue.keys c.next_best.new.queue.keys
     c.in_ok-best.field-0 (Some c.in-Some.best) (c.in_ok-best.ensures c.args.front.now.measure t.bounded.left) c.in-Some.is t.bounded.bounds in
-    let cost : c.from-sum.result ≡ cost_at c.front.inside.supporters.now c.in-Some.best.place =
-    c.from-sum.ensures ∙ c.from.view_is ∙ c.cost.ensures.cost ∙ ap (cost_at c.front.inside.supporters.now) c.place-place.ensures in
+    let cost : c.from-in-Some.result ≡ cost_at c.front.inside.supporters.now c.in-Some.best.place =
+    c.from-in-Some.ensures ∙ c.from.view_is ∙ c.cost.ensures.cost ∙ ap (cost_at c.front.inside.supporters.now) c.place-place.ensures in
     record {
       is_support = c.loop-best.invariant.is_support;
       within = omega arith;
-      trying = trying_more c.args.front.now.measure c.front.inside.supporters.now c.loop-best.invariant.is_support c.args.share c.loop-best.queue.keys c.loop-best.outcome c.loop-best.marks.items c.loop-best.sum t c.in-Some.best c.next_best.new.queue.keys found c.elect.new.outcome c.in_ok-elect.ensures (c.loop-best.sum + c.from-sum.result) (ap (λ n. c.loop-best.sum + n) cost)
+      trying = trying_more c.args.front.now.measure c.front.inside.supporters.now c.loop-best.invariant.is_support c.args.share c.loop-best.queue.keys c.loop-best.outcome c.loop-best.marks.items c.loop-best.spent t c.in-Some.best c.next_best.new.queue.keys found c.elect.new.outcome c.in_ok-elect.ensures (c.loop-best.spent + c.from-in-Some.result) (ap (λ n. c.loop-best.spent + n) cost)
           c.mark.new.marks.items (c.mark.ensures ∙ ap (λ n. set c.loop-best.marks.items n true) c.place-place.ensures);
     }
 
@@ -129,7 +129,7 @@ returns-then-is_exhausted g c =
     let found = found_at c.args.front.now.measure c.front.inside.supporters.now c.loop-best.outcome.rests c.as_slice.result.now t.bounded.left same None c.loop-best.queue.keys c.next_best.new.queue.keys
     c.in_ok-best.field-0 None (c.in_ok-best.ensures c.args.front.now.measure t.bounded.left) c.in_default.is t.bounded.bounds in
     subst (λ (s : SupportView). IsTried c.args.front.now.measure s c.args.budget c.args.share c.loop-best.outcome.elected Exhausted) support
-    (ends_exhausted c.args.front.now.measure c.front.inside.supporters.now c.loop-best.invariant.is_support c.args.share c.args.budget c.loop-best.queue.keys c.next_best.new.queue.keys c.loop-best.outcome c.loop-best.marks.items c.loop-best.sum t c.loop-best.invariant.within found c.is_exhausted.result
+    (ends_exhausted c.args.front.now.measure c.front.inside.supporters.now c.loop-best.invariant.is_support c.args.share c.args.budget c.loop-best.queue.keys c.next_best.new.queue.keys c.loop-best.outcome c.loop-best.marks.items c.loop-best.spent t c.loop-best.invariant.within found c.is_exhausted.result
     (λ elected marks spent. c.is_exhausted.ensures elected (subst (AreMarked c.front.inside.supporters.now elected) (sym marked) marks) spent) c.if-is_exhausted.true)
 
 pub returns : goal.returns
@@ -141,5 +141,5 @@ returns g c =
     let found = found_at c.args.front.now.measure c.front.inside.supporters.now c.loop-best.outcome.rests c.as_slice.result.now t.bounded.left same None c.loop-best.queue.keys c.next_best.new.queue.keys
     c.in_ok-best.field-0 None (c.in_ok-best.ensures c.args.front.now.measure t.bounded.left) c.in_default.is t.bounded.bounds in
     subst (λ (s : SupportView). IsTried c.args.front.now.measure s c.args.budget c.args.share c.loop-best.outcome.elected GoesOn) support
-    (ends_going_on c.args.front.now.measure c.front.inside.supporters.now c.loop-best.invariant.is_support c.args.share c.args.budget c.loop-best.queue.keys c.next_best.new.queue.keys c.loop-best.outcome c.loop-best.marks.items c.loop-best.sum t c.loop-best.invariant.within found c.is_exhausted.result
+    (ends_going_on c.args.front.now.measure c.front.inside.supporters.now c.loop-best.invariant.is_support c.args.share c.args.budget c.loop-best.queue.keys c.next_best.new.queue.keys c.loop-best.outcome c.loop-best.marks.items c.loop-best.spent t c.loop-best.invariant.within found c.is_exhausted.result
     (λ elected marks spent. c.is_exhausted.ensures elected (subst (AreMarked c.front.inside.supporters.now elected) (sym marked) marks) spent) c.if-is_exhausted.false)

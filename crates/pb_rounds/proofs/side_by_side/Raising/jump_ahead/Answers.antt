@@ -1,7 +1,7 @@
 use Rattle.std.proofs.Common.{◌≡◌, ◌-◌, ◌∙◌, ap, arith}
 use Rattle.pb_rounds.specs.Count.{elected_after}
-use Rattle.pb_rounds.proofs.side_by_side.jump_ahead.Goals.{then-branch, else-branch+else-not-lost}
-use Rattle.pb_rounds.proofs.side_by_side.jump_ahead.Goals as goal
+use Rattle.pb_rounds.proofs.side_by_side.Raising.jump_ahead.Goals.{then-branch, else-branch+else-not-lost}
+use Rattle.pb_rounds.proofs.side_by_side.Raising.jump_ahead.Goals as goal
 
 pub jump-requires-clause-given : goal.jump-requires-clause-given
 jump-requires-clause-given g c κs within = record {
@@ -16,7 +16,7 @@ overflow_add-next g c = omega (arith, c.requires.given.few_raises, c.target-targ
 
 pub loop-preserved : goal.loop-preserved
 loop-preserved g c =
-    let elected = elected_after c.args.pricing.now.measure c.args.election.now c.args.step in
+    let elected = elected_after c.args.self.now.pricing.now.measure c.args.self.now.election.now c.args.self.now.step in
     elim c.if-branch.branch [
       | then-branch w ↦
           let here : c.target-target.result ≡ c.if-branch.next - 1 = omega (arith, w.next-is) in
