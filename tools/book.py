@@ -18,8 +18,8 @@ not followed, nor are words that only private contracts name, nor those that onl
 names: it promises a caller nothing that no contract says. A crate of tests alone has no contracts.
 
 Some definitions compute what others say in the words of a rule, and a law proves the two the same. What is reached by such
-a law alone computes, and is proved the same: it is printed behind the others, is listed by the page in rows that say so,
-and is not among the lines to believe.
+a law alone, or by a word each of whose values a law pins, computes, and is proved the same: it is printed behind the
+others, is listed by the page in rows that say so, and is not among the lines to believe.
 """
 import re
 import sys
@@ -53,6 +53,12 @@ COMPUTING_LAWS = {
     ("pb_rounds", "run_is_its_rule"),
     ("pb_rounds", "completion_is_its_rule"),
     ("pb_rounds", "count_is_computed"),
+}
+# Words each of whose values, for every input, a law pins in the words of a rule: whoever names them, the law says what they
+# are, and nobody has to believe what computes them.
+PINNED = {
+    ("pb_core", "Money", "money_of"): ("pb_core", "money_is_what_its_text_names"),
+    ("pb_rounds", "Count", "opening_share"): ("pb_rounds", "opening_share_is_largest"),
 }
 # What an impl has to say besides its meaning: what is true of its private fields, and proofs that a law holds.
 NOT_MEANT = {"invariant", "laws", "total", "matches_partial_cmp", "matches_eq", "respects_eq"}
@@ -353,11 +359,16 @@ class Reach:
     def __init__(self, contracts, definitions, types):
         self.definitions, self.types = definitions, types
         self.reached, self.reached_types, self.lost, self.waiting = {}, {}, [], []
+        said = {(contract.crate, contract.title) for contract in contracts}
+        self.pinned = {word for word, law in PINNED.items() if law in said}
         for crate, file, rule in RULES:
             self.lead_to((crate, file, rule), "the rules")
         laws = [contract for contract in contracts if (contract.crate, contract.title) in COMPUTING_LAWS]
         self.follow([contract for contract in contracts if contract not in laws])
         believed = set(self.reached)
+        pinned, self.pinned = self.pinned, set()
+        for word in sorted(pinned):
+            self.lead_to(word, "the pinned words")
         self.follow(laws)
         self.computing = {key: one for key, one in self.reached.items() if key not in believed}
         self.reached = {key: one for key, one in self.reached.items() if key in believed}
@@ -389,6 +400,8 @@ class Reach:
             return
         if file.endswith(".TheConstants"):
             return  # a text of the program's own, which is read where it stands
+        if target in self.pinned:
+            return
         declared = DECLARED.match(file)
         if declared:
             self.put(self.types[crate].get(declared.group(1)), self.reached_types, target, whose)

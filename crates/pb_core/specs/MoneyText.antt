@@ -46,5 +46,4 @@ IsMoneyText text whole decimals =
 
 -- all the digits make one number, with as many decimals as stand after the mark; it is this many hundredths
 abbrev pub IsWorth : (whole decimals : List ℕ) → ℕ → Type 0
-IsWorth whole decimals hundredths =
-    10 ^ length decimals * hundredths ≡ 100 * digits_value 10 (whole ++ decimals)
+IsWorth whole decimals h = 10 ^ length decimals * h ≡ 100 * digits_value 10 (whole ++ decimals)
