@@ -146,31 +146,29 @@ where
     if let Some(fault) = refusal_of(options) {
         return Err(fault);
     }
-    let supporters = Supporters::build(alloc, election)?;
-    count_in_range(rt, alloc, election, options, gate, &supporters)
+    count_in_range(rt, alloc, election, options, gate)
 }
 
-/// Counts an election, whose supporters these are, with options that are in their ranges.
+/// Counts an election, with options that are in their ranges.
 fn count_in_range<R: Threads + Sync, G: Gate, A: Allocator + Copy + Send + Sync, B: Allocator>(
     rt: &R,
     alloc: A,
     election: &Election<B>,
     options: &CountOptions,
     gate: &G,
-    supporters: &Supporters<A>,
 ) -> Result<Outcome<A>, CountFault>
     requires in_range { refusal_of options.now ≡ None }
-    requires own { supporters.now ≡ support_of election.now }
     ensures counted { IfOk result (IsCountOf election.now options.now) }
     ensures faults { IfErr result (IsCountFault election.now options.now) }
 {
+    let supporters = Supporters::build(alloc, election)?;
     let pricing = Pricing {
         rt,
         gate,
         alloc,
         workers: options.workers,
         measure: options.measure,
-        supporters,
+        supporters: &supporters,
     };
     match options.completion {
         Completion::Plain => {

@@ -1,4 +1,4 @@
-ghost use Rattle.std.specs.Prelude.{◌≡◌, ◌+◌, ◌∷◌, ◌++◌, [], ◌<◌, ◌≤◌, ◌^◌, All, length, max, min, true, IfOk, OnOk, Some};
+ghost use Rattle.std.specs.Prelude.{◌≡◌, ◌+◌, ◌∷◌, ◌++◌, [], ◌<◌, ◌≤◌, ◌^◌, All, length, max, min, true, IfOk, None, OnOk, Some};
 ghost use Rattle.std.specs.List.Sorted.{IsStrictlyIncreasing};
 ghost use Rattle.pb_core.specs.Election.{most_projects};
 ghost use Rattle.pb_price.specs.Price.{paid_at, price_at, AreRests, largest_count};
@@ -14,6 +14,7 @@ use crate::key::Key;
 use crate::outcome::{Elected, Outcome};
 use crate::pricing::{Pricing, workers_for};
 use crate::queue::take_heads;
+use crate::run::Run;
 use pb_core::money::Money;
 use pb_core::no_memory::NoMemory;
 use pb_price::gate::Gate;
@@ -21,7 +22,6 @@ use pb_price::price_all;
 use pb_price::supporters::Supporters;
 use pb_price::tally::Tally;
 use std::alloc::Allocator;
-use std::collections::BTreeSet;
 use std::thread::Threads;
 
 /// The key that comes first.
@@ -34,23 +34,48 @@ fn better(best: &Option<Key>, key: Key) -> Key
     }
 }
 
-/// Prices these projects, and puts the keys of those that have a price after the fresh ones; the best is the first of all.
+/// The fresh keys of a round: those of the projects that it priced.
+#[derive(Drop)]
+pub(crate) struct Fresh<A: Allocator> {
+    pub(crate) keys: Vec<Key, A>,
+    /// The first of them.
+    best: Option<Key>,
+}
+
+impl<A: Allocator> Fresh<A> {
+    pub(crate) fn new(alloc: A) -> Fresh<A> {
+        Fresh {
+            keys: Vec::new(alloc),
+            best: None,
+        }
+    }
+
+    /// Begins a round: nothing is priced.
+    fn clear(&mut self)
+        ensures keys { self.new.keys.items ≡ [] }
+        ensures best { self.new.best ≡ None }
+    {
+        self.keys.clear();
+        self.best = None;
+    }
+}
+
+/// Prices these projects, and puts the keys of those that have a price after the fresh ones.
 fn price_heads<R: Threads + Sync, G: Gate, A: Allocator + Copy + Send + Sync>(
     pricing: &Pricing<R, G, A>,
     rests: &[Money],
     heads: &[u32],
-    fresh: &mut Vec<Key, A>,
-    best: &mut Option<Key>,
+    fresh: &mut Fresh<A>,
     tally: &mut Tally,
 ) -> Result<(), NoMemory>
     requires workers { is_worker_count pricing.now.workers ≡ true }
     requires rests { AreRests pricing.now.supporters.now.voters rests.now }
     requires known { All (λ place. place < length pricing.now.supporters.now.costs) heads.now }
     requires few { length heads.now ≤ most_projects }
-    requires best { best.old ≡ first_least is_before fresh.old.items }
-    ensures fresh { OnOk result (fresh.new.items
-        ≡ fresh.old.items ++ bids_at pricing.now.measure pricing.now.supporters.now rests.now heads.now) }
-    ensures best { OnOk result (best.new ≡ first_least is_before fresh.new.items) }
+    requires best { fresh.old.best ≡ first_least is_before fresh.old.keys.items }
+    ensures fresh { OnOk result (fresh.new.keys.items
+        ≡ fresh.old.keys.items ++ bids_at pricing.now.measure pricing.now.supporters.now rests.now heads.now) }
+    ensures best { OnOk result (fresh.new.best ≡ first_least is_before fresh.new.keys.items) }
     ensures counted { OnOk result (tally.new.prices ≡ min (tally.old.prices + length heads.now) largest_count) }
     ensures workers { OnOk result (tally.new.workers ≡ min (tally.old.workers + max 1 (min (length heads.now)
         (workers_for pricing.now.workers pricing.now.supporters.now heads.now))) largest_count) }
@@ -73,79 +98,77 @@ fn price_heads<R: Threads + Sync, G: Gate, A: Allocator + Copy + Send + Sync>(
         if let Some(price) = answers[i] {
             let weight = pricing.measure.weight(pricing.supporters, *place);
             let key = Key::new(price, weight, *place);
-            fresh.push(key)?;
-            *best = Some(better(best, key));
+            fresh.keys.push(key)?;
+            fresh.best = Some(better(&fresh.best, key));
         }
     }
     Ok(())
 }
 
-/// Prices the heads of the queue at these rests, in batches of at most this many, until the best that was priced comes before
-/// the head, and gives that best.
-fn price_batches<R: Threads + Sync, G: Gate, A: Allocator + Copy + Send + Sync>(
-    pricing: &Pricing<R, G, A>,
-    rests: &[Money],
-    most: u32,
-    queue: &mut BTreeSet<Key, A>,
-    places: &mut Vec<u32, A>,
-    fresh: &mut Vec<Key, A>,
-    tally: &mut Tally,
-) -> Result<Option<Key>, NoMemory>
-    requires workers { is_worker_count pricing.now.workers ≡ true }
-    requires most { 0 < most }
-    requires rests { AreRests pricing.now.supporters.now.voters rests.now }
-    requires known { (b : Bid) → IsIn b queue.old.keys → b.place < length pricing.now.supporters.now.costs }
-    requires few { length queue.old.keys ≤ most_projects }
-    requires places { places.old.items ≡ [] }
-    requires fresh { fresh.old.items ≡ [] }
-    requires tally { tally.old.prices ≡ 0 }
-    ensures priced { IfOk result
-        (PricesHeads pricing.now.measure pricing.now.supporters.now rests.now most
-        queue.old.keys queue.new.keys places.new.items fresh.new.items) }
-    ensures done { IfOk result (λ best. IsDone best queue.new.keys) }
-    ensures counted { IfOk result (λ best. tally.new.prices ≡ length places.new.items) }
-{
-    let mut best = None;
-    loop {
-        let before = places.len();
-        take_heads(queue, &best, most, places)?;
-        if places.len() == before {
-            return Ok(best);
-        }
-        let heads = &places[before..];
-        price_heads(pricing, rests, heads, fresh, &mut best, tally)?;
+impl<A: Allocator + Copy + Send + Sync> Run<A> {
+    /// Prices the heads of the queue, as far as the best of this round needs, and gives that best. The places that were priced
+    /// and the fresh keys are those of this round alone; how many prices it took goes after the outcome's other counts.
+    pub(crate) fn price_round<R: Threads + Sync, G: Gate>(
+        &mut self,
+        pricing: &Pricing<R, G, A>,
+        most: u32,
+        outcome: &mut Outcome<A>,
+    ) -> Result<Option<Key>, NoMemory>
+        requires workers { is_worker_count pricing.now.workers ≡ true }
+        requires most { 0 < most }
+        requires rests { AreRests pricing.now.supporters.now.voters outcome.old.rests }
+        requires known { (b : Bid) → IsIn b self.old.queue.keys → b.place < length pricing.now.supporters.now.costs }
+        requires few { length self.old.queue.keys ≤ most_projects }
+        ensures priced { IfOk result
+            (PricesHeads pricing.now.measure pricing.now.supporters.now outcome.old.rests most
+            self.old.queue.keys self.new.queue.keys self.new.places.items self.new.fresh.keys.items) }
+        ensures done { IfOk result (λ best. IsDone best self.new.queue.keys) }
+        ensures outcome { OnOk result (outcome.new
+            ≡ record outcome.old { priced = outcome.old.priced ++ length self.new.places.items ∷ [] }) }
+    {
+        self.places.clear();
+        self.fresh.clear();
+        let mut tally = Tally::new();
+        let rests = outcome.rests.as_slice();
+        let best = self.price_batches(pricing, rests, most, &mut tally)?;
+        outcome.priced.push(tally.count())?;
+        Ok(best)
     }
-}
 
-/// Prices the heads of the queue, as far as the best of this round needs, and gives that best. The places that were priced and
-/// the fresh keys are those of this round alone; how many prices it took goes after the outcome's other counts.
-pub(crate) fn price_round<R: Threads + Sync, G: Gate, A: Allocator + Copy + Send + Sync>(
-    pricing: &Pricing<R, G, A>,
-    most: u32,
-    queue: &mut BTreeSet<Key, A>,
-    places: &mut Vec<u32, A>,
-    fresh: &mut Vec<Key, A>,
-    outcome: &mut Outcome<A>,
-) -> Result<Option<Key>, NoMemory>
-    requires workers { is_worker_count pricing.now.workers ≡ true }
-    requires most { 0 < most }
-    requires rests { AreRests pricing.now.supporters.now.voters outcome.old.rests }
-    requires known { (b : Bid) → IsIn b queue.old.keys → b.place < length pricing.now.supporters.now.costs }
-    requires few { length queue.old.keys ≤ most_projects }
-    ensures priced { IfOk result
-        (PricesHeads pricing.now.measure pricing.now.supporters.now outcome.old.rests most
-        queue.old.keys queue.new.keys places.new.items fresh.new.items) }
-    ensures done { IfOk result (λ best. IsDone best queue.new.keys) }
-    ensures outcome { OnOk result (outcome.new
-        ≡ record outcome.old { priced = outcome.old.priced ++ length places.new.items ∷ [] }) }
-{
-    places.clear();
-    fresh.clear();
-    let mut tally = Tally::new();
-    let rests = outcome.rests.as_slice();
-    let best = price_batches(pricing, rests, most, queue, places, fresh, &mut tally)?;
-    outcome.priced.push(tally.count())?;
-    Ok(best)
+    /// Prices the heads of the queue at these rests, in batches of at most this many, until the best that was priced comes
+    /// before the head, and gives that best.
+    fn price_batches<R: Threads + Sync, G: Gate>(
+        &mut self,
+        pricing: &Pricing<R, G, A>,
+        rests: &[Money],
+        most: u32,
+        tally: &mut Tally,
+    ) -> Result<Option<Key>, NoMemory>
+        requires workers { is_worker_count pricing.now.workers ≡ true }
+        requires most { 0 < most }
+        requires rests { AreRests pricing.now.supporters.now.voters rests.now }
+        requires known { (b : Bid) → IsIn b self.old.queue.keys → b.place < length pricing.now.supporters.now.costs }
+        requires few { length self.old.queue.keys ≤ most_projects }
+        requires places { self.old.places.items ≡ [] }
+        requires fresh { self.old.fresh.keys.items ≡ [] }
+        requires best { self.old.fresh.best ≡ None }
+        requires tally { tally.old.prices ≡ 0 }
+        ensures priced { IfOk result
+            (PricesHeads pricing.now.measure pricing.now.supporters.now rests.now most
+            self.old.queue.keys self.new.queue.keys self.new.places.items self.new.fresh.keys.items) }
+        ensures done { IfOk result (λ best. IsDone best self.new.queue.keys) }
+        ensures counted { IfOk result (λ best. tally.new.prices ≡ length self.new.places.items) }
+    {
+        loop {
+            let before = self.places.len();
+            take_heads(&mut self.queue, &self.fresh.best, most, &mut self.places)?;
+            if self.places.len() == before {
+                return Ok(self.fresh.best);
+            }
+            let heads = &self.places[before..];
+            price_heads(pricing, rests, heads, &mut self.fresh, tally)?;
+        }
+    }
 }
 
 /// Elects the project of this key: its supporters pay.

@@ -5,28 +5,26 @@ ghost use Rattle.pb_rounds.specs.Inner.Queue.{IsFull};
 ghost use Rattle.pb_rounds.specs.Inner.RaiseEnds.{IsOutcomeAt};
 
 use crate::key::Key;
-use crate::measure::Measure;
 use crate::outcome::Outcome;
 use crate::pricing::Pricing;
 use crate::queue::{fill, put_back};
-use crate::round::{elect, price_round};
+use crate::round::{Fresh, elect};
 use pb_core::money::Money;
 use pb_core::no_memory::NoMemory;
 use pb_price::gate::Gate;
-use pb_price::supporters::Supporters;
 use std::alloc::Allocator;
 use std::collections::BTreeSet;
 use std::thread::Threads;
 
 /// What a run keeps beside its outcome.
 #[derive(Drop)]
-struct Run<A: Allocator> {
+pub(crate) struct Run<A: Allocator> {
     /// The projects that may still be paid, with the price that each had when it was last priced in this run.
-    queue: BTreeSet<Key, A>,
+    pub(crate) queue: BTreeSet<Key, A>,
     /// The projects priced in this round, by place.
-    places: Vec<u32, A>,
+    pub(crate) places: Vec<u32, A>,
     /// The keys of those that have a price.
-    fresh: Vec<Key, A>,
+    pub(crate) fresh: Fresh<A>,
 }
 
 impl<A: Allocator> Run<A> {
@@ -37,34 +35,33 @@ impl<A: Allocator> Run<A> {
         Run {
             queue: BTreeSet::new(alloc),
             places: Vec::new(alloc),
-            fresh: Vec::new(alloc),
+            fresh: Fresh::new(alloc),
         }
     }
 
     /// Begins a run: every project is in the queue, and nobody is elected.
-    fn start(
+    fn start<R, G>(
         &mut self,
-        measure: Measure,
-        supporters: &Supporters<A>,
+        pricing: &Pricing<R, G, A>,
         share: Money,
         raised: u32,
         outcome: &mut Outcome<A>,
     ) -> Result<(), NoMemory>
     where
         A: Copy,
-        ensures queue { OnOk result
-            (IsFull measure supporters.now (length supporters.now.costs) self.new.queue.keys) }
+        ensures queue { OnOk result (IsFull pricing.now.measure pricing.now.supporters.now
+            (length pricing.now.supporters.now.costs) self.new.queue.keys) }
         ensures outcome { OnOk result (outcome.new
             ≡ record {
               share = share;
               raised = raised;
               elected = [];
-              rests = replicate supporters.now.voters share;
+              rests = replicate pricing.now.supporters.now.voters share;
               priced = [];
             }) }
     {
-        fill(&mut self.queue, measure, supporters)?;
-        open(outcome, share, raised, supporters.voters())?;
+        fill(&mut self.queue, pricing.measure, pricing.supporters)?;
+        open(outcome, share, raised, pricing.supporters.voters())?;
         Ok(())
     }
 
@@ -85,18 +82,11 @@ impl<A: Allocator> Run<A> {
     {
         let supporters = pricing.supporters;
         let projects = supporters.projects();
-        self.start(pricing.measure, supporters, share, raised, outcome)?;
+        self.start(pricing, share, raised, outcome)?;
         let mut most = projects.max(1);
-        while let Some(best) = price_round(
-            pricing,
-            most,
-            &mut self.queue,
-            &mut self.places,
-            &mut self.fresh,
-            outcome,
-        )? {
+        while let Some(best) = self.price_round(pricing, most, outcome)? {
             elect(supporters, best, outcome)?;
-            put_back(&mut self.queue, self.fresh.as_slice(), best.place())?;
+            put_back(&mut self.queue, self.fresh.keys.as_slice(), best.place())?;
             most = pricing.workers;
         }
         Ok(())

@@ -12,7 +12,6 @@ ghost use Rattle.pb_rounds.specs.Inner.Threads.{group_size};
 use crate::count::{opening_share, outcome_after};
 use crate::count_fault::CountFault;
 use crate::front::Front;
-use crate::jump::keeps;
 use crate::outcome::Outcome;
 use crate::pace::Pace;
 use crate::pricing::{Pricing, workers_for_trials};
@@ -193,8 +192,7 @@ where
         let share = raised_share(opening_share(self.election), target, self.step);
         let elected = last.outcome.elected.as_slice();
         let (measure, supporters) = (self.pricing.measure, self.pricing.supporters);
-        let (queue, outcome) = (&mut ahead.queue, &mut ahead.outcome);
-        let keeps = keeps(measure, supporters, share, elected, queue, outcome)?;
+        let keeps = ahead.keeps(measure, supporters, share, elected)?;
         if keeps {
             swap(&mut last.outcome, &mut ahead.outcome);
         }

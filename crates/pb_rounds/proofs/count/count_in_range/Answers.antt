@@ -8,25 +8,25 @@ use Rattle.pb_rounds.proofs.count.count_in_range.Goals as goal
 
 pub outcome_after-requires-clause-given : goal.outcome_after-requires-clause-given
 outcome_after-requires-clause-given g c =
-    λ κs _. can_complete c.args.election.now c.args.supporters.now c.requires.own c.args.options.now c.requires.in_range 0 (omega arith)
+    λ κs _. can_complete c.args.election.now c.in_ok-supporters.supporters c.in_ok-supporters.ensures c.args.options.now c.requires.in_range 0 (omega arith)
 
 pub complete-requires-clause-given : goal.complete-requires-clause-given
 complete-requires-clause-given g c =
-    λ κs _. can_complete c.args.election.now c.args.supporters.now c.requires.own c.args.options.now c.requires.in_range c.args.options.now.max_raises (omega arith)
+    λ κs _. can_complete c.args.election.now c.in_ok-supporters.supporters c.in_ok-supporters.ensures c.args.options.now c.requires.in_range c.args.options.now.max_raises (omega arith)
 
-pub returns-in_ok-outcome-in-Plain-clause-counted : goal.returns-in_ok-outcome-in-Plain-clause-counted
-returns-in_ok-outcome-in-Plain-clause-counted g c =
+pub returns-in-Plain-clause-counted : goal.returns-in-Plain-clause-counted
+returns-in-Plain-clause-counted g c =
     plain_counted c.args.election.now c.args.options.now c.in_ok-outcome-in-Plain.outcome c.requires.in_range c.in-Plain.is c.in_ok-outcome-in-Plain.ensures
 
-pub returns-in-Add1-clause-counted : goal.returns-in-Add1-clause-counted
-returns-in-Add1-clause-counted g c =
+pub returns-clause-counted : goal.returns-clause-counted
+returns-clause-counted g c =
     each_ok
     (IsCompletion c.args.options.now.measure c.args.election.now c.args.options.now.workers c.args.options.now.step c.args.options.now.max_raises)
     (IsCountOf c.args.election.now c.args.options.now)
     (λ o h. add1_counted c.args.election.now c.args.options.now o c.requires.in_range c.in-Add1.is h) c.complete.result c.complete.ensures.completed
 
-pub returns-in-Add1-clause-faults : goal.returns-in-Add1-clause-faults
-returns-in-Add1-clause-faults g c =
+pub returns-clause-faults : goal.returns-clause-faults
+returns-clause-faults g c =
     each_err (IsCompletionFault c.args.options.now.measure c.args.election.now c.args.options.now.step c.args.options.now.max_raises)
     (IsCountFault c.args.election.now c.args.options.now)
     (λ fault h. add1_fault c.args.election.now c.args.options.now (IsSupport-support_of c.args.election.now c.complete.ensures.is_election) c.requires.in_range c.in-Add1.is fault h) c.complete.result c.complete.ensures.faults

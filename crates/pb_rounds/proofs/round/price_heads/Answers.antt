@@ -26,23 +26,23 @@ loop-i-preserved g c =
     record {
       fresh = elim c.match-index.branch [
         | in-Some+in_ok-push w ↦ rw w.fresh-is (w.in_ok-push.ensures.items
-            ∙ fresh_some m s rests heads i c.loop-i-test.true c.args.fresh.now.items c.loop-i.fresh.items c.loop-i.invariant.fresh c.index.result.now answered
+            ∙ fresh_some m s rests heads i c.loop-i-test.true c.args.fresh.now.keys.items c.loop-i.fresh.keys.items c.loop-i.invariant.fresh c.index.result.now answered
             w.in-Some.price w.in-Some.is w.new-key.result
             (w.new-key.ensures ∙ ap (λ n. record { price = w.in-Some.price; weight = n; place = get_or heads i 0 }) w.weight-weight.ensures.weight))
         | in_default-index w ↦ rw w.fresh-is
-            (fresh_none m s rests heads i c.loop-i-test.true c.args.fresh.now.items c.loop-i.fresh.items c.loop-i.invariant.fresh c.index.result.now answered
+            (fresh_none m s rests heads i c.loop-i-test.true c.args.fresh.now.keys.items c.loop-i.fresh.keys.items c.loop-i.invariant.fresh c.index.result.now answered
             w.in_default-index.is)
       ];
       best = elim c.match-index.branch [
-        | in-Some+in_ok-push w ↦ rw (w.fresh-is, w.best-is)
-            (best_more c.loop-i.fresh.items c.loop-i.best c.loop-i.invariant.best w.new-key.result w.better.result w.better.ensures
+        | in-Some+in_ok-push w ↦ rw w.fresh-is
+            (best_more c.loop-i.fresh.keys.items c.loop-i.fresh.best c.loop-i.invariant.best w.new-key.result w.better.result w.better.ensures
             ∙ ap (first_least is_before) (sym w.in_ok-push.ensures.items))
-        | in_default-index w ↦ rw (w.fresh-is, w.best-is) c.loop-i.invariant.best
+        | in_default-index w ↦ rw w.fresh-is c.loop-i.invariant.best
       ];
     }
 
 pub returns-clause-fresh : goal.returns-clause-fresh
 returns-clause-fresh g c =
     c.loop-i.invariant.fresh
-    ∙ ap (λ xs. c.args.fresh.now.items ++ bids_at c.args.pricing.now.measure c.args.pricing.now.supporters.now c.args.rests.now xs)
+    ∙ ap (λ xs. c.args.fresh.now.keys.items ++ bids_at c.args.pricing.now.measure c.args.pricing.now.supporters.now c.args.rests.now xs)
     (take_all c.loop-i.i c.args.heads.now c.loop-i-test.false)

@@ -5,6 +5,6 @@ use Rattle.pb_rounds.proofs.round.price_heads.Given as goal
 
 abbrev pub invariant-loop-i : goal.invariant-loop-i
 invariant-loop-i g l = record {
-  fresh : l.fresh.items ≡ l.fn.fresh.items ++ bids_at l.pricing.measure l.pricing.supporters.now l.rests (take l.i l.heads);
-  best : l.best ≡ first_least is_before l.fresh.items;
+  fresh : l.fresh.keys.items ≡ l.fn.fresh.keys.items ++ bids_at l.pricing.measure l.pricing.supporters.now l.rests (take l.i l.heads);
+  best : l.fresh.best ≡ first_least is_before l.fresh.keys.items;
 }

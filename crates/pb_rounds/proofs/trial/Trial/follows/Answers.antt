@@ -3,13 +3,13 @@ use Rattle.pb_rounds.specs.Bid.{Bid, is_before}
 use Rattle.pb_rounds.specs.Inner.Bounds.{HasBounds}
 use Rattle.pb_rounds.specs.Run.{bid, weight_of, without}
 use Rattle.pb_rounds.proofs.BoundQueue.{found_at, found_known, found_price, found_weight}
-use Rattle.pb_rounds.proofs.jump.follows.Goals as goal
+use Rattle.pb_rounds.proofs.trial.Trial.follows.Goals as goal
 
 pub next_best-requires-2-clause-bounds : goal.next_best-requires-2-clause-bounds
 next_best-requires-2-clause-bounds g c =
     let b = c.requires.bounds in
-    let same : c.as_slice-rests.result.now ≡ c.args.outcome.now.rests = search rules in
-    let found = found_at b.0 c.args.supporters.now c.args.outcome.now.rests c.as_slice-rests.result.now b.1 same None c.args.queue.now.keys c.next_best.new.queue.keys
+    let same : c.as_slice-rests.result.now ≡ c.args.self.now.outcome.rests = search rules in
+    let found = found_at b.0 c.args.supporters.now c.args.self.now.outcome.rests c.as_slice-rests.result.now b.1 same None c.args.self.now.queue.keys c.next_best.new.queue.keys
     c.in_ok-best.field-0 (Some c.in-Some.best) (c.in_ok-best.ensures b.0 b.1) c.in-Some.is b.2 in (
       b.0,
       without c.in-Some.best.place b.1,
@@ -19,33 +19,33 @@ next_best-requires-2-clause-bounds g c =
 pub elect-requires-clause-known : goal.elect-requires-clause-known
 elect-requires-clause-known g c =
     let b = c.requires.bounds in
-    let same : c.as_slice-rests.result.now ≡ c.args.outcome.now.rests = search rules in
-    let found = found_at b.0 c.args.supporters.now c.args.outcome.now.rests c.as_slice-rests.result.now b.1 same None c.args.queue.now.keys c.next_best.new.queue.keys
+    let same : c.as_slice-rests.result.now ≡ c.args.self.now.outcome.rests = search rules in
+    let found = found_at b.0 c.args.supporters.now c.args.self.now.outcome.rests c.as_slice-rests.result.now b.1 same None c.args.self.now.queue.keys c.next_best.new.queue.keys
     c.in_ok-best.field-0 (Some c.in-Some.best) (c.in_ok-best.ensures b.0 b.1) c.in-Some.is b.2 in
-    found_known b.0 c.args.supporters.now c.args.outcome.now.rests b.1 c.args.queue.now.keys b.2 c.in-Some.best found.0
+    found_known b.0 c.args.supporters.now c.args.self.now.outcome.rests b.1 c.args.self.now.queue.keys b.2 c.in-Some.best found.0
 
 pub elect-requires-clause-price : goal.elect-requires-clause-price
 elect-requires-clause-price g c =
     let b = c.requires.bounds in
-    let same : c.as_slice-rests.result.now ≡ c.args.outcome.now.rests = search rules in
-    let found = found_at b.0 c.args.supporters.now c.args.outcome.now.rests c.as_slice-rests.result.now b.1 same None c.args.queue.now.keys c.next_best.new.queue.keys
+    let same : c.as_slice-rests.result.now ≡ c.args.self.now.outcome.rests = search rules in
+    let found = found_at b.0 c.args.supporters.now c.args.self.now.outcome.rests c.as_slice-rests.result.now b.1 same None c.args.self.now.queue.keys c.next_best.new.queue.keys
     c.in_ok-best.field-0 (Some c.in-Some.best) (c.in_ok-best.ensures b.0 b.1) c.in-Some.is b.2 in
-    found_price b.0 c.args.supporters.now c.args.outcome.now.rests b.1 c.args.queue.now.keys b.2 c.in-Some.best found.0
+    found_price b.0 c.args.supporters.now c.args.self.now.outcome.rests b.1 c.args.self.now.queue.keys b.2 c.in-Some.best found.0
 
 pub returns : goal.returns
 returns g c m left b _ =
-    let same : c.as_slice-rests.result.now ≡ c.args.outcome.now.rests = search rules in
-    let found = found_at m c.args.supporters.now c.args.outcome.now.rests c.as_slice-rests.result.now left same None c.args.queue.now.keys c.next_best.new.queue.keys
+    let same : c.as_slice-rests.result.now ≡ c.args.self.now.outcome.rests = search rules in
+    let found = found_at m c.args.supporters.now c.args.self.now.outcome.rests c.as_slice-rests.result.now left same None c.args.self.now.queue.keys c.next_best.new.queue.keys
     c.in_ok-best.field-0 (Some c.in-Some.best) (c.in_ok-best.ensures m left) c.in-Some.is b in
     let nobody : c.in_ok-other.other ≡ None = search rules in
-    let later = found_at m c.args.supporters.now c.args.outcome.now.rests c.as_slice-rests.result.now (without c.in-Some.best.place left) same (Some c.new.result) c.next_best.new.queue.keys c.next_best-2.new.queue.keys
+    let later = found_at m c.args.supporters.now c.args.self.now.outcome.rests c.as_slice-rests.result.now (without c.in-Some.best.place left) same (Some c.new.result) c.next_best.new.queue.keys c.next_best-2.new.queue.keys
     c.in_ok-other.other None (c.in_ok-other.ensures m (without c.in-Some.best.place left)) nobody found.1 in
     let price : c.last.inside.price ≡ c.args.last.now.price = search rules in
     let limit : c.new.result ≡ bid m c.args.supporters.now c.in-Some.best.place c.args.last.now.price =
     c.new.ensures
     ∙ ap (λ n. record { price = n; weight = c.weight.result; place = c.place-2.result }) price
     ∙ ap (λ w. record { price = c.args.last.now.price; weight = w; place = c.place-2.result })
-    (c.weight.ensures.weight ∙ found_weight m c.args.supporters.now c.args.outcome.now.rests left c.args.queue.now.keys b c.in-Some.best found.0)
+    (c.weight.ensures.weight ∙ found_weight m c.args.supporters.now c.args.self.now.outcome.rests left c.args.self.now.queue.keys b c.in-Some.best found.0)
     ∙ ap (λ n. record { price = c.args.last.now.price; weight = weight_of m c.args.supporters.now c.in-Some.best.place; place = n }) c.place-2.ensures in
     record {
       best = c.in-Some.best;
