@@ -5,8 +5,8 @@ use crate::digested::{Digested, hex_of};
 use crate::given::open_both;
 use crate::progress::{Progress, Shown};
 use pb_command_line::AuditRun;
-use pb_commands::AppFault;
 use pb_commands::run_audit::run_audit_watched;
+use pb_commands::{AppFault, Counting};
 use pb_words::Tally;
 use sha2::{Digest, Sha256};
 use std::alloc::{AllocError, Global};
@@ -17,24 +17,23 @@ use std::thread::Threads;
 /// Audits a journal on a .pb file. Where an open desk is refused, or digests stand before the report, nothing is written
 /// before the whole text is there: a refusal is its line alone.
 pub(crate) fn audit<R, W: Write>(
-    rt: &R,
+    counting: &Counting<'_, R, Progress<'_, R>>,
     asked: &AuditRun<'_>,
     writer: &mut W,
     tally: &mut Tally,
-    progress: &Progress<'_, R>,
 ) -> Result<(), AppFault>
 where
     R: Files + Input + Print + Eprint + Clock + AllocGlobal + Threads + Sync,
 {
     if !asked.requires_shut && !asked.digests {
-        return audit_plain(rt, asked, writer, tally, progress);
+        return audit_plain(counting, asked, writer, tally);
     }
-    let mut report = Vec::new(rt.alloc());
+    let mut report = Vec::new(counting.alloc);
     let audited = if asked.digests {
-        audit_digested(rt, asked, &mut report, tally, progress)
+        audit_digested(counting, asked, &mut report, tally)
     } else {
-        match audit_plain(rt, asked, &mut report, tally, progress) {
-            Ok(()) => Ok(String::new(rt.alloc())),
+        match audit_plain(counting, asked, &mut report, tally) {
+            Ok(()) => Ok(String::new(counting.alloc)),
             Err(fault) => Err(fault),
         }
     };
@@ -54,49 +53,38 @@ where
 
 /// Audits a journal on a .pb file.
 fn audit_plain<R, W: Write>(
-    rt: &R,
+    counting: &Counting<'_, R, Progress<'_, R>>,
     asked: &AuditRun<'_>,
     writer: &mut W,
     tally: &mut Tally,
-    progress: &Progress<'_, R>,
 ) -> Result<(), AppFault>
 where
     R: Files + Input + Print + Eprint + Clock + AllocGlobal + Threads + Sync,
 {
-    let (file, journal) = open_both(rt, &asked.file, &asked.journal)?;
-    let file = Shown::new(file, progress);
-    let journal = Counted::new(Shown::new(journal, progress), tally);
-    run_audit_watched(
-        rt,
-        rt.alloc(),
-        file,
-        journal,
-        progress,
-        writer,
-        &asked.options,
-    )
+    let (file, journal) = open_both(counting.rt, &asked.file, &asked.journal)?;
+    let file = Shown::new(file, counting.gate);
+    let journal = Counted::new(Shown::new(journal, counting.gate), tally);
+    run_audit_watched(counting, file, journal, writer)
 }
 
 /// Audits a journal on a .pb file; answers the rows of the digests.
 fn audit_digested<R>(
-    rt: &R,
+    counting: &Counting<'_, R, Progress<'_, R>>,
     asked: &AuditRun<'_>,
     report: &mut Vec<u8>,
     tally: &mut Tally,
-    progress: &Progress<'_, R>,
 ) -> Result<String, AppFault>
 where
     R: Files + Input + Print + Eprint + Clock + AllocGlobal + Threads + Sync,
 {
-    let alloc = rt.alloc();
-    let (file, journal) = open_both(rt, &asked.file, &asked.journal)?;
+    let (file, journal) = open_both(counting.rt, &asked.file, &asked.journal)?;
     let mut of_file = Sha256::new();
     let mut of_journal = Sha256::new();
-    let file = Digested::new(Shown::new(file, progress), &mut of_file);
-    let journal = Counted::new(Shown::new(journal, progress), tally);
+    let file = Digested::new(Shown::new(file, counting.gate), &mut of_file);
+    let journal = Counted::new(Shown::new(journal, counting.gate), tally);
     let journal = Digested::new(journal, &mut of_journal);
-    run_audit_watched(rt, alloc, file, journal, progress, report, &asked.options)?;
-    Ok(digest_rows(alloc, of_file, of_journal)?)
+    run_audit_watched(counting, file, journal, report)?;
+    Ok(digest_rows(counting.alloc, of_file, of_journal)?)
 }
 
 /// Writes the rows of the digests, where there are some, and the report, as one text.

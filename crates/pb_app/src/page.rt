@@ -9,13 +9,13 @@ use crate::digested::{Digested, hex_of};
 use crate::given::{open, open_both};
 use crate::progress::{Progress, Shown};
 use pb_command_line::{Ballots, Source as Given};
-use pb_commands::{AppFault, closed_ballots};
+use pb_commands::{AppFault, Counting, closed_ballots};
 use pb_core::election::Election;
 use pb_page::{Facts, Source, page_of};
+use pb_price::gate::Gate;
 use pb_read::read_pb;
-use pb_rounds::count::count;
+use pb_rounds::count::count_watched;
 use pb_rounds::count_fault::CountFault;
-use pb_rounds::options::CountOptions;
 use sha2::{Digest, Sha256};
 use std::alloc::Global;
 use std::io::{Read, Write};
@@ -37,17 +37,15 @@ struct Contents {
 
 /// Counts these ballots, and writes the page of the outcome. What refuses it, and when, is as for the tables.
 pub(crate) fn page<'a, R, W: Write>(
-    rt: &R,
+    counting: &Counting<'_, R, Progress<'_, R>>,
     ballots: &Ballots<'a>,
-    options: &CountOptions,
     title: &'a str,
     writer: &mut W,
-    progress: &Progress<'_, R>,
 ) -> Result<(), AppFault>
 where
     R: Files + Input + Print + Eprint + Clock + AllocGlobal + Threads + Sync,
 {
-    let alloc = rt.alloc();
+    let (rt, alloc, progress) = (counting.rt, counting.alloc, counting.gate);
     let read = match &ballots.journal {
         None => read_file(alloc, Shown::new(open(rt, &ballots.file, 1)?, progress)),
         Some(journal) => {
@@ -56,7 +54,7 @@ where
             read_both(alloc, file, Shown::new(journal, progress))
         }
     }?;
-    let written = write_page(rt, &read, ballots, options, title, writer);
+    let written = write_page(counting, &read, ballots, title, writer);
     drop(read);
     written
 }
@@ -93,17 +91,13 @@ fn read_both<P: Read + Drop, J: Read + Drop>(
 }
 
 /// Counts what was read, and writes the page of the outcome.
-fn write_page<'a, R, W: Write>(
-    rt: &R,
+fn write_page<'a, T: Threads + Sync, G: Gate, W: Write>(
+    counting: &Counting<'_, T, G>,
     read: &'a Contents,
     ballots: &Ballots<'a>,
-    options: &CountOptions,
     title: &'a str,
     writer: &mut W,
-) -> Result<(), AppFault>
-where
-    R: Print + AllocGlobal + Threads + Sync,
-{
+) -> Result<(), AppFault> {
     let journal = match (&ballots.journal, &read.journal) {
         (Some(given), Some(digest)) => Some(Source {
             name: name_of(given),
@@ -118,26 +112,27 @@ where
             digest: read.file.as_str(),
         },
         journal,
-        options: *options,
+        options: *counting.options,
     };
-    let text = page_text(rt, rt.alloc(), &read.election, &facts)?;
+    let text = page_text(counting, &read.election, &facts)?;
     write_whole(writer, text.as_slice())
 }
 
 /// The page of an election, counted with the options of these facts: nothing in it is markup but the program's own
 /// pieces. What refuses it is what refuses the count.
-fn page_text<T: Threads + Sync>(
-    rt: &T,
-    alloc: Global,
+fn page_text<T: Threads + Sync, G: Gate>(
+    counting: &Counting<T, G>,
     election: &Election,
     facts: &Facts,
 ) -> Result<Vec<u8>, CountFault>
+    requires { facts.now.options ≡ counting.now.options.now }
     ensures ok { IfOk result (λ text. IsPage text.items) }
     ensures fault { IfErr result (IsCountFault election.now facts.now.options) }
 {
     // What is true of every election is true of its reasons.
     let _budget = election.budget();
-    let outcome = count(rt, alloc, election, &facts.options)?;
+    let (rt, alloc) = (counting.rt, counting.alloc);
+    let outcome = count_watched(rt, alloc, election, counting.options, counting.gate)?;
     Ok(page_of(alloc, election, &outcome, facts)?)
 }
 

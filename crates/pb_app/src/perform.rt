@@ -12,7 +12,7 @@ use pb_commands::run_count::run_count_watched;
 use pb_commands::run_desk::run_desk;
 use pb_commands::run_export::{run_closed_export, run_export};
 use pb_commands::run_table::{run_closed_table, run_table};
-use pb_commands::{AppFault, Table};
+use pb_commands::{AppFault, Counting, Table};
 use pb_price::gate::NoGate;
 use pb_read::ReadFault;
 use pb_rounds::options::CountOptions;
@@ -98,80 +98,95 @@ where
     R: Files<File = File> + Input + Print + Eprint + Clock + AllocGlobal + Threads + Sync,
 {
     let done = match task {
-        Task::Count(source, options) => count(rt, source, options, writer, progress),
+        Task::Count(source, options) => count(&counting(rt, options, progress), source, writer),
         Task::Projects(ballots, options) => {
-            tell(rt, ballots, options, Table::Projects, writer, progress)
+            let counting = counting(rt, options, progress);
+            tell(&counting, ballots, Table::Projects, writer)
         }
         Task::Voters(ballots, options) => {
-            tell(rt, ballots, options, Table::Voters, writer, progress)
+            let counting = counting(rt, options, progress);
+            tell(&counting, ballots, Table::Voters, writer)
         }
-        Task::Page(ballots, options, title) => page(rt, ballots, options, title, writer, progress),
-        Task::Export(ballots, options) => export(rt, ballots, options, writer, progress),
+        Task::Page(ballots, options, title) => {
+            page(&counting(rt, options, progress), ballots, title, writer)
+        }
+        Task::Export(ballots, options) => {
+            export(&counting(rt, options, progress), ballots, writer)
+        }
         Task::Check(source) => check(rt, source, writer, &mut notes.faults, progress),
         Task::Desk(asked) => desk(rt, asked, writer, progress),
-        Task::Audit(asked) => audit(rt, asked, writer, &mut notes.audited, progress),
+        Task::Audit(asked) => {
+            let counting = counting(rt, &asked.options, progress);
+            audit(&counting, asked, writer, &mut notes.audited)
+        }
         Task::Serve(file, journal) => return serve::serve(rt, file, journal, writer),
     };
     Ok(done?)
 }
 
+/// How to count with these options: the raises are shown.
+fn counting<'a, R: AllocGlobal>(
+    rt: &'a R,
+    options: &'a CountOptions,
+    progress: &'a Progress<'a, R>,
+) -> Counting<'a, R, Progress<'a, R>> {
+    Counting {
+        rt,
+        alloc: rt.alloc(),
+        gate: progress,
+        options,
+    }
+}
+
 /// Counts a .pb file.
 fn count<R, W: Write>(
-    rt: &R,
+    counting: &Counting<'_, R, Progress<'_, R>>,
     source: &Source<'_>,
-    options: &CountOptions,
     writer: &mut W,
-    progress: &Progress<'_, R>,
 ) -> Result<(), AppFault>
 where
     R: Files + Input + Print + Eprint + Clock + AllocGlobal + Threads + Sync,
 {
-    let file = Shown::new(open(rt, source, 1)?, progress);
-    run_count_watched(rt, rt.alloc(), file, progress, writer, options)
+    let file = Shown::new(open(counting.rt, source, 1)?, counting.gate);
+    run_count_watched(counting, file, writer)
 }
 
 /// Counts these ballots, and writes this table of the outcome.
 fn tell<R, W: Write>(
-    rt: &R,
+    counting: &Counting<'_, R, Progress<'_, R>>,
     ballots: &Ballots<'_>,
-    options: &CountOptions,
     table: Table,
     writer: &mut W,
-    progress: &Progress<'_, R>,
 ) -> Result<(), AppFault>
 where
     R: Files + Input + Print + Eprint + Clock + AllocGlobal + Threads + Sync,
 {
-    let alloc = rt.alloc();
     let Some(journal) = &ballots.journal else {
-        let file = Shown::new(open(rt, &ballots.file, 1)?, progress);
-        return run_table(rt, alloc, file, progress, writer, options, table);
+        let file = Shown::new(open(counting.rt, &ballots.file, 1)?, counting.gate);
+        return run_table(counting, file, writer, table);
     };
-    let (file, journal) = open_both(rt, &ballots.file, journal)?;
-    let file = Shown::new(file, progress);
-    let journal = Shown::new(journal, progress);
-    run_closed_table(rt, alloc, file, journal, progress, writer, options, table)
+    let (file, journal) = open_both(counting.rt, &ballots.file, journal)?;
+    let file = Shown::new(file, counting.gate);
+    let journal = Shown::new(journal, counting.gate);
+    run_closed_table(counting, file, journal, writer, table)
 }
 
 /// Counts these ballots, and writes their .pb file with what the count came to.
 fn export<R, W: Write>(
-    rt: &R,
+    counting: &Counting<'_, R, Progress<'_, R>>,
     ballots: &Ballots<'_>,
-    options: &CountOptions,
     writer: &mut W,
-    progress: &Progress<'_, R>,
 ) -> Result<(), AppFault>
 where
     R: Files + Input + Print + Eprint + Clock + AllocGlobal + Threads + Sync,
 {
-    let alloc = rt.alloc();
     let Some(journal) = &ballots.journal else {
-        let file = Shown::new(open(rt, &ballots.file, 1)?, progress);
-        return run_export(rt, alloc, file, writer, options);
+        let file = Shown::new(open(counting.rt, &ballots.file, 1)?, counting.gate);
+        return run_export(counting, file, writer);
     };
-    let (file, journal) = open_both(rt, &ballots.file, journal)?;
-    let file = Shown::new(file, progress);
-    run_closed_export(rt, alloc, file, journal, writer, options)
+    let (file, journal) = open_both(counting.rt, &ballots.file, journal)?;
+    let file = Shown::new(file, counting.gate);
+    run_closed_export(counting, file, journal, writer)
 }
 
 /// Checks a .pb file, and keeps its faults.

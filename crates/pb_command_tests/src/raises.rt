@@ -1,6 +1,7 @@
 // What a count tells of its raises while it is done.
 
 use crate::checks::{THREE_VOTERS, same};
+use pb_commands::Counting;
 use pb_commands::run_count::run_count_watched;
 use pb_core::money::Money;
 use pb_price::gate::Gate;
@@ -51,7 +52,13 @@ fn a_count_tells_of_its_raises(rt: HostRuntime) {
     let mut report = Vec::new(rt.alloc());
     let file = THREE_VOTERS.as_bytes();
     let options = CountOptions::standard();
-    let counted = run_count_watched(&rt, rt.alloc(), file, &told, &mut report, &options);
+    let counting = Counting {
+        rt: &rt,
+        alloc: rt.alloc(),
+        gate: &told,
+        options: &options,
+    };
+    let counted = run_count_watched(&counting, file, &mut report);
     same(&rt, counted.is_ok(), true, "a count");
     drop(report);
     same(

@@ -5,31 +5,32 @@ ghost use Rattle.pb_commands.specs.Inner.Exporting.{IsStopped};
 ghost use Rattle.pb_commands.specs.Exported.{IsExportOf, completion_text, is_won, rule_text, selected_of, votes_of};
 ghost use Rattle.pb_commands.specs.Fault.{merged};
 
+use crate::counting::Counting;
 use crate::fault::AppFault;
 use itoa::Buffer;
 use pb_core::election::Election;
 use pb_core::no_memory::NoMemory;
 use pb_export::Told;
 use pb_export::write_pb::write_pb;
+use pb_price::gate::Gate;
 use pb_reasons::{Ending, ProjectTeller};
-use pb_rounds::count::count;
+use pb_rounds::count::count_watched;
 use pb_rounds::measure::Measure;
 use pb_rounds::options::{Completion, CountOptions};
 use std::alloc::Global;
 use std::thread::Threads;
 
 /// The file of an election that is counted with these options.
-pub(crate) fn export_text<T: Threads + Sync>(
-    rt: &T,
-    alloc: Global,
+pub(crate) fn export_text<T: Threads + Sync, G: Gate>(
+    counting: &Counting<T, G>,
     election: &Election,
-    options: &CountOptions,
 ) -> Result<Vec<u8>, AppFault>
-    ensures ok { IfOk result (λ text. IsExportOf options.now election.now text.items) }
-    ensures fault { IfErr result (IsStopped options.now election.now) }
+    ensures ok { IfOk result (λ text. IsExportOf counting.now.options.now election.now text.items) }
+    ensures fault { IfErr result (IsStopped counting.now.options.now election.now) }
     ensures merged { IfErr result (λ fault. merged fault ≡ fault) }
 {
-    let outcome = count(rt, alloc, election, options)?;
+    let (rt, alloc, options) = (counting.rt, counting.alloc, counting.options);
+    let outcome = count_watched(rt, alloc, election, options, counting.gate)?;
     let rule = rule_text(alloc, options)?;
     let teller = ProjectTeller::of(alloc, election, &outcome)?;
     let votes = votes_of(alloc, election, &teller)?;

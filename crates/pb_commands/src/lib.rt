@@ -5,6 +5,7 @@
 #![tactic(auto)]
 
 mod closed_desk;
+mod counting;
 mod export_text;
 pub mod fault;
 mod fault_line;
@@ -22,6 +23,7 @@ pub mod table_laws;
 mod voters_table;
 
 pub use closed_desk::closed_ballots;
+pub use counting::Counting;
 pub use fault::AppFault;
 pub use fault_line::{BAD_ARGUMENTS, write_bad_row};
 pub use table::Table;

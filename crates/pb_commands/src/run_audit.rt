@@ -9,6 +9,7 @@ ghost use Rattle.pb_commands.specs.Counted.{IsReportOf};
 ghost use Rattle.pb_commands.specs.Ends.{Accepts, FailsBy, HasWritten, IfBothKnown, JudgesFile};
 ghost use Rattle.pb_commands.specs.Fault.{merged};
 
+use crate::counting::Counting;
 use crate::fault::AppFault;
 use crate::run_count::{finished, put_count, write_out};
 use itoa::Buffer;
@@ -60,30 +61,35 @@ pub fn run_audit<T: Threads + Sync, P: Read + Drop, J: Read + Drop, W: Write>(
     // Out of memory is one fault.
     ensures merged { IfErr result (λ fault. merged fault ≡ fault) }
 {
-    run_audit_watched(rt, alloc, file, journal, &NoGate, writer, options)
+    let counting = Counting {
+        rt,
+        alloc,
+        gate: &NoGate,
+        options,
+    };
+    run_audit_watched(&counting, file, journal, writer)
 }
 
 /// The same, and the gate is told of raises before they are tried.
 pub fn run_audit_watched<T: Threads + Sync, P: Read + Drop, J: Read + Drop, G: Gate, W: Write>(
-    rt: &T,
-    alloc: Global,
+    counting: &Counting<T, G>,
     file: P,
     journal: J,
-    gate: &G,
     writer: &mut W,
-    options: &CountOptions,
 ) -> Result<(), AppFault>
     // Where the bytes of both readers are known, they alone and the options decide what is written,
     ensures ok { OnOk result (IfBothKnown (P.remaining file) (J.remaining journal) (λ bytes rows.
-        HasWritten (AuditWrites bytes rows options.now) (W.contents writer.old) (W.contents writer.new))) }
+        HasWritten (AuditWrites bytes rows counting.now.options.now)
+        (W.contents writer.old) (W.contents writer.new))) }
 
     // and which fault comes.
     ensures fault { IfErr result (λ fault. IfBothKnown (P.remaining file) (J.remaining journal) (λ bytes rows.
-        FailsBy (AuditRefuses bytes rows options.now) (AuditWrites bytes rows options.now) bytes fault)) }
+        FailsBy (AuditRefuses bytes rows counting.now.options.now)
+        (AuditWrites bytes rows counting.now.options.now) bytes fault)) }
 
     // A file and a journal that have a text get it, unless a device fails or memory is refused.
     ensures accepts { IfBothKnown (P.remaining file) (J.remaining journal) (λ bytes rows.
-        Accepts (AuditWrites bytes rows options.now) result) }
+        Accepts (AuditWrites bytes rows counting.now.options.now) result) }
 
     // The file is judged first, whatever is known of the journal.
     ensures file { IfSome (P.remaining file) (λ bytes. JudgesFile bytes result) }
@@ -94,25 +100,22 @@ pub fn run_audit_watched<T: Threads + Sync, P: Read + Drop, J: Read + Drop, G: G
     // Out of memory is one fault.
     ensures merged { IfErr result (λ fault. merged fault ≡ fault) }
 {
-    let election = read_pb(alloc, file)?;
-    let desk = audit(alloc, election, ROOM, journal)?;
-    let text = desk_text(rt, alloc, desk, gate, options)?;
+    let election = read_pb(counting.alloc, file)?;
+    let desk = audit(counting.alloc, election, ROOM, journal)?;
+    let text = desk_text(counting, desk)?;
     write_out(writer, text.as_slice())
 }
 
 /// What is said of a desk.
 fn desk_text<T: Threads + Sync, G: Gate>(
-    rt: &T,
-    alloc: Global,
+    counting: &Counting<T, G>,
     desk: Desk,
-    gate: &G,
-    options: &CountOptions,
 ) -> Result<Vec<u8>, CountFault>
-    ensures ok { IfOk result (λ text. IsTextOf desk options.now text.items) }
-    ensures fault { IfErr result (IsRefusedDesk desk options.now) }
+    ensures ok { IfOk result (λ text. IsTextOf desk counting.now.options.now text.items) }
+    ensures fault { IfErr result (IsRefusedDesk desk counting.now.options.now) }
 {
-    let mut rows = RowsWriter::start(alloc);
-    match put_desk(rt, alloc, &mut rows, desk, gate, options) {
+    let mut rows = RowsWriter::start(counting.alloc);
+    match put_desk(counting, &mut rows, desk) {
         Ok(()) => finished(rows),
         Err(fault) => {
             drop(rows);
@@ -123,16 +126,13 @@ fn desk_text<T: Threads + Sync, G: Gate>(
 
 /// Writes what is said of a desk.
 fn put_desk<T: Threads + Sync, G: Gate>(
-    rt: &T,
-    alloc: Global,
+    counting: &Counting<T, G>,
     rows: &mut RowsWriter,
     desk: Desk,
-    gate: &G,
-    options: &CountOptions,
 ) -> Result<(), CountFault>
     ensures ok { OnOk result ((text : List ℕ)
-        × IsTextOf desk options.now text × (rows.new.text ≡ rows.old.text ++ text)) }
-    ensures fault { IfErr result (IsRefusedDesk desk options.now) }
+        × IsTextOf desk counting.now.options.now text × (rows.new.text ≡ rows.old.text ++ text)) }
+    ensures fault { IfErr result (IsRefusedDesk desk counting.now.options.now) }
 {
     match put_entries(rows, &desk) {
         Ok(()) => {}
@@ -142,7 +142,7 @@ fn put_desk<T: Threads + Sync, G: Gate>(
         }
     }
     if desk.is_shut() {
-        put_ballots(rt, alloc, rows, desk, gate, options)
+        put_ballots(counting, rows, desk)
     } else {
         drop(desk);
         Ok(())
@@ -151,21 +151,18 @@ fn put_desk<T: Threads + Sync, G: Gate>(
 
 /// Writes the report of the ballots that the journal of a shut desk leaves.
 fn put_ballots<T: Threads + Sync, G: Gate>(
-    rt: &T,
-    alloc: Global,
+    counting: &Counting<T, G>,
     rows: &mut RowsWriter,
     desk: Desk,
-    gate: &G,
-    options: &CountOptions,
 ) -> Result<(), CountFault>
     requires { (standing_of desk).is_shut ≡ true }
-    ensures ok { OnOk result ((report : List ℕ) × IsReportOf (closed_election desk) options.now report
+    ensures ok { OnOk result ((report : List ℕ) × IsReportOf (closed_election desk) counting.now.options.now report
         × (rows.new.text ≡ rows.old.text ++ report)) }
-    ensures fault { IfErr result (IsRefusedDesk desk options.now) }
+    ensures fault { IfErr result (IsRefusedDesk desk counting.now.options.now) }
 {
     match desk.into_election() {
         Ok(election) => {
-            let put = put_count(rt, alloc, rows, &election, gate, options);
+            let put = put_count(counting, rows, &election);
             drop(election);
             put
         }

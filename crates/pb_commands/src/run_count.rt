@@ -8,6 +8,7 @@ ghost use Rattle.pb_commands.specs.Counted.{CountRefuses, CountWrites, IsReportO
 ghost use Rattle.pb_commands.specs.Ends.{Accepts, FailsBy, HasWritten};
 ghost use Rattle.pb_commands.specs.Fault.{merged};
 
+use crate::counting::Counting;
 use crate::fault::AppFault;
 use crate::report::put_report;
 use pb_core::election::Election;
@@ -50,28 +51,32 @@ pub fn run_count<T: Threads + Sync, R: Read + Drop, W: Write>(
     // Out of memory is one fault.
     ensures merged { IfErr result (λ fault. merged fault ≡ fault) }
 {
-    run_count_watched(rt, alloc, reader, &NoGate, writer, options)
+    let counting = Counting {
+        rt,
+        alloc,
+        gate: &NoGate,
+        options,
+    };
+    run_count_watched(&counting, reader, writer)
 }
 
 /// The same, and the gate is told of raises before they are tried.
 pub fn run_count_watched<T: Threads + Sync, R: Read + Drop, G: Gate, W: Write>(
-    rt: &T,
-    alloc: Global,
+    counting: &Counting<T, G>,
     reader: R,
-    gate: &G,
     writer: &mut W,
-    options: &CountOptions,
 ) -> Result<(), AppFault>
     // Where the reader's bytes are known, they alone and the options decide what is written,
     ensures ok { OnOk result (IfSome (R.remaining reader) (λ bytes.
-        HasWritten (CountWrites bytes options.now) (W.contents writer.old) (W.contents writer.new))) }
+        HasWritten (CountWrites bytes counting.now.options.now) (W.contents writer.old) (W.contents writer.new))) }
 
     // and which fault comes.
     ensures fault { IfErr result (λ fault. IfSome (R.remaining reader) (λ bytes.
-        FailsBy (CountRefuses options.now) (CountWrites bytes options.now) bytes fault)) }
+        FailsBy (CountRefuses counting.now.options.now) (CountWrites bytes counting.now.options.now) bytes fault)) }
 
     // A file that has a report gets it, unless a device fails or memory is refused.
-    ensures accepts { IfSome (R.remaining reader) (λ bytes. Accepts (CountWrites bytes options.now) result) }
+    ensures accepts { IfSome (R.remaining reader) (λ bytes.
+        Accepts (CountWrites bytes counting.now.options.now) result) }
 
     // A fault writes nothing, unless it is the writer's.
     ensures unchanged { IfErr result (λ fault. fault ≢ AppFault.Write → writer.new ≡ writer.old) }
@@ -79,8 +84,8 @@ pub fn run_count_watched<T: Threads + Sync, R: Read + Drop, G: Gate, W: Write>(
     // Out of memory is one fault.
     ensures merged { IfErr result (λ fault. merged fault ≡ fault) }
 {
-    let election = read_pb(alloc, reader)?;
-    let report = report_text(rt, alloc, &election, gate, options);
+    let election = read_pb(counting.alloc, reader)?;
+    let report = report_text(counting, &election);
     drop(election);
     let text = report?;
     write_out(writer, text.as_slice())
@@ -88,17 +93,14 @@ pub fn run_count_watched<T: Threads + Sync, R: Read + Drop, G: Gate, W: Write>(
 
 /// The report of an election, counted with these options.
 fn report_text<T: Threads + Sync, G: Gate>(
-    rt: &T,
-    alloc: Global,
+    counting: &Counting<T, G>,
     election: &Election,
-    gate: &G,
-    options: &CountOptions,
 ) -> Result<Vec<u8>, CountFault>
-    ensures ok { IfOk result (λ text. IsReportOf election.now options.now text.items) }
-    ensures fault { IfErr result (IsCountFault election.now options.now) }
+    ensures ok { IfOk result (λ text. IsReportOf election.now counting.now.options.now text.items) }
+    ensures fault { IfErr result (IsCountFault election.now counting.now.options.now) }
 {
-    let mut rows = RowsWriter::start(alloc);
-    match put_count(rt, alloc, &mut rows, election, gate, options) {
+    let mut rows = RowsWriter::start(counting.alloc);
+    match put_count(counting, &mut rows, election) {
         Ok(()) => finished(rows),
         Err(fault) => {
             drop(rows);
@@ -120,18 +122,16 @@ pub(crate) fn finished(rows: RowsWriter) -> Result<Vec<u8>, CountFault>
 
 /// Counts an election, and puts the report after the rows that stand there.
 pub(crate) fn put_count<T: Threads + Sync, G: Gate>(
-    rt: &T,
-    alloc: Global,
+    counting: &Counting<T, G>,
     rows: &mut RowsWriter,
     election: &Election,
-    gate: &G,
-    options: &CountOptions,
 ) -> Result<(), CountFault>
     ensures ok { OnOk result ((text : List ℕ)
-        × IsReportOf election.now options.now text × (rows.new.text ≡ rows.old.text ++ text)) }
-    ensures fault { IfErr result (IsCountFault election.now options.now) }
+        × IsReportOf election.now counting.now.options.now text × (rows.new.text ≡ rows.old.text ++ text)) }
+    ensures fault { IfErr result (IsCountFault election.now counting.now.options.now) }
 {
-    let outcome = count_watched(rt, alloc, election, options, gate)?;
+    let (rt, alloc) = (counting.rt, counting.alloc);
+    let outcome = count_watched(rt, alloc, election, counting.options, counting.gate)?;
     put_report(rows, alloc, election, &outcome)?;
     Ok(())
 }

@@ -9,12 +9,12 @@ ghost use Rattle.pb_commands.specs.Exported.{ClosedExportRefuses, ExportRefuses,
 ghost use Rattle.pb_commands.specs.Fault.{merged};
 
 use crate::closed_desk::closed_ballots;
+use crate::counting::Counting;
 use crate::export_text::export_text;
 use crate::fault::AppFault;
 use crate::run_count::write_out;
+use pb_price::gate::Gate;
 use pb_read::read_pb;
-use pb_rounds::options::CountOptions;
-use std::alloc::Global;
 use std::io::{Read, Write};
 use std::thread::Threads;
 
@@ -24,24 +24,24 @@ use std::thread::Threads;
 ///
 /// The file is refused before the options are looked at, and nothing is written but the whole file.
 /// Where the fault is `Write` some of the file may have gone out; on any other fault the writer is as it was.
-pub fn run_export<T: Threads + Sync, R: Read + Drop, W: Write>(
-    rt: &T,
-    alloc: Global,
+pub fn run_export<T: Threads + Sync, R: Read + Drop, G: Gate, W: Write>(
+    counting: &Counting<T, G>,
     reader: R,
     writer: &mut W,
-    options: &CountOptions,
 ) -> Result<(), AppFault>
     // Where the reader's bytes are known, they alone and the options decide what is written,
     ensures ok { OnOk result (IfSome (R.remaining reader) (λ bytes.
-        HasWritten (ExportWrites options.now (StandsFor (records_of bytes))) (W.contents writer.old) (W.contents writer.new))) }
+        HasWritten (ExportWrites counting.now.options.now (StandsFor (records_of bytes)))
+        (W.contents writer.old) (W.contents writer.new))) }
 
     // and which fault comes.
     ensures fault { IfErr result (λ fault. IfSome (R.remaining reader) (λ bytes.
-        FailsBy (ExportRefuses options.now) (ExportWrites options.now (StandsFor (records_of bytes))) bytes fault)) }
+        FailsBy (ExportRefuses counting.now.options.now)
+        (ExportWrites counting.now.options.now (StandsFor (records_of bytes))) bytes fault)) }
 
     // A file that can be exported is, unless a device fails or memory is refused.
     ensures accepts { IfSome (R.remaining reader) (λ bytes.
-        Accepts (ExportWrites options.now (StandsFor (records_of bytes))) result) }
+        Accepts (ExportWrites counting.now.options.now (StandsFor (records_of bytes))) result) }
 
     // A fault writes nothing, unless it is the writer's.
     ensures unchanged { IfErr result (λ fault. fault ≢ AppFault.Write → writer.new ≡ writer.old) }
@@ -49,8 +49,8 @@ pub fn run_export<T: Threads + Sync, R: Read + Drop, W: Write>(
     // Out of memory is one fault.
     ensures merged { IfErr result (λ fault. merged fault ≡ fault) }
 {
-    let election = read_pb(alloc, reader)?;
-    let made = export_text(rt, alloc, &election, options);
+    let election = read_pb(counting.alloc, reader)?;
+    let made = export_text(counting, &election);
     drop(election);
     match made {
         Ok(text) => write_out(writer, text.as_slice()),
@@ -65,26 +65,25 @@ pub fn run_export<T: Threads + Sync, R: Read + Drop, W: Write>(
 /// The file is refused before the journal, the journal before an open desk, and that before the options. Nothing is
 /// written but the whole file. Where the fault is `Write` some of the file may have gone out; on any other fault the
 /// writer is as it was.
-pub fn run_closed_export<T: Threads + Sync, P: Read + Drop, J: Read + Drop, W: Write>(
-    rt: &T,
-    alloc: Global,
+pub fn run_closed_export<T: Threads + Sync, P: Read + Drop, J: Read + Drop, G: Gate, W: Write>(
+    counting: &Counting<T, G>,
     file: P,
     journal: J,
     writer: &mut W,
-    options: &CountOptions,
 ) -> Result<(), AppFault>
     // Where the bytes of both readers are known, they alone and the options decide what is written,
-    ensures ok { OnOk result (IfBothKnown (P.remaining file) (J.remaining journal) (λ bytes rows. HasWritten
-        (ExportWrites options.now (Leaves bytes rows)) (W.contents writer.old) (W.contents writer.new))) }
+    ensures ok { OnOk result (IfBothKnown (P.remaining file) (J.remaining journal) (λ bytes rows.
+        HasWritten (ExportWrites counting.now.options.now (Leaves bytes rows))
+        (W.contents writer.old) (W.contents writer.new))) }
 
     // and which fault comes.
     ensures fault { IfErr result (λ fault. IfBothKnown (P.remaining file) (J.remaining journal) (λ bytes rows.
-        FailsBy (ClosedExportRefuses bytes rows options.now)
-        (ExportWrites options.now (Leaves bytes rows)) bytes fault)) }
+        FailsBy (ClosedExportRefuses bytes rows counting.now.options.now)
+        (ExportWrites counting.now.options.now (Leaves bytes rows)) bytes fault)) }
 
     // A file and a journal that can be exported are, unless a device fails or memory is refused.
     ensures accepts { IfBothKnown (P.remaining file) (J.remaining journal) (λ bytes rows.
-        Accepts (ExportWrites options.now (Leaves bytes rows)) result) }
+        Accepts (ExportWrites counting.now.options.now (Leaves bytes rows)) result) }
 
     // The file is judged first, whatever is known of the journal.
     ensures file { IfSome (P.remaining file) (λ bytes. JudgesFile bytes result) }
@@ -95,11 +94,11 @@ pub fn run_closed_export<T: Threads + Sync, P: Read + Drop, J: Read + Drop, W: W
     // Out of memory is one fault.
     ensures merged { IfErr result (λ fault. merged fault ≡ fault) }
 {
-    let election = match closed_ballots(alloc, file, journal) {
+    let election = match closed_ballots(counting.alloc, file, journal) {
         Ok(election) => election,
         Err(fault) => return Err(fault),
     };
-    let made = export_text(rt, alloc, &election, options);
+    let made = export_text(counting, &election);
     drop(election);
     match made {
         Ok(text) => write_out(writer, text.as_slice()),

@@ -14,6 +14,7 @@ ghost use Rattle.pb_commands.specs.Tabled.{IsTableOf, TableWrites};
 ghost use Rattle.pb_commands.specs.Tables.{table_of};
 
 use crate::closed_desk::closed_ballots;
+use crate::counting::Counting;
 use crate::fault::AppFault;
 use crate::projects_table::put_projects;
 use crate::run_count::{finished, write_out};
@@ -25,7 +26,6 @@ use pb_price::gate::Gate;
 use pb_read::read_pb;
 use pb_rounds::count::count_watched;
 use pb_rounds::count_fault::CountFault;
-use pb_rounds::options::CountOptions;
 use pb_rounds::outcome::Outcome;
 use pb_rows::RowsWriter;
 use std::alloc::Global;
@@ -39,25 +39,24 @@ use std::thread::Threads;
 /// Where the fault is `Write` some of the table may have gone out; on any other fault the writer is as it
 /// was.
 pub fn run_table<T: Threads + Sync, R: Read + Drop, G: Gate, W: Write>(
-    rt: &T,
-    alloc: Global,
+    counting: &Counting<T, G>,
     reader: R,
-    gate: &G,
     writer: &mut W,
-    options: &CountOptions,
     table: Table,
 ) -> Result<(), AppFault>
     // Where the reader's bytes are known, they alone and the options decide what is written,
     ensures ok { OnOk result (IfSome (R.remaining reader) (λ bytes.
-        HasWritten (TableWrites table options.now (StandsFor (records_of bytes))) (W.contents writer.old) (W.contents writer.new))) }
+        HasWritten (TableWrites table counting.now.options.now (StandsFor (records_of bytes)))
+        (W.contents writer.old) (W.contents writer.new))) }
 
     // and which fault comes.
     ensures fault { IfErr result (λ fault. IfSome (R.remaining reader) (λ bytes.
-        FailsBy (CountRefuses options.now) (TableWrites table options.now (StandsFor (records_of bytes))) bytes fault)) }
+        FailsBy (CountRefuses counting.now.options.now)
+        (TableWrites table counting.now.options.now (StandsFor (records_of bytes))) bytes fault)) }
 
     // A file that has a table gets it, unless a device fails or memory is refused.
     ensures accepts { IfSome (R.remaining reader) (λ bytes.
-        Accepts (TableWrites table options.now (StandsFor (records_of bytes))) result) }
+        Accepts (TableWrites table counting.now.options.now (StandsFor (records_of bytes))) result) }
 
     // A fault writes nothing, unless it is the writer's.
     ensures unchanged { IfErr result (λ fault. fault ≢ AppFault.Write → writer.new ≡ writer.old) }
@@ -65,8 +64,8 @@ pub fn run_table<T: Threads + Sync, R: Read + Drop, G: Gate, W: Write>(
     // Out of memory is one fault.
     ensures merged { IfErr result (λ fault. merged fault ≡ fault) }
 {
-    let election = read_pb(alloc, reader)?;
-    let made = table_text(rt, alloc, &election, gate, options, table);
+    let election = read_pb(counting.alloc, reader)?;
+    let made = table_text(counting, &election, table);
     drop(election);
     let text = made?;
     write_out(writer, text.as_slice())
@@ -79,27 +78,25 @@ pub fn run_table<T: Threads + Sync, R: Read + Drop, G: Gate, W: Write>(
 /// written but the whole table. Where the fault is `Write` some of the table may have gone out; on any other fault the
 /// writer is as it was.
 pub fn run_closed_table<T: Threads + Sync, P: Read + Drop, J: Read + Drop, G: Gate, W: Write>(
-    rt: &T,
-    alloc: Global,
+    counting: &Counting<T, G>,
     file: P,
     journal: J,
-    gate: &G,
     writer: &mut W,
-    options: &CountOptions,
     table: Table,
 ) -> Result<(), AppFault>
     // Where the bytes of both readers are known, they alone and the options decide what is written,
-    ensures ok { OnOk result (IfBothKnown (P.remaining file) (J.remaining journal) (λ bytes rows. HasWritten
-        (TableWrites table options.now (Leaves bytes rows)) (W.contents writer.old) (W.contents writer.new))) }
+    ensures ok { OnOk result (IfBothKnown (P.remaining file) (J.remaining journal) (λ bytes rows.
+        HasWritten (TableWrites table counting.now.options.now (Leaves bytes rows))
+        (W.contents writer.old) (W.contents writer.new))) }
 
     // and which fault comes.
     ensures fault { IfErr result (λ fault. IfBothKnown (P.remaining file) (J.remaining journal) (λ bytes rows.
-        FailsBy (ClosedRefuses bytes rows options.now)
-        (TableWrites table options.now (Leaves bytes rows)) bytes fault)) }
+        FailsBy (ClosedRefuses bytes rows counting.now.options.now)
+        (TableWrites table counting.now.options.now (Leaves bytes rows)) bytes fault)) }
 
     // A file and a journal that have a table get it, unless a device fails or memory is refused.
     ensures accepts { IfBothKnown (P.remaining file) (J.remaining journal) (λ bytes rows.
-        Accepts (TableWrites table options.now (Leaves bytes rows)) result) }
+        Accepts (TableWrites table counting.now.options.now (Leaves bytes rows)) result) }
 
     // The file is judged first, whatever is known of the journal.
     ensures file { IfSome (P.remaining file) (λ bytes. JudgesFile bytes result) }
@@ -110,8 +107,8 @@ pub fn run_closed_table<T: Threads + Sync, P: Read + Drop, J: Read + Drop, G: Ga
     // Out of memory is one fault.
     ensures merged { IfErr result (λ fault. merged fault ≡ fault) }
 {
-    let election = closed_ballots(alloc, file, journal)?;
-    let made = table_text(rt, alloc, &election, gate, options, table);
+    let election = closed_ballots(counting.alloc, file, journal)?;
+    let made = table_text(counting, &election, table);
     drop(election);
     let text = made?;
     write_out(writer, text.as_slice())
@@ -119,18 +116,15 @@ pub fn run_closed_table<T: Threads + Sync, P: Read + Drop, J: Read + Drop, G: Ga
 
 /// This table of an election, counted with these options.
 fn table_text<T: Threads + Sync, G: Gate>(
-    rt: &T,
-    alloc: Global,
+    counting: &Counting<T, G>,
     election: &Election,
-    gate: &G,
-    options: &CountOptions,
     table: Table,
 ) -> Result<Vec<u8>, CountFault>
-    ensures ok { IfOk result (λ text. IsTableOf table options.now election.now text.items) }
-    ensures fault { IfErr result (IsCountFault election.now options.now) }
+    ensures ok { IfOk result (λ text. IsTableOf table counting.now.options.now election.now text.items) }
+    ensures fault { IfErr result (IsCountFault election.now counting.now.options.now) }
 {
-    let mut rows = RowsWriter::start(alloc);
-    match put_counted(rt, alloc, &mut rows, election, gate, options, table) {
+    let mut rows = RowsWriter::start(counting.alloc);
+    match put_counted(counting, &mut rows, election, table) {
         Ok(()) => finished(rows),
         Err(fault) => {
             drop(rows);
@@ -141,21 +135,19 @@ fn table_text<T: Threads + Sync, G: Gate>(
 
 /// Counts an election, and puts this table after the rows that stand there.
 fn put_counted<T: Threads + Sync, G: Gate>(
-    rt: &T,
-    alloc: Global,
+    counting: &Counting<T, G>,
     rows: &mut RowsWriter,
     election: &Election,
-    gate: &G,
-    options: &CountOptions,
     table: Table,
 ) -> Result<(), CountFault>
     ensures ok { OnOk result ((text : List ℕ)
-        × IsTableOf table options.now election.now text × (rows.new.text ≡ rows.old.text ++ text)) }
-    ensures fault { IfErr result (IsCountFault election.now options.now) }
+        × IsTableOf table counting.now.options.now election.now text × (rows.new.text ≡ rows.old.text ++ text)) }
+    ensures fault { IfErr result (IsCountFault election.now counting.now.options.now) }
 {
     // What is true of every election is true of its payments.
     let _budget = election.budget();
-    let outcome = count_watched(rt, alloc, election, options, gate)?;
+    let (rt, alloc) = (counting.rt, counting.alloc);
+    let outcome = count_watched(rt, alloc, election, counting.options, counting.gate)?;
     put_outcome(rows, alloc, election, &outcome, table)?;
     Ok(())
 }

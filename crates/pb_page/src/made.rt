@@ -1,6 +1,6 @@
 // The page of an outcome.
 
-ghost use Rattle.std.specs.Prelude.{◌≡◌, ◌<◌, All, IfOk, length};
+ghost use Rattle.std.specs.Prelude.{◌<◌, All, IfOk, length};
 ghost use Rattle.pb_reasons.specs.Reasons.{IsCounted};
 ghost use Rattle.pb_page.specs.Page.{IsPage};
 
@@ -32,11 +32,8 @@ pub fn page_of(
 {
     // What is true of every election is true of the places of its elected projects.
     let _budget = election.budget();
-    let teller = ProjectTeller::of(alloc, election, outcome)?;
     let mut page = Page::start(alloc);
-    let put = put_all(&mut page, alloc, election, outcome, &teller, facts);
-    drop(teller);
-    match put {
+    match put_all(&mut page, alloc, election, outcome, facts) {
         Ok(()) => page.finish(),
         Err(refused) => {
             drop(page);
@@ -51,20 +48,19 @@ fn put_all(
     alloc: Global,
     election: &Election,
     outcome: &Outcome,
-    teller: &ProjectTeller,
     facts: &Facts,
 ) -> Result<(), NoMemory>
     requires counted { IsCounted election.now outcome.now }
-    requires own { teller.now.0 ≡ election.now }
     requires known { All (λ w. w.place < length election.now.projects) outcome.now.elected }
 {
     let elected = outcome.elected.as_slice();
+    let teller = ProjectTeller::of(alloc, election, outcome)?;
     put_head(page, alloc, facts.title)?;
     let spent = Totals::of(election, outcome).spent;
     put_summary(page, alloc, election, elected.len() as u64, spent)?;
     put_budget(page, alloc, election, elected, spent)?;
-    put_winners(page, alloc, election, teller, elected)?;
-    put_others(page, alloc, election, teller, elected.len())?;
+    put_winners(page, alloc, election, &teller, elected)?;
+    put_others(page, alloc, election, &teller, elected.len())?;
     put_voters(page, alloc, election, elected)?;
     put_rule(page, alloc, &facts.options, outcome)?;
     put_check(page, alloc, facts)

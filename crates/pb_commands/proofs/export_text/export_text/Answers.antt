@@ -3,7 +3,7 @@ use Rattle.std.proofs.lemmas.List.FromFn.{length-map-range_with_len}
 use Rattle.pb_commands.proofs.export_text.export_text.Goals as goal
 
 pub of-requires : goal.of-requires
-of-requires g c = (c.args.options.now, c.in_ok-outcome.ensures.counted)
+of-requires g c = (c.args.counting.now.options.now, c.in_ok-outcome.ensures.counted)
 
 pub write_pb-requires-clause-votes : goal.write_pb-requires-clause-votes
 write_pb-requires-clause-votes g c =

@@ -7,7 +7,7 @@ use Rattle.pb_commands.proofs.run_audit.run_audit_watched.Goals as goal
 
 pub returns-in_err-election-clause-fault : goal.returns-in_err-election-clause-fault
 returns-in_err-election-clause-fault g c =
-    refused_of_both (λ bytes rows. AuditRefuses bytes rows c.args.options.now) (λ bytes rows. AuditWrites bytes rows c.args.options.now) _ _
+    refused_of_both (λ bytes rows. AuditRefuses bytes rows c.args.counting.now.options.now) (λ bytes rows. AuditWrites bytes rows c.args.counting.now.options.now) _ _
     c.in_err-election.field-0.0 _ c.from_residual.ensures.1 c.in_err-election.ensures.fault
 
 pub returns-in_err-election-clause-merged : goal.returns-in_err-election-clause-merged
@@ -37,19 +37,19 @@ returns-clause-file g c = judged_by_writer _ c.in_ok-election.election _ c.write
 
 pub returns-in_err-election-clause-accepts : goal.returns-in_err-election-clause-accepts
 returns-in_err-election-clause-accepts g c =
-    audited_by_reader _ _ c.args.options.now c.in_err-election.field-0.0 _ c.from_residual.ensures.1 c.in_err-election.ensures.accepts
+    audited_by_reader _ _ c.args.counting.now.options.now c.in_err-election.field-0.0 _ c.from_residual.ensures.1 c.in_err-election.ensures.accepts
 
 pub returns-in_err-election-clause-file : goal.returns-in_err-election-clause-file
 returns-in_err-election-clause-file g c = judged_by_reader _ c.in_err-election.field-0.0 _ c.from_residual.ensures.1 c.in_err-election.ensures.fault
 
 pub returns-in_err-desk-clause-fault : goal.returns-in_err-desk-clause-fault
 returns-in_err-desk-clause-fault g c =
-    refused_by_journal _ _ c.args.options.now c.in_ok-election.election c.in_err-desk.field-0.0 _ c.from_residual-in_err-desk.ensures.1
+    refused_by_journal _ _ c.args.counting.now.options.now c.in_ok-election.election c.in_err-desk.field-0.0 _ c.from_residual-in_err-desk.ensures.1
     c.in_ok-election.ensures.ok c.in_err-desk.ensures.fault
 
 pub returns-in_err-desk-clause-accepts : goal.returns-in_err-desk-clause-accepts
 returns-in_err-desk-clause-accepts g c =
-    audited_by_journal _ _ c.args.options.now c.in_ok-election.election c.in_err-desk.field-0.0 _ c.from_residual-in_err-desk.ensures.1
+    audited_by_journal _ _ c.args.counting.now.options.now c.in_ok-election.election c.in_err-desk.field-0.0 _ c.from_residual-in_err-desk.ensures.1
     c.in_ok-election.ensures.ok c.in_err-desk.ensures.fault
 
 pub returns-in_err-desk-clause-file : goal.returns-in_err-desk-clause-file
@@ -59,13 +59,13 @@ returns-in_err-desk-clause-file g c =
 pub returns-in_err-text-clause-fault : goal.returns-in_err-text-clause-fault
 returns-in_err-text-clause-fault g c =
     let desk = c.in_ok-desk.ensures in
-    refused_by_desk _ _ c.args.options.now c.in_ok-election.election c.in_ok-desk.desk c.in_err-text.field-0.0 _ c.from_residual-in_err-text.ensures.1
+    refused_by_desk _ _ c.args.counting.now.options.now c.in_ok-election.election c.in_ok-desk.desk c.in_err-text.field-0.0 _ c.from_residual-in_err-text.ensures.1
     (record { stands = c.in_ok-election.ensures.ok; election = desk.opening; room = desk.room; sound = desk.sound; rows = desk.rows }) c.in_err-text.ensures.fault
 
 pub returns-in_err-text-clause-accepts : goal.returns-in_err-text-clause-accepts
 returns-in_err-text-clause-accepts g c =
     let desk = c.in_ok-desk.ensures in
-    audited_by_desk _ _ c.args.options.now c.in_ok-election.election c.in_ok-desk.desk c.in_err-text.field-0.0 _ c.from_residual-in_err-text.ensures.1
+    audited_by_desk _ _ c.args.counting.now.options.now c.in_ok-election.election c.in_ok-desk.desk c.in_err-text.field-0.0 _ c.from_residual-in_err-text.ensures.1
     (record { stands = c.in_ok-election.ensures.ok; election = desk.opening; room = desk.room; sound = desk.sound; rows = desk.rows }) c.in_err-text.ensures.fault
 
 pub returns-in_err-text-clause-file : goal.returns-in_err-text-clause-file
