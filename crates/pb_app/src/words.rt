@@ -8,14 +8,14 @@ use pb_export::ExportFault;
 use pb_read::ReadFault;
 use pb_rounds::options::CountOptions;
 use pb_words::count_words::count_words;
-use pb_words::journal_words::seen_words;
+use pb_words::journal_words::journal_words;
 use pb_words::read_words::{list_words, read_words};
 use pb_words::script_words::script_words;
 use pb_words::serve_words::{
     bad_rows_words, locked_words, spelling_words, torn_words, unanswered_words, unkept_words,
     unopened_words,
 };
-use pb_words::{Tally, mistaken_words, open_words, write_words};
+use pb_words::{AuditPaths, Tally, mistaken_words, open_words, write_words};
 use std::alloc::{AllocError, Global};
 use std::fs;
 use std::io::Error;
@@ -100,7 +100,13 @@ fn words_of<R: Files + AllocGlobal>(
             script_words(rt, alloc, second, Some(*fault), clerks_of(&asked.task))
         }
         AppFault::ClerkCount => script_words(rt, alloc, second, None, clerks_of(&asked.task)),
-        AppFault::Audit(fault) => seen_words(rt, alloc, first, second, *fault, audited),
+        AppFault::Audit(fault) => {
+            let paths = AuditPaths {
+                file: first,
+                journal: second,
+            };
+            journal_words(rt, alloc, paths, *fault, audited)
+        }
         AppFault::Count(fault) => count_words(rt, alloc, first, *fault, &options_of(&asked.task)),
         AppFault::Open(1) => open_words(rt, alloc, first.unwrap_or("-")),
         AppFault::Open(_) => open_words(rt, alloc, second.unwrap_or("-")),

@@ -15,8 +15,8 @@ use Rattle.pb_script.specs.declared.script_fault.ScriptFault.{ScriptFault}
 use Rattle.pb_script.specs.declared.script_fault.ScriptFault.TheVariants as script
 use Rattle.pb_script.specs.declared.serve_fault.ServeFault.{ServeFault}
 use Rattle.pb_script.specs.declared.serve_fault.ServeFault.TheVariants as serve
-use Rattle.pb_commands.specs.Desked.{DeskRefuses, DeskWrites}
-use Rattle.pb_commands.specs.Inner.Desked.{unserved}
+use Rattle.pb_commands.specs.DeskRun.{DeskRefuses, DeskWrites}
+use Rattle.pb_commands.specs.Inner.DeskRun.{unserved}
 use Rattle.pb_commands.specs.Ends.{Accepts, FailsBy, HasWritten, IfBothKnown, IsFromOutside, JudgesFile}
 use Rattle.pb_commands.specs.Fault.{merged}
 use Rattle.pb_commands.specs.declared.fault.AppFault.{AppFault}

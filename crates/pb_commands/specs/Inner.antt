@@ -1,6 +1,6 @@
 -- Words that private contracts alone speak of: nobody has to believe them.
 pub mod Audited
 pub mod Checked
-pub mod Desked
+pub mod DeskRun
 pub mod Exporting
 pub mod Tables

@@ -5,7 +5,7 @@ pub mod Fault
 pub mod Ends
 pub mod Counted
 pub mod Audited
-pub mod Desked
+pub mod DeskRun
 pub mod Checked
 pub mod Closed
 pub mod Exported

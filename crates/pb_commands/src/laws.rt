@@ -16,7 +16,7 @@ ghost use Rattle.pb_script.specs.Script.{IsScript, ScriptRowView};
 ghost use Rattle.pb_script.specs.Serving.{program_room};
 ghost use Rattle.pb_commands.specs.Audited.{AuditWrites, IsDeskOf, IsTextOf, entries_row};
 ghost use Rattle.pb_commands.specs.Counted.{CountWrites};
-ghost use Rattle.pb_commands.specs.Desked.{DeskWrites};
+ghost use Rattle.pb_commands.specs.DeskRun.{DeskWrites};
 ghost use Rattle.pb_commands.specs.Report.{report_of};
 
 use pb_core::answer::Answer;

@@ -1,8 +1,8 @@
 //! The command `desk`: a script's requests, served by the clerks of one desk.
 
 ghost use Rattle.std.specs.Prelude.{◌≡◌, ◌≢◌, IfErr, IfSome, OnOk};
-ghost use Rattle.pb_commands.specs.Desked.{DeskRefuses, DeskWrites};
-ghost use Rattle.pb_commands.specs.Inner.Desked.{unserved};
+ghost use Rattle.pb_commands.specs.DeskRun.{DeskRefuses, DeskWrites};
+ghost use Rattle.pb_commands.specs.Inner.DeskRun.{unserved};
 ghost use Rattle.pb_commands.specs.Ends.{Accepts, FailsBy, HasWritten, IfBothKnown, JudgesFile};
 ghost use Rattle.pb_commands.specs.Fault.{merged};
 

@@ -7,12 +7,12 @@ ghost use Rattle.pb_rounds.specs.Inner.Front.{CanAllPay, IsFront, IsFrontAt, IsC
 ghost use Rattle.pb_rounds.specs.Inner.Queue.{IsIn};
 
 use crate::bounds::fill_opening;
+use crate::exhaustion::{clear_marks, mark};
 use crate::key::Key;
 use crate::measure::Measure;
 use crate::outcome::Outcome;
 use crate::round::elect;
 use crate::run::open;
-use crate::standing::{clear_marks, mark};
 use pb_core::money::Money;
 use pb_core::no_memory::NoMemory;
 use pb_price::supporters::Supporters;

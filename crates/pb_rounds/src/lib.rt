@@ -4,6 +4,7 @@
 mod bounds;
 pub mod count;
 pub mod count_fault;
+mod exhaustion;
 mod front;
 mod jump;
 pub mod key;
@@ -20,7 +21,6 @@ mod round;
 mod run;
 mod shortcut_laws;
 mod side_by_side;
-mod standing;
 mod trial;
 
 pub use count::equal_shares;

@@ -6,12 +6,12 @@ ghost use Rattle.pb_rounds.specs.Inner.Front.{IsFront};
 ghost use Rattle.pb_rounds.specs.Inner.RaiseEnds.{IsTried};
 
 use crate::bounds::next_best;
+use crate::exhaustion::{is_exhausted, mark};
 use crate::front::Front;
 use crate::key::Key;
 use crate::outcome::Outcome;
 use crate::raise_end::RaiseEnd;
 use crate::round::elect;
-use crate::standing::{is_exhausted, mark};
 use pb_core::money::Money;
 use pb_core::no_memory::NoMemory;
 use std::alloc::{Allocator, Global};

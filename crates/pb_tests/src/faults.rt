@@ -42,7 +42,7 @@ const AUDIT_FAULTS: &[(AuditFault, &str)] = &[
     ),
     (
         AuditFault::BadRow(0),
-        "2 BadRow: the first row says no version that there is",
+        "2 BadRow: the first row names no version that exists",
     ),
     (
         AuditFault::BadRow(7),

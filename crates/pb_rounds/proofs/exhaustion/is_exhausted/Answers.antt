@@ -1,6 +1,6 @@
 use Rattle.std.proofs.Common.{◌-◌, sym, ◌∙◌, arith}
 use Rattle.pb_rounds.proofs.Exhausted.{found_affordable, none_affordable, over_budget}
-use Rattle.pb_rounds.proofs.standing.is_exhausted.Goals as goal
+use Rattle.pb_rounds.proofs.exhaustion.is_exhausted.Goals as goal
 
 pub returns-then-spent-budget : goal.returns-then-spent-budget
 returns-then-spent-budget g c =

@@ -1,7 +1,7 @@
 use Rattle.std.proofs.Common.{◌≡◌, ℕ, ◌-◌, ◌<◌, ◌&&◌, false, not}
 use Rattle.std.specs.Prelude.{slice_index_or}
 use Rattle.pb_rounds.proofs.Exhausted.{is_affordable}
-use Rattle.pb_rounds.proofs.standing.is_exhausted.Given as goal
+use Rattle.pb_rounds.proofs.exhaustion.is_exhausted.Given as goal
 
 abbrev pub invariant-loop-place : goal.invariant-loop-place
 invariant-loop-place g l =
