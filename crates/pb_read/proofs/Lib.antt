@@ -6,6 +6,7 @@ pub mod LowestKind
 pub mod GoesOn
 pub mod IdFacts
 pub mod Limits
+pub mod LengthNamed
 pub mod Uniqueness
 pub mod Pieces
 pub mod Ballots

@@ -36,7 +36,7 @@ large_is true true false n e = (refl, refl)
 large_is true false fits n e = cc e
 large_is false fine fits n e = cc e
 
-two_zeros : (ds : List ℕ) → list_all (λ c. c == 48) ds ≡ true → digits_value 10 (take 2 (ds ++ codes "00")) ≡ 0
+pub two_zeros : (ds : List ℕ) → list_all (λ c. c == 48) ds ≡ true → digits_value 10 (take 2 (ds ++ codes "00")) ≡ 0
 two_zeros [] all = refl
 two_zeros (a ∷ []) all =
     let first : a ≡ 48 = eqb-true a 48 (left_of (a == 48) true all) in
@@ -113,7 +113,7 @@ bad_is true true true n is kind other e = absurd (ok≢err e)
 bad_is true true false n is kind other e = absurd (other (sym (same_Err e)))
 bad_is true false fits n is kind other e = absurd (false≢true is)
 
-zeros_dropped : (ds : List ℕ) → list_all (λ c. c == 48) ds ≡ true → list_all (λ c. c == 48) (drop 2 ds) ≡ true
+pub zeros_dropped : (ds : List ℕ) → list_all (λ c. c == 48) ds ≡ true → list_all (λ c. c == 48) (drop 2 ds) ≡ true
 zeros_dropped [] all = refl
 zeros_dropped (a ∷ []) all = refl
 zeros_dropped (a ∷ b ∷ ds) all = right_of (b == 48) (list_all (λ c. c == 48) ds) (right_of (a == 48) (list_all (λ c. c == 48) (b ∷ ds)) all)

@@ -1,13 +1,17 @@
 // Laws of the definitions.
 
-ghost use Rattle.std.specs.Prelude.{◌≡◌, ◌≤◌, ◌-◌, ◌↔◌, ◌∷◌, [], ℕ, List, length, take};
-ghost use Rattle.pb_core.specs.Election.{ElectionView};
+ghost use Rattle.std.specs.Prelude.{◌≡◌, ◌≢◌, ◌⊎◌, ◌↔◌, ◌<◌, ◌≤◌, ◌-◌, ◌*◌, ℕ};
+ghost use Rattle.std.specs.Prelude.{List, [], ◌∷◌, length, take, Some, None, Ok, Err};
+ghost use Rattle.pb_core.specs.Election.{ElectionView, most_projects};
+ghost use Rattle.pb_core.specs.MoneyText.{IsMoneyText, IsWorth};
 ghost use Rattle.pb_rows.specs.Reading.{Fields};
 ghost use Rattle.pb_read.specs.FirstFault.{HasNoFault, IsFaultAt, IsFromOutside};
+ghost use Rattle.pb_read.specs.Lengths.{max_length_of};
 ghost use Rattle.pb_read.specs.Listed.{AreListed};
 ghost use Rattle.pb_read.specs.StandsFor.{StandsFor};
 ghost use Rattle.pb_read.specs.declared.fault.ReadFault.{ReadFault};
 ghost use Rattle.pb_read.specs.declared.fault.ReadKind.{ReadKind};
+ghost use Rattle.pb_read.specs.declared.fault.ReadKind.TheVariants.{BadLength};
 
 /// Records stand for one election at most, are refused by one fault at most, and never both; a failed
 /// reader and refused memory stand aside.
@@ -36,4 +40,18 @@ pub fn first_listed()
         AreListed 0 records (fault ∷ more) → IsFaultAt records fault.kind fault.at }
     ensures accepts { (records : List Fields) (fault : ReadFault) (more : List ReadFault) (e : ElectionView) →
         AreListed 0 records (fault ∷ more) → StandsFor records e → IsFromOutside fault.kind }
+{}
+
+/// The limit that a value of `max_length` names is the whole number of its digits. There is none where the value is
+/// empty, or the number is above the most projects; and a value that names no whole number is bad.
+pub fn max_length_is_what_its_text_names()
+    ensures limit { (text : List ℕ) → (n : ℕ) → max_length_of text ≡ Ok (Some n)
+        ↔ ((whole : List ℕ) × (decimals : List ℕ)
+        × IsMoneyText text whole decimals × IsWorth whole decimals (100 * n) × (n ≤ most_projects)) }
+    ensures none { (text : List ℕ) → max_length_of text ≡ Ok None
+        ↔ ((text ≡ []) ⊎ ((whole : List ℕ) × (decimals : List ℕ) × (n : ℕ)
+        × IsMoneyText text whole decimals × IsWorth whole decimals (100 * n) × (most_projects < n))) }
+    ensures bad { (text : List ℕ) → (kind : ReadKind) → max_length_of text ≡ Err kind
+        ↔ ((kind ≡ BadLength) × (text ≢ []) × ((whole : List ℕ) → (decimals : List ℕ) → (n : ℕ)
+        → IsMoneyText text whole decimals → ¬ IsWorth whole decimals (100 * n))) }
 {}

@@ -17,6 +17,6 @@ mod watch;
 
 pub use check::{MOST_FAULTS, list_faults};
 pub use fault::{ReadFault, ReadKind};
-pub use laws::{first_listed, one_answer};
+pub use laws::{first_listed, max_length_is_what_its_text_names, one_answer};
 pub use read::{MOST_RECORDS, read_pb};
 pub use watch::{Warning, Watch};
