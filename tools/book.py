@@ -58,6 +58,7 @@ COMPUTING_LAWS = {
 # are, and nobody has to believe what computes them.
 PINNED = {
     ("pb_core", "Money", "money_of"): ("pb_core", "money_is_what_its_text_names"),
+    ("pb_read", "Lengths", "max_length_of"): ("pb_read", "max_length_is_what_its_text_names"),
     ("pb_rounds", "Count", "opening_share"): ("pb_rounds", "opening_share_is_largest"),
 }
 # What an impl has to say besides its meaning: what is true of its private fields, and proofs that a law holds.
