@@ -264,9 +264,9 @@ fn prices_as<R: Threads + Abort + Sync, G: Gate>(
     alloc: Global,
     workers: u32,
     gate: &G,
-    projects: &[u32],
-    wanted: &[u64],
+    batch: &PricedBatch,
 ) {
+    let PricedBatch(projects, wanted, _) = batch;
     let (prices, tally) = priced_by(rt, alloc, workers, gate, projects);
     let (prices, wanted) = (prices.expect(rt, "prices"), found(rt, alloc, wanted));
     same(rt, prices.as_slice(), wanted.as_slice(), "prices");
@@ -293,21 +293,23 @@ impl Gate for Visits {
 }
 
 /// Projects to be priced, their prices, and how often each piece comes to the gate.
-const BATCHES: &[(&[u32], &[u64], u32)] = &[
-    (&[], &[], 0),
-    (&[1], &[3000], 1),
-    (&[0, 1], &[1500, 3000], 11),
-    (&[1, 0, 1, 1], &[3000, 1500, 3000, 3000], 1_111),
+struct PricedBatch(&'static [u32], &'static [u64], u32);
+
+const BATCHES: &[PricedBatch] = &[
+    PricedBatch(&[], &[], 0),
+    PricedBatch(&[1], &[3000], 1),
+    PricedBatch(&[0, 1], &[1500, 3000], 11),
+    PricedBatch(&[1, 0, 1, 1], &[3000, 1500, 3000, 3000], 1_111),
 ];
 
 /// This many workers give the answers of one worker, and draw each piece once.
 fn prices_by<R: Threads + Abort + Sync>(rt: &R, alloc: Global, workers: u32) {
-    for (projects, prices, visits) in BATCHES {
+    for batch in BATCHES {
         let gate = Visits {
             digits: AtomicU32::new(0),
         };
-        prices_as(rt, alloc, workers, &gate, projects, prices);
-        same(rt, gate.digits.load(SeqCst), *visits, "visits");
+        prices_as(rt, alloc, workers, &gate, batch);
+        same(rt, gate.digits.load(SeqCst), batch.2, "visits");
     }
 }
 

@@ -59,15 +59,7 @@ pub(crate) fn asks(rt: &impl Abort, alloc: Global, desk: &mut Desk, rows: &[Row]
 }
 
 /// Clerk 0 asks this, and it is done.
-pub(crate) fn is_done(
-    rt: &impl Abort,
-    alloc: Global,
-    desk: &mut Desk,
-    word: &str,
-    id: &str,
-    place: u32,
-) {
-    let request = request(rt, alloc, word, id, &[place]);
+pub(crate) fn is_done(rt: &impl Abort, desk: &mut Desk, request: Request) {
     is_served(rt, desk, 0, &request, Ok(Answer::Done));
     drop(request);
 }
@@ -332,7 +324,7 @@ const AT_THE_LIMIT: &[Row] = &[
 /// The voter with this number casts a ballot.
 fn casts(rt: &impl Abort, alloc: Global, desk: &mut Desk, number: u32) {
     let id = format!(in alloc; "w{number}").expect(rt, "memory");
-    is_done(rt, alloc, desk, "cast", id.as_str(), 1);
+    is_done(rt, desk, request(rt, alloc, "cast", id.as_str(), &[1]));
     drop(id);
 }
 

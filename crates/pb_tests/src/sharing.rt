@@ -223,18 +223,19 @@ const SERVED: &[Served] = &[
 ];
 
 /// Two clerks of a new desk ask in turn, and are then handed back.
-fn serves(rt: &impl Abort, alloc: Global, room: u32, steps: &[Step], entries: u32, text: &str) {
-    let (shared, mut clerks) = share(rt, alloc, desk_with_room(rt, alloc, room), 2);
+fn serves(rt: &impl Abort, alloc: Global, served: &Served) {
+    let Served(room, steps, entries, text) = served;
+    let (shared, mut clerks) = share(rt, alloc, desk_with_room(rt, alloc, *room), 2);
     ask_in_turn(rt, alloc, &shared, &mut clerks, steps);
-    reads(rt, &shared, &mut clerks, 0, entries);
-    reads(rt, &shared, &mut clerks, 1, entries);
+    reads(rt, &shared, &mut clerks, 0, *entries);
+    reads(rt, &shared, &mut clerks, 1, *entries);
     drop(finishes(rt, alloc, shared, clerks, text));
 }
 
 #[test]
 fn clerks_are_served_as_by_the_desk(rt: HostRuntime) {
-    for Served(room, steps, entries, text) in SERVED {
-        serves(&rt, rt.alloc(), *room, steps, *entries, text);
+    for served in SERVED {
+        serves(&rt, rt.alloc(), served);
     }
 }
 

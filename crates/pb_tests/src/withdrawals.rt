@@ -2,7 +2,7 @@
 
 use crate::checks::same;
 use crate::elections::{read, shown};
-use crate::serving::{has_ballots, is_done, is_served};
+use crate::serving::{has_ballots, is_done, is_served, request};
 use pb_core::answer::Answer;
 use pb_core::request::Request;
 use pb_desk::Desk;
@@ -29,19 +29,15 @@ fn change(plain: &mut Plain, number: u32, place: Option<u32>) {
     }
 }
 
+/// A word, the number of a voter, and the place of a project.
+struct Asked(&'static str, u32, u32);
+
 /// The voter with this number casts a ballot for the project of this place, replaces the ballot by one for it, or
 /// withdraws the ballot.
-fn ask(
-    rt: &impl Abort,
-    alloc: Global,
-    desk: &mut Desk,
-    plain: &mut Plain,
-    word: &str,
-    number: u32,
-    place: u32,
-) {
+fn ask(rt: &impl Abort, alloc: Global, desk: &mut Desk, plain: &mut Plain, asked: Asked) {
+    let Asked(word, number, place) = asked;
     let id = format!(in alloc; "v{number}").expect(rt, "memory");
-    is_done(rt, alloc, desk, word, id.as_str(), place);
+    is_done(rt, desk, request(rt, alloc, word, id.as_str(), &[place]));
     drop(id);
     match word {
         "cast" => plain.push((number, Some(place))).expect(rt, "memory"),
@@ -85,7 +81,7 @@ fn leaves_the_same(rt: &impl Abort, alloc: Global, desk: Desk, plain: &Plain) {
 /// This many voters cast a ballot, for the two projects in turn.
 fn all_cast(rt: &impl Abort, alloc: Global, desk: &mut Desk, plain: &mut Plain, voters: u32) {
     for number in 0..voters {
-        ask(rt, alloc, desk, plain, "cast", number, number % 2);
+        ask(rt, alloc, desk, plain, Asked("cast", number, number % 2));
     }
 }
 
@@ -93,7 +89,7 @@ fn all_cast(rt: &impl Abort, alloc: Global, desk: &mut Desk, plain: &mut Plain, 
 fn most_withdraw(rt: &impl Abort, alloc: Global, desk: &mut Desk, plain: &mut Plain, voters: u32) {
     for number in 0..voters {
         if number % 8 != 0 {
-            ask(rt, alloc, desk, plain, "withdraw", number, 0);
+            ask(rt, alloc, desk, plain, Asked("withdraw", number, 0));
         }
     }
 }
@@ -108,10 +104,16 @@ fn ballots_keep_their_order_where_many_withdraw(rt: HostRuntime) {
     most_withdraw(&rt, alloc, &mut desk, &mut plain, 64);
     are_same(&rt, alloc, &desk, &plain);
     for half in 0..32u32 {
-        ask(&rt, alloc, &mut desk, &mut plain, "cast", 2 * half + 1, 1);
+        ask(
+            &rt,
+            alloc,
+            &mut desk,
+            &mut plain,
+            Asked("cast", 2 * half + 1, 1),
+        );
     }
-    ask(&rt, alloc, &mut desk, &mut plain, "replace", 8, 1);
-    ask(&rt, alloc, &mut desk, &mut plain, "replace", 9, 0);
+    ask(&rt, alloc, &mut desk, &mut plain, Asked("replace", 8, 1));
+    ask(&rt, alloc, &mut desk, &mut plain, Asked("replace", 9, 0));
     are_same(&rt, alloc, &desk, &plain);
     leaves_the_same(&rt, alloc, desk, &plain);
     drop(plain);
@@ -134,7 +136,13 @@ fn a_desk_without_a_ballot_takes_ballots_again(rt: HostRuntime) {
     all_cast(&rt, alloc, &mut desk, &mut plain, 20);
     for step in 0..20u32 {
         let number = withdrawing(step);
-        ask(&rt, alloc, &mut desk, &mut plain, "withdraw", number, 0);
+        ask(
+            &rt,
+            alloc,
+            &mut desk,
+            &mut plain,
+            Asked("withdraw", number, 0),
+        );
         are_same(&rt, alloc, &desk, &plain);
     }
     all_cast(&rt, alloc, &mut desk, &mut plain, 20);
