@@ -79,4 +79,5 @@ def main():
                 compare(program, best, 1 if name == "large" else int(runs), path, measure, step, others[0] if others else None)
 
 
-main()
+if __name__ == "__main__":
+    main()
