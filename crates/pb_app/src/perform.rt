@@ -13,7 +13,7 @@ use pb_commands::run_desk::run_desk;
 use pb_commands::run_export::{run_closed_export, run_export};
 use pb_commands::run_table::{run_closed_table, run_table};
 use pb_commands::{AppFault, Counting, Table};
-use pb_price::gate::NoGate;
+use pb_core::gate::NoGate;
 use pb_read::ReadFault;
 use pb_rounds::options::CountOptions;
 use pb_words::Tally;

@@ -1,7 +1,7 @@
 // How far reading and counting have come, shown in one line of standard error that is rewritten.
 
+use pb_core::gate::Gate;
 use pb_core::money::Money;
-use pb_price::gate::Gate;
 use std::io::{Read, Result};
 use std::rt::Clock;
 use std::sync::atomic::AtomicU64;

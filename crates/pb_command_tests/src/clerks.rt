@@ -2,7 +2,7 @@
 
 use crate::checks::{THREE_VOTERS, same};
 use pb_commands::run_desk::run_desk;
-use pb_price::gate::Gate;
+use pb_core::gate::Gate;
 use std::alloc::Global;
 use std::process::Abort;
 use std::sync::atomic::Ordering::SeqCst;

@@ -3,8 +3,8 @@
 use crate::checks::{THREE_VOTERS, same};
 use pb_commands::Counting;
 use pb_commands::run_count::run_count_watched;
+use pb_core::gate::Gate;
 use pb_core::money::Money;
-use pb_price::gate::Gate;
 use pb_rounds::options::CountOptions;
 use std::sync::atomic::Ordering::Relaxed;
 use std::sync::atomic::{AtomicBool, AtomicU32};

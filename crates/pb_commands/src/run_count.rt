@@ -12,7 +12,7 @@ use crate::counting::Counting;
 use crate::fault::AppFault;
 use crate::report::put_report;
 use pb_core::election::Election;
-use pb_price::gate::{Gate, NoGate};
+use pb_core::gate::{Gate, NoGate};
 use pb_read::read_pb;
 use pb_rounds::count::count_watched;
 use pb_rounds::count_fault::CountFault;

@@ -8,7 +8,7 @@ ghost use Rattle.pb_commands.specs.Fault.{merged};
 
 use crate::fault::AppFault;
 use crate::run_count::write_out;
-use pb_price::gate::Gate;
+use pb_core::gate::Gate;
 use pb_read::read_pb;
 use pb_script::ServeFault;
 use pb_script::serve_script::serve_script;

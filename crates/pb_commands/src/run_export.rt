@@ -13,7 +13,7 @@ use crate::counting::Counting;
 use crate::export_text::export_text;
 use crate::fault::AppFault;
 use crate::run_count::write_out;
-use pb_price::gate::Gate;
+use pb_core::gate::Gate;
 use pb_read::read_pb;
 use std::io::{Read, Write};
 use std::thread::Threads;

@@ -1,7 +1,7 @@
 //! A gate at which workers wait for each other, and which records who came.
 
 use crate::checks::same;
-use pb_price::gate::Gate;
+use pb_core::gate::Gate;
 use std::process::Abort;
 use std::sync::atomic::Ordering::SeqCst;
 use std::sync::atomic::{AtomicU32, AtomicU64};

@@ -1,8 +1,8 @@
 //! Outcomes of counts and of runs at a share.
 
 use pb_core::election::Election;
+use pb_core::gate::NoGate;
 use pb_core::money::Money;
-use pb_price::gate::NoGate;
 use pb_rounds::count::{count, equal_shares};
 use pb_rounds::measure::Measure;
 use pb_rounds::options::CountOptions;

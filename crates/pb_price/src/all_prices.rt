@@ -8,13 +8,13 @@ ghost use Rattle.pb_price.specs.Inner.Working.{AreGathered, IsBatch, IsDone};
 
 use crate::claims::rule::Batch;
 use crate::claims::{Claim, Claims};
-use crate::gate::Gate;
 use crate::gathering::{Gathered, gather};
 use crate::pieces::Pieces;
 use crate::price_fault::PriceFault;
 use crate::supporters::Supporters;
 use crate::tally::Tally;
 use crate::worker::{Worker, staff};
+use pb_core::gate::Gate;
 use pb_core::money::Money;
 use pb_core::no_memory::NoMemory;
 use std::alloc::Allocator;

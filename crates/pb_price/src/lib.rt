@@ -5,7 +5,6 @@ mod all_prices;
 mod answer;
 mod claims;
 mod common_rest;
-pub mod gate;
 mod gathering;
 pub mod laws;
 mod least_payment;
@@ -20,7 +19,7 @@ mod worker;
 
 pub use all_prices::{is_worker_count, price_all};
 pub use common_rest::price_at_share;
-pub use gate::{Gate, NoGate};
+pub use pb_core::gate::{Gate, NoGate};
 pub use price_fault::PriceFault;
 pub use steps::{next_bound, price_in_steps};
 pub use supporters::Supporters;

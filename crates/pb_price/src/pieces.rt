@@ -1,5 +1,5 @@
-use crate::gate::Gate;
 use crate::supporters::Supporters;
+use pb_core::gate::Gate;
 use pb_core::money::Money;
 use std::alloc::Allocator;
 

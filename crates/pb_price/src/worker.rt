@@ -5,8 +5,8 @@ ghost use Rattle.pb_price.specs.Inner.Working.{IsBatch, IsDone};
 use crate::answer::Answer;
 use crate::claims::{Claim, Claims};
 use crate::common_rest::{common_rest, price_by};
-use crate::gate::Gate;
 use crate::pieces::Pieces;
+use pb_core::gate::Gate;
 use pb_core::no_memory::NoMemory;
 use std::alloc::Allocator;
 

@@ -3,8 +3,8 @@
 use crate::checks::are;
 use crate::refusing::Refusing;
 use crate::walk::{Heap, MOST, goes_on, refused};
+use pb_core::gate::NoGate;
 use pb_core::{Election, Money, NoMemory};
-use pb_price::gate::NoGate;
 use pb_price::price::price;
 use pb_price::{PriceFault, Supporters, Tally, price_all};
 use pb_read::read_pb;

@@ -22,9 +22,10 @@ use crate::reach::{raised_share, raises_with_room};
 use crate::run::whole_run;
 use crate::side_by_side::complete_by_trials;
 use pb_core::election::Election;
+use pb_core::gate::{Gate, NoGate};
 use pb_core::money::Money;
 use pb_core::no_memory::NoMemory;
-use pb_price::{Gate, NoGate, Supporters, is_worker_count};
+use pb_price::{Supporters, is_worker_count};
 use std::alloc::Allocator;
 use std::thread::Threads;
 

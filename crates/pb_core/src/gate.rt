@@ -1,4 +1,4 @@
-use pb_core::money::Money;
+use crate::money::Money;
 
 /// Told how far work has come, while it is done: a test can hold a worker there, and a program can show what it is told.
 pub trait Gate: Sync {
