@@ -4,11 +4,11 @@ use Rattle.std.specs.Prelude.{IfSome, IsErrAnd, MatchBool, Result}
 use Rattle.pb_core.specs.Election.{ElectionView}
 use Rattle.pb_core.specs.Request.{EntryView}
 use Rattle.pb_desk.proofs.AuditLaws.{no_fault, small_numbers}
-use Rattle.pb_desk.proofs.RowLaws.{rows_of-injective}
+use Rattle.pb_desk.proofs.RowLaws.{journal_rows-injective}
 use Rattle.pb_desk.specs.Audit.{IsFaultOfJournal, IsSound}
 use Rattle.pb_desk.specs.Desk.{DeskView, closed_election, standing_of}
 use Rattle.pb_desk.specs.Opening.{OpeningView}
-use Rattle.pb_desk.specs.Rows.{rows_of}
+use Rattle.pb_desk.specs.Rows.{journal_rows}
 use Rattle.pb_desk.specs.declared.audit_fault.AuditFault.{AuditFault}
 use Rattle.pb_desk.specs.declared.audit_fault.AuditFault.TheVariants as audit
 use Rattle.pb_read.proofs.Uniqueness.{one_election}
@@ -39,7 +39,7 @@ one_desk bytes journal d other first second =
     let few' : other.room ≡ 4294967295 = second.room in
     let fits = first.sound.fits in
     let fits' = second.sound.fits in
-    let same = rows_of-injective d.opening.version other.opening.version d.journal other.journal (omega arith) (omega arith) (small_numbers _ first.sound.entries) (small_numbers _ second.sound.entries) (sym first.rows ∙ second.rows) in
+    let same = journal_rows-injective d.opening.version other.opening.version d.journal other.journal (omega arith) (omega arith) (small_numbers _ first.sound.entries) (small_numbers _ second.sound.entries) (sym first.rows ∙ second.rows) in
     λ i. record { opening = record { election = election i; version = same.0 i }; room = room i; journal = same.1 i }
 
 pub audited_by_reader : (files journals : Option (List ℕ)) (options : CountOptions) (fault : ReadFault) (r : Result (Unit {0}) AppFault)
@@ -53,7 +53,7 @@ audited_by_reader (Some bytes) (Some journal) options fault r is accepts = λ te
 
 -- the rows of a sound journal have no fault, so that the fault is none of theirs
 pub journal_from_outside : (o : OpeningView) (journal : List EntryView) → IsSound o program_room journal
-    → (fault : AuditFault) → IsFaultOfJournal o.election program_room (rows_of o.version journal) fault → IsFromOutside (merged (Audit fault))
+    → (fault : AuditFault) → IsFaultOfJournal o.election program_room (journal_rows o.version journal) fault → IsFromOutside (merged (Audit fault))
 journal_from_outside o journal sound (audit.ReadFailed row) fails = refl
 journal_from_outside o journal sound (audit.BadRow row) fails = absurd (no_fault o program_room journal (audit.BadRow row) (omega arith) sound fails tt)
 journal_from_outside o journal sound (audit.WrongNumber row) fails = absurd (no_fault o program_room journal (audit.WrongNumber row) (omega arith) sound fails tt)
@@ -71,7 +71,7 @@ audited_by_journal (Some bytes) (Some journal) options e fault r is stands fails
     let d = writes.0 in
     let election = one_election (records_of bytes) e d.opening.election stands writes.1.stands in
     let sound = rw writes.1.room at writes.1.sound in
-    let P : ElectionView → Type 0 = λ e. IsFaultOfJournal e program_room (rows_of d.opening.version d.journal) fault in
+    let P : ElectionView → Type 0 = λ e. IsFaultOfJournal e program_room (journal_rows d.opening.version d.journal) fault in
     given_fault IsFromOutside r (merged (Audit fault)) is (journal_from_outside d.opening d.journal sound fault (subst P election (rw writes.1.rows at fails)))
 
 -- a desk that has a text is refused from outside alone
@@ -88,7 +88,7 @@ pub record IsAudited (files journals : Option (List ℕ)) (e : ElectionView) (d 
   pub election : d.opening.election ≡ e
   pub room : d.room ≡ program_room
   pub sound : IsSound d.opening program_room d.journal
-  pub rows : IfSome journals (λ journal. records_of journal ≡ rows_of d.opening.version d.journal)
+  pub rows : IfSome journals (λ journal. records_of journal ≡ journal_rows d.opening.version d.journal)
 
 pub desk_of : (bytes journal : List ℕ) (e : ElectionView) (d : DeskView) → IsAudited (Some bytes) (Some journal) e d → IsDeskOf bytes journal d
 desk_of bytes journal e d is = record {

@@ -14,7 +14,7 @@ use Rattle.pb_read.specs.declared.fault.ReadFault.{ReadFault}
 use Rattle.pb_rounds.specs.declared.options.CountOptions.{CountOptions}
 use Rattle.pb_rows.specs.Reading.{records_of}
 use Rattle.pb_script.specs.Serving.{program_room}
-use Rattle.pb_desk.specs.Rows.{rows_of}
+use Rattle.pb_desk.specs.Rows.{journal_rows}
 use Rattle.pb_commands.proofs.Accepted.{given_fault, read_from_outside, reader_fails}
 use Rattle.pb_commands.proofs.AuditAccepted.{IsAudited, desk_of, journal_from_outside, one_desk}
 use Rattle.pb_commands.proofs.AuditWritten.{IsElectionFile, audit_judges, reader_judges}
@@ -112,7 +112,7 @@ module _ (e : ElectionView) (fault : AuditFault) where
       let d = leaves.0 in
       let election = one_election (records_of bytes) e d.opening.election stands leaves.1.stands in
       let sound = rw leaves.1.room at leaves.1.sound in
-      let P : ElectionView → Type 0 = λ e. IsFaultOfJournal e program_room (rows_of d.opening.version d.journal) fault in
+      let P : ElectionView → Type 0 = λ e. IsFaultOfJournal e program_room (journal_rows d.opening.version d.journal) fault in
       journal_from_outside d.opening d.journal sound fault (subst P election (rw leaves.1.rows at fails))
 
   journal_is_judged_known : (files : Option (List ℕ)) → IfSome files (λ bytes. StandsFor (records_of bytes) e) → IfSome files (λ bytes. JudgesFile bytes (Err (merged (Audit fault))))

@@ -3,7 +3,7 @@ use Rattle.std.specs.Prelude.{◌≡◌, ℕ, ◌++◌, MatchBool, List, [], ◌
 use Rattle.pb_core.specs.Election.{ElectionView}
 use Rattle.pb_desk.specs.Audit.{IsFaultOfJournal, IsSound}
 use Rattle.pb_desk.specs.Desk.{DeskView, closed_election, standing_of}
-use Rattle.pb_desk.specs.Rows.{rows_of}
+use Rattle.pb_desk.specs.Rows.{journal_rows}
 use Rattle.pb_read.specs.StandsFor.{StandsFor}
 use Rattle.pb_rounds.specs.Counted.{IsCountFault}
 use Rattle.pb_rounds.specs.declared.options.CountOptions.{CountOptions}
@@ -19,7 +19,7 @@ use Rattle.pb_commands.specs.declared.fault.AppFault.TheVariants.{Audit, Count}
 pub record IsDeskOf (bytes journal : List ℕ) (d : DeskView) : Type 0 where
   pub stands : StandsFor (records_of bytes) d.opening.election
   pub room : d.room ≡ program_room
-  pub rows : records_of journal ≡ rows_of d.opening.version d.journal
+  pub rows : records_of journal ≡ journal_rows d.opening.version d.journal
   pub sound : IsSound d.opening d.room d.journal
 
 -- the row of a desk: how many entries its journal has, and whether it is shut

@@ -1,9 +1,8 @@
--- Why a desk does not serve a request.
-use Rattle.std.specs.Prelude.{ℕ, List, codes}
+-- The numbers and names of the faults of a desk that serves.
+use Rattle.std.specs.Prelude.{ℕ, List, [], ◌∷◌}
+use Rattle.pb_core.specs.Numbered.{numbered}
+use Rattle.pb_desk.specs.contracts.desk_fault.DeskFault.{the_type}
 use Rattle.pb_desk.specs.declared.desk_fault.DeskFault.{DeskFault}
-use Rattle.pb_desk.specs.declared.desk_fault.DeskFault.TheVariants.{JournalFull, NoMemory}
 
--- the fault's number and name
 abbrev pub numbered_name : DeskFault → ℕ × List ℕ
-numbered_name JournalFull = (1, codes "JournalFull")
-numbered_name NoMemory = (2, codes "NoMemory")
+numbered_name fault = numbered the_type ("JournalFull" ∷ "NoMemory" ∷ []) fault

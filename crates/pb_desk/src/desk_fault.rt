@@ -1,4 +1,4 @@
-ghost use Rattle.std.specs.Prelude.{◌≡◌, codes};
+ghost use Rattle.std.specs.Prelude.{◌≡◌};
 ghost use Rattle.pb_desk.specs.DeskFault.{numbered_name};
 ghost use Rattle.pb_desk.specs.declared.desk_fault.DeskFault.TheVariants as fault;
 

@@ -20,7 +20,7 @@ use Rattle.pb_desk.specs.Standing.{Standing}
 use Rattle.pb_desk.specs.Step.{answer_of, has_ballot, is_too_long, open_answer_of, places_of, step}
 use Rattle.pb_rows.specs.Numbers.{AreNumbers}
 use Rattle.pb_rows.specs.Reading.{Fields}
-use Rattle.pb_shared.specs.Clerk.{entries_of}
+use Rattle.pb_shared.specs.Clerk.{entries_by}
 use Rattle.pb_script.specs.Script.{IsScript, IsScriptRow, ScriptRowView}
 use Rattle.pb_script.specs.Inner.Script.{AreAsked}
 use Rattle.pb_shared.specs.Clerk.{AreClerks}
@@ -79,10 +79,10 @@ entries_by_clerk P clerks [] by each = All-nil (λ (x : EntryView). P x.request)
 entries_by_clerk P clerks (x ∷ xs) by each =
     let own = All-head (λ (y : EntryView). y.clerk < clerks) x xs by in
     let hit : (x.clerk == x.clerk) ≡ true = eq-eqb x.clerk x.clerk refl in
-    let Q : Bool → Type 0 = λ t. All P (map (λ (y : EntryView). y.request) (cond t (x ∷ entries_of x.clerk xs) (entries_of x.clerk xs))) in
+    let Q : Bool → Type 0 = λ t. All P (map (λ (y : EntryView). y.request) (cond t (x ∷ entries_by x.clerk xs) (entries_by x.clerk xs))) in
     All-cons (λ (y : EntryView). P y.request) x xs
     (All-head P x.request (requests_of x.clerk xs) (subst Q hit (each x.clerk own)))
-    (entries_by_clerk P clerks xs (All-tail (λ (y : EntryView). y.clerk < clerks) x xs by) (λ k below. later (x.clerk == k) (entries_of k xs) (each k below)))
+    (entries_by_clerk P clerks xs (All-tail (λ (y : EntryView). y.clerk < clerks) x xs by) (λ k below. later (x.clerk == k) (entries_by k xs) (each k below)))
   where
     later : (b : Bool) (rest : List EntryView) → All P (map (λ (y : EntryView). y.request) (cond b (x ∷ rest) rest)) → All P (map (λ (y : EntryView). y.request) rest)
     later true rest all = All-tail P x.request (map (λ (y : EntryView). y.request) rest) all

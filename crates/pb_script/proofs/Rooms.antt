@@ -6,14 +6,14 @@ use Rattle.std.proofs.lemmas.List.{length-map, length-take}
 use Rattle.std.proofs.lemmas.List.Elements.{All-head, All-tail}
 use Rattle.pb_core.specs.Request.{EntryView, RequestView}
 use Rattle.pb_desk.specs.Replay.{most_clerks}
-use Rattle.pb_shared.specs.Clerk.{entries_of}
+use Rattle.pb_shared.specs.Clerk.{entries_by}
 use Rattle.pb_script.specs.Script.{most_rows}
 use Rattle.pb_script.specs.Serving.{program_room}
 use Rattle.pb_script.specs.Inner.Serving.{ServesAll, ServesUpTo, list_of}
 
 -- how many entries of a journal are this clerk's
 abbrev count_of : ℕ → List EntryView → ℕ
-count_of clerk journal = length (entries_of clerk journal)
+count_of clerk journal = length (entries_by clerk journal)
 
 -- the sum of a number for each clerk below this one
 abbrev total : ℕ → (ℕ → ℕ) → ℕ
@@ -41,12 +41,12 @@ total_few (suc n) f few =
 hits : (k : ℕ) (x : EntryView) (xs : List EntryView) → x.clerk ≡ k → count_of k (x ∷ xs) ≡ suc (count_of k xs)
 hits k x xs its =
     let hit : (x.clerk == k) ≡ true = eq-eqb x.clerk k its in
-    ap (λ t. length (cond t (x ∷ entries_of k xs) (entries_of k xs))) hit
+    ap (λ t. length (cond t (x ∷ entries_by k xs) (entries_by k xs))) hit
 
 misses : (k : ℕ) (x : EntryView) (xs : List EntryView) → x.clerk ≢ k → count_of k (x ∷ xs) ≡ count_of k xs
 misses k x xs other =
     let miss : (x.clerk == k) ≡ false = ne_eqb x.clerk k other in
-    ap (λ t. length (cond t (x ∷ entries_of k xs) (entries_of k xs))) miss
+    ap (λ t. length (cond t (x ∷ entries_by k xs) (entries_by k xs))) miss
 
 -- an entry more is one clerk's
 one_more : (n : ℕ) (x : EntryView) (xs : List EntryView) → x.clerk < n → total n (λ k. count_of k (x ∷ xs)) ≡ suc (total n (λ k. count_of k xs))
@@ -80,7 +80,7 @@ few_served done lists served journal serves few =
   where
     few_of : (k : ℕ) → k < length lists → count_of k journal ≤ most_rows
     few_of k below =
-        let size = length-map (entries_of k journal) (λ (y : EntryView). y.request) in
+        let size = length-map (entries_by k journal) (λ (y : EntryView). y.request) in
         let all = few k [] below in
         elim (cases_lt k done) [
           | inl before ↦ let whole = ap length (serves.whole k before below) in omega arith

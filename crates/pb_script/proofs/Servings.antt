@@ -8,7 +8,7 @@ use Rattle.std.proofs.lemmas.List.Elements.{All-append, All-cons, All-head, All-
 use Rattle.pb_core.specs.Request.{EntryView, RequestView}
 use Rattle.pb_core.specs.declared.answer.Answer.{Answer}
 use Rattle.pb_desk.specs.Desk.{DeskView}
-use Rattle.pb_shared.specs.Clerk.{AreAll, AreClerks, AreNewcomers, Begins, ClerkView, IsMergeOf, SharedView, Serves, entries_of}
+use Rattle.pb_shared.specs.Clerk.{AreAll, AreClerks, AreNewcomers, Begins, ClerkView, IsMergeOf, SharedView, Serves, entries_by}
 use Rattle.pb_shared.specs.declared.seat_view.Sheet.{Sheet}
 use Rattle.pb_shared.specs.Inner.Seats.{newcomer}
 use Rattle.pb_shared.specs.declared.share_fault.ShareFault.{ShareFault}
@@ -49,21 +49,21 @@ HasServed-more d number requests c c' served request answer tries so_far same se
 requests_of-append : (clerk : ℕ) (before later : List EntryView) → requests_of clerk (before ++ later) ≡ requests_of clerk before ++ requests_of clerk later
 requests_of-append clerk before later =
     ap (map (λ (y : EntryView). y.request)) (filter-append (λ (y : EntryView). y.clerk == clerk) before later)
-    ∙ map-append (λ (y : EntryView). y.request) (entries_of clerk before) (entries_of clerk later)
+    ∙ map-append (λ (y : EntryView). y.request) (entries_by clerk before) (entries_by clerk later)
 
 -- entries of one clerk are all that clerk's, and none of another's
-own_entries : (clerk : ℕ) (later : List EntryView) → All (λ x. x.clerk ≡ clerk) later → entries_of clerk later ≡ later
+own_entries : (clerk : ℕ) (later : List EntryView) → All (λ x. x.clerk ≡ clerk) later → entries_by clerk later ≡ later
 own_entries clerk [] by = refl
 own_entries clerk (x ∷ xs) by =
     let hit : (x.clerk == clerk) ≡ true = eq-eqb x.clerk clerk (All-head (λ (y : EntryView). y.clerk ≡ clerk) x xs by) in
-    ap (λ t. cond t (x ∷ entries_of clerk xs) (entries_of clerk xs)) hit
+    ap (λ t. cond t (x ∷ entries_by clerk xs) (entries_by clerk xs)) hit
     ∙ ap (λ l. x ∷ l) (own_entries clerk xs (All-tail (λ (y : EntryView). y.clerk ≡ clerk) x xs by))
 
-others_entries : (clerk other : ℕ) (later : List EntryView) → All (λ x. x.clerk ≡ clerk) later → other ≢ clerk → entries_of other later ≡ []
+others_entries : (clerk other : ℕ) (later : List EntryView) → All (λ x. x.clerk ≡ clerk) later → other ≢ clerk → entries_by other later ≡ []
 others_entries clerk other [] by differ = refl
 others_entries clerk other (x ∷ xs) by differ =
     let miss : (x.clerk == other) ≡ false = ne_eqb x.clerk other (λ e. differ (sym e ∙ All-head (λ (y : EntryView). y.clerk ≡ clerk) x xs by)) in
-    ap (λ t. cond t (x ∷ entries_of other xs) (entries_of other xs)) miss
+    ap (λ t. cond t (x ∷ entries_by other xs) (entries_by other xs)) miss
     ∙ others_entries clerk other xs (All-tail (λ (y : EntryView). y.clerk ≡ clerk) x xs by) differ
 
 -- a clerk's requests that were left over
@@ -182,9 +182,9 @@ ServesUpTo-merged d lists clerks served journal empty one_each back merge = reco
       let size = back.clerks_count in
       let c = clerk_back d lists clerks served back k (omega arith) in
       let inside : k < length clerks = omega arith in
-      let Q : ClerkView → Type 0 = λ v. Begins v.sheet.seen journal × (entries_of v.sheet.number merge.later ≡ v.sheet.mine) in
+      let Q : ClerkView → Type 0 = λ v. Begins v.sheet.seen journal × (entries_by v.sheet.number merge.later ≡ v.sheet.mine) in
       let agrees = subst Q (sym c.1) (merge.agrees k c.0 inside) in
-      let mine : entries_of k merge.later ≡ c.0.sheet.mine = let P : ℕ → Type 0 = λ n. entries_of n merge.later ≡ c.0.sheet.mine in subst P c.2.number_is agrees.1 in
+      let mine : entries_by k merge.later ≡ c.0.sheet.mine = let P : ℕ → Type 0 = λ n. entries_by n merge.later ≡ c.0.sheet.mine in subst P c.2.number_is agrees.1 in
       ap (requests_of k) all ∙ ap (map (λ (y : EntryView). y.request)) mine ∙ c.2.mine;
   by_clerks = let P : List EntryView → ℕ → Type 0 = λ j n. All (λ x. x.clerk < n) j in
       subst (λ j. P j (length lists)) (sym all) (subst (P merge.later) (sym one_each) merge.by_clerks);

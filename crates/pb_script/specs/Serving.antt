@@ -2,7 +2,7 @@
 use Rattle.std.specs.Prelude.{◌≡◌, ℕ, ◌<◌, ◌++◌, Bool, true, false, List, [], ◌∷◌, All, map}
 use Rattle.pb_core.specs.Request.{EntryView, RequestView, Shut}
 use Rattle.pb_core.specs.declared.answer.Answer.{Answer}
-use Rattle.pb_shared.specs.Clerk.{entries_of}
+use Rattle.pb_shared.specs.Clerk.{entries_by}
 use Rattle.pb_script.specs.Script.{ScriptRowView, asked_by}
 
 -- how many entries a desk of the program has room for
@@ -11,7 +11,7 @@ program_room = 4294967295
 
 -- what a clerk asked in a journal, in order
 abbrev pub requests_of : ℕ → List EntryView → List RequestView
-requests_of clerk journal = map (λ x. x.request) (entries_of clerk journal)
+requests_of clerk journal = map (λ x. x.request) (entries_by clerk journal)
 
 -- the journal serves a script for this many clerks: what each clerk asked in it is what the clerk's rows say,
 -- in their order, and it has no other entries

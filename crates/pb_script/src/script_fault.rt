@@ -1,6 +1,6 @@
 //! Why a script is refused.
 
-ghost use Rattle.std.specs.Prelude.{◌≡◌, codes};
+ghost use Rattle.std.specs.Prelude.{◌≡◌};
 ghost use Rattle.pb_script.specs.ScriptFault.{numbered_name};
 
 use crate::script::MOST_ROWS;

@@ -10,17 +10,17 @@ use Rattle.pb_durable.proofs.Moments.{started, then_runs}
 use Rattle.pb_durable.specs.Device.{LeavesOnly}
 use Rattle.pb_durable.specs.DurableDesk.{IsDurable}
 use Rattle.pb_durable.specs.Inner.Either.{StandsForEither}
-use Rattle.pb_durable.specs.JournalFile.{StandsFor}
+use Rattle.pb_durable.specs.JournalFile.{StandsForText}
 use Rattle.pb_durable.specs.declared.durable_desk.DurableDesk.{DurableDesk}
 use Rattle.pb_serving.specs.Answered.{StandsWithin}
 
 -- the file stands for a journal between two
-within : (version : Version) (first journal last more rest : List EntryView) (c : List ℕ) → journal ≡ first ++ more → last ≡ journal ++ rest → StandsFor (journal_text version journal) c
+within : (version : Version) (first journal last more rest : List EntryView) (c : List ℕ) → journal ≡ first ++ more → last ≡ journal ++ rest → StandsForText (journal_text version journal) c
     → StandsWithin version first last c
 within version first journal last more rest c begins ends stands = record {
   more = more;
   rest = rest;
-  stands = subst (λ (j : List EntryView). StandsFor (journal_text version j) c) begins stands;
+  stands = subst (λ (j : List EntryView). StandsForText (journal_text version j) c) begins stands;
   last_is = ends ∙ ap (λ (j : List EntryView). j ++ rest) begins;
 }
 
@@ -80,15 +80,15 @@ module _ {D : Type 0} (moment : D → ℕ) (left_since : D → ℕ → List ℕ 
   -- the gate is cut off, or was to be
   pub closes : (old mid : DurableDesk D) (new : D) (more : List EntryView) → mid.desk.opening ≡ old.desk.opening → mid.desk.journal ≡ old.desk.journal ++ more
       → LeavesOnly moment left_since old.file.device mid.file.device (StandsWithin old.desk.opening.version old.desk.journal mid.desk.journal)
-      → LeavesOnly moment left_since mid.file.device new (StandsFor (journal_text mid.desk.opening.version mid.desk.journal))
+      → LeavesOnly moment left_since mid.file.device new (StandsForText (journal_text mid.desk.opening.version mid.desk.journal))
       → LeavesOnly moment left_since old.file.device new (StandsWithin old.desk.opening.version old.desk.journal mid.desk.journal)
   closes old mid new more opening grown first second =
       then_runs moment left_since old.file.device mid.file.device new _ _ (StandsWithin old.desk.opening.version old.desk.journal mid.desk.journal) first second (λ f w. w)
       (λ f stands. within old.desk.opening.version old.desk.journal mid.desk.journal mid.desk.journal more [] f grown (sym (append-nil mid.desk.journal))
-      (subst (λ (o : OpeningView). StandsFor (journal_text o.version mid.desk.journal) f) opening stands))
+      (subst (λ (o : OpeningView). StandsForText (journal_text o.version mid.desk.journal) f) opening stands))
 
   pub kept_closing : ((d : D) (t : ℕ) (c : List ℕ) → t ≤ moment d → may_leave d c → left_since d t c) → (mid : DurableDesk D) (new : D)
-      → LeavesOnly moment left_since mid.file.device new (StandsFor (journal_text mid.desk.opening.version mid.desk.journal))
+      → LeavesOnly moment left_since mid.file.device new (StandsForText (journal_text mid.desk.opening.version mid.desk.journal))
       → (c : List ℕ) → may_leave new c → StandsWithin mid.desk.opening.version mid.desk.journal mid.desk.journal c
   kept_closing counts_now mid new run c left =
       within mid.desk.opening.version mid.desk.journal mid.desk.journal mid.desk.journal [] [] c (sym (append-nil mid.desk.journal)) (sym (append-nil mid.desk.journal))

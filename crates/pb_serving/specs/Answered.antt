@@ -6,7 +6,7 @@ use Rattle.pb_desk.specs.Desk.{DeskView}
 use Rattle.pb_desk.specs.Replay.{most_clerks}
 use Rattle.pb_desk.specs.Rows.{journal_text, row_of}
 use Rattle.pb_desk.specs.declared.version.Version.{Version}
-use Rattle.pb_durable.specs.JournalFile.{StandsFor}
+use Rattle.pb_durable.specs.JournalFile.{StandsForText}
 use Rattle.pb_rows.specs.Reading.{Fields}
 use Rattle.pb_rows.specs.Writing.{text_of_row}
 use Rattle.pb_script.specs.Script.{HasScriptForm, IsScriptRow}
@@ -42,5 +42,5 @@ pub record Answers (rows : List Fields) (before after : List EntryView) (text : 
 pub record StandsWithin (version : Version) (first last : List EntryView) (file : List ℕ) : Type 0 where
   pub more : List EntryView
   pub rest : List EntryView
-  pub stands : StandsFor (journal_text version (first ++ more)) file
+  pub stands : StandsForText (journal_text version (first ++ more)) file
   pub last_is : last ≡ (first ++ more) ++ rest

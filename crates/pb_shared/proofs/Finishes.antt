@@ -7,7 +7,7 @@ use Rattle.atomic_table.specs.Seated.{TableId}
 use Rattle.atomic_table.specs.Table.{State, Final, Seen}
 use Rattle.pb_core.specs.Request.{EntryView}
 use Rattle.pb_desk.specs.Desk.{DeskView}
-use Rattle.pb_shared.specs.Clerk.{SharedView, ClerkView, AreAll, Begins, IsMergeOf, IsHeldByAnother, desk_with, entries_of}
+use Rattle.pb_shared.specs.Clerk.{SharedView, ClerkView, AreAll, Begins, IsMergeOf, IsHeldByAnother, desk_with, entries_by}
 use Rattle.pb_shared.specs.Rule.{RoleFits, Runs, DeskRule}
 use Rattle.pb_shared.specs.Inner.Rule.{history}
 use Rattle.pb_shared.specs.Seats.{shared_view}
@@ -83,7 +83,7 @@ merges a tid id v d clerks word slot desk last view same free is =
         later = last.later;
         journal_is = refl;
         can_be = runs.can_be;
-        agrees = of_clerks (λ (x : Sheet). Begins x.seen whole × (entries_of x.number last.later ≡ x.mine)) clerks v.returned same
+        agrees = of_clerks (λ (x : Sheet). Begins x.seen whole × (entries_by x.number last.later ≡ x.mine)) clerks v.returned same
             (λ k e inside. let f = last.guest.2 k e inside in ((f.begins.0, f.begins.1), f.mine));
         by_clerks = runs.by_clerks;
       },

@@ -11,7 +11,7 @@ use Rattle.atomic_table.proofs.Lists.{exchanged, set_here}
 use Rattle.pb_core.specs.Request.{EntryView}
 use Rattle.pb_desk.specs.Desk.{DeskView}
 use Rattle.pb_desk.specs.Replay.{IsLegal}
-use Rattle.pb_shared.specs.Clerk.{Begins, CanHave, GrowsByOthers, desk_with, entries_of}
+use Rattle.pb_shared.specs.Clerk.{Begins, CanHave, GrowsByOthers, desk_with, entries_by}
 use Rattle.pb_shared.specs.Rule.{ClerkFits, RoleFits, Runs, DeskRule}
 use Rattle.pb_shared.specs.Inner.Rule.{history, Sitter}
 use Rattle.pb_shared.specs.Inner.Plays.{CanSee, won, lost, published, freed, has_read, tries_lock, publishes, frees, reads}
@@ -73,7 +73,7 @@ module _ (a : About) (lock : ℕ) (home : Slot) (later : List EntryView) (seat_o
   }
 
   -- a step of the clerk who holds the lock before it or after it
-  moves : (lock' : ℕ) (home' : Slot) (later' more : List EntryView) → later' ≡ later ++ more → ((n : ℕ) → n ≢ v.sheet.number → (lock ≢ n + 1) × (lock' ≢ n + 1) × (entries_of n more ≡ []))
+  moves : (lock' : ℕ) (home' : Slot) (later' more : List EntryView) → later' ≡ later ++ more → ((n : ℕ) → n ≢ v.sheet.number → (lock ≢ n + 1) × (lock' ≢ n + 1) × (entries_by n more ≡ []))
       → (w : SeatView) → w.role ≡ Clerk → ClerkFits a lock' home' (history a later') later' seat_of id w
       → CanHave a.desk.value (history a later') → All (λ x. x.clerk < a.clerks) more
       → ((n : ℕ) → lock' ≡ n + 1 → (u : SeatView) × (get_elem? (set views id w) (seat_of n) ≡ some u) × Holds u)
@@ -283,7 +283,7 @@ stores a slots id v x entries role on by legal room count =
     let home' : Slot = some (Some (desk_with v.about.desk.value journal)) in
     let grown : history a later' ≡ journal = history-more a later (x ∷ []) ∙ ap (λ j. j ++ x ∷ []) (sym (f.whole on)) in
     let back : home' ≡ some (Some (desk_with a.desk.value (history a later'))) = λ i. some (Some (desk_with (own.about i).desk.value (sym grown i))) in
-    let mine : entries_of k (x ∷ []) ≡ x ∷ [] = ap (λ b. cond b (x ∷ []) []) (eq-eqb x.clerk k by) in
+    let mine : entries_by k (x ∷ []) ≡ x ∷ [] = ap (λ b. cond b (x ∷ []) []) (eq-eqb x.clerk k by) in
     let more : (front : List EntryView) → Begins front (history a later) → Begins front (history a later') = λ front b. subst (Begins front) (sym (history-more a later (x ∷ []))) (Begins-more front (history a later) (x ∷ []) b) in (
       w,
       gives,

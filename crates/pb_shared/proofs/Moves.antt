@@ -9,7 +9,7 @@ use Rattle.std.proofs.lemmas.List.Elements.{filter-append}
 use Rattle.atomic_table.proofs.Lists.{at_set, set_here, set_else}
 use Rattle.pb_core.specs.Request.{EntryView}
 use Rattle.pb_desk.specs.Desk.{DeskView}
-use Rattle.pb_shared.specs.Clerk.{Begins, GrowsByOthers, blank, entries_of}
+use Rattle.pb_shared.specs.Clerk.{Begins, GrowsByOthers, entries_by, new_sheet}
 use Rattle.pb_shared.specs.Rule.{SheetFits, RoleFits}
 use Rattle.pb_shared.specs.Inner.Rule.{history}
 use Rattle.pb_shared.specs.declared.seat_view.About.{About}
@@ -40,7 +40,7 @@ Begins-more front journal more b = (b.0 ++ more, ap (λ j. j ++ more) b.1 ∙ ap
 pub Grows-all : (number : ℕ) (journal : List EntryView) → GrowsByOthers number journal journal
 Grows-all number journal = ([], sym (append-nil journal), refl)
 
-pub Grows-more : (number : ℕ) (front journal more : List EntryView) → entries_of number more ≡ [] → GrowsByOthers number front journal → GrowsByOthers number front (journal ++ more)
+pub Grows-more : (number : ℕ) (front journal more : List EntryView) → entries_by number more ≡ [] → GrowsByOthers number front journal → GrowsByOthers number front (journal ++ more)
 Grows-more number front journal more none_more b =
     (b.0 ++ more, ap (λ j. j ++ more) b.1 ∙ append_assoc front b.0 more, filter-append (λ (y : EntryView). y.clerk == number) b.0 more ∙ (λ i. b.2 i ++ none_more i))
 
@@ -58,7 +58,7 @@ Holds v = (v.role ≡ Clerk) × (v.holds ≡ true)
 -- a step of one seat, the sheet of another
 module _ (a : About) (lock lock' : ℕ) (home home' : mathlib.Core.Option.Option (Option DeskView)) (later later' more : List EntryView) (seat_of : ℕ → ℕ) (grows : later' ≡ later ++ more)
     (mover : ℕ)
-    (others : (n : ℕ) → n ≢ mover → (lock ≢ n + 1) × (lock' ≢ n + 1) × (entries_of n more ≡ [])) where
+    (others : (n : ℕ) → n ≢ mover → (lock ≢ n + 1) × (lock' ≢ n + 1) × (entries_by n more ≡ [])) where
   longer : (front : List EntryView) → Begins front (history a later) → Begins front (history a later')
   longer front b = subst (λ l. Begins front (history a l)) (sym grows) (subst (Begins front) (sym (history-more a later more)) (Begins-more front (history a later) more b))
 
@@ -71,7 +71,7 @@ module _ (a : About) (lock lock' : ℕ) (home home' : mathlib.Core.Option.Option
           known = f.known;
           its_seat = f.its_seat;
           begins = subst (λ l. GrowsByOthers x.number x.seen (history a l)) (sym grows) (subst (GrowsByOthers x.number x.seen) (sym (history-more a later more)) (Grows-more x.number x.seen (history a later) more o.2 f.begins));
-          mine = ap (entries_of x.number) grows ∙ (filter-append (λ (y : EntryView). y.clerk == x.number) later more ∙ (ap (λ l. entries_of x.number later ++ l) o.2 ∙ (append-nil (entries_of x.number later) ∙ f.mine)));
+          mine = ap (entries_by x.number) grows ∙ (filter-append (λ (y : EntryView). y.clerk == x.number) later more ∙ (ap (λ l. entries_by x.number later ++ l) o.2 ∙ (append-nil (entries_by x.number later) ∙ f.mine)));
           holding = ne_eqb lock' (x.number + 1) o.1 ∙ sym idle;
           whole = λ on. absurd (true≢false (sym on ∙ idle));
           found = f.found;
@@ -82,7 +82,7 @@ module _ (a : About) (lock lock' : ℕ) (home home' : mathlib.Core.Option.Option
   -- what another seat knows stays true
   pub seat_moves : (role : Role) (seat : ℕ) (v : SeatView) → seat_of mover ≢ seat → RoleFits a lock home (history a later) later seat_of role seat v → RoleFits a lock' home' (history a later') later' seat_of role seat v
   seat_moves Stock seat v apart f =
-      (f.0, λ n from below. let b = f.1 n from below in (sheet_moves seat false (blank a.desk.value.journal n) (λ same. apart (ap seat_of (sym same) ∙ b.its_seat)) b).1)
+      (f.0, λ n from below. let b = f.1 n from below in (sheet_moves seat false (new_sheet a.desk.value.journal n) (λ same. apart (ap seat_of (sym same) ∙ b.its_seat)) b).1)
   seat_moves Clerk seat v apart f =
       let s = sheet_moves seat v.holds v.sheet (λ same. apart (ap seat_of (sym same) ∙ f.sheet.its_seat)) f.sheet in record {
         about = f.about;
@@ -109,7 +109,7 @@ module _ (a : About) (lock : ℕ) (home : mathlib.Core.Option.Option (Option Des
   }
 
   pub seat_stays : (role : Role) (seat : ℕ) (v : SeatView) → ((n : ℕ) → seat_of n ≡ seat → seat_of' n ≡ seat) → RoleFits a lock home (history a later) later seat_of role seat v → RoleFits a lock home (history a later) later seat_of' role seat v
-  seat_stays Stock seat v same f = (f.0, λ n from below. let b = f.1 n from below in sheet_stays seat seat false (blank a.desk.value.journal n) (same n b.its_seat) b)
+  seat_stays Stock seat v same f = (f.0, λ n from below. let b = f.1 n from below in sheet_stays seat seat false (new_sheet a.desk.value.journal n) (same n b.its_seat) b)
   seat_stays Clerk seat v same f = record {
     about = f.about;
     sheet = sheet_stays seat seat v.holds v.sheet (same v.sheet.number f.sheet.its_seat) f.sheet;

@@ -9,7 +9,7 @@ use Rattle.atomic_table.specs.Table.{Allows, Splits, rest, opening, step}
 use Rattle.pb_core.specs.Request.{EntryView}
 use Rattle.pb_desk.specs.Desk.{DeskView}
 use Rattle.pb_desk.specs.Replay.{IsLegal, most_clerks}
-use Rattle.pb_shared.specs.Clerk.{SharedView, ClerkView, blank, desk_with}
+use Rattle.pb_shared.specs.Clerk.{SharedView, ClerkView, new_sheet, desk_with}
 use Rattle.pb_shared.specs.Rule.{DeskRule}
 use Rattle.pb_shared.specs.Inner.Rule.{seated, stock, Sitter}
 use Rattle.pb_shared.specs.Steps.{StepRule, knowing}
@@ -76,9 +76,9 @@ stores_at a slots id v desk x entries m role on by is_desk legal room count out 
     (stores a slots id v x entries role on by (subst (λ (z : DeskView). IsLegal z.opening z.journal) is_desk legal) (subst (λ (z : DeskView). length z.journal ≤ z.room) is_desk room) entries_is))
 
 -- the seat that has the clerks from k on in stock
-pub deals_at : (a b : About) (id k : ℕ) (v : SeatView) → b ≡ a → v ≡ seated Stock b (blank b.desk.value.journal k) → k < a.clerks → Splits (DeskRule a) id v (knowing v (dealt_left v)) (knowing v (dealt_right v))
+pub deals_at : (a b : About) (id k : ℕ) (v : SeatView) → b ≡ a → v ≡ seated Stock b (new_sheet b.desk.value.journal k) → k < a.clerks → Splits (DeskRule a) id v (knowing v (dealt_left v)) (knowing v (dealt_right v))
 deals_at a b id k v same is few =
-    subst (λ (z : SeatView). Splits (DeskRule a) id z (knowing z (dealt_left z)) (knowing z (dealt_right z))) (sym is) (deals a id (seated Stock b (blank b.desk.value.journal k)) refl few)
+    subst (λ (z : SeatView). Splits (DeskRule a) id z (knowing z (dealt_left z)) (knowing z (dealt_right z))) (sym is) (deals a id (seated Stock b (new_sheet b.desk.value.journal k)) refl few)
 
 pub carries : (l : List (ℕ × S)) (x : S) → l ≡ (0, x) ∷ [] → l ≡ (0, x) ∷ rest l
 carries l x e = e ∙ ap (λ k. (0, x) ∷ rest k) (sym e)
@@ -90,9 +90,9 @@ starts_at a desk entries slots is laid count legal fits =
     (starts a (subst (λ (d : DeskView). IsLegal d.opening d.journal) (sym is) legal) (subst (λ (d : DeskView). length d.journal ≤ d.room) (sym is) fits))
 
 -- the seat of a clerk who leaves the stock
-pub dealt : (a : About) (k : ℕ) (v : SeatView) (m : Sitter) → v ≡ seated Stock a (blank a.desk.value.journal k) → m ≡ (knowing v (dealt_right v), []) → k < a.clerks → a.clerks ≤ most_clerks → IsIdle k m
+pub dealt : (a : About) (k : ℕ) (v : SeatView) (m : Sitter) → v ≡ seated Stock a (new_sheet a.desk.value.journal k) → m ≡ (knowing v (dealt_right v), []) → k < a.clerks → a.clerks ≤ most_clerks → IsIdle k m
 dealt a k v m is out known few =
-    let same : m ≡ (seated Clerk a (blank a.desk.value.journal k), []) = out ∙ ap (λ (z : SeatView). (knowing z (dealt_right z), [])) is in
+    let same : m ≡ (seated Clerk a (new_sheet a.desk.value.journal k), []) = out ∙ ap (λ (z : SeatView). (knowing z (dealt_right z), [])) is in
     subst (IsIdle k) (sym same) record { role = refl; number_is = refl; known = known; few = few; free = refl; empty = refl }
 
 -- one newcomer more

@@ -10,7 +10,7 @@ use Rattle.atomic_table.specs.Table.{opening, step, Enters, Splits, Joins}
 use Rattle.atomic_table.proofs.Lists.{set_again, set_else, at_longer}
 use Rattle.pb_core.specs.Request.{EntryView}
 use Rattle.pb_desk.specs.Replay.{IsLegal}
-use Rattle.pb_shared.specs.Clerk.{CanHave, blank, desk_with}
+use Rattle.pb_shared.specs.Clerk.{CanHave, desk_with, new_sheet}
 use Rattle.pb_shared.specs.Rule.{SheetFits, RoleFits, Runs, DeskRule}
 use Rattle.pb_shared.specs.Inner.Rule.{history, seated, stock}
 use Rattle.pb_shared.specs.Steps.{StepRule}
@@ -92,7 +92,7 @@ starts a legal room =
 -- a seat to hand the clerks back to
 pub comes_to_finish : (a : About) (slots : ℕ) → Enters (DeskRule a) slots 0 (λ n w. StepRule (step slots 0 0 0 none) (stock a).sheet n w.sheet × visits (stock a, []) n (w, []))
 comes_to_finish a slots s r count small =
-    let w : SeatView = seated Guest a (blank a.desk.value.journal 0) in
+    let w : SeatView = seated Guest a (new_sheet a.desk.value.journal 0) in
     let lock : ℕ = r.0 in let home : Slot = r.1 in let later : List EntryView = r.2 in let seat_of : ℕ → ℕ = r.3 in (
       w,
       (
@@ -205,7 +205,7 @@ deals a id v role few s r at =
           (h.0, at_longer views' (right ∷ []) (seat_of n) h.0 h.1, h.2))
           (each_and Fits views' right record {
             about = own.0;
-            sheet = subst (λ (z : About). SheetFits a lock home (history a later) later seat_of' seat false (blank z.desk.value.journal k)) (sym own.0) (sheet_stays a lock home later seat_of seat_of' id seat false (blank a.desk.value.journal k) (reseated-here seat_of k seat k refl) its);
+            sheet = subst (λ (z : About). SheetFits a lock home (history a later) later seat_of' seat false (new_sheet z.desk.value.journal k)) (sym own.0) (sheet_stays a lock home later seat_of seat_of' id seat false (new_sheet a.desk.value.journal k) (reseated-here seat_of k seat k refl) its);
             told = (history a later, refl);
             brought = λ is. absurd (true≢false (sym is));
           } (each_of Fits s.views id left
@@ -214,7 +214,7 @@ deals a id v role few s r at =
             λ n from below.
                 let other : n ≢ k = λ same. omega arith in
                 let b = own.1 n (omega arith) below in
-                sheet_stays a lock home later seat_of seat_of' id id false (blank a.desk.value.journal n) (reseated-else seat_of k seat n other ∙ b.its_seat) b,
+                sheet_stays a lock home later seat_of seat_of' id id false (new_sheet a.desk.value.journal n) (reseated-else seat_of k seat n other ∙ b.its_seat) b,
           ))
           (λ j u not_id there_. seat_stays a lock home later seat_of seat_of' u.role j u
           (λ n e. reseated-else seat_of k seat n (λ same. not_id (sym e ∙ (ap seat_of same ∙ its.its_seat))) ∙ e) (runs.each j u there_)))),

@@ -7,7 +7,7 @@ use native.Mathlib.Decide.{ℕ_discrete}
 use Rattle.atomic_table.specs.Table.{State, Step, step, Allows}
 use Rattle.pb_core.specs.Request.{EntryView}
 use Rattle.pb_desk.specs.Desk.{DeskView}
-use Rattle.pb_shared.specs.Clerk.{Begins, blank}
+use Rattle.pb_shared.specs.Clerk.{Begins, new_sheet}
 use Rattle.pb_shared.specs.Inner.Rule.{stock, Sitter}
 use Rattle.pb_shared.specs.Steps.{StepRule, is_front_load, is_try}
 use Rattle.pb_shared.specs.Inner.Plays.{has_read, lost, published, tries_lock, publishes, frees, reads, visits, won}
@@ -79,6 +79,6 @@ told_publish slots entries v x d m' journal count p =
 -- a load that makes a seat
 pub told_visit : (a : About) (slots n : ℕ) (m' : Sitter) → visits (stock a, []) n m' → StepRule (step slots 0 0 0 none) (stock a).sheet n m'.0.sheet
 told_visit a slots n m' v =
-    let is : m'.0.sheet ≡ blank a.desk.value.journal 0 = ap (λ (z : SeatView). z.sheet) v in
+    let is : m'.0.sheet ≡ new_sheet a.desk.value.journal 0 = ap (λ (z : SeatView). z.sheet) v in
     told (step slots 0 0 0 none) (stock a).sheet m'.0.sheet n false false refl refl (subst (λ (y : Sheet). Begins a.desk.value.journal y.seen) (sym is) ([], sym (append-nil a.desk.value.journal)))
     (ap (λ (y : Sheet). y.found) is) (ap (λ (y : Sheet). y.read) is)

@@ -23,13 +23,13 @@ abbrev pub Begins : List EntryView → List EntryView → Type 0
 Begins front journal = (rest : List EntryView) × (journal ≡ front ++ rest)
 
 -- the entries of this clerk
-abbrev pub entries_of : ℕ → List EntryView → List EntryView
-entries_of number journal = filter (λ x. x.clerk == number) journal
+abbrev pub entries_by : ℕ → List EntryView → List EntryView
+entries_by number journal = filter (λ x. x.clerk == number) journal
 
 -- what was seen begins the journal, and what came after it is other clerks'
 abbrev pub GrowsByOthers : ℕ → List EntryView → List EntryView → Type 0
 GrowsByOthers number seen journal =
-    (rest : List EntryView) × (journal ≡ seen ++ rest) × (entries_of number rest ≡ [])
+    (rest : List EntryView) × (journal ≡ seen ++ rest) × (entries_by number rest ≡ [])
 
 -- the same desk with this journal
 abbrev pub desk_with : DeskView → List EntryView → DeskView
@@ -40,13 +40,13 @@ abbrev pub CanHave : DeskView → List EntryView → Type 0
 CanHave d journal = IsLegal d.opening journal × (length journal ≤ d.room)
 
 -- who has seen this journal, and made no call
-abbrev pub blank : List EntryView → ℕ → Sheet
-blank journal number = record { number = number; seen = journal; mine = []; found = []; read = [] }
+abbrev pub new_sheet : List EntryView → ℕ → Sheet
+new_sheet journal number = record { number = number; seen = journal; mine = []; found = []; read = [] }
 
 -- the clerks of a shared desk, by their numbers: each has seen its journal, and made no call
 abbrev pub AreNewcomers : SharedView → List ClerkView → Type 0
 AreNewcomers d clerks = (length clerks ≡ d.clerks)
-    × ((i : ℕ) → i < d.clerks → slice_get clerks i ≡ Some (record { desk = d; sheet = blank d.start.journal i }))
+    × ((i : ℕ) → i < d.clerks → slice_get clerks i ≡ Some (record { desk = d; sheet = new_sheet d.start.journal i }))
 
 -- a desk is shared among 1 to 64 clerks
 abbrev pub AreClerks : ℕ → Type 0
@@ -94,7 +94,7 @@ pub record IsMergeOf (d : SharedView) (clerks : List ClerkView) (journal : List 
   pub later : List EntryView
   pub journal_is : journal ≡ d.start.journal ++ later
   pub can_be : CanHave d.start journal
-  pub agrees : All (λ c. Begins c.sheet.seen journal × (entries_of c.sheet.number later ≡ c.sheet.mine)) clerks
+  pub agrees : All (λ c. Begins c.sheet.seen journal × (entries_by c.sheet.number later ≡ c.sheet.mine)) clerks
   pub by_clerks : All (λ x. x.clerk < d.clerks) later
 
 -- the lock word is held for a clerk who is not among these

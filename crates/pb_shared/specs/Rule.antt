@@ -5,7 +5,7 @@ use lib.ListN.{get_elem?}
 use Rattle.atomic_table.specs.Table.{State}
 use Rattle.pb_core.specs.Request.{EntryView}
 use Rattle.pb_desk.specs.Desk.{DeskView}
-use Rattle.pb_shared.specs.Clerk.{Begins, CanHave, GrowsByOthers, blank, desk_with, entries_of}
+use Rattle.pb_shared.specs.Clerk.{Begins, CanHave, GrowsByOthers, desk_with, entries_by, new_sheet}
 use Rattle.pb_shared.specs.declared.seat_view.About.{About}
 use Rattle.pb_shared.specs.declared.seat_view.Role.{Role}
 use Rattle.pb_shared.specs.declared.seat_view.Role.TheVariants.{Stock, Clerk, Guest, Spent}
@@ -22,7 +22,7 @@ module _ (a : About) (lock : ℕ) (home : slot.Option (Option DeskView)) (journa
     pub known : x.number < a.clerks
     pub its_seat : seat_of x.number ≡ seat
     pub begins : GrowsByOthers x.number x.seen journal
-    pub mine : entries_of x.number later ≡ x.mine
+    pub mine : entries_by x.number later ≡ x.mine
     pub holding : (lock == x.number + 1) ≡ holds
     pub whole : holds ≡ true → x.seen ≡ journal
     pub found : All (λ word. (word ≤ a.clerks) × (word ≢ x.number + 1)) x.found
@@ -40,7 +40,7 @@ module _ (a : About) (lock : ℕ) (home : slot.Option (Option DeskView)) (journa
   -- history; the sheets of clerks who were handed back are true
   abbrev pub RoleFits : Role → ℕ → SeatView → Type 0
   RoleFits Stock seat v = (v.about ≡ a) × ((number : ℕ) → v.sheet.number ≤ number → number < a.clerks
-      → SheetFits seat false (blank a.desk.value.journal number))
+      → SheetFits seat false (new_sheet a.desk.value.journal number))
   RoleFits Clerk seat v = ClerkFits seat v
   RoleFits Guest seat v =
       (v.about ≡ a) × Begins v.sheet.seen journal × All (SheetFits seat false) v.returned

@@ -1,9 +1,8 @@
--- The faults of `share`.
-use Rattle.std.specs.Prelude.{ℕ, List, codes}
+-- The numbers and names of the faults of `share`.
+use Rattle.std.specs.Prelude.{ℕ, List, [], ◌∷◌}
+use Rattle.pb_core.specs.Numbered.{numbered}
+use Rattle.pb_shared.specs.contracts.share_fault.ShareFault.{the_type}
 use Rattle.pb_shared.specs.declared.share_fault.ShareFault.{ShareFault}
-use Rattle.pb_shared.specs.declared.share_fault.ShareFault.TheVariants.{ClerkCount, NoMemory}
 
--- the fault's number and name
 abbrev pub numbered_name : ShareFault → ℕ × List ℕ
-numbered_name (ClerkCount desk) = (1, codes "ClerkCount")
-numbered_name (NoMemory desk) = (2, codes "NoMemory")
+numbered_name fault = numbered the_type ("ClerkCount" ∷ "NoMemory" ∷ []) fault

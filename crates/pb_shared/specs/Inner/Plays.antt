@@ -3,7 +3,7 @@ use Rattle.std.specs.Prelude.{◌≡◌, ◌≢◌, ℕ, suc, ◌+◌, ◌≤◌
 use Rattle.pb_core.specs.Request.{EntryView}
 use Rattle.pb_desk.specs.Desk.{DeskView}
 use Rattle.pb_desk.specs.declared.version.Version.TheVariants.{Two}
-use Rattle.pb_shared.specs.Clerk.{Begins, CanHave, GrowsByOthers, blank, desk_with}
+use Rattle.pb_shared.specs.Clerk.{Begins, CanHave, GrowsByOthers, desk_with, new_sheet}
 use Rattle.pb_shared.specs.Inner.Rule.{seated, Sitter}
 use Rattle.pb_shared.specs.declared.seat_view.About.{About}
 use Rattle.pb_shared.specs.declared.seat_view.Role.TheVariants.{Clerk, Guest, Spent}
@@ -58,14 +58,14 @@ reads m word m' = (seen : List EntryView) × CanSee m.0 seen × Begins m.0.told 
     × (m' ≡ (has_read m.0 seen word, m.1))
 
 abbrev pub visits : Sitter → ℕ → Sitter → Type 0
-visits m word m' = m'.0 ≡ seated Guest m.0.about (blank m.0.about.desk.value.journal 0)
+visits m word m' = m'.0 ≡ seated Guest m.0.about (new_sheet m.0.about.desk.value.journal 0)
 
 -- the next clerk leaves the stock
 abbrev pub dealt_left : SeatView → SeatView
 dealt_left v = record v { sheet = record v.sheet { number = suc v.sheet.number } }
 
 abbrev pub dealt_right : SeatView → SeatView
-dealt_right v = seated Clerk v.about (blank v.about.desk.value.journal v.sheet.number)
+dealt_right v = seated Clerk v.about (new_sheet v.about.desk.value.journal v.sheet.number)
 
 abbrev pub note_of : SeatView → SeatView
 note_of v = seated Guest v.about v.sheet
@@ -90,4 +90,4 @@ no_desk = record {
 abbrev pub nobody : SeatView
 nobody =
     let a : About = record { desk = record { marker = record {}; value = no_desk }; clerks = 0 } in
-    seated Spent a (blank [] 0)
+    seated Spent a (new_sheet [] 0)

@@ -3,7 +3,7 @@ use Rattle.std.specs.Prelude.{false, List, [], ◌++◌, Option}
 use Rattle.atomic_table.specs.Table.{Me}
 use Rattle.pb_core.specs.Request.{EntryView}
 use Rattle.pb_desk.specs.Desk.{DeskView}
-use Rattle.pb_shared.specs.Clerk.{blank, desk_with}
+use Rattle.pb_shared.specs.Clerk.{desk_with, new_sheet}
 use Rattle.pb_shared.specs.declared.seat_view.About.{About}
 use Rattle.pb_shared.specs.declared.seat_view.Role.{Role}
 use Rattle.pb_shared.specs.declared.seat_view.Role.TheVariants.{Stock}
@@ -29,4 +29,4 @@ seated role a sheet =
 
 -- the first seat, with all clerks in stock
 abbrev pub stock : About → SeatView
-stock a = seated Stock a (blank a.desk.value.journal 0)
+stock a = seated Stock a (new_sheet a.desk.value.journal 0)

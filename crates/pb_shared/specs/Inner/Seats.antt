@@ -4,7 +4,7 @@ use Rattle.atomic_table.specs.Seated.{TableId}
 use Rattle.pb_core.specs.Request.{EntryView}
 use Rattle.pb_desk.specs.Desk.{DeskView}
 use Rattle.pb_desk.specs.Replay.{most_clerks}
-use Rattle.pb_shared.specs.Clerk.{SharedView, ClerkView, blank, desk_with}
+use Rattle.pb_shared.specs.Clerk.{SharedView, ClerkView, new_sheet, desk_with}
 use Rattle.pb_shared.specs.Inner.Rule.{stock, Sitter}
 use Rattle.pb_shared.specs.Inner.Plays.{CanSee, won, lost}
 use Rattle.pb_shared.specs.declared.seat_view.About.{About}
@@ -27,7 +27,7 @@ pub record IsIdle (number : ℕ) (m : Sitter) : Type 0 where
 
 -- a clerk who has made no call
 abbrev pub newcomer : SharedView → ℕ → ClerkView
-newcomer d number = record { desk = d; sheet = blank d.start.journal number }
+newcomer d number = record { desk = d; sheet = new_sheet d.start.journal number }
 
 -- an exchange won the lock: the desk was taken out, with the whole history as its journal, which is what the
 -- clerk has now seen

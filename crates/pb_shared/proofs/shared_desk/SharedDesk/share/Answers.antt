@@ -1,5 +1,5 @@
 use Rattle.std.proofs.Common.{◌≡◌, ◌+◌, [], length, slice_get, inl, ⊎_elim, refl, sym, ap, ◌∙◌, arith, add-one, length-append}
-use Rattle.pb_shared.specs.Clerk.{blank}
+use Rattle.pb_shared.specs.Clerk.{new_sheet}
 use Rattle.pb_shared.specs.Inner.Rule.{seated}
 use Rattle.pb_shared.specs.Steps.{knowing}
 use Rattle.pb_shared.specs.Inner.Plays.{dealt_left, dealt_right}
@@ -27,7 +27,7 @@ loop-number-preserved c =
     let next : clerk_view c.split_seat-seat.result.table_id c.split_seat-seat.result.me ≡ newcomer (shared_view t.table_id t.key) n = λ i. clerk_view ((split.3 ∙ so_far.0) i) ((split.4 ∙ ap (λ z. (knowing z (dealt_right z), [])) so_far.1) i) in
     let items = c.push_reserved.ensures.items in (
       split.0 ∙ so_far.0,
-      ap (λ m. m.0) split.2 ∙ (ap (λ z. knowing z (dealt_left z)) so_far.1 ∙ ap (λ k. seated Stock t.key (blank t.key.desk.value.journal k)) (sym (add-one n))),
+      ap (λ m. m.0) split.2 ∙ (ap (λ z. knowing z (dealt_left z)) so_far.1 ∙ ap (λ k. seated Stock t.key (new_sheet t.key.desk.value.journal k)) (sym (add-one n))),
       (let count = so_far.2 in ap length items ∙ (length-append c.loop-number.seated.items _ ∙ ap (λ k. k + 1) count)),
       (let room = so_far.3 in let same = c.push_reserved.ensures.capacity in omega arith),
       λ k below. ap (λ l. slice_get l k) items ∙ comes_next (shared_view t.table_id t.key) c.loop-number.seated.items _ n so_far.2 so_far.4 next k below,

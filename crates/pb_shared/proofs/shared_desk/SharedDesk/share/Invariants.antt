@@ -1,5 +1,5 @@
 use Rattle.std.proofs.Common.{◌≡◌, ℕ, ◌<◌, ◌≤◌, Some, length, slice_get, vec_capacity}
-use Rattle.pb_shared.specs.Clerk.{blank}
+use Rattle.pb_shared.specs.Clerk.{new_sheet}
 use Rattle.pb_shared.specs.Inner.Rule.{seated}
 use Rattle.pb_shared.specs.Seats.{shared_view}
 use Rattle.pb_shared.specs.Inner.Seats.{newcomer}
@@ -10,5 +10,5 @@ use Rattle.pb_shared.proofs.shared_desk.SharedDesk.share.Given as goal
 abbrev pub invariant-loop-number : goal.invariant-loop-number
 invariant-loop-number l =
     let t = l.table.shared in
-    (l.stock.table_id ≡ t.table_id) × (l.stock.me.0 ≡ seated Stock t.key (blank t.key.desk.value.journal l.number)) × (length l.seated.items ≡ l.number) × (l.clerks ≤ vec_capacity l.seated)
+    (l.stock.table_id ≡ t.table_id) × (l.stock.me.0 ≡ seated Stock t.key (new_sheet t.key.desk.value.journal l.number)) × (length l.seated.items ≡ l.number) × (l.clerks ≤ vec_capacity l.seated)
     × ((k : ℕ) → k < l.number → slice_get l.seated.items k ≡ Some (newcomer (shared_view t.table_id t.key) k))
