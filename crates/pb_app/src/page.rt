@@ -114,25 +114,26 @@ fn write_page<'a, T: Threads + Sync, G: Gate, W: Write>(
         journal,
         options: *counting.options,
     };
-    let text = page_text(counting, &read.election, &facts)?;
+    let (rt, alloc) = (counting.rt, counting.alloc);
+    let text = page_text(rt, alloc, counting.gate, &read.election, &facts)?;
     write_whole(writer, text.as_slice())
 }
 
 /// The page of an election, counted with the options of these facts: nothing in it is markup but the program's own
 /// pieces. What refuses it is what refuses the count.
 fn page_text<T: Threads + Sync, G: Gate>(
-    counting: &Counting<T, G>,
+    rt: &T,
+    alloc: Global,
+    gate: &G,
     election: &Election,
     facts: &Facts,
 ) -> Result<Vec<u8>, CountFault>
-    requires { facts.now.options ≡ counting.now.options.now }
     ensures ok { IfOk result (λ text. IsPage text.items) }
     ensures fault { IfErr result (IsCountFault election.now facts.now.options) }
 {
     // What is true of every election is true of its reasons.
     let _budget = election.budget();
-    let (rt, alloc) = (counting.rt, counting.alloc);
-    let outcome = count_watched(rt, alloc, election, counting.options, counting.gate)?;
+    let outcome = count_watched(rt, alloc, election, &facts.options, gate)?;
     Ok(page_of(alloc, election, &outcome, facts)?)
 }
 
