@@ -17,8 +17,8 @@ pub record IsLeastPayment (supporters rests : List ℕ) (cost p : ℕ) : Type 0 
   pub covers : cost ≤ paid_at supporters rests p
   pub least : (q : ℕ) → q < p → paid_at supporters rests q < cost
 
--- the price of the project at this place: the least payment that covers its cost; there is none just where all that is left to
--- its supporters together is below the cost
+-- the price of the project at this place: the least payment that covers its cost; there is none just where all that is left
+-- to its supporters together is below the cost
 abbrev pub IsPrice : SupportView → (rests : List ℕ) → (place : ℕ) → Option ℕ → Type 0
 IsPrice s rests place answer =
     MatchOption answer (total_rest (supporters_at s place) rests < cost_at s place)

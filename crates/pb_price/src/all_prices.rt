@@ -113,7 +113,7 @@ fn price_side_by_side<
         workers,
     };
     let (claims, mut stock) = Claims::open(alloc, batch)?;
-    match draw_and_gather(rt, alloc, workers, &claims, &mut stock, pieces) {
+    match draw_and_gather(rt, alloc, &claims, &mut stock, pieces) {
         Ok(gathered) => {
             claims.close(stock);
             Ok(gathered)
@@ -122,7 +122,7 @@ fn price_side_by_side<
     }
 }
 
-/// Lets this many workers work, and gathers their answers; all their seats and numbers are then in `stock`.
+/// Lets the workers of the batch work, and gathers their answers; all their seats and numbers are then in `stock`.
 fn draw_and_gather<
     R: Threads + Sync,
     A: Allocator + Copy + Send + Sync,
@@ -131,23 +131,22 @@ fn draw_and_gather<
 >(
     rt: &R,
     alloc: A,
-    workers: u32,
     claims: &Claims<A>,
     stock: &mut Claim,
     pieces: &Pieces<G, B>,
 ) -> Result<Gathered<A>, NoMemory>
     requires same { stock.old.seat.table_id ≡ claims.now.table.shared.table_id }
-    requires seats { stock.old.seat.me.0 ≡ drawn workers [] }
-    requires few { workers ≤ 64 }
+    requires seats { stock.old.seat.me.0 ≡ drawn claims.now.batch.workers [] }
+    requires few { claims.now.batch.workers ≤ 64 }
     requires batch { IsBatch pieces.now.supporters.now pieces.now.rests.now pieces.now.projects.now
-        claims.now.table.shared.key.pieces }
+        claims.now.batch.pieces }
     ensures same { stock.new.seat.table_id ≡ claims.now.table.shared.table_id }
-    ensures all { OnOk result (stock.new.seat.me.0.seats ≡ workers) }
+    ensures all { OnOk result (stock.new.seat.me.0.seats ≡ claims.now.batch.workers) }
     ensures gathered { IfOk result (λ g. AreGathered pieces.now.supporters.now pieces.now.rests.now
         pieces.now.projects.now stock.new.seat.me.0 g.prices.items g.priced) }
-    ensures workers { IfOk result (λ g. g.workers ≡ workers) }
+    ensures workers { IfOk result (λ g. g.workers ≡ claims.now.batch.workers) }
 {
-    let staff = staff(alloc, claims, stock, workers)?;
+    let staff = staff(alloc, claims, stock, claims.batch.workers)?;
     let done = work_side_by_side(rt, alloc, staff, claims, pieces)?;
     gather(alloc, claims, stock, pieces.projects.len(), done)
 }
@@ -168,7 +167,7 @@ fn work_side_by_side<
     requires same { All (λ w. w.claim.seat.table_id ≡ claims.now.table.shared.table_id) staff.items }
     requires fresh { All (λ w. (w.claim.seat.me.0 ≡ drawn 1 []) × (w.answers.items ≡ [])) staff.items }
     requires batch { IsBatch pieces.now.supporters.now pieces.now.rests.now pieces.now.projects.now
-        claims.now.table.shared.key.pieces }
+        claims.now.batch.pieces }
     ensures all { IfOk result (λ done. length done.items ≡ length staff.items) }
     ensures done { IfOk result (λ done. All (λ w.
         (w.claim.seat.table_id ≡ claims.now.table.shared.table_id)
@@ -179,7 +178,7 @@ fn work_side_by_side<
         requires same { worker.claim.seat.table_id ≡ claims.now.table.shared.table_id }
         requires fresh { (worker.claim.seat.me.0 ≡ drawn 1 []) × (worker.answers.items ≡ []) }
         requires batch { IsBatch pieces.now.supporters.now pieces.now.rests.now pieces.now.projects.now
-            claims.now.table.shared.key.pieces }
+            claims.now.batch.pieces }
         ensures { IfOk result (λ w. (w.claim.seat.table_id ≡ claims.entry.now.table.shared.table_id)
             × IsDone pieces.entry.now.supporters.now pieces.entry.now.rests.now pieces.entry.now.projects.now
             w.claim.seat.me.0 w.answers.items) }

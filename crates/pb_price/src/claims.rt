@@ -16,7 +16,9 @@ use std::alloc::Allocator;
 /// The claims on the pieces of one batch.
 #[derive(Drop)]
 pub(crate) struct Claims<A: Allocator> {
+    pub(crate) batch: Batch,
     pub(crate) table: Table<(), Drawn, Batch, EachOnce, A>,
+    ghost of_batch: { table.shared.key ≡ batch },
     ghost one_word: { table.shared.table_id.words ≡ 1 },
     ghost no_slots: { table.shared.table_id.slots ≡ 0 },
 }
@@ -32,12 +34,12 @@ impl<A: Allocator> Claims<A> {
     /// The claims on a batch, of which nothing is drawn yet, and the claim that has all the workers' seats.
     pub(crate) fn open(alloc: A, batch: Batch) -> Result<(Claims<A>, Claim), NoMemory>
         requires { batch.pieces + batch.workers < 2 ^ 63 }
-        ensures key { IfOk result (λ c. c.0.table.shared.key ≡ batch) }
+        ensures batch { IfOk result (λ c. c.0.batch ≡ batch) }
         ensures claim { IfOk result (λ c. c.1.seat.table_id ≡ c.0.table.shared.table_id) }
         ensures seats { IfOk result (λ c. c.1.seat.me.0 ≡ drawn batch.workers []) }
     {
         let (table, seat) = Table::of_words(alloc, &[0], &batch)?;
-        Ok((Claims { table }, Claim { seat }))
+        Ok((Claims { batch, table }, Claim { seat }))
     }
 
     /// Splits off the claim of one worker.
@@ -57,7 +59,7 @@ impl<A: Allocator> Claims<A> {
     /// Draws the next number. Where it is below the number of pieces, that piece is the claim's alone.
     pub(crate) fn draw(&self, claim: &mut Claim) -> u64
         requires same { claim.old.seat.table_id ≡ self.now.table.shared.table_id }
-        requires may_draw { past_end self.now.table.shared.key.pieces claim.old.seat.me.0.numbers
+        requires may_draw { past_end self.now.batch.pieces claim.old.seat.me.0.numbers
             < claim.old.seat.me.0.seats }
         ensures same { claim.new.seat.table_id ≡ self.now.table.shared.table_id }
         ensures drawn { claim.new.seat.me.0 ≡ drawn claim.old.seat.me.0.seats
@@ -84,10 +86,10 @@ impl<A: Allocator> Claims<A> {
     /// Ends the claims. A claim into which all workers' seats were joined has all numbers that were drawn, each once.
     pub(crate) fn close(self, claim: Claim)
         requires same { claim.seat.table_id ≡ self.table.shared.table_id }
-        requires all { claim.seat.me.0.seats ≡ self.table.shared.key.workers }
+        requires all { claim.seat.me.0.seats ≡ self.batch.workers }
         ensures { (next : ℕ) × AreBelowOnce claim.seat.me.0.numbers next }
     {
-        let Claims { table } = self;
+        let Claims { batch: _, table } = self;
         let Claim { seat } = claim;
         table.close_with(seat).free();
     }

@@ -1,4 +1,4 @@
-ghost use Rattle.std.specs.Prelude.{◌≡◌, ◌<◌, ◌≤◌, ◌*◌, ◌^◌, ℕ, All, IfSome, MatchOption, None, Some, length};
+ghost use Rattle.std.specs.Prelude.{◌≡◌, ◌<◌, ◌≤◌, ◌*◌, ◌^◌, ℕ, All, IfSome, None, Some, length};
 ghost use Rattle.pb_price.specs.Inner.Payment.{payers_above};
 ghost use Rattle.pb_price.specs.Price.{paid_at, total_rest, AreRests, IsPrice, largest_share};
 ghost use Rattle.pb_price.specs.Supporters.{cost_at};
@@ -7,8 +7,8 @@ use crate::supporters::Supporters;
 use pb_core::money::Money;
 use std::alloc::Allocator;
 
-/// What supporters pay together at a payment, in hundredths, how many of them could pay more, and what is left to all of them
-/// together before they pay.
+/// What supporters pay together at a payment, in hundredths, how many of them could pay more, and what is left to all of
+/// them together before they pay.
 #[derive(Clone, Copy)]
 struct Collected {
     total: u64,
@@ -47,8 +47,8 @@ pub fn price_in_steps<A: Allocator>(
 /// the price; else a higher one, at most the cost; and none where the project has no price.
 ///
 /// It takes one look at each supporter. While they pay less than the cost, each who could pay more has to pay an equal part
-/// of what is missing, rounded up. No step passes the price, because the others have nothing more to give: so the first bound
-/// that covers the cost is the least payment that does.
+/// of what is missing, rounded up. No step passes the price, because the others have nothing more to give: so the first
+/// bound that covers the cost is the least payment that does.
 pub fn next_bound<A: Allocator>(
     supporters: &Supporters<A>,
     rests: &[Money],

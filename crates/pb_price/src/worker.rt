@@ -28,7 +28,7 @@ impl<A: Allocator> Worker<A> {
         requires same { self.claim.seat.table_id ≡ claims.now.table.shared.table_id }
         requires fresh { (self.claim.seat.me.0 ≡ drawn 1 []) × (self.answers.items ≡ []) }
         requires batch { IsBatch pieces.now.supporters.now pieces.now.rests.now pieces.now.projects.now
-            claims.now.table.shared.key.pieces }
+            claims.now.batch.pieces }
         ensures { IfOk result (λ w. (w.claim.seat.table_id ≡ claims.now.table.shared.table_id)
             × IsDone pieces.now.supporters.now pieces.now.rests.now pieces.now.projects.now
             w.claim.seat.me.0 w.answers.items) }

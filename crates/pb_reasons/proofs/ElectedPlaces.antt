@@ -10,10 +10,10 @@ use Rattle.std.proofs.lemmas.List.Elements.{All-cons, All-nil}
 use Rattle.std.proofs.lemmas.Option.{none-some, same_Some}
 use Rattle.pb_core.specs.Election.{ElectionView}
 use Rattle.pb_price.specs.Supporters.{SupportView, supporters_at, support_of}
-use Rattle.pb_rounds.proofs.BestBid.{best_is_bid}
+use Rattle.pb_rounds.proofs.BestKey.{best_is_key}
 use Rattle.pb_rounds.proofs.Listed.{RisesWithin-below, is_listed-without_same, listed-below, listed_from_without, range_rises}
-use Rattle.pb_rounds.specs.Bid.{Bid}
 use Rattle.pb_rounds.specs.Count.{count_of, raises_of, share_after}
+use Rattle.pb_rounds.specs.Key.{KeyView}
 use Rattle.pb_rounds.specs.Outcome.{Settled, settled_by}
 use Rattle.pb_rounds.specs.Run.{ElectedView, best_of, charged, elected_by, is_listed, outcome_of, run_from, run_of, then_run, without}
 use Rattle.pb_rounds.specs.declared.measure.Measure.{Measure}
@@ -34,7 +34,7 @@ unfolding run_from
 run_is_drawn m s zero rests left = none_drawn zero left
 run_is_drawn m s (suc rounds) rests left = by_best (best_of m s rests left) refl (run_is_drawn m s rounds)
   where
-    by_best : (best : Option Bid) → best_of m s rests left ≡ best
+    by_best : (best : Option KeyView) → best_of m s rests left ≡ best
         → ((rests left : List ℕ) → IsDrawn rounds left (run_from m s rounds rests left).elected)
         → IsDrawn (suc rounds) left (option_map_or (λ b. then_run (elected_by s rests b) (run_from m s rounds (charged (supporters_at s b.place) b.price rests) (without b.place left))) best (record { elected = []; rests = rests })).elected
     by_best None e later = none_drawn (suc rounds) left
@@ -42,7 +42,7 @@ run_is_drawn m s (suc rounds) rests left = by_best (best_of m s rests left) refl
         let drawn = later (charged (supporters_at s b.place) b.price rests) (without b.place left) in
         record {
           few = omega (arith, drawn.few);
-          listed = All-cons (λ w. is_listed left w.place ≡ true) _ _ (best_is_bid m s rests left b e).is_left
+          listed = All-cons (λ w. is_listed left w.place ≡ true) _ _ (best_is_key m s rests left b e).is_left
               (λ k d below. listed_from_without left b.place _ (drawn.listed k d below));
           apart = AllPairs-cons AreApart _ _
               (λ k d below same. true≢false (sym (drawn.listed k d below) ∙ ap (is_listed (without b.place left)) (sym same) ∙ is_listed-without_same left b.place)) drawn.apart;

@@ -69,7 +69,7 @@ impl Purse {
     }
 }
 
-/// Puts the rounds of the ballot's places into the list, rising, in place of what it held; those below this number of rounds.
+/// Puts the rounds of the ballot's places that are below this number into the list, rising, in place of what it held.
 fn gather(
     rounds: &[u32],
     elected: usize,

@@ -12,7 +12,7 @@ use pb_price::supporters::Supporters;
 use pb_rounds::outcome::Elected;
 use std::alloc::Global;
 
-/// Takes the price from the rest of each of these supporters, or the whole rest where that is less: what was taken from each.
+/// Takes the price from the rest of each of these supporters, or the whole rest where that is less: what each paid.
 fn pay(
     alloc: Global,
     supporters: &[u32],

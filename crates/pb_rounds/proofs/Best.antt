@@ -1,4 +1,4 @@
--- The first least of some bids: the last of a running best, and what is known of it.
+-- The first least of some keys: the last of a running best, and what is known of it.
 use Rattle.std.proofs.Common.{◌≡◌, ℕ, List, [], ◌∷◌, ◌++◌, length, get_or, Some, None, Bool, cond, not, refl, sym, ◌∙◌, ap, arith}
 use Rattle.std.specs.Cmp.{IsStrictWeakOrder}
 use Rattle.std.specs.List.{find, list_all, position_or_len, IsFirstBest, best_of as best_from}
@@ -8,13 +8,13 @@ use Rattle.std.proofs.lemmas.List.Folds.{find_at, list_all_at}
 use Rattle.std.proofs.lemmas.List.MinMax.{IsFirstBest-from_best_of, ranks_by}
 use Rattle.std.proofs.lemmas.List.Sums.{position_or_len_is, list_all-from_AllPass, fold_push}
 use Rattle.std.proofs.lemmas.Option.{slice_get-get_or, none-some}
-use Rattle.pb_rounds.specs.Inner.BidOrder.{bid_cmp-total}
-use Rattle.pb_rounds.specs.Bid.{Bid, is_before, first_least}
-use Rattle.pb_rounds.specs.Inner.Bid.{better_of}
+use Rattle.pb_rounds.specs.Inner.KeyOrder.{key_cmp-total}
+use Rattle.pb_rounds.specs.Inner.Key.{better_of}
+use Rattle.pb_rounds.specs.Key.{KeyView, first_least, is_before}
 
--- the order of bids ranks them
+-- the order of keys ranks them
 pub is_before_ranks : IsStrictWeakOrder is_before
-is_before_ranks = ranks_by bid_cmp-total (λ b. b)
+is_before_ranks = ranks_by key_cmp-total (λ b. b)
 
 module _ {X : Type 0} (before : X → X → Bool) (order : IsStrictWeakOrder before) where
   first_best_is_found : (xs : List X) (k : ℕ) (d : X) → IsFirstBest before xs (length xs) k
@@ -34,16 +34,16 @@ module _ {X : Type 0} (before : X → X → Bool) (order : IsStrictWeakOrder bef
       let found = IsFirstBest-from_best_of order x xs in
       first_best_is_found (x ∷ xs) found.0 x found.1 ∙ ap (λ b. Some b) found.2
 
--- one more bid
-pub first_least-push : (bids : List Bid) (x : Bid)
-    → first_least is_before (bids ++ x ∷ []) ≡ Some (better_of (first_least is_before bids) x)
+-- one more key
+pub first_least-push : (keys : List KeyView) (x : KeyView)
+    → first_least is_before (keys ++ x ∷ []) ≡ Some (better_of (first_least is_before keys) x)
 first_least-push [] x = first_least-cons is_before is_before_ranks x []
-first_least-push (b ∷ bids) x =
-    first_least-cons is_before is_before_ranks b (bids ++ x ∷ [])
-    ∙ ap (λ best. Some best) (fold_push (λ best other. cond (is_before other best) other best) b bids x)
-    ∙ rw (first_least-cons is_before is_before_ranks b bids) refl
+first_least-push (b ∷ keys) x =
+    first_least-cons is_before is_before_ranks b (keys ++ x ∷ [])
+    ∙ ap (λ best. Some best) (fold_push (λ best other. cond (is_before other best) other best) b keys x)
+    ∙ rw (first_least-cons is_before is_before_ranks b keys) refl
 
--- where there is no first least there is no bid
-pub no_bid : (bids : List Bid) → first_least is_before bids ≡ None → bids ≡ []
-no_bid [] e = refl
-no_bid (b ∷ bids) e = absurd (none-some _ (sym e ∙ first_least-cons is_before is_before_ranks b bids))
+-- where there is no first least there is no key
+pub no_key : (keys : List KeyView) → first_least is_before keys ≡ None → keys ≡ []
+no_key [] e = refl
+no_key (b ∷ keys) e = absurd (none-some _ (sym e ∙ first_least-cons is_before is_before_ranks b keys))

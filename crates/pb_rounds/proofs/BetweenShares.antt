@@ -13,10 +13,10 @@ use Rattle.pb_price.specs.Supporters.{SupportView, cost_at, supporters_at}
 use Rattle.pb_price.proofs.RestsFall.{no_price_falls, no_price_stays}
 use Rattle.pb_rounds.specs.declared.measure.Measure.{Measure}
 use Rattle.pb_rounds.specs.Inner.Between.{KeepsElecting, KeepsUpTo, places_of_elected}
-use Rattle.pb_rounds.specs.Bid.{Bid, is_before}
 use Rattle.pb_rounds.specs.Count.{could_be_added, is_exhausted, is_over, spent_on}
-use Rattle.pb_rounds.specs.Run.{ElectedView, RunView, best_of, bid, charged, is_elected, is_listed, run_from, run_of, without}
-use Rattle.pb_rounds.proofs.BestBid.{best_is_bid}
+use Rattle.pb_rounds.specs.Key.{KeyView, is_before}
+use Rattle.pb_rounds.specs.Run.{ElectedView, RunView, best_of, charged, is_elected, is_listed, key_of, run_from, run_of, without}
+use Rattle.pb_rounds.proofs.BestKey.{best_is_key}
 use Rattle.pb_rounds.proofs.BestIs.{is_best, no_best}
 use Rattle.pb_rounds.proofs.Charged.{charged_at}
 use Rattle.pb_rounds.proofs.Listed.{is_listed-without}
@@ -53,30 +53,30 @@ priced_above s low high place p falls e = priced_above_by s low high place p fal
 
 -- one round: low are the rests of the smaller share, here those of one in between, high those of the larger one
 module _ (m : Measure) (s : SupportView) (low here high left : List ℕ) (more : NoRestRises here low) (less : NoRestRises high here)
-    (b : Bid) (best : best_of m s low left ≡ Some b) (others : (other p : ℕ) → is_listed (without b.place left) other ≡ true
-    → price_at s high other ≡ Some p → is_before (bid m s b.place b.price) (bid m s other p) ≡ true) where
+    (b : KeyView) (best : best_of m s low left ≡ Some b) (others : (other p : ℕ) → is_listed (without b.place left) other ≡ true
+    → price_at s high other ≡ Some p → is_before (key_of m s b.place b.price) (key_of m s other p) ≡ true) where
   winner_here : HasPrice s here b.place b.price
-  winner_here = priced_above s low here b.place b.price more (best_is_bid m s low left b best).is_price
+  winner_here = priced_above s low here b.place b.price more (best_is_key m s low left b best).is_price
 
   none_before : (other p : ℕ) → is_listed left other ≡ true → price_at s here other ≡ Some p
-      → is_before (bid m s other p) (bid m s b.place winner_here.price) ≡ false
+      → is_before (key_of m s other p) (key_of m s b.place winner_here.price) ≡ false
   none_before other p listed e = elim (cases_eq other b.place) [
     | inl same ↦
         let equal : p ≡ winner_here.price = same_Some _ _ (sym e ∙ ap (price_at s here) same ∙ winner_here.is_price) in
-        ap (λ n. is_before (bid m s n p) (bid m s b.place winner_here.price)) same
-        ∙ ap (λ q. is_before (bid m s b.place q) (bid m s b.place winner_here.price)) equal ∙ not_before_itself (bid m s b.place winner_here.price)
+        ap (λ n. is_before (key_of m s n p) (key_of m s b.place winner_here.price)) same
+        ∙ ap (λ q. is_before (key_of m s b.place q) (key_of m s b.place winner_here.price)) equal ∙ not_before_itself (key_of m s b.place winner_here.price)
     | inr apart ↦
         let above = priced_above s here high other p less e in
         let later = others other above.price (is_listed-without left b.place other apart ∙ listed) above.is_price in
-        at_most_chain (bid m s b.place winner_here.price) (bid m s other above.price) (bid m s other p)
-        (at_most_chain (bid m s b.place winner_here.price) (bid m s b.place b.price) (bid m s other above.price)
+        at_most_chain (key_of m s b.place winner_here.price) (key_of m s other above.price) (key_of m s other p)
+        (at_most_chain (key_of m s b.place winner_here.price) (key_of m s b.place b.price) (key_of m s other above.price)
         (at_most_by_price m s b.place b.price winner_here.price winner_here.at_most)
-        (at_most_from_before (bid m s b.place b.price) (bid m s other above.price) later))
+        (at_most_from_before (key_of m s b.place b.price) (key_of m s other above.price) later))
         (at_most_by_price m s other p above.price above.at_most)
   ]
 
-  best_here : best_of m s here left ≡ Some (bid m s b.place winner_here.price)
-  best_here = is_best m s here left b.place winner_here.price (best_is_bid m s low left b best).is_left winner_here.is_price none_before
+  best_here : best_of m s here left ≡ Some (key_of m s b.place winner_here.price)
+  best_here = is_best m s here left b.place winner_here.price (best_is_key m s low left b best).is_left winner_here.is_price none_before
 
 -- what n rounds elect between two lists of rests
 abbrev Between : (m : Measure) (s : SupportView) (n : ℕ) → Type 0
@@ -86,7 +86,7 @@ Between m s n = (low here high left : List ℕ) → NoRestRises here low → NoR
 
 module _ (m : Measure) (s : SupportView) (n : ℕ) (later : Between m s n) (low here high left : List ℕ)
     (more : NoRestRises here low) (less : NoRestRises high here) where
-  round_between : (o : Option Bid) → best_of m s low left ≡ o → KeepsElecting m s (run_from m s (suc n) low left).elected high left
+  round_between : (o : Option KeyView) → best_of m s low left ≡ o → KeepsElecting m s (run_from m s (suc n) low left).elected high left
       → places_of_elected (run_from m s (suc n) here left).elected ≡ places_of_elected (run_from m s (suc n) low left).elected
   round_between None none keeps =
       let ended : (run_from m s (suc n) low left).elected ≡ [] = ap (λ (r : RunView). r.elected) (run_from-none m s low left none (suc n)) in
@@ -107,7 +107,7 @@ module _ (m : Measure) (s : SupportView) (n : ℕ) (later : Between m s n) (low 
       (charged_between (supporters_at s b.place) b.price mine.price low here more mine.at_most)
       (charged_between (supporters_at s b.place) mine.price held.0 here high less high_less)
       held.3 in
-      ap (λ (r : RunView). places_of_elected r.elected) (run_from-some m s here left (bid m s b.place mine.price) chosen n)
+      ap (λ (r : RunView). places_of_elected r.elected) (run_from-some m s here left (key_of m s b.place mine.price) chosen n)
       ∙ ap (λ places. b.place ∷ places) rest
       ∙ sym (ap (λ (r : RunView). places_of_elected r.elected) low_run)
 

@@ -14,10 +14,10 @@ use Rattle.pb_price.specs.Price.{paid_at, price_at}
 use Rattle.pb_price.specs.Supporters.{SupportView, IsSupport, cost_at, supporters_at}
 use Rattle.pb_rounds.specs.declared.measure.Measure.{Measure}
 use Rattle.pb_rounds.specs.declared.measure.Measure.TheVariants.{Votes, Cost}
-use Rattle.pb_rounds.specs.Bid.{Bid, is_before}
 use Rattle.pb_rounds.specs.Cheapest.{IsCheaper, WasCheapest, rests_after}
-use Rattle.pb_rounds.specs.Run.{ElectedView, RunView, bid, best_of, charged, elected_by, is_listed, run_from, run_of, then_run, without}
-use Rattle.pb_rounds.proofs.BestBid.{best_is_bid}
+use Rattle.pb_rounds.specs.Key.{KeyView, is_before}
+use Rattle.pb_rounds.specs.Run.{ElectedView, RunView, best_of, charged, elected_by, is_listed, key_of, run_from, run_of, then_run, without}
+use Rattle.pb_rounds.proofs.BestKey.{best_is_key}
 use Rattle.pb_rounds.proofs.BestIs.{none_before_best}
 use Rattle.pb_rounds.proofs.Listed.{is_listed-range, is_listed-without, is_listed-without_same, listed-below, listed_from_without, range_rises, RisesWithin-below}
 
@@ -31,7 +31,7 @@ not_before x y i j o Equal Greater ratio place h apart = inr (sym (rw ratio at (
 not_before x y i j o Greater t ratio place h apart = inl (rw ratio at (ranks x y))
 
 compared : (m : Measure) (s : SupportView) (place price other q : ℕ) → 0 < cost_at s place → 0 < cost_at s other → other ≢ place
-    → is_before (bid m s other q) (bid m s place price) ≡ false
+    → is_before (key_of m s other q) (key_of m s place price) ≡ false
     → IsCheaper m s place price other q
 compared Votes s place price other q some more apart h =
     elim (not_before (q * max 1 1) (price * max 1 1) other place _ _ _ refl refl h apart) [
@@ -73,10 +73,10 @@ none_was_first m s rests left (x ∷ before) w later e = cc
 abbrev pub ArePositive : SupportView → List ℕ → Type 0
 ArePositive s left = (place : ℕ) → is_listed left place ≡ true → 0 < cost_at s place
 
-best_was_first : (m : Measure) (s : SupportView) (rests left : List ℕ) → ArePositive s left → (b : Bid) → best_of m s rests left ≡ Some b
+best_was_first : (m : Measure) (s : SupportView) (rests left : List ℕ) → ArePositive s left → (b : KeyView) → best_of m s rests left ≡ Some b
     → WasFirst m s rests left [] (elected_by s rests b)
 best_was_first m s rests left positive b e =
-    let found = best_is_bid m s rests left b e in
+    let found = best_is_key m s rests left b e in
     record {
       listed = found.is_left;
       was_left = All-nil (λ v. v.place ≢ b.place);
@@ -84,10 +84,10 @@ best_was_first m s rests left positive b e =
       collected = refl;
       cheapest = λ other price listed apart _ priced.
           compared m s b.place b.price other price (positive b.place found.is_left) (positive other listed) apart
-          (ap (is_before (bid m s other price)) (sym found.is_bid) ∙ none_before_best m s rests left b e other price listed priced);
+          (ap (is_before (key_of m s other price)) (sym found.is_key) ∙ none_before_best m s rests left b e other price listed priced);
     }
 
-later_was_first : (m : Measure) (s : SupportView) (rests left : List ℕ) → ArePositive s left → (b : Bid) → best_of m s rests left ≡ Some b
+later_was_first : (m : Measure) (s : SupportView) (rests left : List ℕ) → ArePositive s left → (b : KeyView) → best_of m s rests left ≡ Some b
     → (run : RunView) → EachWasFirst m s (charged (supporters_at s b.place) b.price rests) (without b.place left) run.elected
     → EachWasFirst m s rests left (elected_by s rests b ∷ run.elected)
 later_was_first m s rests left positive b best run others [] w later e =
@@ -108,7 +108,7 @@ later_was_first m s rests left positive b best run others (x ∷ before) w later
 
 run_step : (m : Measure) (s : SupportView) (rests left : List ℕ) → ArePositive s left → (n : ℕ)
     → ((rests left : List ℕ) → ArePositive s left → EachWasFirst m s rests left (run_from m s n rests left).elected)
-    → (o : Option Bid) → best_of m s rests left ≡ o
+    → (o : Option KeyView) → best_of m s rests left ≡ o
     → EachWasFirst m s rests left
     (option_map_or (λ b. then_run (elected_by s rests b) (run_from m s n (charged (supporters_at s b.place) b.price rests) (without b.place left)))
     o (record { elected = []; rests = rests })).elected

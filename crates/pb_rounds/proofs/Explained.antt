@@ -13,14 +13,14 @@ use Rattle.pb_price.specs.Supporters.{SupportView, IsSupport, supporters_at, cos
 use Rattle.pb_price.specs.Price.{total_rest, price_at}
 use Rattle.pb_price.proofs.Payments.{least_from_price, short_from_no_price, collected_below}
 use Rattle.pb_rounds.specs.declared.measure.Measure.{Measure}
-use Rattle.pb_rounds.specs.Bid.{Bid}
+use Rattle.pb_rounds.specs.Key.{KeyView}
 use Rattle.pb_rounds.specs.Run.{run_of, ElectedView, RunView, best_of, charged, elected_by, then_run, run_from, without, is_listed}
 use Rattle.pb_rounds.specs.Count.{spent_on}
 use Rattle.pb_rounds.specs.Payments.{paid_in_turn, payment_of, payments_of}
 use Rattle.pb_rounds.specs.PriceSystem.{PaysFor, IsPriceSystem, HasPriceSystem}
 use Rattle.pb_rounds.proofs.Charged.{payment_at, charged_at, length-payments_of, length-charged, payment-within_price, payment-within_rest, sum-payments_of, sum-charged}
 use Rattle.pb_rounds.proofs.Listed.{RisesWithin, rises_within, contains_from_listed, listed_from_contains, is_listed-without, length-without, listed_from_without, listed-below, RisesWithin-below, range_rises, is_listed-range}
-use Rattle.pb_rounds.proofs.BestBid.{IsBid, best_is_bid, no_price_without_best}
+use Rattle.pb_rounds.proofs.BestKey.{IsKey, best_is_key, no_price_without_best}
 
 pub paid_in_turn-nil : (s : SupportView) (rests : List ℕ) → [] ≡ paid_in_turn s rests []
 unfolding paid_in_turn
@@ -58,13 +58,13 @@ supporters_rise s h place below =
 
 -- the payments for one winner
 winner_paid : (m : Measure) (s : SupportView) → IsSupport s → (rests left : List ℕ) → IsRound s rests left
-    → (b : Bid) → IsBid m s rests left b → (after : List ℕ)
+    → (b : KeyView) → IsKey m s rests left b → (after : List ℕ)
     → ((v : ℕ) → slice_index after v ≤ slice_index (charged (supporters_at s b.place) b.price rests) v)
     → PaysFor s after (elected_by s rests b) (payments_of (supporters_at s b.place) b.price rests)
-winner_paid m s h rests left round b bid after less =
+winner_paid m s h rests left round b found after less =
     let supporters = supporters_at s b.place in
-    let below = round.known b.place bid.is_left in
-    let least = least_from_price supporters rests (cost_at s b.place) b.price bid.is_price in
+    let below = round.known b.place found.is_left in
+    let least = least_from_price supporters rests (cost_at s b.place) b.price found.is_price in
     record {
       one_each = length-payments_of supporters b.price rests ∙ round.one_each;
       by_supporters = λ v other. payment_at supporters b.price rests v
@@ -94,13 +94,13 @@ explained_none s rests left round none = (
 )
 
 explained_some : (m : Measure) (s : SupportView) → IsSupport s → (rests left : List ℕ) → IsRound s rests left
-    → (b : Bid) → IsBid m s rests left b → (run : RunView)
+    → (b : KeyView) → IsKey m s rests left b → (run : RunView)
     → IsExplained s (charged (supporters_at s b.place) b.price rests) (without b.place left) run
     → IsExplained s rests left (then_run (elected_by s rests b) run)
-explained_some m s h rests left round b bid run (payments, later) =
+explained_some m s h rests left round b found run (payments, later) =
     let supporters = supporters_at s b.place in
     let row = payments_of supporters b.price rests in
-    let winner = winner_paid m s h rests left round b bid run.rests (λ v. let e = later.endowed v in omega arith) in (
+    let winner = winner_paid m s h rests left round b found run.rests (λ v. let e = later.endowed v in omega arith) in (
       row ∷ payments,
       record {
         one_each = later.one_each;
@@ -131,7 +131,7 @@ explained_some m s h rests left round b bid run (payments, later) =
       },
     )
 
-next_round : (s : SupportView) (rests left : List ℕ) → IsRound s rests left → (b : Bid)
+next_round : (s : SupportView) (rests left : List ℕ) → IsRound s rests left → (b : KeyView)
     → IsRound s (charged (supporters_at s b.place) b.price rests) (without b.place left)
 next_round s rests left round b = record {
   one_each = length-charged (supporters_at s b.place) b.price rests ∙ round.one_each;
@@ -141,16 +141,16 @@ next_round s rests left round b = record {
 explained_step : (m : Measure) (s : SupportView) → IsSupport s → (rests left : List ℕ) → IsRound s rests left
     → (n : ℕ) → length left ≤ suc n
     → ((rests left : List ℕ) → IsRound s rests left → length left ≤ n → IsExplained s rests left (run_from m s n rests left))
-    → (o : Option Bid) → best_of m s rests left ≡ o
+    → (o : Option KeyView) → best_of m s rests left ≡ o
     → IsExplained s rests left
     (option_map_or (λ b. then_run (elected_by s rests b) (run_from m s n (charged (supporters_at s b.place) b.price rests) (without b.place left)))
     o (record { elected = []; rests = rests }))
 explained_step m s h rests left round n short later None e =
     explained_none s rests left round (no_price_without_best m s rests left e)
 explained_step m s h rests left round n short later (Some b) e =
-    let bid = best_is_bid m s rests left b e in
-    explained_some m s h rests left round b bid _
-    (later _ _ (next_round s rests left round b) (let less = length-without left b.place bid.is_left in omega arith))
+    let found = best_is_key m s rests left b e in
+    explained_some m s h rests left round b found _
+    (later _ _ (next_round s rests left round b) (let less = length-without left b.place found.is_left in omega arith))
 
 -- a run that has a round for each project left has a price system
 pub run_is_explained : (m : Measure) (s : SupportView) → IsSupport s → (n : ℕ) (rests left : List ℕ) → IsRound s rests left

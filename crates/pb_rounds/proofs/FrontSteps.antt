@@ -15,11 +15,11 @@ use Rattle.pb_price.specs.Supporters.{SupportView, cost_at, supporters_at}
 use Rattle.pb_price.proofs.Payments.{least_from_price, paid_at-le-total_rest, short_from_no_price}
 use Rattle.pb_price.proofs.RestsFall.{no_price_falls}
 use Rattle.pb_rounds.specs.declared.measure.Measure.{Measure}
-use Rattle.pb_rounds.specs.Inner.BidOrder.{less_from}
-use Rattle.pb_rounds.specs.Bid.{Bid, bid_cmp}
+use Rattle.pb_rounds.specs.Inner.KeyOrder.{less_from}
 use Rattle.pb_rounds.specs.Inner.Bounds.{HasBounds}
 use Rattle.pb_rounds.specs.Inner.Front.{IsCopyUpTo}
 use Rattle.pb_rounds.specs.Inner.Queue.{IsIn, Rises}
+use Rattle.pb_rounds.specs.Key.{KeyView, key_cmp}
 use Rattle.pb_rounds.specs.Run.{charged, is_listed}
 use Rattle.pb_rounds.proofs.Charged.{charged_at, length-charged}
 use Rattle.pb_rounds.proofs.Listed.{contains_from_listed}
@@ -185,13 +185,13 @@ pays_listed supporters rests price h v e = All-contains (λ w. price ≤ slice_i
 
 -- ---- a copy of the queue up to a share, so far
 
-pub record Copying (share : ℕ) (queue copy later : List Bid) : Type 0 where
-  pub sound : (b : Bid) → IsIn b copy → IsIn b queue
-  pub known : (b : Bid) → IsIn b later → IsIn b queue
-  pub whole : (b : Bid) → IsIn b queue → b.price ≤ share → IsIn b copy ⊎ IsIn b later
+pub record Copying (share : ℕ) (queue copy later : List KeyView) : Type 0 where
+  pub sound : (b : KeyView) → IsIn b copy → IsIn b queue
+  pub known : (b : KeyView) → IsIn b later → IsIn b queue
+  pub whole : (b : KeyView) → IsIn b queue → b.price ≤ share → IsIn b copy ⊎ IsIn b later
   pub rises : Rises copy
 
-pub copying_open : (share : ℕ) (queue copy later : List Bid) → copy ≡ [] → later ≡ queue → Copying share queue copy later
+pub copying_open : (share : ℕ) (queue copy later : List KeyView) → copy ≡ [] → later ≡ queue → Copying share queue copy later
 copying_open share queue copy later none all = record {
   sound = λ b i. absurd (subst (IsIn b) none i);
   known = λ b i. subst (IsIn b) all i;
@@ -199,11 +199,11 @@ copying_open share queue copy later none all = record {
   rises = subst Rises (sym none) tt;
 }
 
-module _ (share : ℕ) (queue copy later : List Bid) (h : Copying share queue copy later) (k : Bid) (rest : List Bid) (head : later ≡ k ∷ rest) where
-  known_later : (b : Bid) → IsIn b rest → IsIn b queue
+module _ (share : ℕ) (queue copy later : List KeyView) (h : Copying share queue copy later) (k : KeyView) (rest : List KeyView) (head : later ≡ k ∷ rest) where
+  known_later : (b : KeyView) → IsIn b rest → IsIn b queue
   known_later b i = h.known b (subst (IsIn b) (sym head) (inr i))
 
-  pub copying_puts : (new : List Bid) → new ≡ insert_key bid_cmp copy k → IsStrictlySortedBy bid_cmp new → Copying share queue new rest
+  pub copying_puts : (new : List KeyView) → new ≡ insert_key key_cmp copy k → IsStrictlySortedBy key_cmp new → Copying share queue new rest
   copying_puts new new_is sorted = record {
     sound = λ b i. elim (put_from k b copy (subst (IsIn b) new_is i)) [
       | inl old ↦ h.sound b old
@@ -217,8 +217,8 @@ module _ (share : ℕ) (queue copy later : List Bid) (h : Copying share queue co
     rises = rises_from_sorted new sorted;
   }
     where
-      put_or_later : (b : Bid) → IsIn b (k ∷ rest) → IsIn b new ⊎ IsIn b rest
-      put_or_later b (inl same) = inl (subst (IsIn b) (sym new_is) (subst (λ (c : Bid). IsIn c (insert_key bid_cmp copy k)) (sym same) (put_is_in k copy)))
+      put_or_later : (b : KeyView) → IsIn b (k ∷ rest) → IsIn b new ⊎ IsIn b rest
+      put_or_later b (inl same) = inl (subst (IsIn b) (sym new_is) (subst (λ (c : KeyView). IsIn c (insert_key key_cmp copy k)) (sym same) (put_is_in k copy)))
       put_or_later b (inr i) = inr i
 
   pub copying_skips : share < k.price → Copying share queue copy rest
@@ -232,11 +232,11 @@ module _ (share : ℕ) (queue copy later : List Bid) (h : Copying share queue co
     rises = h.rises;
   }
     where
-      skipped : (b : Bid) → b.price ≤ share → IsIn b (k ∷ rest) → IsIn b copy ⊎ IsIn b rest
-      skipped b low (inl same) = (let price = ap (λ (c : Bid). c.price) same in absurd (omega (arith, low, high, price)))
+      skipped : (b : KeyView) → b.price ≤ share → IsIn b (k ∷ rest) → IsIn b copy ⊎ IsIn b rest
+      skipped b low (inl same) = (let price = ap (λ (c : KeyView). c.price) same in absurd (omega (arith, low, high, price)))
       skipped b low (inr i) = inr i
 
-pub copying_ends : (share : ℕ) (queue copy later : List Bid) → Copying share queue copy later → later ≡ [] → IsCopyUpTo share queue copy
+pub copying_ends : (share : ℕ) (queue copy later : List KeyView) → Copying share queue copy later → later ≡ [] → IsCopyUpTo share queue copy
 copying_ends share queue copy later h none = record {
   sound = h.sound;
   whole = λ b i low. elim (h.whole b i low) [
@@ -247,12 +247,12 @@ copying_ends share queue copy later h none = record {
 }
 
 -- what the copy leaves out has no price where no rest is above the share
-pub bounds_up_to : (m : Measure) (s : SupportView) (share : ℕ) (rests left : List ℕ) (queue copy : List Bid) → NoRestRises (replicate s.voters share) rests
+pub bounds_up_to : (m : Measure) (s : SupportView) (share : ℕ) (rests left : List ℕ) (queue copy : List KeyView) → NoRestRises (replicate s.voters share) rests
     → HasBounds m s rests left queue → IsCopyUpTo share queue copy → HasBounds m s rests left copy
 bounds_up_to m s share rests left queue copy within h kept = record {
   known = h.known;
   are_left = λ b i. h.are_left b (kept.sound b i);
-  are_bids = λ b i. h.are_bids b (kept.sound b i);
+  are_keys = λ b i. h.are_keys b (kept.sound b i);
   lower = λ b p i e. h.lower b p (kept.sound b i) e;
   one_each = λ b c i j same. h.one_each b c (kept.sound b i) (kept.sound c j) same;
   whole = λ place p listed e.

@@ -7,12 +7,12 @@ use Rattle.std.proofs.lemmas.List.Sums.{sum_by-append, sum_by_push}
 use Rattle.std.proofs.lemmas.Option.{none-some, same_Some}
 use Rattle.pb_price.specs.Price.{AreRests, NoRestRises, largest_share, price_at}
 use Rattle.pb_price.specs.Supporters.{IsSupport, SupportView, cost_at, supporters_at}
-use Rattle.pb_rounds.specs.Bid.{Bid}
 use Rattle.pb_rounds.specs.Count.{spent_on}
 use Rattle.pb_rounds.specs.Inner.Bounds.{HasBounds, IsOpening}
 use Rattle.pb_rounds.specs.Inner.Front.{CanAllPay, FrontView, IsFront, IsCopyUpTo, raised_by}
 use Rattle.pb_rounds.specs.Inner.Progress.{Progress}
 use Rattle.pb_rounds.specs.Inner.Queue.{AreMarked, IsIn}
+use Rattle.pb_rounds.specs.Key.{KeyView}
 use Rattle.pb_rounds.specs.Outcome.{OutcomeView}
 use Rattle.pb_rounds.specs.Inner.RaiseEnds.{IsTried}
 use Rattle.pb_rounds.specs.declared.raise_end.RaiseEnd.TheVariants.{Over}
@@ -54,7 +54,7 @@ module _ (f : FrontView) (h : IsFront f) where
       let fits : f.outcome.share + 0 ≤ largest_share = (let small = h.small in omega arith) in
       subst (AreRests f.support.voters) (raised_zero f.outcome.rests) (h.shared 0 fits).rests_are
 
-  pub queue_known : (b : Bid) → IsIn b f.queue → b.place < length f.support.costs
+  pub queue_known : (b : KeyView) → IsIn b f.queue → b.place < length f.support.costs
   queue_known b i = h.bounds.known b.place (h.bounds.are_left b i)
 
   -- at a larger share
@@ -84,7 +84,7 @@ module _ (f : FrontView) (h : IsFront f) where
   }
 
   -- one round more, whose project all supporters can pay
-  module _ (head : Bid) (others : List Bid) (is_first : f.queue ≡ head ∷ others) (can_pay : CanAllPay f.support f.outcome.rests head) where
+  module _ (head : KeyView) (others : List KeyView) (is_first : f.queue ≡ head ∷ others) (can_pay : CanAllPay f.support f.outcome.rests head) where
     full : (v : ℕ) → is_listed (supporters_at f.support head.place) v ≡ true → head.price ≤ slice_index f.outcome.rests v
     full = pays_listed (supporters_at f.support head.place) f.outcome.rests head.price can_pay
 
@@ -195,7 +195,7 @@ raised_fits f h more fits k d below =
     let raised_ones = (h.shared more fits).rests_are.bounded k 0 (omega (arith, length-map f.outcome.rests (λ rest. rest + more))) in
     omega (arith, raised_ones, raised_at more f.outcome.rests k below, get_or_default f.outcome.rests k d 0 below)
 
-pub first_in : (queue : List Bid) (first : Bid) → slice_get queue 0 ≡ Some first → IsIn first queue
+pub first_in : (queue : List KeyView) (first : KeyView) → slice_get queue 0 ≡ Some first → IsIn first queue
 first_in [] first e = absurd (none-some first e)
 first_in (b ∷ queue) first e = inl (sym (same_Some _ _ e))
 
@@ -207,19 +207,19 @@ supporters_within s is place below list rests list_is len =
     subst (λ (xs : List ℕ). All (λ v. v < length rests) xs) (sym list_is)
     (λ k d lt. (let known = is.supporters_known place [] (omega (arith, is.paired)) k d lt in omega (arith, known, len)))
 
-pub pays_by : (s : SupportView) (list seen rests : List ℕ) (price place : ℕ) (b : Bid) → list ≡ supporters_at s place → place ≡ b.place → seen ≡ rests → price ≡ b.price
+pub pays_by : (s : SupportView) (list seen rests : List ℕ) (price place : ℕ) (b : KeyView) → list ≡ supporters_at s place → place ≡ b.place → seen ≡ rests → price ≡ b.price
     → All (λ v. price ≤ slice_index seen v) list → CanAllPay s rests b
 pays_by s list seen rests price place b list_is place_is rests_is price_is h =
     subst (λ n. All (λ v. n ≤ slice_index rests v) (supporters_at s b.place)) price_is
     (subst (λ (rs : List ℕ). All (λ v. price ≤ slice_index rs v) (supporters_at s b.place)) rests_is
     (subst (λ (xs : List ℕ). All (λ v. price ≤ slice_index seen v) xs) (list_is ∙ ap (supporters_at s) place_is) h))
 
-pub taken_is : (o : Option Bid) (old new : List Bid) (first : Bid) (s : SupportView) (rests : List ℕ) → slice_get old 0 ≡ Some first
+pub taken_is : (o : Option KeyView) (old new : List KeyView) (first : KeyView) (s : SupportView) (rests : List ℕ) → slice_get old 0 ≡ Some first
     → IfSome o (λ k. old ≡ k ∷ new) → IfNone o (new ≡ old) → CanAllPay s rests first
     → MatchOption o (new ≡ old) (λ head. (old ≡ head ∷ new) × CanAllPay s rests head)
 taken_is None old new first s rests at removed same pays = same
 taken_is (Some k) old new first s rests at removed same pays =
-    let equal : first ≡ k = same_Some _ _ (sym at ∙ ap (λ (xs : List Bid). slice_get xs 0) removed) in
+    let equal : first ≡ k = same_Some _ _ (sym at ∙ ap (λ (xs : List KeyView). slice_get xs 0) removed) in
     (removed, subst (CanAllPay s rests) equal pays)
 
 -- ---- a trial that begins behind the front
@@ -236,7 +236,7 @@ module _ (f : FrontView) (h : IsFront f) (share : ℕ) (from : f.outcome.share �
   within_there v = subst (λ n. slice_index (raised (share - f.outcome.share) f.outcome.rests) v ≤ slice_index (replicate f.support.voters n) v) sum
       (within_more f.support.voters f.outcome.share (share - f.outcome.share) f.outcome.rests (rests_here f h).one_each v (h.within v))
 
-  pub front_tries : (queue : List Bid) → IsCopyUpTo share f.queue queue → (o : OutcomeView) → o ≡ raised_by (share - f.outcome.share) f.outcome
+  pub front_tries : (queue : List KeyView) → IsCopyUpTo share f.queue queue → (o : OutcomeView) → o ≡ raised_by (share - f.outcome.share) f.outcome
       → (marks : List Bool) → marks ≡ f.marks → (spent : ℕ) → spent ≡ f.spent → Trying f.measure f.support share queue o marks spent
   front_tries queue kept o o_is marks marks_are spent spent_is =
       subst (λ (x : OutcomeView). Trying f.measure f.support share queue x marks spent) (sym o_is) (record {

@@ -21,7 +21,7 @@ pub mod Explained
 pub mod FrontSteps
 pub mod Fronts
 pub mod Listed
-pub mod BestBid
+pub mod BestKey
 pub mod BestIs
 pub mod CheapestRounds
 pub mod Room

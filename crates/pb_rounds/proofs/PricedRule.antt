@@ -1,4 +1,4 @@
--- A pricing record in bids is one in the words of the rule.
+-- A pricing record in keys is one in the words of the rule.
 use Rattle.std.proofs.Common.{◌≡◌, ◌≢◌, ℕ, zero, suc, ◌<◌, ◌≤◌, List, [], ◌∷◌, ◌++◌, length, get_or, Option, Some, None, true, false, refl, sym, subst, ◌∙◌, ap, inl, inr, arith}
 use Rattle.std.specs.Prelude.{All, ◌==◌, MatchOption, not, replicate}
 use Rattle.std.specs.List.{range_with_len}
@@ -10,12 +10,12 @@ use Rattle.std.proofs.lemmas.List.FromFn.{length-range_with_len}
 use Rattle.pb_price.proofs.Bounds.{is_price_at}
 use Rattle.pb_price.specs.Supporters.{SupportView, IsSupport, cost_at, supporters_at}
 use Rattle.pb_rounds.specs.declared.measure.Measure.{Measure}
-use Rattle.pb_rounds.specs.Bid.{Bid, is_before}
 use Rattle.pb_rounds.specs.Cheapest.{IsCheaper, IsLeft}
-use Rattle.pb_rounds.specs.Inner.BidRecord.{BidRecord, HasBidRecord, IsBidEnd, IsBidRound, known_after}
-use Rattle.pb_rounds.specs.PricingRecord.{AreKnown, HasPricing, IsPricedEnd, IsPricedRound, PricingRecord}
-use Rattle.pb_rounds.specs.Run.{ElectedView, RunView, best_of, bid, charged, elected_by, is_listed, run_from, run_of, without}
-use Rattle.pb_rounds.proofs.BestBid.{best_is_bid}
+use Rattle.pb_rounds.specs.Inner.KeyRecord.{AreSomeOf, HasKeyRecord, IsKeyEnd, IsKeyRound, KeyRecord, known_after}
+use Rattle.pb_rounds.specs.Key.{KeyView, is_before}
+use Rattle.pb_rounds.specs.PricingRecord.{ArePriced, HasPricing, IsPricedRound, PricingRecord}
+use Rattle.pb_rounds.specs.Run.{ElectedView, RunView, best_of, charged, elected_by, is_listed, key_of, run_from, run_of, without}
+use Rattle.pb_rounds.proofs.BestKey.{best_is_key}
 use Rattle.pb_rounds.proofs.CheapestRounds.{known_place}
 use Rattle.pb_rounds.proofs.Listed.{contains_from_listed, is_listed-range, is_listed-without, is_listed-without_same, length-without, listed_from_contains, listed_from_without}
 use Rattle.pb_rounds.proofs.Progress.{run_from-none, run_from-some}
@@ -57,8 +57,11 @@ listed_in_front (x ∷ xs) ys n e = elim (or_cases (x == n) _ e) [
   | inr later ↦ or_right (x == n) _ (listed_in_front xs ys n later)
 ]
 
-are_known : (s : SupportView) (rests priced : List ℕ) (known : ℕ → Option ℕ) → AreKnown s rests priced known (known_after s rests priced known)
-are_known s rests priced known = record {
+are_priced : (s : SupportView) (left : List ℕ) (before : List ElectedView) → AreAllLeft s left before → (rests priced : List ℕ) (known : ℕ → Option ℕ)
+    → AreSomeOf left priced → ArePriced s before rests priced known (known_after s rests priced known)
+are_priced s left before h rests priced known some = record {
+  are_left = all_from_listed (IsLeft s before) priced (λ n listed. h.is_left n (some.among n listed));
+  once = some.once;
   renewed = λ place here.
       is_price_at (supporters_at s place) rests (cost_at s place) (known_after s rests priced known place) (cond-true _ _ _ (listed_from_contains priced place here));
   kept = λ place other. cond-false _ _ _ (false_from_ne_true _ (λ listed. other (contains_from_listed priced place listed)));
@@ -70,15 +73,15 @@ module _ (m : Measure) (s : SupportView) (support : IsSupport s) (workers : ℕ)
     positive : (place : ℕ) → is_listed left place ≡ true → 0 < cost_at s place
     positive place listed = support.costs_positive place 0 (h.is_left place listed).0
 
-    module _ (b : Bid) (best : best_of m s rests left ≡ Some b) (r : IsBidRound m s workers rests left known b priced) where
-      b_is : b ≡ bid m s b.place b.price
-      b_is = (best_is_bid m s rests left b best).is_bid
+    module _ (b : KeyView) (best : best_of m s rests left ≡ Some b) (r : IsKeyRound m s workers rests left known b priced) where
+      b_is : b ≡ key_of m s b.place b.price
+      b_is = (best_is_key m s rests left b best).is_key
 
       b_left : is_listed left b.place ≡ true
-      b_left = (best_is_bid m s rests left b best).is_left
+      b_left = (best_is_key m s rests left b best).is_left
 
       was_in_time : (place : ℕ) → is_listed left place ≡ true → (o : Option ℕ) → known place ≡ o
-          → option_map_or (λ price. not (is_before b (bid m s place price))) o false ≡ true
+          → option_map_or (λ price. not (is_before b (key_of m s place price))) o false ≡ true
           → (price : ℕ) × (known place ≡ Some price) × ¬ IsCheaper m s b.place b.price place price
       was_in_time place listed None e h' = absurd (true≢false (sym h'))
       was_in_time place listed (Some price) e h' = (
@@ -86,7 +89,7 @@ module _ (m : Measure) (s : SupportView) (support : IsSupport s) (workers : ℕ)
         e,
         λ cheaper.
             true≢false (sym (cheaper_is_before m s b.place b.price place price (positive b.place b_left) (positive place listed) cheaper)
-            ∙ ap (λ c. is_before c (bid m s place price)) (sym b_is) ∙ not-true _ h'),
+            ∙ ap (λ c. is_before c (key_of m s place price)) (sym b_is) ∙ not-true _ h'),
       )
 
       needed_left : (place : ℕ) → is_listed r.were_in_time.needed place ≡ true → is_listed left place ≡ true
@@ -95,13 +98,11 @@ module _ (m : Measure) (s : SupportView) (support : IsSupport s) (workers : ℕ)
 
       priced_round : IsPricedRound m s workers before known (known_after s rests priced known) (elected_by s rests b) priced
       priced_round = record {
-        are_left = all_from_listed (IsLeft s before) priced (λ n listed. h.is_left n (r.are_priced.among n listed));
-        once = r.are_priced.once;
         has_winner = contains_from_listed priced b.place r.has_winner;
         none_cheaper = λ place price is_left e cheaper.
             let listed = h.listed place is_left in
             true≢false (sym (cheaper_is_before m s place price b.place b.price (positive place listed) (positive b.place b_left) cheaper)
-            ∙ ap (is_before (bid m s place price)) (sym b_is) ∙ r.none_before place price listed e);
+            ∙ ap (is_before (key_of m s place price)) (sym b_is) ∙ r.none_before place price listed e);
         needed = r.were_in_time.needed;
         spare = r.were_in_time.spare;
         parts = r.were_in_time.parts;
@@ -110,48 +111,45 @@ module _ (m : Measure) (s : SupportView) (support : IsSupport s) (workers : ℕ)
             (λ place listed. was_in_time place (needed_left place listed) (known place) refl (r.were_in_time.in_time place listed));
       }
 
-    priced_end : IsBidEnd s rests left known priced → IsPricedEnd s before (known_after s rests priced known) priced
-    priced_end r = record {
-      are_left = all_from_listed (IsLeft s before) priced (λ n listed. h.is_left n (r.are_priced.among n listed));
-      once = r.are_priced.once;
-      all_none = λ place is_left. r.all_none place (h.listed place is_left);
-    }
-
   -- a record of all rounds, where that of the later ones is one
   module _ (priced : List ℕ) (later : List (List ℕ))
       (others : (n : ℕ) (rests left : List ℕ) (before : List ElectedView) (known : ℕ → Option ℕ) → AreAllLeft s left before → length left ≤ n
-      → BidRecord m s workers rests left known later → PricingRecord m s workers rests before known (run_from m s n rests left).elected later)
+      → KeyRecord m s workers rests left known later → PricingRecord m s workers rests before known (run_from m s n rests left).elected later)
       (rests left : List ℕ) (before : List ElectedView) (known : ℕ → Option ℕ) (h : AreAllLeft s left before) where
-    one_round : (n : ℕ) → length left ≤ n → (o : Option Bid) → best_of m s rests left ≡ o
-        → MatchOption o (IsBidEnd s rests left known priced × (later ≡ []))
-        (λ winner. IsBidRound m s workers rests left known winner priced
-        × BidRecord m s workers (charged (supporters_at s winner.place) winner.price rests) (without winner.place left) (known_after s rests priced known) later)
+    one_round : (n : ℕ) → length left ≤ n → (o : Option KeyView) → best_of m s rests left ≡ o
+        → MatchOption o (IsKeyEnd s rests left known priced × (later ≡ []))
+        (λ winner. IsKeyRound m s workers rests left known winner priced
+        × KeyRecord m s workers (charged (supporters_at s winner.place) winner.price rests) (without winner.place left) (known_after s rests priced known) later)
         → PricingRecord m s workers rests before known (run_from m s n rests left).elected (priced ∷ later)
     one_round n short None e r =
         subst (λ (elected : List ElectedView). PricingRecord m s workers rests before known elected (priced ∷ later))
-        (sym (ap (λ (run : RunView). run.elected) (run_from-none m s rests left e n)))
-        (known_after s rests priced known, are_known s rests priced known, priced_end rests left before h known priced r.0, r.1)
+        (sym (ap (λ (run : RunView). run.elected) (run_from-none m s rests left e n))) (
+          known_after s rests priced known,
+          are_priced s left before h rests priced known r.0.are_priced,
+          λ place is_left. r.0.all_none place (h.listed place is_left),
+          r.1,
+        )
     one_round zero short (Some b) e r =
-        let less = length-without left b.place (best_is_bid m s rests left b e).is_left in
+        let less = length-without left b.place (best_is_key m s rests left b e).is_left in
         absurd (omega (arith, less, short))
     one_round (suc n) short (Some b) e r =
-        let less = length-without left b.place (best_is_bid m s rests left b e).is_left in
+        let less = length-without left b.place (best_is_key m s rests left b e).is_left in
         subst (λ (elected : List ElectedView). PricingRecord m s workers rests before known elected (priced ∷ later))
         (sym (ap (λ (run : RunView). run.elected) (run_from-some m s rests left b e n))) (
           known_after s rests priced known,
-          are_known s rests priced known,
+          are_priced s left before h rests priced known r.0.are_priced,
           priced_round rests left before h known priced b e r.0,
           others n (charged (supporters_at s b.place) b.price rests) (without b.place left) (elected_by s rests b ∷ before) (known_after s rests priced known)
               (one_left_less s left before h (elected_by s rests b)) (omega (arith, less, short)) r.1,
         )
 
   all_rounds : (rounds : List (List ℕ)) (n : ℕ) (rests left : List ℕ) (before : List ElectedView) (known : ℕ → Option ℕ) → AreAllLeft s left before → length left ≤ n
-      → BidRecord m s workers rests left known rounds → PricingRecord m s workers rests before known (run_from m s n rests left).elected rounds
+      → KeyRecord m s workers rests left known rounds → PricingRecord m s workers rests before known (run_from m s n rests left).elected rounds
   all_rounds [] n rests left before known h short r = absurd r
   all_rounds (priced ∷ later) n rests left before known h short r =
       one_round priced later (all_rounds later) rests left before known h n short (best_of m s rests left) refl r
 
-  pub has_pricing : (share : ℕ) (priced : List ℕ) → HasBidRecord m s workers share priced → HasPricing m s workers share (run_of m s share).elected priced
+  pub has_pricing : (share : ℕ) (priced : List ℕ) → HasKeyRecord m s workers share priced → HasPricing m s workers share (run_of m s share).elected priced
   unfolding run_of
   has_pricing share priced (rounds, r, is) = (
     rounds,

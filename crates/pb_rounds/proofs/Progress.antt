@@ -8,16 +8,16 @@ use Rattle.std.proofs.lemmas.List.FromFn.{length-range_with_len}
 use Rattle.pb_price.specs.Supporters.{SupportView, supporters_at}
 use Rattle.pb_price.specs.Price.{AreRests, largest_share}
 use Rattle.pb_rounds.specs.declared.measure.Measure.{Measure}
-use Rattle.pb_rounds.specs.Bid.{Bid}
+use Rattle.pb_rounds.specs.Key.{KeyView}
 pub use Rattle.pb_rounds.specs.Inner.Progress.{Progress, after}
 use Rattle.pb_rounds.specs.Outcome.{OutcomeView, settled, settled_by}
 use Rattle.pb_rounds.specs.Run.{ElectedView, RunView, best_of, charged, elected_by, then_run, run_from, run_of, without}
-use Rattle.pb_rounds.proofs.BestBid.{best_is_bid}
+use Rattle.pb_rounds.proofs.BestKey.{best_is_key}
 use Rattle.pb_rounds.proofs.Charged.{charged_at, length-charged}
 use Rattle.pb_rounds.proofs.Listed.{range_rises, RisesWithin-without, length-without_one}
 
 -- a round that elects, and a round that does not
-pub run_from-some : (m : Measure) (s : SupportView) (rests left : List ℕ) (b : Bid) → best_of m s rests left ≡ Some b → (n : ℕ)
+pub run_from-some : (m : Measure) (s : SupportView) (rests left : List ℕ) (b : KeyView) → best_of m s rests left ≡ Some b → (n : ℕ)
     → run_from m s (suc n) rests left ≡ then_run (elected_by s rests b) (run_from m s n (charged (supporters_at s b.place) b.price rests) (without b.place left))
 unfolding run_from
 run_from-some m s rests left b e n =
@@ -60,7 +60,7 @@ after-then elected w run =
 
 -- one round more that elects
 pub progress_more : (m : Measure) (s : SupportView) (share raised : ℕ) (left : List ℕ) (o : OutcomeView) → Progress m s share raised left o
-    → (b : Bid) → best_of m s o.rests left ≡ Some b
+    → (b : KeyView) → best_of m s o.rests left ≡ Some b
     → Progress m s share raised (without b.place left)
     (record {
       share = o.share;
@@ -70,8 +70,8 @@ pub progress_more : (m : Measure) (s : SupportView) (share raised : ℕ) (left :
       priced = o.priced;
     })
 progress_more m s share raised left o h b e =
-    let bid = best_is_bid m s o.rests left b e in
-    let one_less = length-without_one left 0 (length s.costs) b.place h.rises bid.is_left in
+    let found = best_is_key m s o.rests left b e in
+    let one_less = length-without_one left 0 (length s.costs) b.place h.rises found.is_left in
     let one_more = length_push o.elected (elected_by s o.rests b) in
     let rounds : length left ≡ suc (length (without b.place left)) = omega arith in
     record {

@@ -1,4 +1,4 @@
--- Elements of lists, bids in order, and how many of a list pass a test.
+-- Elements of lists, keys in order, and how many of a list pass a test.
 use Rattle.std.proofs.Common.{◌≡◌, ◌≢◌, ℕ, ◌+◌, ◌≤◌, List, [], ◌∷◌, ◌++◌, length, Bool, true, false, cond, refl, sym, ◌∙◌, ap, inl, inr, arith}
 use Rattle.std.specs.Prelude.{◌==◌, ◌⊎◌, count_by, nat_eq}
 use Rattle.std.specs.List.{AllByRecursion, IsDistinct}
@@ -10,9 +10,9 @@ use Rattle.std.specs.declared.cmp.Ordering.{Ordering}
 use Rattle.std.specs.declared.cmp.Ordering.TheVariants.{Less, Equal, Greater}
 use Rattle.std.proofs.lemmas.Bool.{true≢false, eq-eqb, eqb-true, ne_eqb, cases_eq, or_left, or_right, or_cases}
 use Rattle.std.proofs.lemmas.List.Sums.{sum_by-cons}
-use Rattle.pb_rounds.specs.Bid.{Bid, bid_cmp, is_before}
-use Rattle.pb_rounds.specs.Inner.BidOrder.{bid_cmp-total, tied_bids}
+use Rattle.pb_rounds.specs.Inner.KeyOrder.{key_cmp-total, tied_keys}
 use Rattle.pb_rounds.specs.Inner.Queue.{IsIn, Rises, places_of}
+use Rattle.pb_rounds.specs.Key.{KeyView, is_before, key_cmp}
 use Rattle.pb_rounds.specs.Run.{is_listed, without}
 use Rattle.pb_rounds.proofs.Listed.{is_listed-without}
 
@@ -33,88 +33,88 @@ in_either x (y ∷ xs) ys (inr later) = elim (in_either x xs ys later) [
   | inr there ↦ inr there
 ]
 
--- a bid's place is among the bids' places, and the other way round
-pub listed_from_in : (b : Bid) (bids : List Bid) → IsIn b bids → is_listed (places_of bids) b.place ≡ true
+-- a key's place is among the keys' places, and the other way round
+pub listed_from_in : (b : KeyView) (keys : List KeyView) → IsIn b keys → is_listed (places_of keys) b.place ≡ true
 listed_from_in b [] h = absurd h
-listed_from_in b (c ∷ bids) (inl same) = or_left (c.place == b.place) _ (eq-eqb c.place b.place (ap (λ (d : Bid). d.place) (sym same)))
-listed_from_in b (c ∷ bids) (inr later) = or_right (c.place == b.place) _ (listed_from_in b bids later)
+listed_from_in b (c ∷ keys) (inl same) = or_left (c.place == b.place) _ (eq-eqb c.place b.place (ap (λ (d : KeyView). d.place) (sym same)))
+listed_from_in b (c ∷ keys) (inr later) = or_right (c.place == b.place) _ (listed_from_in b keys later)
 
-pub record HasBid (bids : List Bid) (place : ℕ) : Type 0 where
-  pub found : Bid
-  pub here : IsIn found bids
+pub record HasKey (keys : List KeyView) (place : ℕ) : Type 0 where
+  pub found : KeyView
+  pub here : IsIn found keys
   pub place_is : found.place ≡ place
 
-pub in_from_listed : (bids : List Bid) (place : ℕ) → is_listed (places_of bids) place ≡ true → HasBid bids place
+pub in_from_listed : (keys : List KeyView) (place : ℕ) → is_listed (places_of keys) place ≡ true → HasKey keys place
 in_from_listed [] place e = absurd (true≢false (sym e))
-in_from_listed (c ∷ bids) place e = elim (or_cases (c.place == place) _ e) [
+in_from_listed (c ∷ keys) place e = elim (or_cases (c.place == place) _ e) [
   | inl here ↦ record { found = c; here = inl refl; place_is = eqb-true c.place place here }
   | inr later ↦
-      let others = in_from_listed bids place later in
+      let others = in_from_listed keys place later in
       record { found = others.found; here = inr others.here; place_is = others.place_is }
 ]
 
--- the order of bids
-pub not_before_itself : (b : Bid) → is_before b b ≡ false
-not_before_itself b = ap is_lt (tied_itself bid_cmp-total b)
+-- the order of keys
+pub not_before_itself : (b : KeyView) → is_before b b ≡ false
+not_before_itself b = ap is_lt (tied_itself key_cmp-total b)
 
 less_from_before : (o : Ordering) → is_lt o ≡ true → o ≡ Less
 less_from_before Less e = refl
 less_from_before Equal e = absurd (true≢false (sym e))
 less_from_before Greater e = absurd (true≢false (sym e))
 
-pub before_chain : (a b c : Bid) → is_before a b ≡ true → is_before b c ≡ true → is_before a c ≡ true
+pub before_chain : (a b c : KeyView) → is_before a b ≡ true → is_before b c ≡ true → is_before a c ≡ true
 before_chain a b c first second =
-    ap is_lt (bid_cmp-total.trans a b c (less_from_before _ first) (less_from_before _ second))
+    ap is_lt (key_cmp-total.trans a b c (less_from_before _ first) (less_from_before _ second))
 
--- bids in order
-pub rises_suffix : (xs ys : List Bid) → Rises (xs ++ ys) → Rises ys
+-- keys in order
+pub rises_suffix : (xs ys : List KeyView) → Rises (xs ++ ys) → Rises ys
 rises_suffix [] ys h = h
 rises_suffix (x ∷ xs) ys (first, later) = rises_suffix xs ys later
 
-pub rises_prefix : (xs ys : List Bid) → Rises (xs ++ ys) → Rises xs
+pub rises_prefix : (xs ys : List KeyView) → Rises (xs ++ ys) → Rises xs
 rises_prefix [] ys h = tt
 rises_prefix (x ∷ xs) ys (first, later) = (λ c h. first c (in_left c xs ys h), rises_prefix xs ys later)
 
-pub rises_across : (xs ys : List Bid) → Rises (xs ++ ys) → (b c : Bid) → IsIn b xs → IsIn c ys → is_before b c ≡ true
+pub rises_across : (xs ys : List KeyView) → Rises (xs ++ ys) → (b c : KeyView) → IsIn b xs → IsIn c ys → is_before b c ≡ true
 rises_across [] ys h b c i j = absurd i
 rises_across (x ∷ xs) ys (first, later) b c (inl same) j = ap (λ d. is_before d c) same ∙ first c (in_right c xs ys j)
 rises_across (x ∷ xs) ys (first, later) b c (inr i) j = rises_across xs ys later b c i j
 
-below_each : (x : Bid) (xs : List Bid) → AllByRecursion (λ y. bid_cmp x y ≡ Less) xs → (c : Bid) → IsIn c xs → is_before x c ≡ true
+below_each : (x : KeyView) (xs : List KeyView) → AllByRecursion (λ y. key_cmp x y ≡ Less) xs → (c : KeyView) → IsIn c xs → is_before x c ≡ true
 below_each x [] all c h = absurd h
 below_each x (y ∷ xs) (here, later) c (inl same) = ap (is_before x) same ∙ ap is_lt here
 below_each x (y ∷ xs) (here, later) c (inr h) = below_each x xs later c h
 
 -- the keys of an ordered set rise
-pub rises_from_sorted : (bids : List Bid) → IsStrictlySortedBy bid_cmp bids → Rises bids
+pub rises_from_sorted : (keys : List KeyView) → IsStrictlySortedBy key_cmp keys → Rises keys
 unfolding IsStrictlySortedBy
 rises_from_sorted [] h = tt
-rises_from_sorted (b ∷ bids) (first, later) = (below_each b bids first, rises_from_sorted bids later)
+rises_from_sorted (b ∷ keys) (first, later) = (below_each b keys first, rises_from_sorted keys later)
 
 -- what a set of keys has after a key was put into it
-put_new : (o : Ordering) (k x : Bid) (xs : List Bid) → IsIn k (insert_key bid_cmp xs k) → bid_cmp k x ≡ o
-    → IsIn k (match_ordering o (k ∷ x ∷ xs) (x ∷ xs) (x ∷ insert_key bid_cmp xs k))
+put_new : (o : Ordering) (k x : KeyView) (xs : List KeyView) → IsIn k (insert_key key_cmp xs k) → key_cmp k x ≡ o
+    → IsIn k (match_ordering o (k ∷ x ∷ xs) (x ∷ xs) (x ∷ insert_key key_cmp xs k))
 put_new Less k x xs later e = inl refl
-put_new Equal k x xs later e = inl (tied_bids k x e)
+put_new Equal k x xs later e = inl (tied_keys k x e)
 put_new Greater k x xs later e = inr later
 
-pub put_is_in : (k : Bid) (xs : List Bid) → IsIn k (insert_key bid_cmp xs k)
+pub put_is_in : (k : KeyView) (xs : List KeyView) → IsIn k (insert_key key_cmp xs k)
 put_is_in k [] = inl refl
-put_is_in k (x ∷ xs) = put_new (bid_cmp k x) k x xs (put_is_in k xs) refl
+put_is_in k (x ∷ xs) = put_new (key_cmp k x) k x xs (put_is_in k xs) refl
 
-put_keep : (o : Ordering) (k x b : Bid) (xs : List Bid) → (IsIn b xs → IsIn b (insert_key bid_cmp xs k)) → (b ≡ x) ⊎ IsIn b xs
-    → IsIn b (match_ordering o (k ∷ x ∷ xs) (x ∷ xs) (x ∷ insert_key bid_cmp xs k))
+put_keep : (o : Ordering) (k x b : KeyView) (xs : List KeyView) → (IsIn b xs → IsIn b (insert_key key_cmp xs k)) → (b ≡ x) ⊎ IsIn b xs
+    → IsIn b (match_ordering o (k ∷ x ∷ xs) (x ∷ xs) (x ∷ insert_key key_cmp xs k))
 put_keep Less k x b xs later h = inr h
 put_keep Equal k x b xs later h = h
 put_keep Greater k x b xs later (inl same) = inl same
 put_keep Greater k x b xs later (inr h) = inr (later h)
 
-pub put_keeps : (k b : Bid) (xs : List Bid) → IsIn b xs → IsIn b (insert_key bid_cmp xs k)
+pub put_keeps : (k b : KeyView) (xs : List KeyView) → IsIn b xs → IsIn b (insert_key key_cmp xs k)
 put_keeps k b [] h = absurd h
-put_keeps k b (x ∷ xs) h = put_keep (bid_cmp k x) k x b xs (put_keeps k b xs) h
+put_keeps k b (x ∷ xs) h = put_keep (key_cmp k x) k x b xs (put_keeps k b xs) h
 
-put_from_by : (o : Ordering) (k x b : Bid) (xs : List Bid) → (IsIn b (insert_key bid_cmp xs k) → IsIn b xs ⊎ (b ≡ k))
-    → IsIn b (match_ordering o (k ∷ x ∷ xs) (x ∷ xs) (x ∷ insert_key bid_cmp xs k)) → ((b ≡ x) ⊎ IsIn b xs) ⊎ (b ≡ k)
+put_from_by : (o : Ordering) (k x b : KeyView) (xs : List KeyView) → (IsIn b (insert_key key_cmp xs k) → IsIn b xs ⊎ (b ≡ k))
+    → IsIn b (match_ordering o (k ∷ x ∷ xs) (x ∷ xs) (x ∷ insert_key key_cmp xs k)) → ((b ≡ x) ⊎ IsIn b xs) ⊎ (b ≡ k)
 put_from_by Less k x b xs later (inl same) = inr same
 put_from_by Less k x b xs later (inr h) = inl h
 put_from_by Equal k x b xs later h = inl h
@@ -124,10 +124,10 @@ put_from_by Greater k x b xs later (inr h) = elim (later h) [
   | inr new ↦ inr new
 ]
 
-pub put_from : (k b : Bid) (xs : List Bid) → IsIn b (insert_key bid_cmp xs k) → IsIn b xs ⊎ (b ≡ k)
+pub put_from : (k b : KeyView) (xs : List KeyView) → IsIn b (insert_key key_cmp xs k) → IsIn b xs ⊎ (b ≡ k)
 put_from k b [] (inl same) = inr same
 put_from k b [] (inr h) = absurd h
-put_from k b (x ∷ xs) h = put_from_by (bid_cmp k x) k x b xs (put_from k b xs) h
+put_from k b (x ∷ xs) h = put_from_by (key_cmp k x) k x b xs (put_from k b xs) h
 
 -- distinct numbers
 apart_from : (x : ℕ) (xs : List ℕ) → AllByRecursion (λ y. nat_eq x y ≡ false) xs → (n : ℕ) → is_listed xs n ≡ true → n ≢ x
@@ -137,19 +137,19 @@ apart_from x (y ∷ xs) (here, later) n listed = elim (or_cases (y == n) _ liste
   | inr others ↦ apart_from x xs later n others
 ]
 
-pub apart_places : (b : Bid) (bids : List Bid) → ((c : Bid) → IsIn c bids → c.place ≢ b.place)
-    → AllByRecursion (λ y. nat_eq b.place y ≡ false) (places_of bids)
+pub apart_places : (b : KeyView) (keys : List KeyView) → ((c : KeyView) → IsIn c keys → c.place ≢ b.place)
+    → AllByRecursion (λ y. nat_eq b.place y ≡ false) (places_of keys)
 apart_places b [] apart = tt
-apart_places b (c ∷ bids) apart = (ne_eqb b.place c.place (λ e. apart c (inl refl) (sym e)), apart_places b bids (λ d h. apart d (inr h)))
+apart_places b (c ∷ keys) apart = (ne_eqb b.place c.place (λ e. apart c (inl refl) (sym e)), apart_places b keys (λ d h. apart d (inr h)))
 
--- bids that rise and of which no two differ at one place have distinct places
-pub distinct_places : (bids : List Bid) → Rises bids → ((b c : Bid) → IsIn b bids → IsIn c bids → b.place ≡ c.place → b ≡ c)
-    → IsDistinct nat_eq (places_of bids)
+-- keys that rise and of which no two differ at one place have distinct places
+pub distinct_places : (keys : List KeyView) → Rises keys → ((b c : KeyView) → IsIn b keys → IsIn c keys → b.place ≡ c.place → b ≡ c)
+    → IsDistinct nat_eq (places_of keys)
 unfolding IsDistinct
 distinct_places [] rises one = tt
-distinct_places (b ∷ bids) (first, later) one = (
-  apart_places b bids (λ c h same. true≢false (sym (first c h) ∙ ap (is_before b) (one c b (inr h) (inl refl) same) ∙ not_before_itself b)),
-  distinct_places bids later (λ c d h j. one c d (inr h) (inr j)),
+distinct_places (b ∷ keys) (first, later) one = (
+  apart_places b keys (λ c h same. true≢false (sym (first c h) ∙ ap (is_before b) (one c b (inr h) (inl refl) same) ∙ not_before_itself b)),
+  distinct_places keys later (λ c d h j. one c d (inr h) (inr j)),
 )
 
 pub distinct_prefix : (xs ys : List ℕ) → IsDistinct nat_eq (xs ++ ys) → IsDistinct nat_eq xs

@@ -16,31 +16,31 @@ use Rattle.pb_price.proofs.RestsFall.{no_price_falls, no_price_stays}
 use Rattle.pb_price.specs.Price.{NoRestRises, price_at}
 use Rattle.pb_price.specs.Supporters.{SupportView, cost_at, supporters_at}
 use Rattle.pb_rounds.specs.declared.measure.Measure.{Measure}
-use Rattle.pb_rounds.specs.Bid.{Bid, bid_cmp, first_least, is_before}
-use Rattle.pb_rounds.specs.Inner.BidOrder.{bid_cmp-total, greater_from}
-use Rattle.pb_rounds.specs.Inner.BidRecord.{AreInTime, ArePriced, IsBidEnd, IsBidRound, is_in_time, known_after}
+use Rattle.pb_rounds.specs.Inner.KeyOrder.{greater_from, key_cmp-total}
+use Rattle.pb_rounds.specs.Inner.KeyRecord.{AreInTime, AreSomeOf, IsKeyEnd, IsKeyRound, is_in_time, known_after}
 use Rattle.pb_rounds.specs.Inner.Queue.{IsDone, IsIn, IsTaken, PricesHeads, PutsBack, Rises, places_of}
-use Rattle.pb_rounds.specs.Run.{bid, bids_at, best_of, charged, is_listed, weight_of, without}
-use Rattle.pb_rounds.proofs.BestBid.{IsBid, best_is_bid, bid_from, bid_in, no_price_without_best}
+use Rattle.pb_rounds.specs.Key.{KeyView, first_least, is_before, key_cmp}
+use Rattle.pb_rounds.specs.Run.{best_of, charged, is_listed, key_of, keys_at, weight_of, without}
+use Rattle.pb_rounds.proofs.BestKey.{IsKey, best_is_key, key_from, key_in, no_price_without_best}
 use Rattle.pb_rounds.proofs.BestIs.{is_best, no_best, none_before_best}
 use Rattle.pb_rounds.proofs.Charged.{charged_at}
 use Rattle.pb_rounds.proofs.Listed.{is_listed-without, is_listed-without_same, listed_from_without}
-use Rattle.pb_rounds.proofs.QueueLists.{HasBid, before_chain, distinct_places, distinct_prefix, in_either, in_from_listed, in_left, in_right, listed_from_in, no_more_than_left, not_before_itself, rises_across, rises_prefix, rises_suffix}
+use Rattle.pb_rounds.proofs.QueueLists.{HasKey, before_chain, distinct_places, distinct_prefix, in_either, in_from_listed, in_left, in_right, listed_from_in, no_more_than_left, not_before_itself, rises_across, rises_prefix, rises_suffix}
 use Rattle.pb_rounds.proofs.QueueSteps.{length_places}
 
--- the order of bids, as at most
+-- the order of keys, as at most
 lt_reversed : (o : Ordering) → is_lt (ordering_reverse o) ≡ is_gt o
 lt_reversed Less = refl
 lt_reversed Equal = refl
 lt_reversed Greater = refl
 
-turned : (a b : Bid) → is_before b a ≡ is_gt (bid_cmp a b)
-turned a b = ap is_lt (bid_cmp-total.antisymm b a) ∙ lt_reversed (bid_cmp a b)
+turned : (a b : KeyView) → is_before b a ≡ is_gt (key_cmp a b)
+turned a b = ap is_lt (key_cmp-total.antisymm b a) ∙ lt_reversed (key_cmp a b)
 
 -- a is at most b, b is at most c
-pub at_most_chain : (a b c : Bid) → is_before b a ≡ false → is_before c b ≡ false → is_before c a ≡ false
+pub at_most_chain : (a b c : KeyView) → is_before b a ≡ false → is_before c b ≡ false → is_before c a ≡ false
 at_most_chain a b c first second =
-    turned a c ∙ upto bid_cmp-total a b c (sym (turned a b) ∙ first) (sym (turned b c) ∙ second)
+    turned a c ∙ upto key_cmp-total a b c (sym (turned a b) ∙ first) (sym (turned b c) ∙ second)
 
 not_gt_from_lt : (o : Ordering) → is_lt o ≡ true → is_gt o ≡ false
 not_gt_from_lt Less e = refl
@@ -48,29 +48,29 @@ not_gt_from_lt Equal e = refl
 not_gt_from_lt Greater e = absurd (true≢false (sym e))
 
 -- what comes before is at most
-pub at_most_from_before : (a b : Bid) → is_before a b ≡ true → is_before b a ≡ false
-at_most_from_before a b e = turned a b ∙ not_gt_from_lt (bid_cmp a b) e
+pub at_most_from_before : (a b : KeyView) → is_before a b ≡ true → is_before b a ≡ false
+at_most_from_before a b e = turned a b ∙ not_gt_from_lt (key_cmp a b) e
 
 first_greater : (o p : Ordering) → o ≡ Greater → is_lt (ordering_then o p) ≡ false
 first_greater o p e = ap (λ r. is_lt (ordering_then r p)) e
 
--- a project's bid at a smaller price is at most its bid at a larger one
-pub at_most_by_price : (m : Measure) (s : SupportView) (place p q : ℕ) → q ≤ p → is_before (bid m s place p) (bid m s place q) ≡ false
+-- a project's key at a smaller price is at most its key at a larger one
+pub at_most_by_price : (m : Measure) (s : SupportView) (place p q : ℕ) → q ≤ p → is_before (key_of m s place p) (key_of m s place q) ≡ false
 at_most_by_price m s place p q h = elim (cases_eq q p) [
-  | inl same ↦ ap (λ n. is_before (bid m s place p) (bid m s place n)) same ∙ not_before_itself (bid m s place p)
+  | inl same ↦ ap (λ n. is_before (key_of m s place p) (key_of m s place n)) same ∙ not_before_itself (key_of m s place p)
   | inr other ↦
       let less : q < p = omega arith in
       first_greater _ _
       (greater_from (p * max 1 (weight_of m s place)) (q * max 1 (weight_of m s place)) (mul-lt-mul_of_pos_right less (omega arith)))
 ]
 
--- the bid of a project at price 0 is at most any bid at a price above 0
-at_most_at_zero : (m : Measure) (s : SupportView) (place other p : ℕ) → 0 < p → is_before (bid m s other p) (bid m s place 0) ≡ false
+-- the key of a project at price 0 is at most any key at a price above 0
+at_most_at_zero : (m : Measure) (s : SupportView) (place other p : ℕ) → 0 < p → is_before (key_of m s other p) (key_of m s place 0) ≡ false
 at_most_at_zero m s place other p h =
     first_greater _ _
     (greater_from (p * max 1 (weight_of m s place)) (0 * max 1 (weight_of m s other)) (let some = mul-lt-mul_of_pos_right {m = 0} {n = p} {k = max 1 (weight_of m s place)} h (omega arith) in omega (arith, some)))
 
-pub best_of_is : (m : Measure) (s : SupportView) (rests left : List ℕ) → best_of m s rests left ≡ first_least is_before (bids_at m s rests left)
+pub best_of_is : (m : Measure) (s : SupportView) (rests left : List ℕ) → best_of m s rests left ≡ first_least is_before (keys_at m s rests left)
 unfolding best_of
 best_of_is m s rests left = refl
 
@@ -79,25 +79,25 @@ pub record IsLower (s : SupportView) (rests left : List ℕ) (known : ℕ → Op
   pub rises : (place q p : ℕ) → is_listed left place ≡ true → known place ≡ Some q → price_at s rests place ≡ Some p → q ≤ p
   pub none : (place : ℕ) → is_listed left place ≡ true → known place ≡ None → price_at s rests place ≡ None
 
--- the queue has a bid for each project left that is known to have a price, and no others
-pub record IsQueue (m : Measure) (s : SupportView) (left : List ℕ) (known : ℕ → Option ℕ) (queue : List Bid) : Type 0 where
-  pub are_left : (b : Bid) → IsIn b queue → is_listed left b.place ≡ true
-  pub are_known : (b : Bid) → IsIn b queue → known b.place ≡ Some b.price
-  pub are_bids : (b : Bid) → IsIn b queue → b ≡ bid m s b.place b.price
-  pub whole : (place price : ℕ) → is_listed left place ≡ true → known place ≡ Some price → IsIn (bid m s place price) queue
+-- the queue has a key for each project left that is known to have a price, and no others
+pub record IsQueue (m : Measure) (s : SupportView) (left : List ℕ) (known : ℕ → Option ℕ) (queue : List KeyView) : Type 0 where
+  pub are_left : (b : KeyView) → IsIn b queue → is_listed left b.place ≡ true
+  pub are_known : (b : KeyView) → IsIn b queue → known b.place ≡ Some b.price
+  pub are_keys : (b : KeyView) → IsIn b queue → b ≡ key_of m s b.place b.price
+  pub whole : (place price : ℕ) → is_listed left place ≡ true → known place ≡ Some price → IsIn (key_of m s place price) queue
   pub rises : Rises queue
 
-pub one_a_place : (m : Measure) (s : SupportView) (left : List ℕ) (known : ℕ → Option ℕ) (queue : List Bid) → IsQueue m s left known queue
-    → (b c : Bid) → IsIn b queue → IsIn c queue → b.place ≡ c.place → b ≡ c
+pub one_a_place : (m : Measure) (s : SupportView) (left : List ℕ) (known : ℕ → Option ℕ) (queue : List KeyView) → IsQueue m s left known queue
+    → (b c : KeyView) → IsIn b queue → IsIn c queue → b.place ≡ c.place → b ≡ c
 one_a_place m s left known queue q b c i j same =
     let price : b.price ≡ c.price = same_Some _ _ (sym (q.are_known b i) ∙ ap known same ∙ q.are_known c j) in
-    q.are_bids b i ∙ ap (λ n. bid m s n b.price) same ∙ ap (bid m s c.place) price ∙ sym (q.are_bids c j)
+    q.are_keys b i ∙ ap (λ n. key_of m s n b.price) same ∙ ap (key_of m s c.place) price ∙ sym (q.are_keys c j)
 
-pub queue_distinct : (m : Measure) (s : SupportView) (left : List ℕ) (known : ℕ → Option ℕ) (queue : List Bid) → IsQueue m s left known queue
+pub queue_distinct : (m : Measure) (s : SupportView) (left : List ℕ) (known : ℕ → Option ℕ) (queue : List KeyView) → IsQueue m s left known queue
     → IsDistinct nat_eq (places_of queue)
 queue_distinct m s left known queue q = distinct_places queue q.rises (one_a_place m s left known queue q)
 
-pub queue_few : (m : Measure) (s : SupportView) (left : List ℕ) (known : ℕ → Option ℕ) (queue : List Bid) → IsQueue m s left known queue
+pub queue_few : (m : Measure) (s : SupportView) (left : List ℕ) (known : ℕ → Option ℕ) (queue : List KeyView) → IsQueue m s left known queue
     → length queue ≤ length left
 queue_few m s left known queue q =
     let few = no_more_than_left (places_of queue) left (queue_distinct m s left known queue q) (λ n listed.
@@ -105,69 +105,69 @@ queue_few m s left known queue q =
     ap (is_listed left) (sym found.place_is) ∙ q.are_left found.found found.here) in
     omega (arith, few, length_places queue)
 
-none_priced : (b : Bid) (early batch : List Bid) → early ≡ [] → batch ≡ [] → IsIn b (early ++ batch) → ⊥
+none_priced : (b : KeyView) (early batch : List KeyView) → early ≡ [] → batch ≡ [] → IsIn b (early ++ batch) → ⊥
 none_priced b [] [] e f i = i
 none_priced b (x ∷ early) batch e f i = cc
 none_priced b [] (x ∷ batch) e f i = cc
 
-head_first : (head : Bid) (others : List Bid) (k : Bid) → Rises (head ∷ others) → IsIn k (head ∷ others) → is_before k head ≡ false
+head_first : (head : KeyView) (others : List KeyView) (k : KeyView) → Rises (head ∷ others) → IsIn k (head ∷ others) → is_before k head ≡ false
 head_first head others k (first, later) (inl same) = ap (λ b. is_before b head) same ∙ not_before_itself head
 head_first head others k (first, later) (inr i) = at_most_from_before head k (first k i)
 
 -- what is left of the queue comes after the best
-after_best : (w : Bid) (rest : List Bid) → IsDone (Some w) rest → Rises rest → (b : Bid) → IsIn b rest → is_before w b ≡ true
+after_best : (w : KeyView) (rest : List KeyView) → IsDone (Some w) rest → Rises rest → (b : KeyView) → IsIn b rest → is_before w b ≡ true
 after_best w [] done rises b i = absurd i
 after_best w (head ∷ rest) done (first, later) b (inl same) = ap (is_before w) same ∙ done
 after_best w (head ∷ rest) done (first, later) b (inr i) = before_chain w head b done (first b i)
 
-nothing_left : (rest : List Bid) → IsDone None rest → (b : Bid) → IsIn b rest → ⊥
+nothing_left : (rest : List KeyView) → IsDone None rest → (b : KeyView) → IsIn b rest → ⊥
 nothing_left [] done b i = i
 nothing_left (head ∷ rest) done b i = done
 
 module _ (m : Measure) (s : SupportView) (rests left : List ℕ) (known : ℕ → Option ℕ) (lower : IsLower s rests left known)
-    (queue : List Bid) (q : IsQueue m s left known queue) (most : ℕ) (rest : List Bid) (places : List ℕ) (fresh : List Bid) (best : Option Bid)
+    (queue : List KeyView) (q : IsQueue m s left known queue) (most : ℕ) (rest : List KeyView) (places : List ℕ) (fresh : List KeyView) (best : Option KeyView)
     (h : PricesHeads m s rests most queue rest places fresh best) (done : IsDone best rest) where
-  from_queue : (b : Bid) → IsIn b (h.early ++ h.batch) → IsIn b queue
+  from_queue : (b : KeyView) → IsIn b (h.early ++ h.batch) → IsIn b queue
   from_queue b i = subst (IsIn b) (sym h.cut) (in_left b (h.early ++ h.batch) rest i)
 
-  rest_of_queue : (b : Bid) → IsIn b rest → IsIn b queue
+  rest_of_queue : (b : KeyView) → IsIn b rest → IsIn b queue
   rest_of_queue b i = subst (IsIn b) (sym h.cut) (in_right b (h.early ++ h.batch) rest i)
 
   all_rise : Rises ((h.early ++ h.batch) ++ rest)
   all_rise = subst Rises h.cut q.rises
 
-  priced_bid : (place : ℕ) → is_listed places place ≡ true → HasBid (h.early ++ h.batch) place
-  priced_bid place listed = in_from_listed (h.early ++ h.batch) place (subst (λ (xs : List ℕ). is_listed xs place ≡ true) h.placed listed)
+  priced_key : (place : ℕ) → is_listed places place ≡ true → HasKey (h.early ++ h.batch) place
+  priced_key place listed = in_from_listed (h.early ++ h.batch) place (subst (λ (xs : List ℕ). is_listed xs place ≡ true) h.placed listed)
 
   pub priced_left : (place : ℕ) → is_listed places place ≡ true → is_listed left place ≡ true
   priced_left place listed =
-      let found = priced_bid place listed in
+      let found = priced_key place listed in
       ap (is_listed left) (sym found.place_is) ∙ q.are_left found.found (from_queue found.found found.here)
 
   best_priced : best ≡ best_of m s rests places
   best_priced = h.best_is ∙ ap (first_least is_before) h.fresh_are ∙ sym (best_of_is m s rests places)
 
-  pub are_priced : ArePriced left places
+  pub are_priced : AreSomeOf left places
   are_priced = record {
     among = priced_left;
     once = subst (IsDistinct nat_eq) (sym h.placed)
         (distinct_prefix (places_of (h.early ++ h.batch)) (places_of rest)
-        (subst (IsDistinct nat_eq) (ap places_of h.cut ∙ map-append (λ (b : Bid). b.place) (h.early ++ h.batch) rest)
+        (subst (IsDistinct nat_eq) (ap places_of h.cut ∙ map-append (λ (b : KeyView). b.place) (h.early ++ h.batch) rest)
         (queue_distinct m s left known queue q)));
   }
 
   -- what was not priced and is known to have a price is still in the queue
-  still_queued : (place price : ℕ) → is_listed left place ≡ true → known place ≡ Some price → is_listed places place ≡ false → IsIn (bid m s place price) rest
+  still_queued : (place price : ℕ) → is_listed left place ≡ true → known place ≡ Some price → is_listed places place ≡ false → IsIn (key_of m s place price) rest
   still_queued place price listed known_is other =
-      elim (in_either (bid m s place price) (h.early ++ h.batch) rest (subst (IsIn (bid m s place price)) h.cut (q.whole place price listed known_is))) [
-        | inl priced ↦ absurd (true≢false (sym (subst (λ (xs : List ℕ). is_listed xs place ≡ true) (sym h.placed) (listed_from_in (bid m s place price) (h.early ++ h.batch) priced)) ∙ other))
+      elim (in_either (key_of m s place price) (h.early ++ h.batch) rest (subst (IsIn (key_of m s place price)) h.cut (q.whole place price listed known_is))) [
+        | inl priced ↦ absurd (true≢false (sym (subst (λ (xs : List ℕ). is_listed xs place ≡ true) (sym h.placed) (listed_from_in (key_of m s place price) (h.early ++ h.batch) priced)) ∙ other))
         | inr queued ↦ queued
       ]
 
   -- the rest of the queue was not priced
-  rest_not_priced : (b : Bid) → IsIn b rest → is_listed places b.place ≡ false
+  rest_not_priced : (b : KeyView) → IsIn b rest → is_listed places b.place ≡ false
   rest_not_priced b i = false_from_ne_true _ (λ listed.
-      let found = priced_bid b.place listed in
+      let found = priced_key b.place listed in
       let same = one_a_place m s left known queue q found.found b (from_queue found.found found.here) (rest_of_queue b i) found.place_is in
       let before = rises_across (h.early ++ h.batch) rest all_rise found.found b found.here i in
       true≢false (sym before ∙ ap (λ c. is_before c b) same ∙ not_before_itself b))
@@ -184,12 +184,12 @@ module _ (m : Measure) (s : SupportView) (rests left : List ℕ) (known : ℕ �
     none_best : best_of m s rests places ≡ None
     none_best = sym best_priced ∙ none
 
-    nothing_queued : (b : Bid) → IsIn b rest → ⊥
-    nothing_queued = nothing_left rest (subst (λ (o : Option Bid). IsDone o rest) none done)
+    nothing_queued : (b : KeyView) → IsIn b rest → ⊥
+    nothing_queued = nothing_left rest (subst (λ (o : Option KeyView). IsDone o rest) none done)
 
     known_none_by : (place : ℕ) → is_listed left place ≡ true → is_listed places place ≡ false → (o : Option ℕ) → known place ≡ o → o ≡ None
     known_none_by place listed other None e = refl
-    known_none_by place listed other (Some p) e = absurd (nothing_queued (bid m s place p) (still_queued place p listed e other))
+    known_none_by place listed other (Some p) e = absurd (nothing_queued (key_of m s place p) (still_queued place p listed e other))
 
     pub all_known_none : (place : ℕ) → is_listed left place ≡ true → known_after s rests places known place ≡ None
     all_known_none place listed = elim (cases_Bool (is_listed places place)) [
@@ -206,64 +206,64 @@ module _ (m : Measure) (s : SupportView) (rests left : List ℕ) (known : ℕ �
     pub round_without_best : best_of m s rests left ≡ None
     round_without_best = no_best m s rests left no_price_left
 
-    pub priced_end : IsBidEnd s rests left known places
+    pub priced_end : IsKeyEnd s rests left known places
     priced_end = record {
       are_priced = are_priced;
       all_none = all_known_none;
     }
 
   -- the round that elects w
-  module _ (w : Bid) (some : best ≡ Some w) where
+  module _ (w : KeyView) (some : best ≡ Some w) where
     w_best : best_of m s rests places ≡ Some w
     w_best = sym best_priced ∙ some
 
-    rest_after : (b : Bid) → IsIn b rest → is_before w b ≡ true
-    rest_after = after_best w rest (subst (λ (o : Option Bid). IsDone o rest) some done) (rises_suffix (h.early ++ h.batch) rest all_rise)
+    rest_after : (b : KeyView) → IsIn b rest → is_before w b ≡ true
+    rest_after = after_best w rest (subst (λ (o : Option KeyView). IsDone o rest) some done) (rises_suffix (h.early ++ h.batch) rest all_rise)
 
     pub winner_priced : is_listed places w.place ≡ true
-    winner_priced = (best_is_bid m s rests places w w_best).is_left
+    winner_priced = (best_is_key m s rests places w w_best).is_left
 
     w_price : price_at s rests w.place ≡ Some w.price
-    w_price = (best_is_bid m s rests places w w_best).is_price
+    w_price = (best_is_key m s rests places w w_best).is_price
 
-    w_is : w ≡ bid m s w.place w.price
-    w_is = (best_is_bid m s rests places w w_best).is_bid
+    w_is : w ≡ key_of m s w.place w.price
+    w_is = (best_is_key m s rests places w w_best).is_key
 
     -- no known price comes before the winner's
     pub none_known_before : (place price : ℕ) → is_listed left place ≡ true → known_after s rests places known place ≡ Some price
-        → is_before (bid m s place price) w ≡ false
+        → is_before (key_of m s place price) w ≡ false
     none_known_before place price listed e = elim (cases_Bool (is_listed places place)) [
       | inl priced ↦ none_before_best m s rests places w w_best place price priced (sym (known_priced place priced) ∙ e)
-      | inr other ↦ at_most_from_before w (bid m s place price) (rest_after (bid m s place price) (still_queued place price listed (sym (known_other place other) ∙ e) other))
+      | inr other ↦ at_most_from_before w (key_of m s place price) (rest_after (key_of m s place price) (still_queued place price listed (sym (known_other place other) ∙ e) other))
     ]
 
     least_of_left : (other p : ℕ) → is_listed left other ≡ true → price_at s rests other ≡ Some p → (o : Option ℕ) → known other ≡ o
-        → is_listed places other ≡ false → is_before (bid m s other p) w ≡ false
+        → is_listed places other ≡ false → is_before (key_of m s other p) w ≡ false
     least_of_left other p listed priced None e out = absurd (none-some p (sym (lower.none other listed e) ∙ priced))
     least_of_left other p listed priced (Some k) e out =
-        at_most_chain w (bid m s other k) (bid m s other p)
-        (at_most_from_before w (bid m s other k) (rest_after (bid m s other k) (still_queued other k listed e out)))
+        at_most_chain w (key_of m s other k) (key_of m s other p)
+        (at_most_from_before w (key_of m s other k) (rest_after (key_of m s other k) (still_queued other k listed e out)))
         (at_most_by_price m s other p k (lower.rises other k p listed e priced))
 
     -- the winner is the best of all that are left
     pub round_with_best : best_of m s rests left ≡ Some w
     round_with_best =
         is_best m s rests left w.place w.price (priced_left w.place winner_priced) w_price
-        (λ other p listed priced. ap (is_before (bid m s other p)) (sym w_is) ∙ elim (cases_Bool (is_listed places other)) [
+        (λ other p listed priced. ap (is_before (key_of m s other p)) (sym w_is) ∙ elim (cases_Bool (is_listed places other)) [
           | inl here ↦ none_before_best m s rests places w w_best other p here priced
           | inr out ↦ least_of_left other p listed priced (known other) refl out
         ])
         ∙ ap (λ b. Some b) (sym w_is)
 
-    in_time_from : (b : Bid) → IsIn b queue → is_before w b ≡ false → is_in_time m s w known b.place ≡ true
+    in_time_from : (b : KeyView) → IsIn b queue → is_before w b ≡ false → is_in_time m s w known b.place ≡ true
     in_time_from b i at_most =
-        ap (λ o. option_map_or (λ price. not (is_before w (bid m s b.place price))) o false) (q.are_known b i) ∙ not_from_false _ (ap (is_before w) (sym (q.are_bids b i)) ∙ at_most)
+        ap (λ o. option_map_or (λ price. not (is_before w (key_of m s b.place price))) o false) (q.are_known b i) ∙ not_from_false _ (ap (is_before w) (sym (q.are_keys b i)) ∙ at_most)
 
     batch_rises : Rises h.batch
     batch_rises = rises_suffix h.early h.batch (rises_prefix (h.early ++ h.batch) rest all_rise)
 
     -- the head with which the last batch began is at most the winner
-    head_by_early : (head : Bid) → (o : Option Bid) → best_of m s rests (places_of h.early) ≡ o → IsTaken o head
+    head_by_early : (head : KeyView) → (o : Option KeyView) → best_of m s rests (places_of h.early) ≡ o → IsTaken o head
         → is_listed (places_of h.early) w.place ≡ true → is_before w head ≡ false
     head_by_early head None e taken listed =
         absurd (none-some w.price (sym (no_price_without_best m s rests (places_of h.early) e w.place listed) ∙ w_price))
@@ -271,40 +271,40 @@ module _ (m : Measure) (s : SupportView) (rests left : List ℕ) (known : ℕ �
         at_most_chain head c w taken
         (ap (λ b. is_before b c) w_is ∙ none_before_best m s rests (places_of h.early) c e w.place w.price listed w_price)
 
-    head_by_batch : (head : Bid) (others : List Bid) → h.batch ≡ head ∷ others → HasBid h.batch w.place → is_before w head ≡ false
+    head_by_batch : (head : KeyView) (others : List KeyView) → h.batch ≡ head ∷ others → HasKey h.batch w.place → is_before w head ≡ false
     head_by_batch head others batch_is found =
         let here = in_right found.found h.early h.batch found.here in
         let k = found.found in
         let lower_price : k.price ≤ w.price =
         lower.rises w.place k.price w.price (priced_left w.place winner_priced) (ap known (sym found.place_is) ∙ q.are_known k (from_queue k here)) w_price in
-        let k_is : k ≡ bid m s w.place k.price = q.are_bids k (from_queue k here) ∙ ap (λ n. bid m s n k.price) found.place_is in
+        let k_is : k ≡ key_of m s w.place k.price = q.are_keys k (from_queue k here) ∙ ap (λ n. key_of m s n k.price) found.place_is in
         let own : is_before w k ≡ false =
-        ap (λ b. is_before b k) w_is ∙ ap (is_before (bid m s w.place w.price)) k_is ∙ at_most_by_price m s w.place w.price k.price lower_price in
+        ap (λ b. is_before b k) w_is ∙ ap (is_before (key_of m s w.place w.price)) k_is ∙ at_most_by_price m s w.place w.price k.price lower_price in
         at_most_chain head k w (head_first head others k (subst Rises batch_is batch_rises) (subst (IsIn k) batch_is found.here)) own
 
-    head_by : (head : Bid) (others : List Bid) → h.batch ≡ head ∷ others → (found : HasBid (h.early ++ h.batch) w.place)
+    head_by : (head : KeyView) (others : List KeyView) → h.batch ≡ head ∷ others → (found : HasKey (h.early ++ h.batch) w.place)
         → IsIn found.found h.early ⊎ IsIn found.found h.batch → is_before w head ≡ false
     head_by head others e found (inl i) =
-        head_by_early head (first_least is_before (bids_at m s rests (places_of h.early))) (best_of_is m s rests (places_of h.early)) (h.taken head others e)
+        head_by_early head (first_least is_before (keys_at m s rests (places_of h.early))) (best_of_is m s rests (places_of h.early)) (h.taken head others e)
         (subst (λ n. is_listed (places_of h.early) n ≡ true) found.place_is (listed_from_in found.found h.early i))
     head_by head others e found (inr i) =
         head_by_batch head others e (record { found = found.found; here = i; place_is = found.place_is })
 
-    head_at_most : (head : Bid) (others : List Bid) → h.batch ≡ head ∷ others → is_before w head ≡ false
+    head_at_most : (head : KeyView) (others : List KeyView) → h.batch ≡ head ∷ others → is_before w head ≡ false
     head_at_most head others e =
-        let found = priced_bid w.place winner_priced in
+        let found = priced_key w.place winner_priced in
         head_by head others e found (in_either found.found h.early h.batch found.here)
 
     -- those priced up to the head of the last batch were in time
-    module _ (head : Bid) (others : List Bid) (batch_is : h.batch ≡ head ∷ others) where
+    module _ (head : KeyView) (others : List KeyView) (batch_is : h.batch ≡ head ∷ others) where
       cut_there : queue ≡ (h.early ++ head ∷ []) ++ (others ++ rest)
       cut_there = h.cut ∙ ap (λ b. (h.early ++ b) ++ rest) batch_is ∙ ap (λ b. b ++ rest) (sym (append_assoc h.early (head ∷ []) others))
           ∙ append_assoc (h.early ++ head ∷ []) others rest
 
-      there_in_queue : (b : Bid) → IsIn b (h.early ++ head ∷ []) → IsIn b queue
+      there_in_queue : (b : KeyView) → IsIn b (h.early ++ head ∷ []) → IsIn b queue
       there_in_queue b i = subst (IsIn b) (sym cut_there) (in_left b (h.early ++ head ∷ []) (others ++ rest) i)
 
-      there_at_most : (b : Bid) → IsIn b (h.early ++ head ∷ []) → is_before w b ≡ false
+      there_at_most : (b : KeyView) → IsIn b (h.early ++ head ∷ []) → is_before w b ≡ false
       there_at_most b i = elim (in_either b h.early (head ∷ []) i) [
         | inl before ↦ at_most_chain b head w
             (at_most_from_before b head (rises_across h.early h.batch (rises_prefix (h.early ++ h.batch) rest all_rise) b head before (subst (IsIn head) (sym batch_is) (inl refl))))
@@ -320,16 +320,16 @@ module _ (m : Measure) (s : SupportView) (rests left : List ℕ) (known : ℕ �
         needed = places_of (h.early ++ head ∷ []);
         spare = places_of others;
         parts = h.placed ∙ ap (λ b. places_of (h.early ++ b)) batch_is ∙ ap places_of (sym (append_assoc h.early (head ∷ []) others))
-            ∙ map-append (λ (b : Bid). b.place) (h.early ++ head ∷ []) others;
+            ∙ map-append (λ (b : KeyView). b.place) (h.early ++ head ∷ []) others;
         few = (let batch_length : length h.batch ≡ length others + 1 = ap length batch_is ∙ omega arith in
             let few = h.few in omega (arith, length_places others, batch_length, few, within));
         in_time = λ n listed. let found = in_from_listed (h.early ++ head ∷ []) n listed in
             ap (is_in_time m s w known) (sym found.place_is) ∙ in_time_from found.found (there_in_queue found.found found.here) (there_at_most found.found found.here);
       }
 
-    in_time_by : (workers : ℕ) → most ≤ workers → (batch : List Bid) → h.batch ≡ batch → AreInTime m s workers known w places
+    in_time_by : (workers : ℕ) → most ≤ workers → (batch : List KeyView) → h.batch ≡ batch → AreInTime m s workers known w places
     in_time_by workers within [] e =
-        let found = priced_bid w.place winner_priced in
+        let found = priced_key w.place winner_priced in
         absurd (none_priced found.found h.early h.batch (h.begun e) e found.here)
     in_time_by workers within (head ∷ others) e = there_in_time head others e workers within
 
@@ -348,8 +348,8 @@ module _ (m : Measure) (s : SupportView) (rests left : List ℕ) (known : ℕ �
       parts = sym (append-nil places);
       few = omega arith;
       in_time = λ n listed.
-          ap (λ o. option_map_or (λ price. not (is_before w (bid m s n price))) o false) (first n)
-          ∙ not_from_false _ (ap (λ b. is_before b (bid m s n 0)) w_is ∙ at_most_at_zero m s n w.place w.price (price_positive positive));
+          ap (λ o. option_map_or (λ price. not (is_before w (key_of m s n price))) o false) (first n)
+          ∙ not_from_false _ (ap (λ b. is_before b (key_of m s n 0)) w_is ∙ at_most_at_zero m s n w.place w.price (price_positive positive));
     }
 
     in_time_either : (workers : ℕ) → 0 < cost_at s w.place → (most ≤ workers) ⊎ ((place : ℕ) → known place ≡ Some 0)
@@ -358,7 +358,7 @@ module _ (m : Measure) (s : SupportView) (rests left : List ℕ) (known : ℕ �
     in_time_either workers positive (inr first) = in_time_at_first workers positive first
 
     pub priced_round : (workers : ℕ) → 0 < cost_at s w.place → (most ≤ workers) ⊎ ((place : ℕ) → known place ≡ Some 0)
-        → IsBidRound m s workers rests left known w places
+        → IsKeyRound m s workers rests left known w places
     priced_round workers positive either = record {
       are_priced = are_priced;
       has_winner = winner_priced;
@@ -373,29 +373,29 @@ module _ (m : Measure) (s : SupportView) (rests left : List ℕ) (known : ℕ �
     left_and_other place listed same =
         true≢false (sym listed ∙ ap (is_listed (without w.place left)) same ∙ is_listed-without_same left w.place)
 
-    fresh_bid : (b : Bid) → IsIn b fresh → IsBid m s rests places b
-    fresh_bid b i = bid_from m s rests places b (subst (IsIn b) h.fresh_are i)
+    fresh_key : (b : KeyView) → IsIn b fresh → IsKey m s rests places b
+    fresh_key b i = key_from m s rests places b (subst (IsIn b) h.fresh_are i)
 
     -- the queue of the next round
-    pub next_queue : (all : List Bid) → PutsBack w.place fresh rest all → IsQueue m s (without w.place left) (known_after s rests places known) all
+    pub next_queue : (all : List KeyView) → PutsBack w.place fresh rest all → IsQueue m s (without w.place left) (known_after s rests places known) all
     next_queue all back = record {
       are_left = λ b i. elim (back.from b i) [
         | inl old ↦ is_listed-without left w.place b.place (not_winner b.place (rest_not_priced b old)) ∙ q.are_left b (rest_of_queue b old)
-        | inr new ↦ is_listed-without left w.place b.place new.1 ∙ priced_left b.place (fresh_bid b new.0).is_left
+        | inr new ↦ is_listed-without left w.place b.place new.1 ∙ priced_left b.place (fresh_key b new.0).is_left
       ];
       are_known = λ b i. elim (back.from b i) [
         | inl old ↦ known_other b.place (rest_not_priced b old) ∙ q.are_known b (rest_of_queue b old)
-        | inr new ↦ known_priced b.place (fresh_bid b new.0).is_left ∙ (fresh_bid b new.0).is_price
+        | inr new ↦ known_priced b.place (fresh_key b new.0).is_left ∙ (fresh_key b new.0).is_price
       ];
-      are_bids = λ b i. elim (back.from b i) [
-        | inl old ↦ q.are_bids b (rest_of_queue b old)
-        | inr new ↦ (fresh_bid b new.0).is_bid
+      are_keys = λ b i. elim (back.from b i) [
+        | inl old ↦ q.are_keys b (rest_of_queue b old)
+        | inr new ↦ (fresh_key b new.0).is_key
       ];
       whole = λ place price listed known_is. elim (cases_Bool (is_listed places place)) [
-        | inl priced ↦ back.put (bid m s place price)
-            (subst (IsIn (bid m s place price)) (sym h.fresh_are) (bid_in m s rests place price places priced (sym (known_priced place priced) ∙ known_is)))
+        | inl priced ↦ back.put (key_of m s place price)
+            (subst (IsIn (key_of m s place price)) (sym h.fresh_are) (key_in m s rests place price places priced (sym (known_priced place priced) ∙ known_is)))
             (left_and_other place listed)
-        | inr other ↦ back.kept (bid m s place price)
+        | inr other ↦ back.kept (key_of m s place price)
             (still_queued place price (listed_from_without left w.place place listed) (sym (known_other place other) ∙ known_is) other)
       ];
       rises = back.rises;

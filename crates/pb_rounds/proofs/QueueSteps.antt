@@ -11,48 +11,48 @@ use Rattle.pb_core.specs.Election.{most_projects}
 use Rattle.pb_price.specs.Price.{largest_count, price_at}
 use Rattle.pb_price.specs.Supporters.{SupportView}
 use Rattle.pb_rounds.specs.declared.measure.Measure.{Measure}
-use Rattle.pb_rounds.specs.Bid.{Bid, bid_cmp, first_least, is_before}
-use Rattle.pb_rounds.specs.Inner.Bid.{better_of}
+use Rattle.pb_rounds.specs.Inner.Key.{better_of}
 use Rattle.pb_rounds.specs.Inner.Queue.{IsDone, IsFull, IsIn, IsTaken, PricesHeads, PutsBack, TakesHeads, places_of}
-use Rattle.pb_rounds.specs.Run.{bid, bid_at, bids_at}
+use Rattle.pb_rounds.specs.Key.{KeyView, first_least, is_before, key_cmp}
+use Rattle.pb_rounds.specs.Run.{key_at, key_of, keys_at}
 use Rattle.pb_rounds.proofs.Best.{first_least-push}
 use Rattle.pb_rounds.proofs.QueueLists.{in_either, in_left, in_right, put_from, put_is_in, put_keeps, rises_from_sorted}
 
 -- the queue of one project more
-pub full_more : (m : Measure) (s : SupportView) (n : ℕ) (queue : List Bid) → IsFull m s n queue → (k : Bid) → k ≡ bid m s n 0
-    → (new : List Bid) → new ≡ insert_key bid_cmp queue k → IsStrictlySortedBy bid_cmp new → IsFull m s (n + 1) new
+pub full_more : (m : Measure) (s : SupportView) (n : ℕ) (queue : List KeyView) → IsFull m s n queue → (k : KeyView) → k ≡ key_of m s n 0
+    → (new : List KeyView) → new ≡ insert_key key_cmp queue k → IsStrictlySortedBy key_cmp new → IsFull m s (n + 1) new
 full_more m s n queue h k k_is new new_is sorted = record {
   sound = λ b i. elim (put_from k b queue (subst (IsIn b) new_is i)) [
     | inl old ↦ let found = h.sound b old in (omega (arith, found.0), found.1)
     | inr same ↦
-        let b_is : b ≡ bid m s n 0 = same ∙ k_is in
-        let at : b.place ≡ n = ap (λ (c : Bid). c.place) b_is in
-        (omega (arith, at), b_is ∙ ap (λ p. bid m s p 0) (sym at))
+        let b_is : b ≡ key_of m s n 0 = same ∙ k_is in
+        let at : b.place ≡ n = ap (λ (c : KeyView). c.place) b_is in
+        (omega (arith, at), b_is ∙ ap (λ p. key_of m s p 0) (sym at))
   ];
-  whole = λ place below. subst (IsIn (bid m s place 0)) (sym new_is) (elim (cases_eq place n) [
-    | inl same ↦ subst (λ (b : Bid). IsIn b (insert_key bid_cmp queue k)) (k_is ∙ ap (λ p. bid m s p 0) (sym same)) (put_is_in k queue)
-    | inr other ↦ put_keeps k (bid m s place 0) queue (h.whole place (omega arith))
+  whole = λ place below. subst (IsIn (key_of m s place 0)) (sym new_is) (elim (cases_eq place n) [
+    | inl same ↦ subst (λ (b : KeyView). IsIn b (insert_key key_cmp queue k)) (k_is ∙ ap (λ p. key_of m s p 0) (sym same)) (put_is_in k queue)
+    | inr other ↦ put_keeps k (key_of m s place 0) queue (h.whole place (omega arith))
   ]);
   rises = rises_from_sorted new sorted;
 }
 
 -- one key is put back, and then one more
-pub puts_one : (place : ℕ) (k : Bid) (queue new : List Bid) → k.place ≢ place → new ≡ insert_key bid_cmp queue k → IsStrictlySortedBy bid_cmp new
+pub puts_one : (place : ℕ) (k : KeyView) (queue new : List KeyView) → k.place ≢ place → new ≡ insert_key key_cmp queue k → IsStrictlySortedBy key_cmp new
     → PutsBack place (k ∷ []) queue new
 puts_one place k queue new apart new_is sorted = record {
   from = λ b i. elim (put_from k b queue (subst (IsIn b) new_is i)) [
     | inl old ↦ inl old
-    | inr same ↦ inr (inl same, λ e. apart (ap (λ (c : Bid). c.place) (sym same) ∙ e))
+    | inr same ↦ inr (inl same, λ e. apart (ap (λ (c : KeyView). c.place) (sym same) ∙ e))
   ];
   kept = λ b i. subst (IsIn b) (sym new_is) (put_keeps k b queue i);
   put = λ b i other. subst (IsIn b) (sym new_is) (elim i [
-    | inl same ↦ subst (λ (c : Bid). IsIn c (insert_key bid_cmp queue k)) (sym same) (put_is_in k queue)
+    | inl same ↦ subst (λ (c : KeyView). IsIn c (insert_key key_cmp queue k)) (sym same) (put_is_in k queue)
     | inr none ↦ absurd none
   ]);
   rises = rises_from_sorted new sorted;
 }
 
-pub puts_more : (place : ℕ) (fresh : List Bid) (k : Bid) (queue middle new : List Bid) → PutsBack place fresh queue middle → PutsBack place (k ∷ []) middle new
+pub puts_more : (place : ℕ) (fresh : List KeyView) (k : KeyView) (queue middle new : List KeyView) → PutsBack place fresh queue middle → PutsBack place (k ∷ []) middle new
     → PutsBack place (fresh ++ k ∷ []) queue new
 puts_more place fresh k queue middle new first second = record {
   from = λ b i. elim (second.from b i) [
@@ -70,48 +70,48 @@ puts_more place fresh k queue middle new first second = record {
   rises = second.rises;
 }
 
-pub puts_step : (place : ℕ) (fresh : List Bid) (i : ℕ) (d : Bid) → i < length fresh → (queue middle new : List Bid) → PutsBack place (take i fresh) queue middle
-    → (k : Bid) → k ≡ get_or fresh i d → PutsBack place (k ∷ []) middle new → PutsBack place (take (i + 1) fresh) queue new
+pub puts_step : (place : ℕ) (fresh : List KeyView) (i : ℕ) (d : KeyView) → i < length fresh → (queue middle new : List KeyView) → PutsBack place (take i fresh) queue middle
+    → (k : KeyView) → k ≡ get_or fresh i d → PutsBack place (k ∷ []) middle new → PutsBack place (take (i + 1) fresh) queue new
 puts_step place fresh i d below queue middle new first k k_is second =
-    subst (λ (xs : List Bid). PutsBack place xs queue new) (sym (take_more fresh i d below))
-    (puts_more place (take i fresh) (get_or fresh i d) queue middle new first (subst (λ (b : Bid). PutsBack place (b ∷ []) middle new) k_is second))
+    subst (λ (xs : List KeyView). PutsBack place xs queue new) (sym (take_more fresh i d below))
+    (puts_more place (take i fresh) (get_or fresh i d) queue middle new first (subst (λ (b : KeyView). PutsBack place (b ∷ []) middle new) k_is second))
 
 -- heads taken so far
-pub record Taking (best : Option Bid) (count : ℕ) (queue rest : List Bid) (places all : List ℕ) : Type 0 where
-  pub heads : List Bid
+pub record Taking (best : Option KeyView) (count : ℕ) (queue rest : List KeyView) (places all : List ℕ) : Type 0 where
+  pub heads : List KeyView
   pub cut : queue ≡ heads ++ rest
   pub placed : all ≡ places ++ places_of heads
   pub counted : length heads ≡ count
-  pub taken : (head : Bid) (others : List Bid) → heads ≡ head ∷ others → IsTaken best head
+  pub taken : (head : KeyView) (others : List KeyView) → heads ≡ head ∷ others → IsTaken best head
 
-first_taken : (best : Option Bid) (heads : List Bid) (head : Bid) → IsTaken best head
-    → ((h : Bid) (others : List Bid) → heads ≡ h ∷ others → IsTaken best h)
-    → (h : Bid) (others : List Bid) → heads ++ head ∷ [] ≡ h ∷ others → IsTaken best h
+first_taken : (best : Option KeyView) (heads : List KeyView) (head : KeyView) → IsTaken best head
+    → ((h : KeyView) (others : List KeyView) → heads ≡ h ∷ others → IsTaken best h)
+    → (h : KeyView) (others : List KeyView) → heads ++ head ∷ [] ≡ h ∷ others → IsTaken best h
 first_taken best [] head taken others h rest e = subst (IsTaken best) (head_same head h [] rest e) taken
   where
-    head_same : (x y : Bid) (xs ys : List Bid) → x ∷ xs ≡ y ∷ ys → x ≡ y
+    head_same : (x y : KeyView) (xs ys : List KeyView) → x ∷ xs ≡ y ∷ ys → x ≡ y
     head_same x y xs ys e = cc
 first_taken best (x ∷ heads) head taken others h rest e = others h heads (ap (λ b. b ∷ heads) (head_same x h (heads ++ head ∷ []) rest e))
   where
-    head_same : (x y : Bid) (xs ys : List Bid) → x ∷ xs ≡ y ∷ ys → x ≡ y
+    head_same : (x y : KeyView) (xs ys : List KeyView) → x ∷ xs ≡ y ∷ ys → x ≡ y
     head_same x y xs ys e = cc
 
-pub taking_more : (best : Option Bid) (count : ℕ) (queue rest : List Bid) (places all : List ℕ) → Taking best count queue rest places all
-    → (head : Bid) (left : List Bid) → rest ≡ head ∷ left → IsTaken best head → (more : List ℕ) → more ≡ all ++ head.place ∷ []
+pub taking_more : (best : Option KeyView) (count : ℕ) (queue rest : List KeyView) (places all : List ℕ) → Taking best count queue rest places all
+    → (head : KeyView) (left : List KeyView) → rest ≡ head ∷ left → IsTaken best head → (more : List ℕ) → more ≡ all ++ head.place ∷ []
     → Taking best (count + 1) queue left places more
 taking_more best count queue rest places all h head left rest_is taken more more_is = record {
   heads = h.heads ++ head ∷ [];
   cut = h.cut ∙ ap (λ r. h.heads ++ r) rest_is ∙ sym (append_assoc h.heads (head ∷ []) left);
   placed = more_is ∙ ap (λ xs. xs ++ head.place ∷ []) h.placed ∙ append_assoc places (places_of h.heads) (head.place ∷ [])
-      ∙ ap (λ xs. places ++ xs) (sym (map-append (λ (b : Bid). b.place) h.heads (head ∷ [])));
+      ∙ ap (λ xs. places ++ xs) (sym (map-append (λ (b : KeyView). b.place) h.heads (head ∷ [])));
   counted = length-append h.heads (head ∷ []) ∙ ap (λ n. n + 1) h.counted;
   taken = first_taken best h.heads head taken h.taken;
 }
 
-done_at_first : (best : Option Bid) (heads queue rest : List Bid) → queue ≡ heads ++ rest → IsDone best rest → heads ≡ [] → IsDone best queue
+done_at_first : (best : Option KeyView) (heads queue rest : List KeyView) → queue ≡ heads ++ rest → IsDone best rest → heads ≡ [] → IsDone best queue
 done_at_first best heads queue rest cut done none = subst (IsDone best) (sym (cut ∙ ap (λ xs. xs ++ rest) none)) done
 
-pub takes_until_done : (best : Option Bid) (count most : ℕ) (queue rest left : List Bid) (places all : List ℕ) → Taking best count queue rest places all
+pub takes_until_done : (best : Option KeyView) (count most : ℕ) (queue rest left : List KeyView) (places all : List ℕ) → Taking best count queue rest places all
     → count ≤ most → IsDone best rest → left ≡ rest → TakesHeads best most queue left places all
 takes_until_done best count most queue rest left places all h within done left_is = record {
   heads = h.heads;
@@ -122,11 +122,11 @@ takes_until_done best count most queue rest left places all h within done left_i
   done = done_at_first best h.heads queue rest h.cut done;
 }
 
-none_are_no_more : (heads : List Bid) → 0 < length heads → heads ≡ [] → ⊥
+none_are_no_more : (heads : List KeyView) → 0 < length heads → heads ≡ [] → ⊥
 none_are_no_more [] some e = omega arith
 none_are_no_more (x ∷ heads) some e = cc
 
-pub takes_all : (best : Option Bid) (count most : ℕ) (queue rest : List Bid) (places all : List ℕ) → Taking best count queue rest places all
+pub takes_all : (best : Option KeyView) (count most : ℕ) (queue rest : List KeyView) (places all : List ℕ) → Taking best count queue rest places all
     → count ≤ most → most ≤ count → 0 < most → TakesHeads best most queue rest places all
 takes_all best count most queue rest places all h within reached some = record {
   heads = h.heads;
@@ -138,7 +138,7 @@ takes_all best count most queue rest places all h within reached some = record {
 }
 
 -- a round before its first batch
-pub heads_none : (m : Measure) (s : SupportView) (rests : List ℕ) (most : ℕ) (queue : List Bid) → PricesHeads m s rests most queue queue [] [] None
+pub heads_none : (m : Measure) (s : SupportView) (rests : List ℕ) (most : ℕ) (queue : List KeyView) → PricesHeads m s rests most queue queue [] [] None
 heads_none m s rests most queue = record {
   early = [];
   batch = [];
@@ -151,13 +151,13 @@ heads_none m s rests most queue = record {
   begun = λ e. refl;
 }
 
-pub places_known : (n : ℕ) (bids : List Bid) → ((b : Bid) → IsIn b bids → b.place < n) → All (λ place. place < n) (places_of bids)
+pub places_known : (n : ℕ) (keys : List KeyView) → ((b : KeyView) → IsIn b keys → b.place < n) → All (λ place. place < n) (places_of keys)
 places_known n [] h = All-nil (λ place. place < n)
-places_known n (b ∷ bids) h = All-cons (λ place. place < n) b.place (places_of bids) (h b (inl refl)) (places_known n bids (λ c i. h c (inr i)))
+places_known n (b ∷ keys) h = All-cons (λ place. place < n) b.place (places_of keys) (h b (inl refl)) (places_known n keys (λ c i. h c (inr i)))
 
-pub length_places : (bids : List Bid) → length (places_of bids) ≡ length bids
+pub length_places : (keys : List KeyView) → length (places_of keys) ≡ length keys
 length_places [] = refl
-length_places (b ∷ bids) = ap (λ n. suc n) (length_places bids)
+length_places (b ∷ keys) = ap (λ n. suc n) (length_places keys)
 
 -- the places of the last batch, as the code cuts them off
 pub cut_off : (places all seen : List ℕ) (from : ℕ) → seen ≡ all → from ≡ length places → take (length seen - from) (drop from seen) ≡ drop (length places) all
@@ -170,8 +170,8 @@ drop_all [] ys = refl
 drop_all (x ∷ xs) ys = drop_all xs ys
 
 -- one batch more: queue is what the round began with, before its rest, and rest what is left after the batch
-module _ (m : Measure) (s : SupportView) (rests : List ℕ) (most : ℕ) (queue before : List Bid) (places : List ℕ) (fresh : List Bid) (best : Option Bid)
-    (h : PricesHeads m s rests most queue before places fresh best) (rest : List Bid) (all : List ℕ) (t : TakesHeads best most before rest places all) where
+module _ (m : Measure) (s : SupportView) (rests : List ℕ) (most : ℕ) (queue before : List KeyView) (places : List ℕ) (fresh : List KeyView) (best : Option KeyView)
+    (h : PricesHeads m s rests most queue before places fresh best) (rest : List KeyView) (all : List ℕ) (t : TakesHeads best most before rest places all) where
   heads_are : drop (length places) all ≡ places_of t.heads
   heads_are = ap (drop (length places)) t.placed ∙ drop_all places (places_of t.heads)
 
@@ -181,7 +181,7 @@ module _ (m : Measure) (s : SupportView) (rests : List ℕ) (most : ℕ) (queue 
   lengths : length queue ≡ length (h.early ++ h.batch) + length t.heads + length rest
   lengths = ap length whole_cut ∙ length-append ((h.early ++ h.batch) ++ t.heads) rest ∙ ap (λ n. n + length rest) (length-append (h.early ++ h.batch) t.heads)
 
-  pub taken_known : (n : ℕ) → ((b : Bid) → IsIn b queue → b.place < n) → All (λ place. place < n) (drop (length places) all)
+  pub taken_known : (n : ℕ) → ((b : KeyView) → IsIn b queue → b.place < n) → All (λ place. place < n) (drop (length places) all)
   taken_known n known = subst (All (λ place. place < n)) (sym heads_are)
       (places_known n t.heads (λ b i. known b (subst (IsIn b) (sym whole_cut) (in_left b ((h.early ++ h.batch) ++ t.heads) rest (in_right b (h.early ++ h.batch) t.heads i)))))
 
@@ -203,37 +203,37 @@ module _ (m : Measure) (s : SupportView) (rests : List ℕ) (most : ℕ) (queue 
       let first : length places ≡ length (h.early ++ h.batch) = ap length h.placed ∙ length_places (h.early ++ h.batch) in
       omega (arith, first, placed_all, lengths)
 
-  pub heads_more : length all ≢ length places → (more : List Bid) → more ≡ fresh ++ bids_at m s rests (drop (length places) all)
-      → (last : Option Bid) → last ≡ first_least is_before more → PricesHeads m s rests most queue rest all more last
+  pub heads_more : length all ≢ length places → (more : List KeyView) → more ≡ fresh ++ keys_at m s rests (drop (length places) all)
+      → (last : Option KeyView) → last ≡ first_least is_before more → PricesHeads m s rests most queue rest all more last
   heads_more some more more_is last last_is =
       let placed : all ≡ places_of ((h.early ++ h.batch) ++ t.heads) =
-      t.placed ∙ ap (λ xs. xs ++ places_of t.heads) h.placed ∙ sym (map-append (λ (b : Bid). b.place) (h.early ++ h.batch) t.heads) in
-      let so_far : best ≡ first_least is_before (bids_at m s rests (places_of (h.early ++ h.batch))) =
-      h.best_is ∙ ap (first_least is_before) (h.fresh_are ∙ ap (bids_at m s rests) h.placed) in
+      t.placed ∙ ap (λ xs. xs ++ places_of t.heads) h.placed ∙ sym (map-append (λ (b : KeyView). b.place) (h.early ++ h.batch) t.heads) in
+      let so_far : best ≡ first_least is_before (keys_at m s rests (places_of (h.early ++ h.batch))) =
+      h.best_is ∙ ap (first_least is_before) (h.fresh_are ∙ ap (keys_at m s rests) h.placed) in
       record {
         early = h.early ++ h.batch;
         batch = t.heads;
         cut = whole_cut;
         placed = placed;
-        fresh_are = more_is ∙ ap (λ xs. xs ++ bids_at m s rests (drop (length places) all)) h.fresh_are
-            ∙ ap (λ xs. bids_at m s rests places ++ bids_at m s rests xs) heads_are
-            ∙ sym (filter_map-append (bid_at m s rests) places (places_of t.heads)) ∙ ap (bids_at m s rests) (sym t.placed);
+        fresh_are = more_is ∙ ap (λ xs. xs ++ keys_at m s rests (drop (length places) all)) h.fresh_are
+            ∙ ap (λ xs. keys_at m s rests places ++ keys_at m s rests xs) heads_are
+            ∙ sym (filter_map-append (key_at m s rests) places (places_of t.heads)) ∙ ap (keys_at m s rests) (sym t.placed);
         best_is = last_is;
         few = t.few;
-        taken = λ head others e. subst (λ (o : Option Bid). IsTaken o head) so_far (t.taken head others e);
-        begun = λ none. absurd (some (placed_all ∙ ap (λ (xs : List Bid). length places + length xs) none ∙ omega arith));
+        taken = λ head others e. subst (λ (o : Option KeyView). IsTaken o head) so_far (t.taken head others e);
+        begun = λ none. absurd (some (placed_all ∙ ap (λ (xs : List KeyView). length places + length xs) none ∙ omega arith));
       }
 
   -- where none was taken, the round is done
   pub none_taken : length all ≡ length places → PricesHeads m s rests most queue rest all fresh best × IsDone best rest
   none_taken same = none_by t.heads refl
     where
-      none_by : (heads : List Bid) → t.heads ≡ heads → PricesHeads m s rests most queue rest all fresh best × IsDone best rest
+      none_by : (heads : List KeyView) → t.heads ≡ heads → PricesHeads m s rests most queue rest all fresh best × IsDone best rest
       none_by [] e =
           let rest_is : before ≡ rest = t.cut ∙ ap (λ xs. xs ++ rest) e in
           let all_is : places ≡ all = sym (t.placed ∙ ap (λ xs. places ++ places_of xs) e ∙ append-nil places) in (
             subst (λ (xs : List ℕ). PricesHeads m s rests most queue rest xs fresh best) all_is
-                (subst (λ (r : List Bid). PricesHeads m s rests most queue r places fresh best) rest_is h),
+                (subst (λ (r : List KeyView). PricesHeads m s rests most queue r places fresh best) rest_is h),
             subst (IsDone best) rest_is (t.done e),
           )
       none_by (x ∷ heads) e =
@@ -252,26 +252,26 @@ pub answer_at : (f : ℕ → Option ℕ) (heads : List ℕ) (i : ℕ) → i < le
 answer_at f heads i below answers answers_are answer is =
     is ∙ ap (λ (xs : List (Option ℕ)). get_or xs i answer) answers_are ∙ get_or-map f heads i 0 answer below
 
-module _ (m : Measure) (s : SupportView) (rests heads : List ℕ) (i : ℕ) (below : i < length heads) (before fresh : List Bid)
-    (fresh_are : fresh ≡ before ++ bids_at m s rests (take i heads)) (answer : Option ℕ) (answer_is : answer ≡ price_at s rests (get_or heads i 0)) where
-  bids_more : bids_at m s rests (take (i + 1) heads) ≡ bids_at m s rests (take i heads) ++ cons_option (option_map (bid m s (get_or heads i 0)) answer) []
-  bids_more =
-      ap (bids_at m s rests) (take_more heads i 0 below) ∙ filter_map-append (bid_at m s rests) (take i heads) (get_or heads i 0 ∷ [])
-      ∙ ap (λ o. bids_at m s rests (take i heads) ++ cons_option (option_map (bid m s (get_or heads i 0)) o) []) (sym answer_is)
+module _ (m : Measure) (s : SupportView) (rests heads : List ℕ) (i : ℕ) (below : i < length heads) (before fresh : List KeyView)
+    (fresh_are : fresh ≡ before ++ keys_at m s rests (take i heads)) (answer : Option ℕ) (answer_is : answer ≡ price_at s rests (get_or heads i 0)) where
+  keys_more : keys_at m s rests (take (i + 1) heads) ≡ keys_at m s rests (take i heads) ++ cons_option (option_map (key_of m s (get_or heads i 0)) answer) []
+  keys_more =
+      ap (keys_at m s rests) (take_more heads i 0 below) ∙ filter_map-append (key_at m s rests) (take i heads) (get_or heads i 0 ∷ [])
+      ∙ ap (λ o. keys_at m s rests (take i heads) ++ cons_option (option_map (key_of m s (get_or heads i 0)) o) []) (sym answer_is)
 
-  pub fresh_some : (price : ℕ) → answer ≡ Some price → (key : Bid) → key ≡ bid m s (get_or heads i 0) price
-      → fresh ++ key ∷ [] ≡ before ++ bids_at m s rests (take (i + 1) heads)
+  pub fresh_some : (price : ℕ) → answer ≡ Some price → (key : KeyView) → key ≡ key_of m s (get_or heads i 0) price
+      → fresh ++ key ∷ [] ≡ before ++ keys_at m s rests (take (i + 1) heads)
   fresh_some price some key key_is =
-      ap (λ xs. xs ++ key ∷ []) fresh_are ∙ append_assoc before (bids_at m s rests (take i heads)) (key ∷ [])
-      ∙ ap (λ k. before ++ (bids_at m s rests (take i heads) ++ k ∷ [])) key_is
-      ∙ ap (λ xs. before ++ xs) (sym (bids_more ∙ ap (λ o. bids_at m s rests (take i heads) ++ cons_option (option_map (bid m s (get_or heads i 0)) o) []) some))
+      ap (λ xs. xs ++ key ∷ []) fresh_are ∙ append_assoc before (keys_at m s rests (take i heads)) (key ∷ [])
+      ∙ ap (λ k. before ++ (keys_at m s rests (take i heads) ++ k ∷ [])) key_is
+      ∙ ap (λ xs. before ++ xs) (sym (keys_more ∙ ap (λ o. keys_at m s rests (take i heads) ++ cons_option (option_map (key_of m s (get_or heads i 0)) o) []) some))
 
-  pub fresh_none : answer ≡ None → fresh ≡ before ++ bids_at m s rests (take (i + 1) heads)
+  pub fresh_none : answer ≡ None → fresh ≡ before ++ keys_at m s rests (take (i + 1) heads)
   fresh_none none =
-      fresh_are ∙ ap (λ xs. before ++ xs) (sym (bids_more ∙ ap (λ o. bids_at m s rests (take i heads) ++ cons_option (option_map (bid m s (get_or heads i 0)) o) []) none
-      ∙ append-nil (bids_at m s rests (take i heads))))
+      fresh_are ∙ ap (λ xs. before ++ xs) (sym (keys_more ∙ ap (λ o. keys_at m s rests (take i heads) ++ cons_option (option_map (key_of m s (get_or heads i 0)) o) []) none
+      ∙ append-nil (keys_at m s rests (take i heads))))
 
-pub best_more : (fresh : List Bid) (best : Option Bid) → best ≡ first_least is_before fresh → (key chosen : Bid) → chosen ≡ better_of best key
+pub best_more : (fresh : List KeyView) (best : Option KeyView) → best ≡ first_least is_before fresh → (key chosen : KeyView) → chosen ≡ better_of best key
     → Some chosen ≡ first_least is_before (fresh ++ key ∷ [])
 best_more fresh best best_is key chosen chosen_is =
     ap (λ b. Some b) (chosen_is ∙ ap (λ o. better_of o key) best_is) ∙ sym (first_least-push fresh key)

@@ -14,12 +14,12 @@ use Rattle.pb_price.specs.Price.{price_at, total_rest}
 use Rattle.pb_price.specs.Supporters.{SupportView, cost_at, supporters_at, support_of}
 use Rattle.pb_price.proofs.Payments.{least_from_price, total_rest_covers}
 use Rattle.pb_rounds.specs.declared.measure.Measure.{Measure}
-use Rattle.pb_rounds.specs.Bid.{Bid}
 use Rattle.pb_rounds.specs.Completed.{IsExhausted, IsOver}
 use Rattle.pb_rounds.specs.Count.{elected_after, is_decisive, opening_share, share_after, spent_on}
 use Rattle.pb_rounds.specs.Inner.Reach.{LeavesRoom, is_within_reach}
+use Rattle.pb_rounds.specs.Key.{KeyView}
 use Rattle.pb_rounds.specs.Run.{ElectedView, best_of, charged, elected_by, is_listed, outcome_of, run_from, run_of, then_run, without}
-use Rattle.pb_rounds.proofs.BestBid.{best_is_bid}
+use Rattle.pb_rounds.proofs.BestKey.{best_is_key}
 use Rattle.pb_rounds.proofs.Charged.{charged_at}
 use Rattle.pb_rounds.proofs.Exhausted.{over_from_within}
 use Rattle.pb_rounds.proofs.Listed.{range-push}
@@ -74,18 +74,18 @@ reached_none s share left = record { spent = omega arith; others = λ place _. A
 
 reached_step : (m : Measure) (s : SupportView) (share n : ℕ) (rests left : List ℕ) → AtMost share rests
     → ((rests left : List ℕ) → AtMost share rests → IsReached s share left (run_from m s n rests left).elected)
-    → (o : Option Bid) → best_of m s rests left ≡ o
+    → (o : Option KeyView) → best_of m s rests left ≡ o
     → IsReached s share left
     (option_map_or (λ b. then_run (elected_by s rests b) (run_from m s n (charged (supporters_at s b.place) b.price rests) (without b.place left)))
     o (record { elected = []; rests = rests })).elected
 reached_step m s share n rests left h later None e = reached_none s share left
 reached_step m s share n rests left h later (Some b) e =
-    let bid = best_is_bid m s rests left b e in
-    let near = priced_within_reach s rests share b.place b.price h bid.is_price in
+    let found = best_is_key m s rests left b e in
+    let near = priced_within_reach s rests share b.place b.price h found.is_price in
     let after = later (charged (supporters_at s b.place) b.price rests) (without b.place left)
     (λ v. let r = h v in let c = charged_at (supporters_at s b.place) b.price rests v in omega (arith, r, c)) in
     let counts : reach_cost s share b.place ≡ cost_at s b.place = cond-true _ _ _ near in
-    let all = sum_with (reach_cost s share) left b.place bid.is_left in
+    let all = sum_with (reach_cost s share) left b.place found.is_left in
     record {
       spent = omega (
         arith,

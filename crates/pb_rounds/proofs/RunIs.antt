@@ -15,10 +15,10 @@ use Rattle.pb_price.specs.Price.{price_at}
 use Rattle.pb_price.specs.Supporters.{SupportView, IsSupport, cost_at, supporters_at}
 use Rattle.pb_rounds.specs.declared.measure.Measure.{Measure}
 use Rattle.pb_rounds.specs.declared.measure.Measure.TheVariants.{Votes, Cost}
-use Rattle.pb_rounds.specs.Bid.{Bid, is_before}
-use Rattle.pb_rounds.specs.Inner.BidOrder.{bid_cmp-total, greater_from, less_from}
+use Rattle.pb_rounds.specs.Inner.KeyOrder.{greater_from, key_cmp-total, less_from}
 use Rattle.pb_rounds.specs.Cheapest.{IsCheaper, IsRun, rests_after}
-use Rattle.pb_rounds.specs.Run.{ElectedView, RunView, best_of, bid, charged, elected_by, is_listed, run_from, run_of, then_run, without}
+use Rattle.pb_rounds.specs.Key.{KeyView, is_before}
+use Rattle.pb_rounds.specs.Run.{ElectedView, RunView, best_of, charged, elected_by, is_listed, key_of, run_from, run_of, then_run, without}
 use Rattle.pb_rounds.proofs.BestIs.{is_best, no_best}
 use Rattle.pb_rounds.proofs.CheapestRounds.{ArePositive, EachWasFirst, WasFirst, known_place, run_was_cheapest}
 use Rattle.pb_rounds.proofs.Explained.{run_has_price_system}
@@ -33,7 +33,7 @@ later_by x y i j o (inr same) =
     rw (tied, greater_from i j same.1) refl
 
 cheaper_is_not_after : (m : Measure) (s : SupportView) (place price other q : ℕ) → 0 < cost_at s place → 0 < cost_at s other
-    → IsCheaper m s place price other q → is_before (bid m s other q) (bid m s place price) ≡ false
+    → IsCheaper m s place price other q → is_before (key_of m s other q) (key_of m s place price) ≡ false
 cheaper_is_not_after Votes s place price other q some more h =
     later_by (q * max 1 1) (price * max 1 1) other place _ (elim h [
       | inl less ↦ inl (omega arith)
@@ -55,7 +55,7 @@ first_by x y i j o (inr same) =
     rw (tied, less_from i j same.1) refl
 
 pub cheaper_is_before : (m : Measure) (s : SupportView) (place price other q : ℕ) → 0 < cost_at s place → 0 < cost_at s other
-    → IsCheaper m s place price other q → is_before (bid m s place price) (bid m s other q) ≡ true
+    → IsCheaper m s place price other q → is_before (key_of m s place price) (key_of m s other q) ≡ true
 cheaper_is_before Votes s place price other q some more h =
     first_by (price * max 1 1) (q * max 1 1) place other _ (elim h [
       | inl less ↦ inl (omega arith)
@@ -76,13 +76,13 @@ record IsRunFrom (m : Measure) (s : SupportView) (rests left : List ℕ) (electe
   pub none_left : (place : ℕ) → is_listed left place ≡ true → All (λ w. w.place ≢ place) elected → price_at s after place ≡ None
 
 first_is_best : (m : Measure) (s : SupportView) (rests left : List ℕ) → ArePositive s left → (w : ElectedView) → WasFirst m s rests left [] w
-    → best_of m s rests left ≡ Some (bid m s w.place w.price)
+    → best_of m s rests left ≡ Some (key_of m s w.place w.price)
 first_is_best m s rests left positive w h =
     is_best m s rests left w.place w.price h.listed h.priced (λ other p listed priced. elim (cases_eq other w.place) [
       | inl same ↦
           let price : p ≡ w.price = same_Some _ _ (sym priced ∙ ap (price_at s rests) same ∙ h.priced) in
-          ap (λ b. is_before b (bid m s w.place w.price)) (ap (λ n. bid m s n p) same ∙ ap (bid m s w.place) price)
-          ∙ ap is_lt (tied_itself bid_cmp-total (bid m s w.place w.price))
+          ap (λ b. is_before b (key_of m s w.place w.price)) (ap (λ n. key_of m s n p) same ∙ ap (key_of m s w.place) price)
+          ∙ ap is_lt (tied_itself key_cmp-total (key_of m s w.place w.price))
       | inr apart ↦
           cheaper_is_not_after m s w.place w.price other p (positive w.place h.listed) (positive other listed)
           (h.cheapest other p listed apart (All-nil (λ v. v.place ≢ other)) priced)
@@ -130,12 +130,12 @@ words_are_run m s (w ∷ elected) (suc n) rests left after positive short h =
     (later_words m s rests left w elected after h) in
     ap (then_run w) later
     ∙ ap (λ c. then_run (record { place = w.place; price = w.price; collected = c }) (run_from m s n (charged (supporters_at s w.place) w.price rests) (without w.place left))) found.collected
-    ∙ sym (run_from-some m s rests left (bid m s w.place w.price) (first_is_best m s rests left positive w found) n)
+    ∙ sym (run_from-some m s rests left (key_of m s w.place w.price) (first_is_best m s rests left positive w found) n)
 
 -- what the rests are
 rests_step : (m : Measure) (s : SupportView) (n : ℕ) (rests left : List ℕ)
     → ((rests left : List ℕ) → (run_from m s n rests left).rests ≡ rests_after s rests (run_from m s n rests left).elected)
-    → (o : Option Bid)
+    → (o : Option KeyView)
     → (option_map_or (λ b. then_run (elected_by s rests b) (run_from m s n (charged (supporters_at s b.place) b.price rests) (without b.place left)))
     o (record { elected = []; rests = rests })).rests
     ≡ rests_after s rests

@@ -12,14 +12,14 @@ use Rattle.pb_price.specs.Supporters.{IsSupport, SupportView, cost_at, supporter
 use Rattle.pb_rounds.specs.declared.measure.Measure.{Measure}
 use Rattle.pb_rounds.specs.declared.raise_end.RaiseEnd.TheVariants.{GoesOn, Exhausted, Over}
 use Rattle.pb_rounds.specs.Inner.Between.{KeepsElecting}
-use Rattle.pb_rounds.specs.Bid.{Bid, is_before}
 use Rattle.pb_rounds.specs.Inner.Bounds.{FindsBest, Follows, HasBounds, IsOpening}
 use Rattle.pb_rounds.specs.Count.{is_exhausted, is_over, spent_on}
+use Rattle.pb_rounds.specs.Key.{KeyView, is_before}
 use Rattle.pb_rounds.specs.Outcome.{OutcomeView, Settled}
 use Rattle.pb_rounds.specs.Inner.Queue.{AreMarked}
 use Rattle.pb_rounds.specs.Inner.RaiseEnds.{IsTried}
-use Rattle.pb_rounds.specs.Run.{ElectedView, RunView, best_of, bid, charged, elected_by, is_elected, is_listed, run_from, run_of, without}
-use Rattle.pb_rounds.proofs.BestBid.{best_is_bid}
+use Rattle.pb_rounds.specs.Run.{ElectedView, RunView, best_of, charged, elected_by, is_elected, is_listed, key_of, run_from, run_of, without}
+use Rattle.pb_rounds.proofs.BestKey.{best_is_key}
 use Rattle.pb_rounds.proofs.BestIs.{no_best}
 use Rattle.pb_rounds.proofs.BoundQueue.{bounds_fall, charged_falls, nothing_found, opening_bounds}
 use Rattle.pb_rounds.proofs.Exhausted.{over_from_more, over_from_within}
@@ -58,12 +58,12 @@ spent_small s h (w ∷ elected) =
     omega (arith, spent_small s h elected, cost_small s h w.place, sum_by-cons (λ v. cost_at s v.place) w elected)
 
 -- how far a run at this share has come, with a queue of bounds
-pub record Bounded (m : Measure) (s : SupportView) (share : ℕ) (queue : List Bid) (o : OutcomeView) : Type 0 where
+pub record Bounded (m : Measure) (s : SupportView) (share : ℕ) (queue : List KeyView) (o : OutcomeView) : Type 0 where
   pub left : List ℕ
   pub progress : Progress m s share 0 left o
   pub bounds : HasBounds m s o.rests left queue
 
-pub bounded_open : (m : Measure) (s : SupportView) (share : ℕ) → share ≤ largest_share → (queue : List Bid) → IsOpening m s share (length s.costs) queue
+pub bounded_open : (m : Measure) (s : SupportView) (share : ℕ) → share ≤ largest_share → (queue : List KeyView) → IsOpening m s share (length s.costs) queue
     → (o : OutcomeView) → o ≡ record { share = share; raised = 0; elected = []; rests = replicate s.voters share; priced = [] }
     → Bounded m s share queue o
 bounded_open m s share small queue opens o o_is =
@@ -74,15 +74,15 @@ bounded_open m s share small queue opens o o_is =
     })
 
 -- the best was found, and its supporters paid
-module _ (m : Measure) (s : SupportView) (share : ℕ) (left : List ℕ) (o : OutcomeView) (pr : Progress m s share 0 left o) (w : Bid)
+module _ (m : Measure) (s : SupportView) (share : ℕ) (left : List ℕ) (o : OutcomeView) (pr : Progress m s share 0 left o) (w : KeyView)
     (best : best_of m s o.rests left ≡ Some w) where
   pub best_known : w.place < length s.costs
-  best_known = listed-below left (length s.costs) w.place (RisesWithin-below left 0 (length s.costs) pr.rises) (best_is_bid m s o.rests left w best).is_left
+  best_known = listed-below left (length s.costs) w.place (RisesWithin-below left 0 (length s.costs) pr.rises) (best_is_key m s o.rests left w best).is_left
 
   pub best_price : price_at s o.rests w.place ≡ Some w.price
-  best_price = (best_is_bid m s o.rests left w best).is_price
+  best_price = (best_is_key m s o.rests left w best).is_price
 
-  module _ (queue : List Bid) (bounds : HasBounds m s o.rests (without w.place left) queue) (paid : OutcomeView)
+  module _ (queue : List KeyView) (bounds : HasBounds m s o.rests (without w.place left) queue) (paid : OutcomeView)
       (paid_is : paid ≡ record o { elected = o.elected ++ elected_by s o.rests w ∷ []; rests = charged (supporters_at s w.place) w.price o.rests }) where
     pub goes_on : Progress m s share 0 (without w.place left) paid
     goes_on =
@@ -96,7 +96,7 @@ module _ (m : Measure) (s : SupportView) (share : ℕ) (left : List ℕ) (o : Ou
 
     pub fewer_rounds : length s.costs - length paid.elected < length s.costs - length o.elected
     fewer_rounds =
-        let one_less = length-without_one left 0 (length s.costs) w.place pr.rises (best_is_bid m s o.rests left w best).is_left in
+        let one_less = length-without_one left 0 (length s.costs) w.place pr.rises (best_is_key m s o.rests left w best).is_left in
         omega (arith, one_less, goes_on.counted, pr.counted)
 
 -- nobody is left who can be paid: the outcome is that of the run
@@ -106,7 +106,7 @@ ends_here m s share left o pr none =
     ap (λ (x : Settled). x.elected) (progress_end m s share 0 left o pr (no_best m s o.rests left none))
 
 -- a trial so far, with the marks of the elected and what they cost
-pub record Trying (m : Measure) (s : SupportView) (share : ℕ) (queue : List Bid) (o : OutcomeView) (marks : List Bool) (spent : ℕ) : Type 0 where
+pub record Trying (m : Measure) (s : SupportView) (share : ℕ) (queue : List KeyView) (o : OutcomeView) (marks : List Bool) (spent : ℕ) : Type 0 where
   pub bounded : Bounded m s share queue o
   pub marked : AreMarked s o.elected marks
   pub spent_is : spent ≡ spent_on s o.elected
@@ -120,8 +120,8 @@ nobody_marked s o none marks marks_are =
     })
 
 -- one round of a trial
-module _ (m : Measure) (s : SupportView) (is : IsSupport s) (share : ℕ) (queue : List Bid) (o : OutcomeView) (marks : List Bool) (spent : ℕ)
-    (t : Trying m s share queue o marks spent) (w : Bid) (rest : List Bid) (found : FindsBest m s o.rests t.bounded.left None rest (Some w)) where
+module _ (m : Measure) (s : SupportView) (is : IsSupport s) (share : ℕ) (queue : List KeyView) (o : OutcomeView) (marks : List Bool) (spent : ℕ)
+    (t : Trying m s share queue o marks spent) (w : KeyView) (rest : List KeyView) (found : FindsBest m s o.rests t.bounded.left None rest (Some w)) where
   pub mark_known : w.place < length marks
   mark_known =
       let known = best_known m s share t.bounded.left o t.bounded.progress w found.0 in
@@ -165,7 +165,7 @@ module _ (m : Measure) (s : SupportView) (is : IsSupport s) (share : ℕ) (queue
         }
 
 -- a trial whose queue has nobody more who can be paid
-module _ (m : Measure) (s : SupportView) (is : IsSupport s) (share budget : ℕ) (queue rest : List Bid) (o : OutcomeView) (marks : List Bool) (spent : ℕ)
+module _ (m : Measure) (s : SupportView) (is : IsSupport s) (share budget : ℕ) (queue rest : List KeyView) (o : OutcomeView) (marks : List Bool) (spent : ℕ)
     (t : Trying m s share queue o marks spent) (within : spent ≤ budget) (found : FindsBest m s o.rests t.bounded.left None rest None)
     (exhausted : Bool) (says : (elected : List ElectedView) → AreMarked s elected marks → spent ≡ spent_on s elected → exhausted ≡ is_exhausted s budget elected) where
   whole : o.elected ≡ (run_of m s share).elected
@@ -184,12 +184,12 @@ module _ (m : Measure) (s : SupportView) (is : IsSupport s) (share budget : ℕ)
   ends_going_on it_is_not = record { is_support = is; ends = (not_over, is_exhausted_alike ∙ it_is_not); elected_are = λ _. whole }
 
 -- ---- following a smaller share: what keeps electing from here keeps electing from the start
-pub record Following (m : Measure) (s : SupportView) (share : ℕ) (last : List ElectedView) (i : ℕ) (queue : List Bid) (o : OutcomeView) : Type 0 where
+pub record Following (m : Measure) (s : SupportView) (share : ℕ) (last : List ElectedView) (i : ℕ) (queue : List KeyView) (o : OutcomeView) : Type 0 where
   pub bounded : Bounded m s share queue o
   pub keeps : KeepsElecting m s (drop i last) o.rests bounded.left
       → KeepsElecting m s last (replicate s.voters share) (range_with_len 0 (length s.costs))
 
-pub following_open : (m : Measure) (s : SupportView) (share : ℕ) → share ≤ largest_share → (last : List ElectedView) (queue : List Bid)
+pub following_open : (m : Measure) (s : SupportView) (share : ℕ) → share ≤ largest_share → (last : List ElectedView) (queue : List KeyView)
     → IsOpening m s share (length s.costs) queue
     → (o : OutcomeView) → o ≡ record { share = share; raised = 0; elected = []; rests = replicate s.voters share; priced = [] }
     → Following m s share last 0 queue o
@@ -213,15 +213,15 @@ drop_one xs i d below =
     let next : suc i ≡ i + 1 = omega arith in
     drop_suc xs i d below ∙ ap (λ n. get_or xs i d ∷ drop n xs) next
 
-module _ (m : Measure) (s : SupportView) (share : ℕ) (last : List ElectedView) (i : ℕ) (below : i < length last) (queue : List Bid) (o : OutcomeView)
-    (f : Following m s share last i queue o) (w : ElectedView) (w_is : w ≡ get_or last i w) (next : OutcomeView) (rest : List Bid)
+module _ (m : Measure) (s : SupportView) (share : ℕ) (last : List ElectedView) (i : ℕ) (below : i < length last) (queue : List KeyView) (o : OutcomeView)
+    (f : Following m s share last i queue o) (w : ElectedView) (w_is : w ≡ get_or last i w) (next : OutcomeView) (rest : List KeyView)
     (h : Follows m s f.bounded.left w o next rest) where
   keeps_from : KeepsElecting m s (drop (i + 1) last) next.rests (without h.best.place f.bounded.left) → KeepsElecting m s (drop i last) o.rests f.bounded.left
   keeps_from later =
       subst (λ (ws : List ElectedView). KeepsElecting m s ws o.rests f.bounded.left)
       (sym (drop_one last i w below ∙ ap (λ (v : ElectedView). v ∷ drop (i + 1) last) (sym w_is)))
       (subst (λ n. (price : ℕ) × (price_at s o.rests n ≡ Some price)
-      × ((other p : ℕ) → is_listed (without n f.bounded.left) other ≡ true → price_at s o.rests other ≡ Some p → is_before (bid m s n w.price) (bid m s other p) ≡ true)
+      × ((other p : ℕ) → is_listed (without n f.bounded.left) other ≡ true → price_at s o.rests other ≡ Some p → is_before (key_of m s n w.price) (key_of m s other p) ≡ true)
       × KeepsElecting m s (drop (i + 1) last) (charged (supporters_at s n) price o.rests) (without n f.bounded.left)) h.same (
         h.best.price,
         best_price m s share f.bounded.left o f.bounded.progress h.best h.is_best,
@@ -245,7 +245,7 @@ drop_past [] (suc i) h = refl
 drop_past (x ∷ xs) zero h = absurd (omega arith)
 drop_past (x ∷ xs) (suc i) h = drop_past xs i (omega arith)
 
-module _ (m : Measure) (s : SupportView) (share : ℕ) (last : List ElectedView) (i : ℕ) (all : length last ≤ i) (queue rest : List Bid) (o : OutcomeView)
+module _ (m : Measure) (s : SupportView) (share : ℕ) (last : List ElectedView) (i : ℕ) (all : length last ≤ i) (queue rest : List KeyView) (o : OutcomeView)
     (f : Following m s share last i queue o) (found : FindsBest m s o.rests f.bounded.left None rest None) where
   pub keeps_all : KeepsElecting m s last (replicate s.voters share) (range_with_len 0 (length s.costs))
   keeps_all = f.keeps (subst (λ (ws : List ElectedView). KeepsElecting m s ws o.rests f.bounded.left) (sym (drop_past last i all))

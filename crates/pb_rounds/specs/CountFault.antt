@@ -1,17 +1,16 @@
 -- Which options a count refuses.
-use Rattle.std.specs.Prelude.{ℕ, List, Option, Some, None, codes, ◌&&◌, not, nat_le, if◌then◌else◌}
+use Rattle.std.specs.Prelude.{ℕ, List, [], ◌∷◌, Option, Some, None, ◌&&◌, not, nat_le, if◌then◌else◌}
+use Rattle.pb_core.specs.Numbered.{numbered}
 use Rattle.pb_price.specs.PriceFault.{is_worker_count}
+use Rattle.pb_rounds.specs.contracts.count_fault.CountFault.{the_type}
 use Rattle.pb_rounds.specs.declared.count_fault.CountFault.{CountFault}
-use Rattle.pb_rounds.specs.declared.count_fault.CountFault.TheVariants.{WorkerCount, StepRange, RaisesRange, RaisesSpent, NoMemory}
+use Rattle.pb_rounds.specs.declared.count_fault.CountFault.TheVariants.{RaisesRange, StepRange, WorkerCount}
 use Rattle.pb_rounds.specs.declared.options.CountOptions.{CountOptions}
 
 -- the fault's number and name
 abbrev pub numbered_name : CountFault → ℕ × List ℕ
-numbered_name WorkerCount = (1, codes "WorkerCount")
-numbered_name StepRange = (2, codes "StepRange")
-numbered_name RaisesRange = (3, codes "RaisesRange")
-numbered_name RaisesSpent = (4, codes "RaisesSpent")
-numbered_name NoMemory = (5, codes "NoMemory")
+numbered_name fault =
+    numbered the_type ("WorkerCount" ∷ "StepRange" ∷ "RaisesRange" ∷ "RaisesSpent" ∷ "NoMemory" ∷ []) fault
 
 -- the most that a raise can lift everyone's share by, in hundredths
 abbrev pub largest_step : ℕ

@@ -14,9 +14,9 @@ use Rattle.pb_rounds.specs.declared.count_fault.CountFault.TheVariants.{NoMemory
 use Rattle.pb_rounds.specs.declared.options.Completion.TheVariants.{Plain, Add1}
 use Rattle.pb_rounds.specs.declared.options.CountOptions.{CountOptions}
 
--- The outcome is that of a run at its share, which is the opening share raised by so many steps: by none for a plain count, and
--- with Add1 by as many as complete it. So it is one outcome, for any number of workers. What is elected is within the budget,
--- and a price system explains it; and the numbers of prices are the lengths of a pricing record.
+-- The outcome is that of a run at its share, which is the opening share raised by so many steps: by none for a plain count,
+-- and with Add1 by as many as complete it. So it is one outcome, for any number of workers. What is elected is within the
+-- budget, and a price system explains it; and the numbers of prices are the lengths of a pricing record.
 pub record IsCountOf (e : ElectionView) (options : CountOptions) (o : OutcomeView) : Type 0 where
   pub in_range : refusal_of options ≡ None
   pub share_is : o.share ≡ opening_share e + o.raised * options.step

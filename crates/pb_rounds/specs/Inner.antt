@@ -1,11 +1,11 @@
 -- Words that private contracts alone speak of: nobody has to believe them.
 pub mod Between
-pub mod Bid
-pub mod BidOrder
-pub mod BidRecord
 pub mod Bounds
 pub mod Count
 pub mod Front
+pub mod Key
+pub mod KeyOrder
+pub mod KeyRecord
 pub mod Progress
 pub mod Queue
 pub mod RaiseEnds

@@ -1,9 +1,9 @@
-pub mod Bid
 pub mod Cheapest
 pub mod Completed
 pub mod Count
 pub mod CountFault
 pub mod Counted
+pub mod Key
 pub mod Outcome
 pub mod Payments
 pub mod PriceSystem

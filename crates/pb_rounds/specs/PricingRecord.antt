@@ -7,19 +7,21 @@ use Rattle.pb_rounds.specs.Cheapest.{IsCheaper, IsLeft}
 use Rattle.pb_rounds.specs.Run.{ElectedView, charged}
 use Rattle.pb_rounds.specs.declared.measure.Measure.{Measure}
 
--- the last known price of each project, once these are priced at these rests: none where it is known to have none
-pub record AreKnown (s : SupportView) (rests priced : List ℕ) (known next : ℕ → Option ℕ) : Type 0 where
+-- These projects, which are left once these are elected, are priced at these rests, none twice. Of each project the last
+-- known price is renewed or kept: none where it is known to have none.
+pub record ArePriced (s : SupportView) (elected : List ElectedView) (rests priced : List ℕ)
+    (known next : ℕ → Option ℕ) : Type 0 where
+  pub are_left : All (IsLeft s elected) priced
+  pub once : IsDistinct nat_eq priced
   pub renewed : (place : ℕ) → Contains priced place → IsPrice s rests place (next place)
   pub kept : (place : ℕ) → ¬ Contains priced place → next place ≡ known place
 
--- A round that elects w, after those before it, and prices these, which are left, none twice: w is among them; by the prices
--- known next no other project left is cheaper than w; and w was not cheaper than any of them by the price known before, but for
--- at most one less than the workers.
+-- A round that elects w, after those before it, and prices these: w is among them; by the prices known next no other project
+-- left is cheaper than w; and w was not cheaper than any of them by the price known before, but for at most one less than
+-- the workers.
 pub record IsPricedRound (m : Measure) (s : SupportView) (workers : ℕ) (before : List ElectedView)
     (known next : ℕ → Option ℕ)
     (w : ElectedView) (priced : List ℕ) : Type 0 where
-  pub are_left : All (IsLeft s before) priced
-  pub once : IsDistinct nat_eq priced
   pub has_winner : Contains priced w.place
   pub none_cheaper : (place price : ℕ) → IsLeft s before place → next place ≡ Some price
       → ¬ IsCheaper m s place price w.place w.price
@@ -29,22 +31,16 @@ pub record IsPricedRound (m : Measure) (s : SupportView) (workers : ℕ) (before
   pub few : length spare ≤ workers - 1
   pub in_time : All (λ place. (price : ℕ) × (known place ≡ Some price) × ¬ IsCheaper m s w.place w.price place price) needed
 
--- the last round, which elects nobody, and prices these: after it each project left is known to have no price
-pub record IsPricedEnd (s : SupportView) (elected : List ElectedView) (next : ℕ → Option ℕ) (priced : List ℕ)
-    : Type 0 where
-  pub are_left : All (IsLeft s elected) priced
-  pub once : IsDistinct nat_eq priced
-  pub all_none : (place : ℕ) → IsLeft s elected place → next place ≡ None
-
 -- The lists of the projects priced, one for each round that elects one of these, from these rests and known prices on, after
--- those before, and one for the last round.
+-- those before, and one for the last round, after which each project left is known to have no price.
 abbrev pub PricingRecord : Measure → SupportView → ℕ → (rests : List ℕ) → (before : List ElectedView) → (ℕ → Option ℕ)
     → (elected : List ElectedView) → List (List ℕ) → Type 0
 PricingRecord m s workers rests before known elected [] = ⊥
 PricingRecord m s workers rests before known [] (priced ∷ later) = (next : ℕ → Option ℕ)
-    × AreKnown s rests priced known next × IsPricedEnd s before next priced × (later ≡ [])
+    × ArePriced s before rests priced known next × ((place : ℕ) → IsLeft s before place → next place ≡ None)
+    × (later ≡ [])
 PricingRecord m s workers rests before known (w ∷ elected) (priced ∷ later) = (next : ℕ → Option ℕ)
-    × AreKnown s rests priced known next × IsPricedRound m s workers before known next w priced
+    × ArePriced s before rests priced known next × IsPricedRound m s workers before known next w priced
     × PricingRecord m s workers (charged (supporters_at s w.place) w.price rests) (w ∷ before) next elected later
 
 -- these are the numbers of prices of a pricing record of a run at this share, where each known price is 0 at first

@@ -5,7 +5,7 @@ use Rattle.std.specs.Option.{option_map_or}
 use Rattle.pb_core.specs.Election.{ElectionView}
 use Rattle.pb_price.specs.Supporters.{SupportView, support_of, supporters_at, cost_at}
 use Rattle.pb_price.specs.Price.{paid_at, price_at}
-use Rattle.pb_rounds.specs.Bid.{Bid, is_before, first_least}
+use Rattle.pb_rounds.specs.Key.{KeyView, first_least, is_before}
 use Rattle.pb_rounds.specs.declared.measure.Measure.{Measure}
 use Rattle.pb_rounds.specs.declared.measure.Measure.TheVariants.{Votes, Cost}
 
@@ -25,21 +25,21 @@ abbrev pub weight_of : Measure → SupportView → ℕ → ℕ
 weight_of Votes s place = 1
 weight_of Cost s place = cost_at s place
 
--- the bid of the project at this place; every bid is written so
-abbrev pub bid : Measure → SupportView → ℕ → ℕ → Bid
-bid m s place price = record { price = price; weight = weight_of m s place; place = place }
+-- the key of the project at this place; every key is written so
+abbrev pub key_of : Measure → SupportView → ℕ → ℕ → KeyView
+key_of m s place price = record { price = price; weight = weight_of m s place; place = place }
 
 -- the project with its price at these rests, where it has one
-abbrev pub bid_at : Measure → SupportView → List ℕ → ℕ → Option Bid
-bid_at m s rests place = option_map (bid m s place) (price_at s rests place)
+abbrev pub key_at : Measure → SupportView → List ℕ → ℕ → Option KeyView
+key_at m s rests place = option_map (key_of m s place) (price_at s rests place)
 
--- the bids of the projects left, in file order
-abbrev pub bids_at : Measure → SupportView → List ℕ → List ℕ → List Bid
-bids_at m s rests left = filter_map (bid_at m s rests) left
+-- the keys of the projects left, in file order
+abbrev pub keys_at : Measure → SupportView → List ℕ → List ℕ → List KeyView
+keys_at m s rests left = filter_map (key_at m s rests) left
 
 -- the best project of a round: the least price over weight among the projects left, the first in the file among equals
-unfoldable pub best_of : Measure → SupportView → List ℕ → List ℕ → Option Bid
-best_of m s rests left = first_least is_before (bids_at m s rests left)
+unfoldable pub best_of : Measure → SupportView → List ℕ → List ℕ → Option KeyView
+best_of m s rests left = first_least is_before (keys_at m s rests left)
 
 -- whether the number is in the list
 abbrev pub is_listed : List ℕ → ℕ → Bool
@@ -50,10 +50,10 @@ unfoldable pub charged : List ℕ → ℕ → List ℕ → List ℕ
 charged supporters price rests =
     map (λ v. slice_index rests v - (if is_listed supporters v then price else 0)) (range_with_len 0 (length rests))
 
--- the project elected by this bid
-abbrev pub elected_by : SupportView → List ℕ → Bid → ElectedView
-elected_by s rests b =
-    record { place = b.place; price = b.price; collected = paid_at (supporters_at s b.place) rests b.price }
+-- the project elected by this key
+abbrev pub elected_by : SupportView → List ℕ → KeyView → ElectedView
+elected_by s rests k =
+    record { place = k.place; price = k.price; collected = paid_at (supporters_at s k.place) rests k.price }
 
 -- the projects left without the one at this place
 abbrev pub without : ℕ → List ℕ → List ℕ
@@ -67,8 +67,8 @@ unfoldable pub run_from : Measure → SupportView → ℕ → List ℕ → List 
 run_from m s zero rests left = record { elected = []; rests = rests }
 run_from m s (suc rounds) rests left =
     option_map_or
-    (λ b. then_run (elected_by s rests b)
-    (run_from m s rounds (charged (supporters_at s b.place) b.price rests) (without b.place left)))
+    (λ k. then_run (elected_by s rests k)
+    (run_from m s rounds (charged (supporters_at s k.place) k.price rests) (without k.place left)))
     (best_of m s rests left)
     (record { elected = []; rests = rests })
 

@@ -1,6 +1,6 @@
 //! The queue of a trial: the projects that may still be paid, each with a lower bound of its price.
 
-ghost use Rattle.std.specs.Prelude.{◌≡◌, ◌+◌, ◌<◌, ◌≤◌, ℕ, List, IfOk, OnOk, length};
+ghost use Rattle.std.specs.Prelude.{◌+◌, ◌<◌, ◌≤◌, ℕ, List, IfOk, OnOk, length};
 ghost use Rattle.pb_price.specs.Price.{AreRests, largest_share};
 ghost use Rattle.pb_price.specs.Supporters.{IsSupport};
 ghost use Rattle.pb_rounds.specs.Inner.Bounds.{FindsBest, HasBounds, IsOpening};
@@ -54,9 +54,9 @@ fn put_opening<A: Allocator + Clone, B: Allocator>(
     Ok(())
 }
 
-/// Takes the best project out of the queue, at its price, unless there is none up to the limit. The head's bound is its price
-/// where its supporters cover its cost by it, and then no other project can come before; else the head goes back with a
-/// higher bound, or is left out where it has no price.
+/// Takes the best project out of the queue, at its price, unless there is none up to the limit. The head's bound is its
+/// price where its supporters cover its cost by it, and then no other project can come before; else the head goes back with
+/// a higher bound, or is left out where it has no price.
 pub(crate) fn next_best<A: Allocator + Clone, B: Allocator>(
     supporters: &Supporters<B>,
     rests: &[Money],

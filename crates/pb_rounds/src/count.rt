@@ -109,8 +109,8 @@ where
     Ok(outcome)
 }
 
-/// Counts an election: the outcome at the opening share, or with completion by raises the first one that is exhausted, or the
-/// last one before the first that is over the budget.
+/// Counts an election: the outcome at the opening share, or with completion by raises the first one that is exhausted, or
+/// the last one before the first that is over the budget.
 ///
 /// The options are checked first, workers, step and raises in this order, whatever the completion.
 pub fn count<R: Threads + Sync, A: Allocator + Send + Sync, B: Allocator>(

@@ -2,9 +2,9 @@
 
 ghost use Rattle.std.specs.Prelude.{◌≡◌, ◌+◌, ◌-◌, ◌∷◌, ◌<◌, ◌≤◌, All, IfOk, MatchOption, OnOk, length, map, slice_index, true};
 ghost use Rattle.pb_price.specs.Price.{largest_share};
-ghost use Rattle.pb_rounds.specs.Bid.{Bid};
 ghost use Rattle.pb_rounds.specs.Inner.Front.{CanAllPay, IsFront, IsFrontAt, IsCopyUpTo, raised_by, with_next};
 ghost use Rattle.pb_rounds.specs.Inner.Queue.{IsIn};
+ghost use Rattle.pb_rounds.specs.Key.{KeyView};
 
 use crate::bounds::fill_opening;
 use crate::exhaustion::{clear_marks, mark};
@@ -23,9 +23,9 @@ use std::marker::Model;
 /// The largest share of the budget that a voter is given.
 const LARGEST_SHARE: Money = Money(2 * Money::LARGEST.0);
 
-/// The first rounds of a run, as far as each elects the next project in the order of the prices that all have where everybody
-/// can pay, and each of its supporters can pay that. They are the same at every larger share: there nobody has less, and no
-/// price falls below those.
+/// The first rounds of a run, as far as each elects the next project in the order of the prices that all have where
+/// everybody can pay, and each of its supporters can pay that. They are the same at every larger share: there nobody has
+/// less, and no price falls below those.
 #[derive(Drop)]
 pub(crate) struct Front<'a, A: Allocator> {
     pub(crate) measure: Measure,
@@ -41,7 +41,7 @@ pub(crate) struct Front<'a, A: Allocator> {
 }
 
 impl<'a, A: Allocator> Model for Front<'a, A> {
-    ghost use Rattle.pb_rounds.specs.Bid.{Bid};
+    ghost use Rattle.pb_rounds.specs.Key.{KeyView};
     ghost use Rattle.pb_rounds.specs.Inner.Front.{FrontView};
 
     ghost Value = { FrontView };
@@ -114,8 +114,8 @@ impl<'a, A: Allocator + Copy> Front<'a, A> {
         Ok(())
     }
 
-    /// Begins a run at this share, which is no smaller, behind these rounds: the queue has who can be paid of those left, and
-    /// lists are used again. What the elected cost together, in hundredths.
+    /// Begins a run at this share, which is no smaller, behind these rounds: the queue has who can be paid of those left,
+    /// and lists are used again. What the elected cost together, in hundredths.
     pub(crate) fn start(
         &self,
         share: Money,
@@ -146,7 +146,7 @@ fn take_next<A: Allocator>(
     outcome: &Outcome<A>,
     queue: &mut BTreeSet<Key, A>,
 ) -> Option<Key>
-    requires known { (b : Bid) → IsIn b queue.old.keys → b.place < length supporters.now.costs }
+    requires known { (k : KeyView) → IsIn k queue.old.keys → k.place < length supporters.now.costs }
     requires rests { length outcome.now.rests ≡ supporters.now.voters }
     ensures { MatchOption result (queue.new.keys ≡ queue.old.keys) (λ head.
         (queue.old.keys ≡ head ∷ queue.new.keys) × CanAllPay supporters.now outcome.now.rests head) }
@@ -208,7 +208,7 @@ fn add_to_each<A: Allocator>(rests: &mut Vec<Money, A>, more: Money)
     }
 }
 
-/// Puts those of these bids whose price is at most the share into the queue, in place of what it held.
+/// Puts those of these keys whose price is at most the share into the queue, in place of what it held.
 fn copy_up_to<A: Allocator + Clone>(
     queue: &mut BTreeSet<Key, A>,
     from: &BTreeSet<Key, A>,

@@ -22,9 +22,10 @@ use pb_price::supporters::Supporters;
 use std::alloc::Allocator;
 
 impl<A: Allocator + Copy> Trial<A> {
-    /// Whether the projects that a smaller share elects are elected at this share too, and at every share in between: at each
-    /// round of this share the project elected last time is the best, and no other left comes before or beside the price that
-    /// it had at the smaller share; at the end nobody is left who can be paid. Then the outcome has whom this share elects.
+    /// Whether the projects that a smaller share elects are elected at this share too, and at every share in between: at
+    /// each round of this share the project elected last time is the best, and no other left comes before or beside the
+    /// price that it had at the smaller share; at the end nobody is left who can be paid. Then the outcome
+    /// has whom this share elects.
     pub(crate) fn keeps(
         &mut self,
         measure: Measure,

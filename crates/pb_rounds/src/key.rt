@@ -6,8 +6,6 @@ use std::marker::Model;
 
 /// What a round orders projects by: the smaller price over weight comes first, and among equals the project that stands
 /// earlier in the file. (The place decides before the weight, which only tells apart keys that are made by hand.)
-///
-/// The definitions call its value a bid (`specs/Bid.antt`).
 #[derive(Clone, Copy, Debug, PartialEq, Eq)]
 pub struct Key {
     price: Money,
@@ -17,15 +15,15 @@ pub struct Key {
 
 impl Model for Key {
     ghost use Rattle.std.specs.Prelude.{◌≤◌};
-    ghost use Rattle.pb_rounds.specs.Bid.{Bid};
+    ghost use Rattle.pb_rounds.specs.Key.{KeyView};
 
-    ghost Value = { Bid };
+    ghost Value = { KeyView };
 
     ghost view = { λ k. record { price = k.price; weight = k.weight; place = k.place } };
 
     ghost invariant = { λ k. 1 ≤ k.weight };
 
-    ghost inverse = { λ b. record { price = b.price; weight = b.weight; place = b.place } };
+    ghost inverse = { λ k. record { price = k.price; weight = k.weight; place = k.place } };
 }
 
 impl Key {
@@ -65,13 +63,13 @@ impl Key {
 }
 
 impl Ord for Key {
-    ghost use Rattle.pb_rounds.specs.Bid.{bid_cmp};
-    ghost use Rattle.pb_rounds.specs.Inner.BidOrder.{bid_cmp-total, fields_tie};
+    ghost use Rattle.pb_rounds.specs.Key.{key_cmp};
+    ghost use Rattle.pb_rounds.specs.Inner.KeyOrder.{fields_tie, key_cmp-total};
     ghost use Rattle.std.proofs.Common.{refl};
 
-    ghost cmp = { bid_cmp };
+    ghost cmp = { key_cmp };
 
-    ghost total = { bid_cmp-total };
+    ghost total = { key_cmp-total };
 
     ghost matches_partial_cmp = { λ x y. refl };
 
@@ -89,12 +87,12 @@ impl Ord for Key {
 impl PartialOrd for Key {
     ghost use Rattle.std.specs.Cmp.{partial_order_from_own_ties, partial_order_from_total};
     ghost use Rattle.std.specs.Ordering.{as_partial_cmp};
-    ghost use Rattle.pb_rounds.specs.Bid.{bid_cmp};
-    ghost use Rattle.pb_rounds.specs.Inner.BidOrder.{bid_cmp-total, fields_tie};
+    ghost use Rattle.pb_rounds.specs.Key.{key_cmp};
+    ghost use Rattle.pb_rounds.specs.Inner.KeyOrder.{fields_tie, key_cmp-total};
 
-    ghost partial_cmp = { as_partial_cmp bid_cmp };
+    ghost partial_cmp = { as_partial_cmp key_cmp };
 
-    ghost laws = { partial_order_from_own_ties (partial_order_from_total bid_cmp-total) fields_tie };
+    ghost laws = { partial_order_from_own_ties (partial_order_from_total key_cmp-total) fields_tie };
 
     fn partial_cmp(&self, other: &Key) -> Option<Ordering> {
         Some(self.cmp(other))

@@ -42,7 +42,7 @@ pub fn count_is_computed()
 {}
 
 /// The run at a share is the one of which the words of its rule hold: each of the elected was the cheapest of its round and
-/// collected what its supporters could pay of its price, the rests are what is left then, and nothing that is left has a price.
+/// collected what its supporters could pay of its price, the rests are what is left then, and no project left has a price.
 pub fn run_is_its_rule()
     ensures { (m : Measure) (e : ElectionView) (share : ℕ) (run : RunView) → IsElection e
         → (run ≡ outcome_of m e share) ↔ IsRun m (support_of e) share run.elected run.rests }

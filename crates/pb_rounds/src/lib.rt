@@ -1,4 +1,4 @@
-//! The Method of Equal Shares in rounds (Peters, Pierczynski and Skowron 2021), and its completion by raising everyone's share.
+//! The Method of Equal Shares in rounds (Peters, Pierczynski and Skowron 2021), and its completion by raises of the share.
 #![tactic(auto)]
 
 mod bounds;

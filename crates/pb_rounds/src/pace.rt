@@ -1,5 +1,5 @@
-//! When a jump over raises is tried, and how far it goes. No outcome depends on it, but the time does: a jump that fails was in
-//! vain, and costs about as much as a trial.
+//! When a jump over raises is tried, and how far it goes. No outcome depends on it, but the time does: a jump that fails was
+//! in vain, and costs about as much as a trial.
 
 ghost use Rattle.std.specs.Prelude.{◌≤◌};
 

@@ -24,8 +24,8 @@ pub(crate) struct Pricing<'a, R, G, A: Allocator> {
     pub(crate) supporters: &'a Supporters<A>,
 }
 
-/// How many of the workers price these projects: one, and one more for each share of the approvals that is worth a thread, as
-/// far as there are workers.
+/// How many of the workers price these projects: one, and one more for each share of the approvals that is worth a thread,
+/// as far as there are workers.
 pub(crate) fn workers_for<A: Allocator>(
     workers: u32,
     supporters: &Supporters<A>,

@@ -1,5 +1,5 @@
-ghost use Rattle.std.specs.Prelude.{◌≡◌, ◌<◌, ◌≤◌, MatchOption, OnOk, length, [], ◌∷◌};
-ghost use Rattle.pb_rounds.specs.Inner.Queue.{IsDone, IsFull, IsIn, IsTaken, PutsBack, Rises, TakesHeads};
+ghost use Rattle.std.specs.Prelude.{◌≡◌, ◌<◌, MatchOption, OnOk, length, [], ◌∷◌};
+ghost use Rattle.pb_rounds.specs.Inner.Queue.{IsDone, IsFull, IsTaken, PutsBack, Rises, TakesHeads};
 
 use crate::key::Key;
 use crate::measure::Measure;

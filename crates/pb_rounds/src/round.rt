@@ -4,10 +4,10 @@ ghost use Rattle.pb_core.specs.Election.{most_projects};
 ghost use Rattle.pb_price.specs.Price.{paid_at, price_at, AreRests, largest_count};
 ghost use Rattle.pb_price.specs.PriceFault.{is_worker_count};
 ghost use Rattle.pb_price.specs.Supporters.{supporters_at};
-ghost use Rattle.pb_rounds.specs.Bid.{Bid, first_least, is_before};
-ghost use Rattle.pb_rounds.specs.Inner.Bid.{better_of};
+ghost use Rattle.pb_rounds.specs.Inner.Key.{better_of};
 ghost use Rattle.pb_rounds.specs.Inner.Queue.{IsDone, IsIn, PricesHeads};
-ghost use Rattle.pb_rounds.specs.Run.{bids_at, charged, elected_by};
+ghost use Rattle.pb_rounds.specs.Key.{KeyView, first_least, is_before};
+ghost use Rattle.pb_rounds.specs.Run.{charged, elected_by, keys_at};
 ghost use Rattle.pb_rounds.specs.Inner.Threads.{workers_for};
 
 use crate::key::Key;
@@ -74,7 +74,7 @@ fn price_heads<R: Threads + Sync, G: Gate, A: Allocator + Copy + Send + Sync>(
     requires few { length heads.now ≤ most_projects }
     requires best { fresh.old.best ≡ first_least is_before fresh.old.keys.items }
     ensures fresh { OnOk result (fresh.new.keys.items
-        ≡ fresh.old.keys.items ++ bids_at pricing.now.measure pricing.now.supporters.now rests.now heads.now) }
+        ≡ fresh.old.keys.items ++ keys_at pricing.now.measure pricing.now.supporters.now rests.now heads.now) }
     ensures best { OnOk result (fresh.new.best ≡ first_least is_before fresh.new.keys.items) }
     ensures counted { OnOk result (tally.new.prices ≡ min (tally.old.prices + length heads.now) largest_count) }
     ensures workers { OnOk result (tally.new.workers ≡ min (tally.old.workers + max 1 (min (length heads.now)
@@ -106,8 +106,8 @@ fn price_heads<R: Threads + Sync, G: Gate, A: Allocator + Copy + Send + Sync>(
 }
 
 impl<A: Allocator + Copy + Send + Sync> Run<A> {
-    /// Prices the heads of the queue, as far as the best of this round needs, and gives that best. The places that were priced
-    /// and the fresh keys are those of this round alone; how many prices it took goes after the outcome's other counts.
+    /// Prices the heads of the queue, as far as the best of this round needs, and gives that best. The places that were
+    /// priced and the fresh keys are those of this round alone; the number of prices goes after the outcome's others.
     pub(crate) fn price_round<R: Threads + Sync, G: Gate>(
         &mut self,
         pricing: &Pricing<R, G, A>,
@@ -117,7 +117,7 @@ impl<A: Allocator + Copy + Send + Sync> Run<A> {
         requires workers { is_worker_count pricing.now.workers ≡ true }
         requires most { 0 < most }
         requires rests { AreRests pricing.now.supporters.now.voters outcome.old.rests }
-        requires known { (b : Bid) → IsIn b self.old.queue.keys → b.place < length pricing.now.supporters.now.costs }
+        requires known { (k : KeyView) → IsIn k self.old.queue.keys → k.place < length pricing.now.supporters.now.costs }
         requires few { length self.old.queue.keys ≤ most_projects }
         ensures priced { IfOk result
             (PricesHeads pricing.now.measure pricing.now.supporters.now outcome.old.rests most
@@ -147,7 +147,7 @@ impl<A: Allocator + Copy + Send + Sync> Run<A> {
         requires workers { is_worker_count pricing.now.workers ≡ true }
         requires most { 0 < most }
         requires rests { AreRests pricing.now.supporters.now.voters rests.now }
-        requires known { (b : Bid) → IsIn b self.old.queue.keys → b.place < length pricing.now.supporters.now.costs }
+        requires known { (k : KeyView) → IsIn k self.old.queue.keys → k.place < length pricing.now.supporters.now.costs }
         requires few { length self.old.queue.keys ≤ most_projects }
         requires places { self.old.places.items ≡ [] }
         requires fresh { self.old.fresh.keys.items ≡ [] }
@@ -196,7 +196,7 @@ pub(crate) fn elect<A: Allocator>(
     Ok(())
 }
 
-/// Takes the price from the rest of each of these supporters, or the whole rest where that is less, and gives the sum of what was taken.
+/// Takes the price from the rest of each of these supporters, or the whole rest where that is less: what all paid together.
 fn charge(supporters: &[u32], price: Money, rests: &mut [Money]) -> Money
     requires known { All (λ voter. voter < length rests.old) supporters.now }
     requires rise { IsStrictlyIncreasing supporters.now }

@@ -1,5 +1,5 @@
-//! Why the shortcuts of a completion pass over no raise that decides, each as the contract of a function that does nothing. Nobody
-//! has to believe them: what a count promises says nothing of shortcuts.
+//! Why the shortcuts of a completion pass over no raise that decides, each as the contract of a function that does nothing.
+//! Nobody has to believe them: what a count promises says nothing of shortcuts.
 
 ghost use Rattle.std.specs.Prelude.{◌≡◌, ◌≤◌, ℕ};
 ghost use Rattle.pb_core.specs.Election.{ElectionView};

@@ -11,7 +11,7 @@ pub record IsLeastFrom (rests : List ℕ) (cost p : ℕ) : Type 0 where
   pub covers : cost ≤ paid_from rests p
   pub least : (q : ℕ) → q < p → paid_from rests q < cost
 
--- the answer is the least payment by which these supporters cover this cost; none, where all that is left to them is below it
+-- the answer is the least payment by which these supporters cover this cost; none, where they have less left together
 abbrev pub IsPriceFor : List ℕ → List ℕ → ℕ → Option ℕ → Type 0
 IsPriceFor supporters rests cost answer =
     MatchOption answer (total_rest supporters rests < cost) (IsLeastPayment supporters rests cost)

@@ -5,7 +5,7 @@ use Rattle.pb_core.specs.Ballot.{approves}
 use Rattle.pb_rounds.specs.Run.{ElectedView, is_listed}
 use Rattle.pb_reasons.specs.Reasons.{round_of}
 
--- what a voter pays in a round, out of what is left: who approves the project the price, or all that is left where that is less
+-- what a voter pays in a round, out of what is left: who approves the project the price, or all that is left if that is less
 abbrev pub due_of : Bool → ℕ → ℕ → ℕ
 due_of is_approved rest price = if is_approved then min rest price else 0
 

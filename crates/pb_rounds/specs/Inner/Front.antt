@@ -1,13 +1,13 @@
--- The front of a completion: the first rounds of its runs, as far as they are the same at every larger share. Only clauses of
--- private functions speak of it.
+-- The front of a completion: the first rounds of its runs, as far as they are the same at every larger share. Only clauses
+-- of private functions speak of it.
 use Rattle.std.specs.Prelude.{◌≡◌, ℕ, ◌∷◌, ◌+◌, ◌≤◌, All, Bool, Some, List, map, replicate, slice_index}
 use Rattle.pb_price.specs.Price.{NoRestRises, largest_share, price_at}
 use Rattle.pb_price.specs.Supporters.{IsSupport, SupportView, supporters_at}
-use Rattle.pb_rounds.specs.Bid.{Bid}
 use Rattle.pb_rounds.specs.Count.{spent_on}
 use Rattle.pb_rounds.specs.Inner.Bounds.{HasBounds}
 use Rattle.pb_rounds.specs.Inner.Progress.{Progress}
 use Rattle.pb_rounds.specs.Inner.Queue.{AreMarked, IsIn, Rises}
+use Rattle.pb_rounds.specs.Key.{KeyView}
 use Rattle.pb_rounds.specs.Outcome.{OutcomeView}
 use Rattle.pb_rounds.specs.declared.measure.Measure.{Measure}
 
@@ -15,7 +15,7 @@ use Rattle.pb_rounds.specs.declared.measure.Measure.{Measure}
 pub record FrontView : Type 0 where
   pub measure : Measure
   pub support : SupportView
-  pub queue : List Bid
+  pub queue : List KeyView
   pub marks : List Bool
   pub spent : ℕ
   pub outcome : OutcomeView
@@ -30,16 +30,16 @@ raised_by more o = record {
   priced = o.priced;
 }
 
--- The same rounds are the first ones of the run at every share from this one on, where each voter has as much more left as the
--- share is more. The queue has the projects left that somebody supports, each at the price that it has at the largest share.
+-- The same rounds are the first ones of the run at every share from this one on, where each voter has as much more left as
+-- the share is more. The queue has the projects left that somebody supports, each at its price at the largest share.
 pub record IsFront (f : FrontView) : Type 0 where
   pub is_support : IsSupport f.support
   pub left : List ℕ
   pub shared : (more : ℕ) → f.outcome.share + more ≤ largest_share
       → Progress f.measure f.support (f.outcome.share + more) 0 left (raised_by more f.outcome)
   pub bounds : HasBounds f.measure f.support (replicate f.support.voters largest_share) left f.queue
-  pub priced : (b : Bid) → IsIn b f.queue
-      → price_at f.support (replicate f.support.voters largest_share) b.place ≡ Some b.price
+  pub priced : (k : KeyView) → IsIn k f.queue
+      → price_at f.support (replicate f.support.voters largest_share) k.place ≡ Some k.price
   pub marked : AreMarked f.support f.outcome.elected f.marks
   pub spent_is : f.spent ≡ spent_on f.support f.outcome.elected
   pub small : f.outcome.share ≤ largest_share
@@ -51,8 +51,8 @@ pub record IsFrontAt (m : Measure) (s : SupportView) (share : ℕ) (f : FrontVie
   pub of_support : f.support ≡ s
   pub at_share : f.outcome.share ≡ share
 
--- the front whose queue begins with this bid
-abbrev pub with_next : Bid → FrontView → FrontView
+-- the front whose queue begins with this key
+abbrev pub with_next : KeyView → FrontView → FrontView
 with_next head f = record {
   measure = f.measure;
   support = f.support;
@@ -63,11 +63,11 @@ with_next head f = record {
 }
 
 -- each supporter of the project can pay this price
-abbrev pub CanAllPay : SupportView → List ℕ → Bid → Type 0
-CanAllPay s rests b = All (λ voter. b.price ≤ slice_index rests voter) (supporters_at s b.place)
+abbrev pub CanAllPay : SupportView → List ℕ → KeyView → Type 0
+CanAllPay s rests k = All (λ voter. k.price ≤ slice_index rests voter) (supporters_at s k.place)
 
--- the copy has those of these bids whose price is at most the share
-pub record IsCopyUpTo (share : ℕ) (queue copy : List Bid) : Type 0 where
-  pub sound : (b : Bid) → IsIn b copy → IsIn b queue
-  pub whole : (b : Bid) → IsIn b queue → b.price ≤ share → IsIn b copy
+-- the copy has those of these keys whose price is at most the share
+pub record IsCopyUpTo (share : ℕ) (queue copy : List KeyView) : Type 0 where
+  pub sound : (k : KeyView) → IsIn k copy → IsIn k queue
+  pub whole : (k : KeyView) → IsIn k queue → k.price ≤ share → IsIn k copy
   pub rises : Rises copy

@@ -6,7 +6,7 @@ use Rattle.pb_price.specs.Supporters.{SupportView, IsSupport, support_of}
 use Rattle.pb_rounds.specs.Count.{add1_of, is_exhausted, is_over, share_after}
 use Rattle.pb_rounds.specs.CountFault.{largest_step, most_raises}
 use Rattle.pb_rounds.specs.Outcome.{OutcomeView, settled, settled_by}
-use Rattle.pb_rounds.specs.Inner.BidRecord.{HasBidRecord}
+use Rattle.pb_rounds.specs.Inner.KeyRecord.{HasKeyRecord}
 use Rattle.pb_rounds.specs.Run.{ElectedView, run_of}
 use Rattle.pb_rounds.specs.declared.measure.Measure.{Measure}
 use Rattle.pb_rounds.specs.declared.raise_end.RaiseEnd.{RaiseEnd}
@@ -46,7 +46,7 @@ pub record CanComplete (e : ElectionView) (workers : ℕ) (s : SupportView) (ste
 pub record IsOutcomeAt (m : Measure) (s : SupportView) (workers share raised : ℕ) (o : OutcomeView)
     : Type 0 where
   pub settled_is : settled o ≡ settled_by share raised (run_of m s share)
-  pub priced : HasBidRecord m s workers share o.priced
+  pub priced : HasKeyRecord m s workers share o.priced
   pub is_support : IsSupport s
 
 -- the outcome in which a completion by raises ends

@@ -3,9 +3,9 @@ use Rattle.std.proofs.lemmas.Bool.{true≢false, eq-eqb, eqb-true}
 use Rattle.pb_price.proofs.Payments.{least_from_price, no_price_from_short, price_from_least}
 use Rattle.pb_price.specs.Price.{price_at}
 use Rattle.pb_price.specs.Supporters.{cost_at, supporters_at}
-use Rattle.pb_rounds.specs.Bid.{Bid}
 use Rattle.pb_rounds.specs.Inner.Bounds.{HasBounds}
 use Rattle.pb_rounds.specs.Inner.Queue.{IsDone}
+use Rattle.pb_rounds.specs.Key.{KeyView}
 use Rattle.pb_rounds.specs.Run.{weight_of}
 use Rattle.pb_rounds.proofs.BoundQueue.{fewer_with_higher, head_goes_back, head_is_best, head_known, head_lower, head_taken, head_weight, head_without_price, looks_left, none_within}
 use Rattle.pb_rounds.proofs.bounds.next_best.Goals as goal
@@ -51,9 +51,9 @@ loop-head-smaller g c =
     let h = subst (HasBounds b.0 c.args.supporters.now c.args.rests.now b.1) c.in-Some.ensures.0 (c.loop-head.invariant b.0 b.1 b.2) in
     let known = head_known b.0 c.args.supporters.now c.args.rests.now b.1 c.in-Some.head c.take_head.new.queue.keys h in
     let bounded = c.requires.support.costs_bounded c.place.result 0 (omega (arith, known, c.place.ensures)) in
-    let price : c.new.result.price ≡ c.in-Some-next_bound.next = ap (λ (k : Bid). k.price) c.new.ensures in
-    subst (λ (queue : List Bid). looks_left c.insert.new.self.keys < looks_left queue) (sym c.in-Some.ensures.0)
-    (subst (λ (queue : List Bid). looks_left queue < looks_left (c.in-Some.head ∷ c.take_head.new.queue.keys)) (sym c.in_ok-insert-in-Some-2.ensures.keys)
+    let price : c.new.result.price ≡ c.in-Some-next_bound.next = ap (λ (k : KeyView). k.price) c.new.ensures in
+    subst (λ (queue : List KeyView). looks_left c.insert.new.self.keys < looks_left queue) (sym c.in-Some.ensures.0)
+    (subst (λ (queue : List KeyView). looks_left queue < looks_left (c.in-Some.head ∷ c.take_head.new.queue.keys)) (sym c.in_ok-insert-in-Some-2.ensures.keys)
     (fewer_with_higher c.in-Some.head c.new.result c.take_head.new.queue.keys (omega (arith, more, price, c.price-bound.ensures))
     (omega (arith, c.in-Some-next_bound.ensures.small more, bounded, price))))
 

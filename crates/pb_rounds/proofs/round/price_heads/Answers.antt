@@ -2,8 +2,8 @@ use Rattle.std.proofs.Common.{◌∙◌, ◌++◌, length, sym, ap, get_or, arit
 use Rattle.std.proofs.lemmas.List.{length-map, take_all}
 use Rattle.pb_price.proofs.Payments.{prices_from_are_prices}
 use Rattle.pb_price.specs.Price.{price_at}
-use Rattle.pb_rounds.specs.Bid.{first_least, is_before}
-use Rattle.pb_rounds.specs.Run.{bids_at}
+use Rattle.pb_rounds.specs.Key.{first_least, is_before}
+use Rattle.pb_rounds.specs.Run.{keys_at}
 use Rattle.pb_rounds.proofs.QueueSteps.{answer_at, best_more, fresh_none, fresh_some}
 use Rattle.pb_rounds.proofs.round.price_heads.Goals as goal
 use Rattle.pb_rounds.proofs.round.price_heads.Goals.{in-Some+in_ok-push, in_default-index}
@@ -44,5 +44,5 @@ loop-i-preserved g c =
 pub returns-clause-fresh : goal.returns-clause-fresh
 returns-clause-fresh g c =
     c.loop-i.invariant.fresh
-    ∙ ap (λ xs. c.args.fresh.now.keys.items ++ bids_at c.args.pricing.now.measure c.args.pricing.now.supporters.now c.args.rests.now xs)
+    ∙ ap (λ xs. c.args.fresh.now.keys.items ++ keys_at c.args.pricing.now.measure c.args.pricing.now.supporters.now c.args.rests.now xs)
     (take_all c.loop-i.i c.args.heads.now c.loop-i-test.false)

@@ -7,7 +7,7 @@ use Rattle.pb_price.proofs.worker.Worker.work.Goals as goal
 pub draw-number-requires-clause-may_draw : goal.draw-number-requires-clause-may_draw
 draw-number-requires-clause-may_draw g c =
     may_draw c.args.pieces.now.supporters.now c.args.pieces.now.rests.now c.args.pieces.now.projects.now c.loop-place.self.claim.seat.me.0 c.loop-place.self.answers.items
-    c.args.claims.now.table.shared.key.pieces c.loop-place.invariant.working c.requires.batch.are_pieces
+    c.args.claims.now.batch.pieces c.loop-place.invariant.working c.requires.batch.are_pieces
 
 pub loop-place-preserved : goal.loop-place-preserved
 loop-place-preserved g c =

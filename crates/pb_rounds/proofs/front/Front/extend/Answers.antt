@@ -1,8 +1,8 @@
 use Rattle.std.proofs.Common.{◌≡◌, ◌+◌, ◌-◌, ◌<◌, ◌≤◌, ◌∙◌, length, subst, sym, ap, arith}
 use Rattle.pb_price.specs.Price.{largest_share}
-use Rattle.pb_rounds.specs.Bid.{Bid}
 use Rattle.pb_rounds.specs.Inner.Front.{FrontView, IsFront}
 use Rattle.pb_rounds.specs.Inner.Queue.{IsIn}
+use Rattle.pb_rounds.specs.Key.{KeyView}
 use Rattle.pb_rounds.specs.Outcome.{OutcomeView}
 use Rattle.pb_rounds.proofs.Fronts.{queue_known, raised_front, rests_here}
 use Rattle.pb_rounds.proofs.front.Front.extend.Goals as goal
@@ -26,7 +26,7 @@ loop-head-init g c =
 
 pub take_next-requires-clause-known : goal.take_next-requires-clause-known
 take_next-requires-clause-known g c =
-    subst (λ (f : FrontView). (b : Bid) → IsIn b f.queue → b.place < length f.support.costs) (sym c.self-in-loop-head.view_is)
+    subst (λ (f : FrontView). (b : KeyView) → IsIn b f.queue → b.place < length f.support.costs) (sym c.self-in-loop-head.view_is)
     (queue_known c.loop-head.self c.loop-head.invariant.front)
 
 pub take_next-requires-clause-rests : goal.take_next-requires-clause-rests

@@ -1,7 +1,7 @@
 use Rattle.std.proofs.Common.{◌<◌, ◌≤◌, ◌∙◌, ◌++◌, sym, ap, subst, ℕ, List, length, arith}
 use Rattle.std.specs.Prelude.{All}
 use Rattle.pb_core.specs.Election.{most_projects}
-use Rattle.pb_rounds.specs.Run.{bids_at}
+use Rattle.pb_rounds.specs.Run.{keys_at}
 use Rattle.pb_rounds.proofs.QueueSteps.{counted_more, cut_off, fewer_left, heads_more, heads_none, none_taken, taken_few, taken_known}
 use Rattle.pb_rounds.proofs.run.Run.price_batches.Goals as goal
 
@@ -39,7 +39,7 @@ loop-self-preserved g c =
           c.loop-self.self.places.items c.loop-self.self.fresh.keys.items c.loop-self.self.fresh.best c.loop-self.invariant.heads c.take_heads.new.queue.keys c.take_heads.new.places.items
           c.in_ok-take_heads.ensures (λ e. c.if-len-before.false (omega (arith, e, c.len.ensures, c.len-before.ensures, c.loop-self.self.places.ok.0, c.take_heads.new.places.ok.0))) c.price_heads.new.fresh.keys.items
           (c.in_ok-price_heads.ensures.fresh
-          ∙ ap (λ xs. c.loop-self.self.fresh.keys.items ++ bids_at c.args.pricing.now.measure c.args.pricing.now.supporters.now c.args.rests.now xs) cut)
+          ∙ ap (λ xs. c.loop-self.self.fresh.keys.items ++ keys_at c.args.pricing.now.measure c.args.pricing.now.supporters.now c.args.rests.now xs) cut)
           c.price_heads.new.fresh.best c.in_ok-price_heads.ensures.best;
       counted = counted_more c.args.pricing.now.measure c.args.pricing.now.supporters.now c.args.rests.now c.args.most c.args.self.now.queue.keys c.loop-self.self.queue.keys
           c.loop-self.self.places.items c.loop-self.self.fresh.keys.items c.loop-self.self.fresh.best c.loop-self.invariant.heads c.take_heads.new.queue.keys c.take_heads.new.places.items

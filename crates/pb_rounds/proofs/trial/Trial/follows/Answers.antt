@@ -1,7 +1,7 @@
 use Rattle.std.proofs.Common.{◌≡◌, ℕ, List, Some, None, subst, sym, ◌∙◌, ap, rules, true}
-use Rattle.pb_rounds.specs.Bid.{Bid, is_before}
 use Rattle.pb_rounds.specs.Inner.Bounds.{HasBounds}
-use Rattle.pb_rounds.specs.Run.{bid, weight_of, without}
+use Rattle.pb_rounds.specs.Key.{KeyView, is_before}
+use Rattle.pb_rounds.specs.Run.{key_of, weight_of, without}
 use Rattle.pb_rounds.proofs.BoundQueue.{found_at, found_known, found_price, found_weight}
 use Rattle.pb_rounds.proofs.trial.Trial.follows.Goals as goal
 
@@ -41,7 +41,7 @@ returns g c m left b _ =
     let later = found_at m c.args.supporters.now c.args.self.now.outcome.rests c.as_slice-rests.result.now (without c.in-Some.best.place left) same (Some c.new.result) c.next_best.new.queue.keys c.next_best-2.new.queue.keys
     c.in_ok-other.other None (c.in_ok-other.ensures m (without c.in-Some.best.place left)) nobody found.1 in
     let price : c.last.inside.price ≡ c.args.last.now.price = search rules in
-    let limit : c.new.result ≡ bid m c.args.supporters.now c.in-Some.best.place c.args.last.now.price =
+    let limit : c.new.result ≡ key_of m c.args.supporters.now c.in-Some.best.place c.args.last.now.price =
     c.new.ensures
     ∙ ap (λ n. record { price = n; weight = c.weight.result; place = c.place-2.result }) price
     ∙ ap (λ w. record { price = c.args.last.now.price; weight = w; place = c.place-2.result })
@@ -51,7 +51,7 @@ returns g c m left b _ =
       best = c.in-Some.best;
       is_best = found.0;
       same = search rules;
-      others = λ other p listed e. subst (λ (k : Bid). is_before k (bid m c.args.supporters.now other p) ≡ true) limit (later.0 other p listed e);
+      others = λ other p listed e. subst (λ (k : KeyView). is_before k (key_of m c.args.supporters.now other p) ≡ true) limit (later.0 other p listed e);
       elects = c.in_ok-elect.ensures;
       bounds = later.1;
     }

@@ -1,4 +1,4 @@
--- That the order of bids is an order.
+-- That the order of keys is an order.
 use Rattle.std.proofs.Common.{◌≡◌, ℕ, ◌*◌, ◌<◌, true, refl, sym, ◌∙◌, ap, inl, inr, arith}
 use Rattle.std.specs.Prelude.{Bool, ◌==◌, ◌&&◌, max}
 use Rattle.std.specs.Cmp.{IsTotalOrder, Equal-is, both_ways, then_total, on_total, nat_cmp_total, ranks, tied_itself}
@@ -7,7 +7,7 @@ use Rattle.std.specs.declared.cmp.Ordering.{Ordering}
 use Rattle.std.specs.declared.cmp.Ordering.TheVariants.{Less, Equal, Greater}
 use Rattle.std.proofs.lemmas.Bool.{true≢false, cases_lt, cases_eq, lt-ltb, le-ltb, ne_eqb, eqb-true, eq-eqb, and_parts, and_from}
 use Rattle.std.proofs.Math.Nat.{mul-lt-mul_of_pos_right}
-use Rattle.pb_rounds.specs.Bid.{Bid, bid_cmp, ratio_cmp}
+use Rattle.pb_rounds.specs.Key.{KeyView, key_cmp, ratio_cmp}
 
 pub less_from : (x y : ℕ) → x < y → nat_cmp x y ≡ Less
 less_from x y h = rw (lt-ltb x y h) refl
@@ -64,10 +64,10 @@ ratio-total = record {
       (omega arith) (omega arith) (omega arith);
 }
 
-pub bid_cmp-total : IsTotalOrder bid_cmp
-bid_cmp-total =
+pub key_cmp-total : IsTotalOrder key_cmp
+key_cmp-total =
     then_total ratio-total
-    (then_total (on_total (λ b. b.place) nat_cmp_total) (on_total (λ b. b.weight) nat_cmp_total))
+    (then_total (on_total (λ k. k.place) nat_cmp_total) (on_total (λ k. k.weight) nat_cmp_total))
 
 then_equal : (o p : Ordering) → ordering_then o p ≡ Equal → (o ≡ Equal) × (p ≡ Equal)
 then_equal Less p e = absurd (true≢false (sym (ap is_eq e)))
@@ -77,15 +77,15 @@ then_equal Greater p e = absurd (true≢false (sym (ap is_eq e)))
 equal_numbers : (x y : ℕ) → nat_cmp x y ≡ Equal → x ≡ y
 equal_numbers x y e = rw e at (ranks x y)
 
-same_fields : (a b : Bid) → a.price ≡ b.price → a.weight ≡ b.weight → a.place ≡ b.place → a ≡ b
+same_fields : (a b : KeyView) → a.price ≡ b.price → a.weight ≡ b.weight → a.place ≡ b.place → a ≡ b
 same_fields a b price weight place =
     ap (λ n. record { price = n; weight = a.weight; place = a.place }) price
     ∙ ap (λ n. record { price = b.price; weight = n; place = a.place }) weight
     ∙ ap (λ n. record { price = b.price; weight = b.weight; place = n }) place
 
--- bids that the order does not tell apart are equal
-pub tied_bids : (a b : Bid) → bid_cmp a b ≡ Equal → a ≡ b
-tied_bids a b e =
+-- keys that the order does not tell apart are equal
+pub tied_keys : (a b : KeyView) → key_cmp a b ≡ Equal → a ≡ b
+tied_keys a b e =
     let parts = then_equal _ _ e in
     let later = then_equal _ _ parts.1 in
     let place : a.place ≡ b.place = equal_numbers _ _ later.0 in
@@ -96,24 +96,24 @@ tied_bids a b e =
     let price : a.price ≡ b.price = equal_numbers _ _ (sym scaled_price ∙ ratio) in
     same_fields a b price weight place
 
--- whether all fields of two bids are equal
-abbrev pub have_equal_fields : Bid → Bid → Bool
+-- whether all fields of two keys are equal
+abbrev pub have_equal_fields : KeyView → KeyView → Bool
 have_equal_fields a b = (a.price == b.price) && ((a.weight == b.weight) && (a.place == b.place))
 
-tie_from_fields : (a b : Bid) → have_equal_fields a b ≡ true → is_eq (bid_cmp a b) ≡ true
+tie_from_fields : (a b : KeyView) → have_equal_fields a b ≡ true → is_eq (key_cmp a b) ≡ true
 tie_from_fields a b e =
     let parts = and_parts _ _ e in
     let later = and_parts _ _ parts.1 in
     let same = same_fields a b (eqb-true _ _ parts.0) (eqb-true _ _ later.0) (eqb-true _ _ later.1) in
-    ap (λ c. is_eq (bid_cmp a c)) (sym same) ∙ ap is_eq (tied_itself bid_cmp-total a)
+    ap (λ c. is_eq (key_cmp a c)) (sym same) ∙ ap is_eq (tied_itself key_cmp-total a)
 
-fields_from_tie : (a b : Bid) → is_eq (bid_cmp a b) ≡ true → have_equal_fields a b ≡ true
+fields_from_tie : (a b : KeyView) → is_eq (key_cmp a b) ≡ true → have_equal_fields a b ≡ true
 fields_from_tie a b e =
-    let same = tied_bids a b ((Equal-is (bid_cmp a b)).0 e) in
-    and_from _ _ (eq-eqb _ _ (ap (λ (c : Bid). c.price) same))
-    (and_from _ _ (eq-eqb _ _ (ap (λ (c : Bid). c.weight) same))
-    (eq-eqb _ _ (ap (λ (c : Bid). c.place) same)))
+    let same = tied_keys a b ((Equal-is (key_cmp a b)).0 e) in
+    and_from _ _ (eq-eqb _ _ (ap (λ (c : KeyView). c.price) same))
+    (and_from _ _ (eq-eqb _ _ (ap (λ (c : KeyView). c.weight) same))
+    (eq-eqb _ _ (ap (λ (c : KeyView). c.place) same)))
 
--- all fields are equal just where the order does not tell the bids apart
-pub fields_tie : (a b : Bid) → have_equal_fields a b ≡ is_eq (bid_cmp a b)
+-- all fields are equal just where the order does not tell the keys apart
+pub fields_tie : (a b : KeyView) → have_equal_fields a b ≡ is_eq (key_cmp a b)
 fields_tie a b = both_ways _ _ (tie_from_fields a b) (fields_from_tie a b)

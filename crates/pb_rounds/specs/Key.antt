@@ -1,0 +1,29 @@
+-- What a round orders projects by.
+use Rattle.std.specs.Prelude.{ℕ, Bool, Option, List, ◌*◌, max, not, find}
+use Rattle.std.specs.List.{list_all}
+use Rattle.std.specs.Ordering.{is_lt, nat_cmp, on, then_cmp}
+use Rattle.std.specs.declared.cmp.Ordering.{Ordering}
+
+-- what contracts see of a key: a project, by its place, the price that each of its supporters would pay at most, and the
+-- weight that the price is divided by
+pub record KeyView : Type 0 where
+  pub price : ℕ
+  pub weight : ℕ
+  pub place : ℕ
+
+-- by the price over the weight, which is at least 1
+abbrev pub ratio_cmp : KeyView → KeyView → Ordering
+ratio_cmp a b = nat_cmp (a.price * max 1 b.weight) (b.price * max 1 a.weight)
+
+-- by the price over the weight, then by the place in the file; the weight comes last, so that keys that differ are told
+-- apart
+abbrev pub key_cmp : KeyView → KeyView → Ordering
+key_cmp = then_cmp ratio_cmp (then_cmp (on (λ k. k.place) nat_cmp) (on (λ k. k.weight) nat_cmp))
+
+-- the smaller price over weight comes first, and among equals the project that stands earlier in the file
+abbrev pub is_before : KeyView → KeyView → Bool
+is_before a b = is_lt (key_cmp a b)
+
+-- the first key that no other comes before
+abbrev pub first_least : (KeyView → KeyView → Bool) → List KeyView → Option KeyView
+first_least before keys = find (λ k. list_all (λ other. not (before other k)) keys) keys
