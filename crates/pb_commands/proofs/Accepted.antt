@@ -5,7 +5,7 @@ use Rattle.std.specs.Prelude.{IfErr, IfSome, IsErrAnd, Result}
 use Rattle.std.proofs.lemmas.Option.{none-some}
 use Rattle.pb_core.specs.Election.{ElectionView}
 use Rattle.pb_read.proofs.Uniqueness.{one_election}
-use Rattle.pb_read.specs.FirstFault.{IsFaultAt, IsFromOutside as IsReadFromOutside}
+use Rattle.pb_read.specs.FirstFault.{IsFaultAt, IsFromOutside}
 use Rattle.pb_read.specs.StandsFor.{StandsFor}
 use Rattle.pb_desk.specs.declared.audit_fault.AuditFault.{AuditFault}
 use Rattle.pb_desk.specs.declared.audit_fault.AuditFault.TheVariants as audit
@@ -21,7 +21,7 @@ use Rattle.pb_rounds.specs.declared.count_fault.CountFault.TheVariants as count
 use Rattle.pb_rounds.specs.declared.options.CountOptions.{CountOptions}
 use Rattle.pb_rows.specs.Reading.{records_of}
 use Rattle.pb_commands.specs.Counted.{CountRefuses, CountWrites, IsReportOf}
-use Rattle.pb_commands.specs.Ends.{Accepts, FailsBy, IfBothKnown, IsFromOutside}
+use Rattle.pb_commands.specs.Ends.{Accepts, FailsBy, IfBothKnown, IsOutsideFault}
 use Rattle.pb_commands.specs.Fault.{merged}
 use Rattle.pb_commands.specs.Report.{report_of}
 use Rattle.pb_script.specs.declared.script_fault.ScriptFault.{ScriptFault}
@@ -29,7 +29,7 @@ use Rattle.pb_script.specs.declared.script_fault.ScriptFault.TheVariants as scri
 use Rattle.pb_commands.specs.declared.fault.AppFault.{AppFault}
 use Rattle.pb_commands.specs.declared.fault.AppFault.TheVariants.{Read, Script, ClerkCount, Audit, OpenDesk, Count, Export, Open, Write, Memory}
 
-pub read_from_outside : (kind : ReadKind) (at : ℕ) → IsReadFromOutside kind → IsFromOutside (merged (Read (record { kind = kind; at = at })))
+pub read_from_outside : (kind : ReadKind) (at : ℕ) → IsFromOutside kind → IsOutsideFault (merged (Read (record { kind = kind; at = at })))
 read_from_outside ReadFailed at outside = refl
 read_from_outside NoMemory at outside = refl
 read_from_outside kind at outside = absurd outside
@@ -98,15 +98,15 @@ refused_of_both Refuses IsText (Some bytes) (Some other) fault r is fails =
 
 pub accepted_by_reader : (files : Option (List ℕ)) (options : CountOptions) (fault : ReadFault) (r : Result (Unit {0}) AppFault)
     → IsErrAnd r (λ app. app ≡ merged (Read fault))
-    → IfSome files (λ bytes. (e : ElectionView) → StandsFor (records_of bytes) e → IsReadFromOutside fault.kind)
+    → IfSome files (λ bytes. (e : ElectionView) → StandsFor (records_of bytes) e → IsFromOutside fault.kind)
     → IfSome files (λ bytes. Accepts (CountWrites bytes options) r)
 accepted_by_reader None options fault r is accepts = tt
 accepted_by_reader (Some bytes) options fault r is accepts = λ text writes.
-    given_fault IsFromOutside r (merged (Read fault)) is (read_from_outside fault.kind fault.at (accepts writes.0 writes.1))
+    given_fault IsOutsideFault r (merged (Read fault)) is (read_from_outside fault.kind fault.at (accepts writes.0 writes.1))
 
 -- the count of an election that has a report is refused from outside alone
 pub count_from_outside : (e : ElectionView) (options : CountOptions) (text : List ℕ) → IsReportOf e options text
-    → (fault : CountFault) → IsCountFault e options fault → IsFromOutside (merged (Count fault))
+    → (fault : CountFault) → IsCountFault e options fault → IsOutsideFault (merged (Count fault))
 count_from_outside e options text report count.WorkerCount refused = absurd (none-some _ (sym report.1.in_range ∙ refused))
 count_from_outside e options text report count.StepRange refused = absurd (none-some _ (sym report.1.in_range ∙ refused))
 count_from_outside e options text report count.RaisesRange refused = absurd (none-some _ (sym report.1.in_range ∙ refused))
@@ -119,7 +119,7 @@ pub accepted_by_count : (files : Option (List ℕ)) (options : CountOptions) (e 
 accepted_by_count None options e fault r is stands refused = tt
 accepted_by_count (Some bytes) options e fault r is stands refused = λ text writes.
     let report = rw (one_election (records_of bytes) writes.0 e writes.1 stands) at writes.2 in
-    given_fault IsFromOutside r (merged (Count fault)) is (count_from_outside e options text report fault refused)
+    given_fault IsOutsideFault r (merged (Count fault)) is (count_from_outside e options text report fault refused)
 
 refused_count : (bytes : List ℕ) (options : CountOptions) (e : ElectionView) (fault : CountFault) → StandsFor (records_of bytes) e → IsCountFault e options fault
     → FailsBy (CountRefuses options) (CountWrites bytes options) bytes (merged (Count fault))

@@ -12,7 +12,7 @@ use Rattle.pb_desk.specs.Rows.{journal_rows}
 use Rattle.pb_desk.specs.declared.audit_fault.AuditFault.{AuditFault}
 use Rattle.pb_desk.specs.declared.audit_fault.AuditFault.TheVariants as audit
 use Rattle.pb_read.proofs.Uniqueness.{one_election}
-use Rattle.pb_read.specs.FirstFault.{IsFromOutside as IsReadFromOutside}
+use Rattle.pb_read.specs.FirstFault.{IsFromOutside}
 use Rattle.pb_read.specs.StandsFor.{StandsFor}
 use Rattle.pb_read.specs.declared.fault.ReadFault.{ReadFault}
 use Rattle.pb_rounds.specs.declared.count_fault.CountFault.{CountFault}
@@ -24,7 +24,7 @@ use Rattle.pb_script.specs.Serving.{program_room}
 use Rattle.pb_commands.specs.Audited.{AuditWrites, IsDeskOf, IsTextOf, entries_row}
 use Rattle.pb_commands.specs.Inner.Audited.{IsRefusedDesk}
 use Rattle.pb_commands.specs.Counted.{IsReportOf}
-use Rattle.pb_commands.specs.Ends.{Accepts, IfBothKnown, IsFromOutside}
+use Rattle.pb_commands.specs.Ends.{Accepts, IfBothKnown, IsOutsideFault}
 use Rattle.pb_commands.specs.Fault.{merged}
 use Rattle.pb_commands.specs.declared.fault.AppFault.{AppFault}
 use Rattle.pb_commands.specs.declared.fault.AppFault.TheVariants.{Read, Audit, Count}
@@ -44,16 +44,16 @@ one_desk bytes journal d other first second =
 
 pub audited_by_reader : (files journals : Option (List ℕ)) (options : CountOptions) (fault : ReadFault) (r : Result (Unit {0}) AppFault)
     → IsErrAnd r (λ app. app ≡ merged (Read fault))
-    → IfSome files (λ bytes. (e : ElectionView) → StandsFor (records_of bytes) e → IsReadFromOutside fault.kind)
+    → IfSome files (λ bytes. (e : ElectionView) → StandsFor (records_of bytes) e → IsFromOutside fault.kind)
     → IfBothKnown files journals (λ bytes journal. Accepts (AuditWrites bytes journal options) r)
 audited_by_reader None journals options fault r is accepts = tt
 audited_by_reader (Some bytes) None options fault r is accepts = tt
 audited_by_reader (Some bytes) (Some journal) options fault r is accepts = λ text writes.
-    given_fault IsFromOutside r (merged (Read fault)) is (read_from_outside fault.kind fault.at (accepts writes.0.opening.election writes.1.stands))
+    given_fault IsOutsideFault r (merged (Read fault)) is (read_from_outside fault.kind fault.at (accepts writes.0.opening.election writes.1.stands))
 
 -- the rows of a sound journal have no fault, so that the fault is none of theirs
 pub journal_from_outside : (o : OpeningView) (journal : List EntryView) → IsSound o program_room journal
-    → (fault : AuditFault) → IsFaultOfJournal o.election program_room (journal_rows o.version journal) fault → IsFromOutside (merged (Audit fault))
+    → (fault : AuditFault) → IsFaultOfJournal o.election program_room (journal_rows o.version journal) fault → IsOutsideFault (merged (Audit fault))
 journal_from_outside o journal sound (audit.ReadFailed row) fails = refl
 journal_from_outside o journal sound (audit.BadRow row) fails = absurd (no_fault o program_room journal (audit.BadRow row) (omega arith) sound fails tt)
 journal_from_outside o journal sound (audit.WrongNumber row) fails = absurd (no_fault o program_room journal (audit.WrongNumber row) (omega arith) sound fails tt)
@@ -72,11 +72,11 @@ audited_by_journal (Some bytes) (Some journal) options e fault r is stands fails
     let election = one_election (records_of bytes) e d.opening.election stands writes.1.stands in
     let sound = rw writes.1.room at writes.1.sound in
     let P : ElectionView → Type 0 = λ e. IsFaultOfJournal e program_room (journal_rows d.opening.version d.journal) fault in
-    given_fault IsFromOutside r (merged (Audit fault)) is (journal_from_outside d.opening d.journal sound fault (subst P election (rw writes.1.rows at fails)))
+    given_fault IsOutsideFault r (merged (Audit fault)) is (journal_from_outside d.opening d.journal sound fault (subst P election (rw writes.1.rows at fails)))
 
 -- a desk that has a text is refused from outside alone
 desk_from_outside : (d : DeskView) (options : CountOptions) (text : List ℕ) → IsTextOf d options text
-    → (fault : CountFault) → IsRefusedDesk d options fault → IsFromOutside (merged (Count fault))
+    → (fault : CountFault) → IsRefusedDesk d options fault → IsOutsideFault (merged (Count fault))
 desk_from_outside d options text written count.NoMemory refused = refl
 desk_from_outside d options text written fault refused =
     let report = rw refused.0 at written in
@@ -106,7 +106,7 @@ audited_by_desk (Some bytes) None options e d fault r is audited refused = tt
 audited_by_desk (Some bytes) (Some journal) options e d fault r is audited refused = λ text writes.
     let same = one_desk bytes journal writes.0 d writes.1 (desk_of bytes journal e d audited) in
     let written = rw same at writes.2 in
-    given_fault IsFromOutside r (merged (Count fault)) is (desk_from_outside d options text written fault refused)
+    given_fault IsOutsideFault r (merged (Count fault)) is (desk_from_outside d options text written fault refused)
 
 -- a desk has one text
 one_desk_text : (shut : Bool) (e : ElectionView) (options : CountOptions) (row a b : List ℕ)

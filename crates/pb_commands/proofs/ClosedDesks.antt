@@ -8,7 +8,7 @@ use Rattle.pb_desk.specs.Desk.{DeskView, closed_election, standing_of}
 use Rattle.pb_desk.specs.declared.audit_fault.AuditFault.{AuditFault}
 use Rattle.pb_desk.specs.declared.audit_fault.AuditFault.TheVariants as audit
 use Rattle.pb_read.proofs.Uniqueness.{one_election}
-use Rattle.pb_read.specs.FirstFault.{IsFaultAt, IsFromOutside as IsReadFromOutside}
+use Rattle.pb_read.specs.FirstFault.{IsFaultAt, IsFromOutside}
 use Rattle.pb_read.specs.StandsFor.{StandsFor}
 use Rattle.pb_read.specs.declared.fault.ReadFault.{ReadFault}
 use Rattle.pb_rounds.specs.declared.options.CountOptions.{CountOptions}
@@ -19,7 +19,7 @@ use Rattle.pb_commands.proofs.Accepted.{given_fault, read_from_outside, reader_f
 use Rattle.pb_commands.proofs.AuditAccepted.{IsAudited, desk_of, journal_from_outside, one_desk}
 use Rattle.pb_commands.proofs.AuditWritten.{IsElectionFile, audit_judges, reader_judges}
 use Rattle.pb_commands.specs.Closed.{ClosedRefuses, Leaves}
-use Rattle.pb_commands.specs.Ends.{FailsBy, IfBothKnown, IsFromOutside, JudgesFile}
+use Rattle.pb_commands.specs.Ends.{FailsBy, IfBothKnown, IsOutsideFault, JudgesFile}
 use Rattle.pb_commands.specs.Fault.{merged}
 use Rattle.pb_commands.specs.declared.fault.AppFault.{AppFault}
 use Rattle.pb_commands.specs.declared.fault.AppFault.TheVariants.{Read, Script, ClerkCount, Audit, OpenDesk, Count, Export, Open, Write, Memory}
@@ -30,7 +30,7 @@ Fails bytes rows fault = (options : CountOptions) → FailsBy (ClosedRefuses byt
 
 -- these bytes leave no election, unless the fault comes from outside
 abbrev pub Bars : List ℕ → List ℕ → AppFault → Type 0
-Bars bytes rows fault = (e : ElectionView) → Leaves bytes rows e → IsFromOutside fault
+Bars bytes rows fault = (e : ElectionView) → Leaves bytes rows e → IsOutsideFault fault
 
 -- so it is what refuses them, whatever is to be written
 pub fails_more : (Refuses : ElectionView → AppFault → Type 0) (IsText : List ℕ → Type 0) (bytes : List ℕ) (fault : AppFault)
@@ -67,14 +67,14 @@ pub reader_refuses : {T : Type 0} (files journals : Option (List ℕ)) (fault : 
     → IfSome files (λ bytes. IsFaultAt (records_of bytes) fault.kind fault.at) → IfErr r (λ app. IfBothKnown files journals (λ bytes rows. Fails bytes rows app))
 reader_refuses files journals fault r is fails = fails_as files journals r Fails (merged (Read fault)) is (reads_none files journals fault fails)
 
-read_bars : (files journals : Option (List ℕ)) (fault : ReadFault) → IfSome files (λ bytes. (e : ElectionView) → StandsFor (records_of bytes) e → IsReadFromOutside fault.kind)
+read_bars : (files journals : Option (List ℕ)) (fault : ReadFault) → IfSome files (λ bytes. (e : ElectionView) → StandsFor (records_of bytes) e → IsFromOutside fault.kind)
     → IfBothKnown files journals (λ bytes rows. Bars bytes rows (merged (Read fault)))
 read_bars None journals fault accepts = tt
 read_bars (Some bytes) None fault accepts = tt
 read_bars (Some bytes) (Some rows) fault accepts = λ e leaves. read_from_outside fault.kind fault.at (accepts leaves.0.opening.election leaves.1.stands)
 
 pub reader_bars : {T : Type 0} (files journals : Option (List ℕ)) (fault : ReadFault) (r : Result T AppFault) → IsErrAnd r (λ app. app ≡ merged (Read fault))
-    → IfSome files (λ bytes. (e : ElectionView) → StandsFor (records_of bytes) e → IsReadFromOutside fault.kind) → IfErr r (λ app. IfBothKnown files journals (λ bytes rows. Bars bytes rows app))
+    → IfSome files (λ bytes. (e : ElectionView) → StandsFor (records_of bytes) e → IsFromOutside fault.kind) → IfErr r (λ app. IfBothKnown files journals (λ bytes rows. Bars bytes rows app))
 reader_bars files journals fault r is accepts = fails_as files journals r Bars (merged (Read fault)) is (read_bars files journals fault accepts)
 
 -- the file judges an error that is this fault

@@ -13,7 +13,7 @@ use Rattle.pb_commands.proofs.AuditWritten.{IsElectionFile, count_judges, judged
 use Rattle.pb_commands.proofs.ClosedDesks.{Bars, Fails, fails_more, one_left}
 use Rattle.pb_commands.proofs.TableAccepted.{table_from_outside}
 use Rattle.pb_commands.specs.Closed.{ClosedRefuses, Leaves}
-use Rattle.pb_commands.specs.Ends.{Accepts, FailsBy, HasWritten, IfBothKnown, IsFromOutside, JudgesFile}
+use Rattle.pb_commands.specs.Ends.{Accepts, FailsBy, HasWritten, IfBothKnown, IsOutsideFault, JudgesFile}
 use Rattle.pb_commands.specs.Fault.{merged}
 use Rattle.pb_commands.specs.Tabled.{IsTableOf, TableWrites}
 use Rattle.pb_commands.specs.declared.fault.AppFault.{AppFault}
@@ -55,7 +55,7 @@ module _ (table : Table) (options : CountOptions) where
       → IfBothKnown files journals (λ bytes rows. Accepts (TableWrites table options (Leaves bytes rows)) r)
   barred_as None journals fault r is bars = tt
   barred_as (Some bytes) None fault r is bars = tt
-  barred_as (Some bytes) (Some rows) fault r is bars = λ text writes. given_fault IsFromOutside r fault is (bars writes.0 writes.1)
+  barred_as (Some bytes) (Some rows) fault r is bars = λ text writes. given_fault IsOutsideFault r fault is (bars writes.0 writes.1)
 
   module _ (e : ElectionView) where
     moved : (other : ElectionView) (fault : CountFault) → e ≡ other → IsCountFault e options fault → IsCountFault other options fault
@@ -88,7 +88,7 @@ module _ (table : Table) (options : CountOptions) where
     count_bars (Some bytes) None fault r is leaves refused = tt
     count_bars (Some bytes) (Some rows) fault r is leaves refused = λ text writes.
         let told : IsTableOf table options e text = subst (λ (e : ElectionView). IsTableOf table options e text) (one_left bytes rows writes.0 e writes.1 leaves) writes.2 in
-        given_fault IsFromOutside r (merged (Count fault)) is (table_from_outside table e options text told fault refused)
+        given_fault IsOutsideFault r (merged (Count fault)) is (table_from_outside table e options text told fault refused)
 
     pub table_written : (files journals before after : Option (List ℕ)) (text : List ℕ) (r : Result (Unit {0}) AppFault)
         → OnOk r (Appends before after text) → IfBothKnown files journals (λ bytes rows. Leaves bytes rows e) → IsTableOf table options e text

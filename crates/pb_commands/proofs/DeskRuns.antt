@@ -4,7 +4,7 @@ use Rattle.std.specs.List.{AllZip}
 use Rattle.std.specs.Prelude.{IfErr, IfSome, IsErrAnd, OnOk, Result}
 use Rattle.pb_core.specs.Election.{ElectionView}
 use Rattle.std.specs.Io.KnownBytes.{Appends}
-use Rattle.pb_read.specs.FirstFault.{IsFromOutside as IsReadFromOutside}
+use Rattle.pb_read.specs.FirstFault.{IsFromOutside}
 use Rattle.pb_read.specs.StandsFor.{StandsFor}
 use Rattle.pb_read.specs.declared.fault.ReadFault.{ReadFault}
 use Rattle.pb_rows.specs.Reading.{Fields, records_of}
@@ -17,7 +17,7 @@ use Rattle.pb_script.specs.declared.serve_fault.ServeFault.{ServeFault}
 use Rattle.pb_script.specs.declared.serve_fault.ServeFault.TheVariants as serve
 use Rattle.pb_commands.specs.DeskRun.{DeskRefuses, DeskWrites}
 use Rattle.pb_commands.specs.Inner.DeskRun.{unserved}
-use Rattle.pb_commands.specs.Ends.{Accepts, FailsBy, HasWritten, IfBothKnown, IsFromOutside, JudgesFile}
+use Rattle.pb_commands.specs.Ends.{Accepts, FailsBy, HasWritten, IfBothKnown, IsOutsideFault, JudgesFile}
 use Rattle.pb_commands.specs.Fault.{merged}
 use Rattle.pb_commands.specs.declared.fault.AppFault.{AppFault}
 use Rattle.pb_commands.specs.declared.fault.AppFault.TheVariants.{Read, Script, Write}
@@ -35,10 +35,10 @@ row_after clerks (b ∷ before) row rest (x ∷ xs) rows = row_after clerks befo
 
 -- a script has no fault but the reader's and memory's
 script_from_outside : (clerks : ℕ) (records : List Fields) (said : List ScriptRowView) (fault : ScriptFault) → IsScript clerks records said → IsFaultOfScript clerks records fault →
-    IsFromOutside (merged (Script fault))
+    IsOutsideFault (merged (Script fault))
 script_from_outside clerks records said fault is fails = by fault fails.1 fails.2 fails.4
   where
-    by : (fault : ScriptFault) (left : List Fields) → records ≡ fails.0 ++ left → IsNextScriptFault clerks (length fails.0) left fault → IsFromOutside (merged (Script fault))
+    by : (fault : ScriptFault) (left : List Fields) → records ≡ fails.0 ++ left → IsNextScriptFault clerks (length fails.0) left fault → IsOutsideFault (merged (Script fault))
     by (script.ReadFailed row) left are next = refl
     by (script.BadRow row) [] are next = cc
     by (script.BadRow row) (fields ∷ rest) are next =
@@ -61,7 +61,7 @@ file_judged bytes (serve.Script fault) is = is
 file_judged bytes serve.ClerkCount is = is
 
 from_outside : (bytes rows : List ℕ) (clerks : ℕ) (shuts : Bool) (fault : ServeFault) (text : List ℕ) → IsServeFault clerks (records_of rows) fault → DeskWrites bytes rows clerks shuts text
-    → IsFromOutside (unserved fault)
+    → IsOutsideFault (unserved fault)
 from_outside bytes rows clerks shuts (serve.Script fault) text fails writes =
     let served = writes.2 in script_from_outside clerks (records_of rows) served.script fault served.is_script fails
 from_outside bytes rows clerks shuts serve.ClerkCount text fails writes = let served = writes.2 in absurd (fails.2 served.in_range)
@@ -71,11 +71,11 @@ unserved_again (serve.Script fault) = merged_again (Script fault)
 unserved_again serve.ClerkCount = refl
 
 pub accepted_by_reader : (clerks : ℕ) (shuts : Bool) (r : Result (Unit {0}) AppFault) (files scripts : Option (List ℕ)) (fault : ReadFault) → IsErrAnd r (λ app. app ≡ merged (Read fault))
-    → IfSome files (λ bytes. (e : ElectionView) → StandsFor (records_of bytes) e → IsReadFromOutside fault.kind) → IfBothKnown files scripts (λ bytes rows. Accepts (DeskWrites bytes rows clerks shuts) r)
+    → IfSome files (λ bytes. (e : ElectionView) → StandsFor (records_of bytes) e → IsFromOutside fault.kind) → IfBothKnown files scripts (λ bytes rows. Accepts (DeskWrites bytes rows clerks shuts) r)
 accepted_by_reader clerks shuts r None scripts fault is accepts = tt
 accepted_by_reader clerks shuts r (Some bytes) None fault is accepts = tt
 accepted_by_reader clerks shuts r (Some bytes) (Some rows) fault is accepts = λ text writes.
-    given_fault IsFromOutside r (merged (Read fault)) is (read_from_outside fault.kind fault.at (accepts writes.0 writes.1))
+    given_fault IsOutsideFault r (merged (Read fault)) is (read_from_outside fault.kind fault.at (accepts writes.0 writes.1))
 
 -- the answer where the script is not served
 module _ (clerks : ℕ) (shuts : Bool) (fault : ServeFault) (app : AppFault) (is : app ≡ unserved fault) where
@@ -89,7 +89,7 @@ module _ (clerks : ℕ) (shuts : Bool) (fault : ServeFault) (app : AppFault) (is
       → IfBothKnown files scripts (λ bytes rows. Accepts (DeskWrites bytes rows clerks shuts) (Err app))
   accepted_by_script None scripts fails = tt
   accepted_by_script (Some bytes) None fails = tt
-  accepted_by_script (Some bytes) (Some rows) fails = λ text writes. subst IsFromOutside (sym is) (from_outside bytes rows clerks shuts fault text fails writes)
+  accepted_by_script (Some bytes) (Some rows) fails = λ text writes. subst IsOutsideFault (sym is) (from_outside bytes rows clerks shuts fault text fails writes)
 
   pub judged_by_script : (e : ElectionView) (files : Option (List ℕ)) → IfSome files (λ bytes. StandsFor (records_of bytes) e) → IfSome files (λ bytes. JudgesFile bytes (Err app))
   judged_by_script e None stands = tt

@@ -9,7 +9,7 @@ use Rattle.std.proofs.lemmas.Option.{none-some}
 use Rattle.pb_core.specs.Election.{ElectionView}
 use Rattle.pb_export.specs.declared.export_fault.ExportFault.TheVariants as export
 use Rattle.pb_read.proofs.Uniqueness.{one_election}
-use Rattle.pb_read.specs.FirstFault.{IsFromOutside as IsReadFromOutside}
+use Rattle.pb_read.specs.FirstFault.{IsFromOutside}
 use Rattle.pb_read.specs.StandsFor.{StandsFor}
 use Rattle.pb_read.specs.declared.fault.ReadFault.{ReadFault}
 use Rattle.pb_rounds.proofs.Counted.{is_computed, spent_is_none}
@@ -19,7 +19,7 @@ use Rattle.pb_rows.specs.Reading.{records_of}
 use Rattle.pb_commands.proofs.Accepted.{given_fault, read_from_outside}
 use Rattle.pb_commands.proofs.ClosedDesks.{Bars, Fails, one_left}
 use Rattle.pb_commands.specs.Closed.{ClosedRefuses, Leaves}
-use Rattle.pb_commands.specs.Ends.{Accepts, FailsBy, HasWritten, IfBothKnown, IsFromOutside}
+use Rattle.pb_commands.specs.Ends.{Accepts, FailsBy, HasWritten, IfBothKnown, IsOutsideFault}
 use Rattle.pb_commands.specs.Exported.{ClosedExportRefuses, ExportWrites, IsExportOf}
 use Rattle.pb_commands.specs.Inner.Exporting.{IsStopped}
 use Rattle.pb_commands.specs.Fault.{merged}
@@ -34,7 +34,7 @@ one_put {X} f n old new x before put is =
 
 module _ (options : CountOptions) where
   -- what stops the making of a file that there is comes from outside
-  from_outside : (e : ElectionView) (text : List ℕ) → IsExportOf options e text → (fault : AppFault) → IsStopped options e fault → merged fault ≡ fault → IsFromOutside fault
+  from_outside : (e : ElectionView) (text : List ℕ) → IsExportOf options e text → (fault : AppFault) → IsStopped options e fault → merged fault ≡ fault → IsOutsideFault fault
   from_outside e text writes Memory stopped is = refl
   from_outside e text writes (Count count.WorkerCount) stopped is = absurd (none-some _ (sym writes.counted.in_range ∙ stopped))
   from_outside e text writes (Count count.StepRange) stopped is = absurd (none-some _ (sym writes.counted.in_range ∙ stopped))
@@ -54,11 +54,11 @@ module _ (options : CountOptions) where
   from_outside e text writes Write stopped is = absurd stopped
 
   pub accepted_by_reader : (files : Option (List ℕ)) (fault : ReadFault) (r : Result (Unit {0}) AppFault) → IsErrAnd r (λ app. app ≡ merged (Read fault))
-      → IfSome files (λ bytes. (e : ElectionView) → StandsFor (records_of bytes) e → IsReadFromOutside fault.kind)
+      → IfSome files (λ bytes. (e : ElectionView) → StandsFor (records_of bytes) e → IsFromOutside fault.kind)
       → IfSome files (λ bytes. Accepts (ExportWrites options (StandsFor (records_of bytes))) r)
   accepted_by_reader None fault r is accepts = tt
   accepted_by_reader (Some bytes) fault r is accepts = λ text writes.
-      given_fault IsFromOutside r (merged (Read fault)) is (read_from_outside fault.kind fault.at (accepts writes.0 writes.1))
+      given_fault IsOutsideFault r (merged (Read fault)) is (read_from_outside fault.kind fault.at (accepts writes.0 writes.1))
 
   pub stopped_accepts : (files : Option (List ℕ)) (e : ElectionView) (fault : AppFault) → IfSome files (λ bytes. StandsFor (records_of bytes) e) → IsStopped options e fault → merged fault ≡ fault
       → IfSome files (λ bytes. Accepts (ExportWrites options (StandsFor (records_of bytes))) (Err fault))

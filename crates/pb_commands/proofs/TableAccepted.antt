@@ -4,7 +4,7 @@ use Rattle.std.specs.Prelude.{IfErr, IfSome, IsErrAnd, Result}
 use Rattle.std.proofs.lemmas.Option.{none-some}
 use Rattle.pb_core.specs.Election.{ElectionView}
 use Rattle.pb_read.proofs.Uniqueness.{one_election}
-use Rattle.pb_read.specs.FirstFault.{IsFromOutside as IsReadFromOutside}
+use Rattle.pb_read.specs.FirstFault.{IsFromOutside}
 use Rattle.pb_read.specs.StandsFor.{StandsFor}
 use Rattle.pb_read.specs.declared.fault.ReadFault.{ReadFault}
 use Rattle.pb_rounds.proofs.Counted.{is_computed, spent_is_none}
@@ -15,7 +15,7 @@ use Rattle.pb_rounds.specs.declared.options.CountOptions.{CountOptions}
 use Rattle.pb_rows.specs.Reading.{records_of}
 use Rattle.pb_commands.proofs.Accepted.{given_fault, read_from_outside}
 use Rattle.pb_commands.specs.Counted.{CountRefuses}
-use Rattle.pb_commands.specs.Ends.{Accepts, FailsBy, IsFromOutside}
+use Rattle.pb_commands.specs.Ends.{Accepts, FailsBy, IsOutsideFault}
 use Rattle.pb_commands.specs.Fault.{merged}
 use Rattle.pb_commands.specs.Tabled.{IsTableOf, TableWrites}
 use Rattle.pb_commands.specs.declared.fault.AppFault.{AppFault}
@@ -25,15 +25,15 @@ use Rattle.pb_commands.specs.declared.table.Table.{Table}
 module _ (table : Table) where
   pub accepted_by_reader : (files : Option (List ℕ)) (options : CountOptions) (fault : ReadFault) (r : Result (Unit {0}) AppFault)
       → IsErrAnd r (λ app. app ≡ merged (Read fault))
-      → IfSome files (λ bytes. (e : ElectionView) → StandsFor (records_of bytes) e → IsReadFromOutside fault.kind)
+      → IfSome files (λ bytes. (e : ElectionView) → StandsFor (records_of bytes) e → IsFromOutside fault.kind)
       → IfSome files (λ bytes. Accepts (TableWrites table options (StandsFor (records_of bytes))) r)
   accepted_by_reader None options fault r is accepts = tt
   accepted_by_reader (Some bytes) options fault r is accepts = λ text writes.
-      given_fault IsFromOutside r (merged (Read fault)) is (read_from_outside fault.kind fault.at (accepts writes.0 writes.1))
+      given_fault IsOutsideFault r (merged (Read fault)) is (read_from_outside fault.kind fault.at (accepts writes.0 writes.1))
 
   -- the count of an election that has a table is refused from outside alone
   pub table_from_outside : (e : ElectionView) (options : CountOptions) (text : List ℕ) → IsTableOf table options e text
-      → (fault : CountFault) → IsCountFault e options fault → IsFromOutside (merged (Count fault))
+      → (fault : CountFault) → IsCountFault e options fault → IsOutsideFault (merged (Count fault))
   table_from_outside e options text report count.WorkerCount refused = absurd (none-some _ (sym report.1.in_range ∙ refused))
   table_from_outside e options text report count.StepRange refused = absurd (none-some _ (sym report.1.in_range ∙ refused))
   table_from_outside e options text report count.RaisesRange refused = absurd (none-some _ (sym report.1.in_range ∙ refused))
@@ -46,7 +46,7 @@ module _ (table : Table) where
   accepted_by_count None options e fault r is stands refused = tt
   accepted_by_count (Some bytes) options e fault r is stands refused = λ text writes.
       let report = rw (one_election (records_of bytes) writes.0 e writes.1 stands) at writes.2 in
-      given_fault IsFromOutside r (merged (Count fault)) is (table_from_outside e options text report fault refused)
+      given_fault IsOutsideFault r (merged (Count fault)) is (table_from_outside e options text report fault refused)
 
   refused_count : (bytes : List ℕ) (options : CountOptions) (e : ElectionView) (fault : CountFault) → StandsFor (records_of bytes) e → IsCountFault e options fault
       → FailsBy (CountRefuses options) (TableWrites table options (StandsFor (records_of bytes))) bytes (merged (Count fault))

@@ -17,7 +17,7 @@ use Rattle.pb_commands.proofs.ReportSums.{id_at-known}
 use Rattle.pb_reasons.proofs.WinnerSums.{cost_at-known}
 use Rattle.pb_commands.proofs.RowsGrown.{none_grown, row_grown}
 use Rattle.pb_commands.specs.Report.{id_at}
-use Rattle.pb_commands.specs.Tables.{ending_fields, name_at, payments_text, project_row, voter_row}
+use Rattle.pb_commands.specs.Tables.{ending_fields, name_at, payments_text, project_table_row, voter_table_row}
 
 -- the columns, and this many rows
 abbrev pub TableSoFar : Fields → (ℕ → Fields) → ℕ → (old new : List ℕ) → Type 0
@@ -38,7 +38,7 @@ name_at-known e place p known is = get_or-map (λ (q : ProjectView). q.name) e.p
 -- the row of a project, as it is written
 pub project_row_read : (e : ElectionView) (o : Settled) (place : ℕ) (p : ProjectView) → place < length e.projects → p ≡ get_or e.projects place p
     → (reason : ProjectReason) → reason ≡ project_reason e o place
-    → decimal place ∷ p.id ∷ p.name ∷ money_text p.cost ∷ decimal reason.votes ∷ ending_fields reason.ending ≡ project_row e o place
+    → decimal place ∷ p.id ∷ p.name ∷ money_text p.cost ∷ decimal reason.votes ∷ ending_fields reason.ending ≡ project_table_row e o place
 project_row_read e o place p known is reason reason_is =
     ap (λ (r : ProjectReason). decimal place ∷ p.id ∷ p.name ∷ money_text p.cost ∷ decimal r.votes ∷ ending_fields r.ending) reason_is
     ∙ ap (λ id. decimal place ∷ id ∷ p.name ∷ money_text p.cost ∷ decimal (project_reason e o place).votes ∷ ending_fields (project_reason e o place).ending) (sym (id_at-known e place p known is))
@@ -48,7 +48,7 @@ project_row_read e o place p known is reason reason_is =
 -- the row of a voter, as it is written
 pub voter_row_read : (e : ElectionView) (o : Settled) (voter : ℕ) (v : VoterView) → voter < length e.voters → v ≡ get_or e.voters voter v
     → (id : List ℕ) → id ≡ v.id → (r : VoterReason) → r ≡ voter_reason e o voter → (payments : List Payment) → payments ≡ voter_payments e o voter
-    → id ∷ decimal r.votes ∷ decimal r.elected ∷ money_text r.paid ∷ money_text r.left ∷ payments_text payments ∷ [] ≡ voter_row e o voter
+    → id ∷ decimal r.votes ∷ decimal r.elected ∷ money_text r.paid ∷ money_text r.left ∷ payments_text payments ∷ [] ≡ voter_table_row e o voter
 voter_row_read e o voter v known is id id_is r r_is payments payments_is =
     ap (λ (r : VoterReason). id ∷ decimal r.votes ∷ decimal r.elected ∷ money_text r.paid ∷ money_text r.left ∷ payments_text payments ∷ []) r_is
     ∙ ap (λ (i : List ℕ). i ∷ decimal (voter_reason e o voter).votes ∷ decimal (voter_reason e o voter).elected ∷ money_text (voter_reason e o voter).paid ∷ money_text (voter_reason e o voter).left ∷ payments_text payments ∷ [])

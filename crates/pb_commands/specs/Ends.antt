@@ -18,12 +18,12 @@ abbrev pub HasWritten : (List ℕ → Type 0) → Option (List ℕ) → Option (
 HasWritten IsText before after = (text : List ℕ) × IsText text × Appends before after text
 
 -- the fault of a device, or out of memory: it comes from outside, whatever the bytes are
-abbrev pub IsFromOutside : AppFault → Type 0
-IsFromOutside fault = status_of fault ≡ 3
+abbrev pub IsOutsideFault : AppFault → Type 0
+IsOutsideFault fault = status_of fault ≡ 3
 
 -- where there is a text of this kind to write, only a fault from outside stands against it
 abbrev pub Accepts : (List ℕ → Type 0) → Result (Unit {0}) AppFault → Type 0
-Accepts IsText result = (text : List ℕ) → IsText text → IfErr result IsFromOutside
+Accepts IsText result = (text : List ℕ) → IsText text → IfErr result IsOutsideFault
 
 -- why a run on this file ends: the file's first fault; or, of the election that it stands for, such a refusal;
 -- or the writer failed, which is tried last, once there is a text of this kind; or memory was refused

@@ -27,17 +27,16 @@ merged (Count count.NoMemory) = Memory
 merged (Export export.NoMemory) = Memory
 merged fault = fault
 
--- what is refused, the fault's number and name, and the record or row
-abbrev pub numbered : List ℕ → ℕ × List ℕ × ℕ → List (List ℕ)
-numbered what said = what ∷ decimal said.0 ∷ said.1 ∷ decimal said.2 ∷ []
+-- the fields of a fault at a place: what is refused, the fault's number and name, and the record or row
+abbrev pub fields_at : List ℕ → ℕ → List ℕ → ℕ → List (List ℕ)
+fields_at what number name place = what ∷ decimal number ∷ name ∷ decimal place ∷ []
 
 -- the fields of a merged fault's line
 abbrev pub fields_of : AppFault → List (List ℕ)
-fields_of (Read fault) = numbered (codes "read") ((of_read fault.kind).0, (of_read fault.kind).1, fault.at)
-fields_of (Script fault) = numbered (codes "script") (of_script fault)
+fields_of (Read fault) = fields_at (codes "read") (of_read fault.kind).0 (of_read fault.kind).1 fault.at
+fields_of (Script fault) = fields_at (codes "script") (of_script fault).0 (of_script fault).1 (of_script fault).2
 fields_of ClerkCount = codes "clerks" ∷ codes "1" ∷ codes "ClerkCount" ∷ []
-fields_of (Audit fault) =
-    numbered (codes "audit") ((of_audit fault).0, (of_audit fault).1, unwrap_or (of_audit fault).2 0)
+fields_of (Audit fault) = fields_at (codes "audit") (of_audit fault).0 (of_audit fault).1 (unwrap_or (of_audit fault).2 0)
 fields_of OpenDesk = codes "open-desk" ∷ []
 fields_of (Count fault) = codes "count" ∷ decimal (of_count fault).0 ∷ (of_count fault).1 ∷ []
 fields_of (Export fault) = codes "export" ∷ decimal (of_export fault).0 ∷ (of_export fault).1 ∷ []

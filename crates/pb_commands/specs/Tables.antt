@@ -26,8 +26,8 @@ ending_fields (Won w) =
 ending_fields (Lost l) = [] ∷ [] ∷ [] ∷ [] ∷ money_text l.left ∷ money_text l.missing ∷ []
 
 -- the row of the project at this place
-abbrev pub project_row : ElectionView → Settled → ℕ → Fields
-project_row e o place =
+abbrev pub project_table_row : ElectionView → Settled → ℕ → Fields
+project_table_row e o place =
     decimal place ∷ id_at e place ∷ name_at e place ∷ money_text (cost_at (support_of e) place)
     ∷ decimal (project_reason e o place).votes ∷ ending_fields (project_reason e o place).ending
 
@@ -37,8 +37,8 @@ payments_text payments =
     join_with_byte 44 (map (λ p. decimal p.place ++ (codes ":" ++ money_text p.amount)) payments)
 
 -- the row of the voter at this position
-abbrev pub voter_row : ElectionView → Settled → ℕ → Fields
-voter_row e o voter =
+abbrev pub voter_table_row : ElectionView → Settled → ℕ → Fields
+voter_table_row e o voter =
     let r = voter_reason e o voter in
     slice_index_or (voter_ids e) voter [] ∷ decimal r.votes ∷ decimal r.elected ∷ money_text r.paid
     ∷ money_text r.left ∷ payments_text (voter_payments e o voter) ∷ []
@@ -47,7 +47,7 @@ voter_row e o voter =
 unfoldable pub table_of : Table → ElectionView → Settled → List ℕ
 table_of Projects e o =
     codes "place;project_id;name;cost;votes;round;price;collected;in_full;left;missing\n"
-    ++ text_of_rows (map (project_row e o) (range_with_len 0 (length e.projects)))
+    ++ text_of_rows (map (project_table_row e o) (range_with_len 0 (length e.projects)))
 table_of Voters e o =
     codes "voter_id;votes;elected;paid;left;payments\n"
-    ++ text_of_rows (map (voter_row e o) (range_with_len 0 (length e.voters)))
+    ++ text_of_rows (map (voter_table_row e o) (range_with_len 0 (length e.voters)))

@@ -7,7 +7,7 @@ ghost use Rattle.pb_read.specs.StandsFor.{StandsFor};
 ghost use Rattle.pb_rows.specs.Reading.{records_of};
 ghost use Rattle.pb_rounds.specs.declared.options.CountOptions.{CountOptions};
 ghost use Rattle.pb_commands.specs.Closed.{ClosedRefuses, Leaves};
-ghost use Rattle.pb_commands.specs.Ends.{FailsBy, IfBothKnown, IsFromOutside, JudgesFile};
+ghost use Rattle.pb_commands.specs.Ends.{FailsBy, IfBothKnown, IsOutsideFault, JudgesFile};
 ghost use Rattle.pb_commands.specs.Fault.{merged};
 
 use crate::fault::AppFault;
@@ -33,7 +33,7 @@ pub fn closed_ballots<P: Read + Drop, J: Read + Drop>(
     ensures fault { IfErr result (λ fault. IfBothKnown (P.remaining file) (J.remaining journal) (λ bytes rows.
         (options : CountOptions) → FailsBy (ClosedRefuses bytes rows options) (λ _. ⊥) bytes fault)) }
     ensures accepts { IfErr result (λ fault. IfBothKnown (P.remaining file) (J.remaining journal) (λ bytes rows.
-        (e : ElectionView) → Leaves bytes rows e → IsFromOutside fault)) }
+        (e : ElectionView) → Leaves bytes rows e → IsOutsideFault fault)) }
     ensures file { IfErr result (λ fault. IfSome (P.remaining file) (λ bytes. JudgesFile bytes (Err fault))) }
     ensures merged { IfErr result (λ fault. merged fault ≡ fault) }
 {

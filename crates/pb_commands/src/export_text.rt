@@ -1,6 +1,6 @@
 // The file of a counted election, as text.
 
-ghost use Rattle.std.specs.Prelude.{◌≡◌, ◌++◌, IfErr, IfOk, OnOk, string_bytes};
+ghost use Rattle.std.specs.Prelude.{◌≡◌, ◌++◌, IfErr, IfOk, OnOk, codes, decimal, string_bytes};
 ghost use Rattle.pb_commands.specs.Inner.Exporting.{IsStopped};
 ghost use Rattle.pb_commands.specs.Exported.{IsExportOf, completion_text, is_won, rule_text, selected_of, votes_of};
 ghost use Rattle.pb_commands.specs.Fault.{merged};
@@ -109,11 +109,21 @@ fn put_raises(alloc: Global, text: &mut String, options: &CountOptions) -> Resul
     ensures { OnOk result (string_bytes text.new
         ≡ string_bytes text.old ++ completion_text Completion.Add1 options.now.step options.now.max_raises) }
 {
-    let mut digits = Buffer::new();
     let step = options.step.text(alloc)?;
+    let put = put_terms(text, step.as_str(), options.max_raises);
+    drop(step);
+    put
+}
+
+/// Puts the terms of raises after a text: their step, and how many there are at most.
+fn put_terms(text: &mut String, step: &str, most: u32) -> Result<(), NoMemory>
+    ensures { OnOk result (string_bytes text.new ≡ string_bytes text.old
+        ++ (codes ", raises of " ++ step.now ++ codes ", at most " ++ decimal most)) }
+{
+    let mut digits = Buffer::new();
     text.push_str(", raises of ")?;
-    text.push_str(step.as_str())?;
+    text.push_str(step)?;
     text.push_str(", at most ")?;
-    text.push_str(digits.format(options.max_raises))?;
+    text.push_str(digits.format(most))?;
     Ok(())
 }

@@ -2,7 +2,7 @@
 
 ghost use Rattle.std.specs.Prelude.{◌≡◌, ◌++◌, OnOk, codes, map};
 ghost use Rattle.std.specs.Io.KnownBytes.{Appends};
-ghost use Rattle.pb_commands.specs.Fault.{fields_of, line, merged, numbered, read_status, status_of};
+ghost use Rattle.pb_commands.specs.Fault.{fields_at, fields_of, line, merged, read_status, status_of};
 ghost use Rattle.pb_script.specs.declared.script_fault.ScriptFault.TheVariants.{BadRow};
 
 use crate::fault::AppFault;
@@ -91,7 +91,7 @@ fn write_numbered<W: Write>(
     at: u64,
 ) -> io::Result<()>
     ensures { OnOk result (Appends (W.contents writer.old) (W.contents writer.new)
-        (line (numbered what.now (number, name.now, at)))) }
+        (line (fields_at what.now number name.now at))) }
 {
     let mut number_digits = Buffer::new();
     let mut at_digits = Buffer::new();

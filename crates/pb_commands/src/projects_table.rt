@@ -7,7 +7,7 @@ ghost use Rattle.pb_rounds.specs.Outcome.{settled};
 ghost use Rattle.pb_rows.specs.Reading.{Fields};
 ghost use Rattle.pb_rows.specs.Writing.{text_of_row, text_of_rows};
 ghost use Rattle.pb_reasons.specs.Reasons.{IsCounted};
-ghost use Rattle.pb_commands.specs.Tables.{ending_fields, project_row};
+ghost use Rattle.pb_commands.specs.Tables.{ending_fields, project_table_row};
 ghost use Rattle.pb_commands.specs.Inner.Tables.{project_columns};
 
 use itoa::Buffer;
@@ -39,7 +39,7 @@ pub(crate) fn put_projects(
     requires { IsCounted election.now outcome.now }
     ensures { OnOk result (rows.new.text ≡ rows.old.text
         ++ text_of_rows (project_columns
-        ∷ map (project_row election.now (settled outcome.now)) (range_with_len 0 (length election.now.projects)))) }
+        ∷ map (project_table_row election.now (settled outcome.now)) (range_with_len 0 (length election.now.projects)))) }
 {
     rows.put_row(&[
         "place",
@@ -70,7 +70,7 @@ fn put_each(
     requires { teller.now.0 ≡ election.now }
     ensures { OnOk result ((old : List ℕ) → rows.old.text ≡ old ++ text_of_row project_columns → rows.new.text ≡ old
         ++ text_of_rows (project_columns
-        ∷ map (project_row election.now teller.now.1) (range_with_len 0 (length election.now.projects)))) }
+        ∷ map (project_table_row election.now teller.now.1) (range_with_len 0 (length election.now.projects)))) }
 {
     let projects = election.projects();
     for place in 0..projects.len() {

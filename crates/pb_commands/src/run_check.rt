@@ -6,7 +6,7 @@ ghost use Rattle.pb_rows.specs.Writing.{text_of_row, text_of_rows};
 ghost use Rattle.pb_read.specs.Listed.{AreListed};
 ghost use Rattle.pb_commands.specs.Checked.{IsTextOfCheck, fault_row};
 ghost use Rattle.pb_commands.specs.Inner.Checked.{warning_row};
-ghost use Rattle.pb_commands.specs.Ends.{HasWritten, IsFromOutside};
+ghost use Rattle.pb_commands.specs.Ends.{HasWritten, IsOutsideFault};
 
 use crate::fault::AppFault;
 use crate::run_count::write_out;
@@ -35,7 +35,7 @@ pub fn run_check<R: Read + Drop, W: Write, N: Watch>(
         HasWritten (IsTextOfCheck faults.items) (W.contents writer.old) (W.contents writer.new)) }
 
     // A fault of the run comes from outside, and writes nothing, unless it is the writer's.
-    ensures fault { IfErr result IsFromOutside }
+    ensures fault { IfErr result IsOutsideFault }
     ensures unchanged { IfErr result (λ fault. fault ≢ AppFault.Write → writer.new ≡ writer.old) }
 {
     let faults = list_faults(alloc, reader, notes)?;
@@ -56,7 +56,7 @@ fn put_out<W: Write, N: Watch>(
     notes: &mut N,
 ) -> Result<(), AppFault>
     ensures ok { OnOk result (HasWritten (IsTextOfCheck faults.now) (W.contents writer.old) (W.contents writer.new)) }
-    ensures fault { IfErr result IsFromOutside }
+    ensures fault { IfErr result IsOutsideFault }
     ensures unchanged { IfErr result (λ fault. fault ≢ AppFault.Write → writer.new ≡ writer.old) }
 {
     let text = check_text(alloc, faults, notes)?;

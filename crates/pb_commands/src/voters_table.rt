@@ -6,7 +6,7 @@ ghost use Rattle.pb_core.specs.MoneyText.{money_text};
 ghost use Rattle.pb_rounds.specs.Outcome.{settled};
 ghost use Rattle.pb_rows.specs.Writing.{text_of_row, text_of_rows};
 ghost use Rattle.pb_reasons.specs.Reasons.{IsCounted};
-ghost use Rattle.pb_commands.specs.Tables.{payments_text, voter_row};
+ghost use Rattle.pb_commands.specs.Tables.{payments_text, voter_table_row};
 ghost use Rattle.pb_commands.specs.Inner.Tables.{voter_columns};
 
 use itoa::Buffer;
@@ -28,7 +28,7 @@ pub(crate) fn put_voters(
     requires { IsCounted election.now outcome.now }
     ensures { OnOk result (rows.new.text ≡ rows.old.text
         ++ text_of_rows (voter_columns
-        ∷ map (voter_row election.now (settled outcome.now)) (range_with_len 0 (length election.now.voters)))) }
+        ∷ map (voter_table_row election.now (settled outcome.now)) (range_with_len 0 (length election.now.voters)))) }
 {
     rows.put_row(&["voter_id", "votes", "elected", "paid", "left", "payments"])?;
     let mut teller = VoterTeller::of(alloc, election, outcome)?;
@@ -47,7 +47,7 @@ fn put_each(
     requires { teller.old.0 ≡ election.now }
     ensures { OnOk result ((old : List ℕ) → rows.old.text ≡ old ++ text_of_row voter_columns → rows.new.text ≡ old
         ++ text_of_rows (voter_columns
-        ∷ map (voter_row election.now teller.old.1) (range_with_len 0 (length election.now.voters)))) }
+        ∷ map (voter_table_row election.now teller.old.1) (range_with_len 0 (length election.now.voters)))) }
 {
     let voters = election.voters();
     let mut payments = Vec::new(alloc);

@@ -1,18 +1,4 @@
-use Rattle.std.proofs.Common.{◌≡◌, ◌++◌, ℕ, List, append_assoc, codes, decimal, string_bytes, ap, ◌∙◌}
-use Rattle.pb_core.specs.MoneyText.{money_text}
 use Rattle.pb_commands.proofs.export_text.put_raises.Goals as goal
 
--- a text after some part, and one more part after it
-part : (base old new first more : List ℕ) → old ≡ base ++ first → new ≡ old ++ more → new ≡ base ++ (first ++ more)
-part base old new first more before after = after ∙ ap (λ (t : List ℕ). t ++ more) before ∙ append_assoc base first more
-
 pub returns : goal.returns
-returns c =
-    let base = string_bytes c.args.text.now in
-    let step = money_text c.args.options.now.step in
-    let a = c.in_ok-push_str.ensures.bytes in
-    let b = part base (string_bytes c.push_str.new.self) (string_bytes c.push_str-2.new.self) (codes ", raises of ") step a
-    (c.in_ok-push_str-2.ensures.bytes ∙ ap (λ (t : List ℕ). string_bytes c.push_str.new.self ++ t) (c.as_str.ensures.value ∙ c.in_ok-step.ensures)) in
-    let d = part base (string_bytes c.push_str-2.new.self) (string_bytes c.push_str-3.new.self) (codes ", raises of " ++ step) (codes ", at most ") b c.in_ok-push_str-3.ensures.bytes in
-    part base (string_bytes c.push_str-3.new.self) (string_bytes c.push_str-4.new.self) (codes ", raises of " ++ step ++ codes ", at most ") (decimal c.args.options.now.max_raises) d
-    (c.in_ok-push_str-4.ensures.bytes ∙ ap (λ (t : List ℕ). string_bytes c.push_str-3.new.self ++ t) c.format.ensures.text)
+returns c = rw (c.as_str.ensures.value, c.in_ok-step.ensures) at c.put_terms-put.ensures

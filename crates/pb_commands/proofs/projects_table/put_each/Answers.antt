@@ -1,12 +1,12 @@
 use Rattle.std.proofs.Common.{◌<◌, ◌++◌, ◌∙◌, ap, length}
 use Rattle.pb_rows.specs.Writing.{text_of_row}
 use Rattle.pb_commands.proofs.TableRows.{columns_put, project_row_read, row_put}
-use Rattle.pb_commands.specs.Tables.{project_row}
+use Rattle.pb_commands.specs.Tables.{project_table_row}
 use Rattle.pb_commands.specs.Inner.Tables.{project_columns}
 use Rattle.pb_commands.proofs.projects_table.put_each.Goals as goal
 
 pub loop-place-init : goal.loop-place-init
-loop-place-init c = λ old put. columns_put project_columns (project_row c.args.election.now c.args.teller.now.1) old c.args.rows.now.text put
+loop-place-init c = λ old put. columns_put project_columns (project_table_row c.args.election.now c.args.teller.now.1) old c.args.rows.now.text put
 
 pub loop-place-preserved : goal.loop-place-preserved
 loop-place-preserved c = λ old put.
@@ -15,5 +15,5 @@ loop-place-preserved c = λ old put.
     let place = c.loop-place.place in
     let known : place < length e.projects = rw (← c.projects-projects.ensures.projects) c.loop-place-test.true in
     let row = project_row_read e o place c.index-projects-place.result known (rw c.projects-projects.ensures.projects at c.index-projects-place.is) c.tell-reason.result (rw c.requires at c.tell-reason.ensures) in
-    row_put project_columns (project_row e o) place old c.loop-place.rows.text c.put_project.new.rows.text (c.loop-place.invariant old put)
+    row_put project_columns (project_table_row e o) place old c.loop-place.rows.text c.put_project.new.rows.text (c.loop-place.invariant old put)
     (c.in_ok-put_project.ensures ∙ ap (λ fields. c.loop-place.rows.text ++ text_of_row fields) row)

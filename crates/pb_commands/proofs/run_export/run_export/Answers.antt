@@ -1,5 +1,18 @@
+use Rattle.pb_read.specs.StandsFor.{StandsFor}
+use Rattle.pb_rows.specs.Reading.{records_of}
+use Rattle.pb_commands.proofs.Accepted.{refused_by_reader, stays_merged}
 use Rattle.pb_commands.proofs.Exports.{accepted_by_reader, stopped_accepts}
+use Rattle.pb_commands.specs.Exported.{ExportRefuses, ExportWrites}
+use Rattle.pb_commands.specs.declared.fault.AppFault.TheVariants.{Read}
 use Rattle.pb_commands.proofs.run_export.run_export.Goals as goal
+
+pub returns-in_err-election-clause-fault : goal.returns-in_err-election-clause-fault
+returns-in_err-election-clause-fault g c =
+    refused_by_reader (λ bytes. ExportRefuses c.args.counting.now.options.now) (λ bytes. ExportWrites c.args.counting.now.options.now (StandsFor (records_of bytes))) _ c.in_err-election.field-0.0 _
+    c.from_residual.ensures.1 c.in_err-election.ensures.fault
+
+pub returns-in_err-election-clause-merged : goal.returns-in_err-election-clause-merged
+returns-in_err-election-clause-merged g c = stays_merged (Read c.in_err-election.field-0.0) _ c.from_residual.ensures.1
 
 pub returns-in_err-election-clause-accepts : goal.returns-in_err-election-clause-accepts
 returns-in_err-election-clause-accepts g c = accepted_by_reader c.args.counting.now.options.now _ c.in_err-election.field-0.0 _ c.from_residual.ensures.1 c.in_err-election.ensures.accepts

@@ -3,14 +3,14 @@ use Rattle.pb_core.specs.Election.{ElectionView, VoterView}
 use Rattle.pb_rounds.specs.Outcome.{Settled}
 use Rattle.pb_rows.specs.Writing.{text_of_row}
 use Rattle.pb_commands.proofs.TableRows.{columns_put, row_put, voter_row_read}
-use Rattle.pb_commands.specs.Tables.{voter_row}
+use Rattle.pb_commands.specs.Tables.{voter_table_row}
 use Rattle.pb_commands.specs.Inner.Tables.{voter_columns}
 use Rattle.pb_commands.proofs.voters_table.put_each.Goals as goal
 
 pub loop-position-init : goal.loop-position-init
 loop-position-init c = record {
   same = refl;
-  rows = λ old put. columns_put voter_columns (voter_row c.args.election.now c.args.teller.now.1) old c.args.rows.now.text put;
+  rows = λ old put. columns_put voter_columns (voter_table_row c.args.election.now c.args.teller.now.1) old c.args.rows.now.text put;
 }
 
 pub tell-requires : goal.tell-requires
@@ -33,6 +33,6 @@ loop-position-preserved c =
     record {
       same = c.in_ok-reason.ensures.same ∙ kept;
       rows = λ old put.
-          row_put voter_columns (voter_row e o) voter old c.loop-position.rows.text c.put_voter.new.rows.text (c.loop-position.invariant.rows old put)
+          row_put voter_columns (voter_table_row e o) voter old c.loop-position.rows.text c.put_voter.new.rows.text (c.loop-position.invariant.rows old put)
           (c.in_ok-put_voter.ensures ∙ ap (λ fields. c.loop-position.rows.text ++ text_of_row fields) row);
     }
