@@ -78,7 +78,7 @@ fn mark_place(text: &[u8]) -> usize
 
 /// What stands before the first point or comma, and after it; where there is none, the whole text and
 /// nothing.
-pub fn parts(text: &[u8]) -> (&[u8], &[u8])
+fn parts(text: &[u8]) -> (&[u8], &[u8])
     ensures whole { result.0.now ≡ whole_part text.now }
     ensures decimals { result.1.now ≡ fraction text.now }
 {

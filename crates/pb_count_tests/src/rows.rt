@@ -113,7 +113,7 @@ fn records(rt: HostRuntime) {
 
 #[test]
 fn tells_that_memory_is_out(rt: HostRuntime) {
-    let fault = RecordsFault::from(csv::Error::out_of_memory());
+    let fault = RecordsFault::NoMemory;
     shows(&rt, rt.alloc(), &fault, "out of memory");
 }
 

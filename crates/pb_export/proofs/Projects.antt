@@ -1,12 +1,12 @@
 -- PROJECTS, read back.
-use Rattle.std.proofs.Common.{◌≡◌, ◌≢◌, ◌≤◌, ℕ, suc, Bool, true, false, not, List, [], ◌∷◌, ◌++◌, decimal, Option, Some, None, refl, ap, sym, ◌∙◌}
+use Rattle.std.proofs.Common.{◌≡◌, ◌≢◌, ◌≤◌, ℕ, suc, Bool, true, false, not, List, [], ◌∷◌, ◌++◌, decimal, Option, Some, None, Ok, refl, ap, sym, ◌∙◌}
 use Rattle.std.specs.Prelude.{is_some, slice_index, slice_index_or}
 use Rattle.std.specs.List.{AllByRecursion, AllZip}
 use Rattle.std.specs.Str.{trim, trim_start, trim_end, chars}
 use Rattle.std.proofs.Math.Utf8.{encode}
 use Rattle.std.proofs.lemmas.Bool.{cond-true}
 use Rattle.pb_core.specs.Election.{ElectionView, ProjectView}
-use Rattle.pb_core.specs.Money.{largest_money}
+use Rattle.pb_core.specs.Money.{largest_money, money_of}
 use Rattle.pb_core.specs.MoneyText.{money_text}
 use Rattle.pb_rows.specs.Reading.{Fields}
 use Rattle.pb_read.specs.Rows.{head_of, is_blank, rows_of, trimmed}
@@ -48,15 +48,16 @@ shows (b ∷ id) rest tidy some = rw tidy refl
 pub row_kept : (id : List ℕ) (rest : Fields) (records : List Fields) → trim id ≡ id → id ≢ [] → rows_of ((id ∷ rest) ∷ records) ≡ trimmed (id ∷ rest) ∷ rows_of records
 row_kept id rest records tidy some = cond-true _ (trimmed (id ∷ rest) ∷ rows_of records) (rows_of records) (shows id rest tidy some)
 
-gives_project : (p : ProjectView) (votes : ℕ) (selected : Bool) → IsWritable p → Gives (trimmed (project_row p votes selected)) p
-gives_project p votes selected is = record {
-  whole = refl;
-  id = sym is.tidy_id;
-  name = sym is.tidy_name;
-  cost = money_back p.cost is.affordable;
-}
+-- by the law of money
+module _ (reads_back : (h : ℕ) → h ≤ largest_money → money_of (money_text h) ≡ Ok h) (votes : List ℕ) (selected : List Bool) where
+  gives_project : (p : ProjectView) (count : ℕ) (elected : Bool) → IsWritable p → Gives (trimmed (project_row p count elected)) p
+  gives_project p count elected is = record {
+    whole = refl;
+    id = sym is.tidy_id;
+    name = sym is.tidy_name;
+    cost = money_back reads_back p.cost is.affordable;
+  }
 
-module _ (votes : List ℕ) (selected : List Bool) where
   gives_from : (place : ℕ) (projects : List ProjectView) → AllByRecursion IsWritable projects →
       AllByRecursion (λ row. head_of row ≡ None) (rows_of (projects_from votes selected place projects)) × AllZip Gives (rows_of (projects_from votes selected place projects)) projects
   gives_from place [] are = (tt, tt)

@@ -1,5 +1,5 @@
 -- What is written of an election stands for it.
-use Rattle.std.proofs.Common.{◌≡◌, ◌≢◌, ◌<◌, ◌≤◌, ℕ, suc, Bool, false, not, List, [], ◌∷◌, ◌++◌, length, map, filter, All, Option, Some, None, get_or, refl, ap, sym, ◌∙◌, subst, arith, length-append}
+use Rattle.std.proofs.Common.{◌≡◌, ◌≢◌, ◌<◌, ◌≤◌, ℕ, suc, Bool, false, not, List, [], ◌∷◌, ◌++◌, length, map, filter, All, Option, Some, None, Ok, get_or, refl, ap, sym, ◌∙◌, subst, arith, length-append}
 use Rattle.std.specs.Prelude.{slice_index_or}
 use Rattle.std.specs.List.{AllByRecursion, list_any}
 use Rattle.std.specs.Str.{IsUtf8, trim}
@@ -9,9 +9,11 @@ use Rattle.std.proofs.lemmas.List.Elements.{All-from_recursion, All-head, All-ta
 use Rattle.std.proofs.lemmas.List.Folds.{list_any_at}
 use Rattle.csv.specs.Records.{AllText}
 use Rattle.pb_core.specs.Election.{ElectionView, IsElection, ProjectView, VoterView, project_ids}
-use Rattle.pb_rows.proofs.RoundTrip.{ComeBack-ascii, records_of-text_of_rows}
+use Rattle.pb_core.specs.Money.{largest_money, money_of}
+use Rattle.pb_core.specs.MoneyText.{money_text}
+use Rattle.pb_rows.proofs.RoundTrip.{ComeBack-ascii}
 use Rattle.pb_rows.specs.Reading.{Fields, records_of}
-use Rattle.pb_rows.specs.Writing.{text_of_rows}
+use Rattle.pb_rows.specs.Writing.{ComeBack, text_of_rows}
 use Rattle.pb_read.proofs.ListFacts.{AllByRecursion-append, AllByRecursion-left, AllByRecursion-right}
 use Rattle.pb_read.specs.Rows.{is_blank, rows_of, trimmed}
 use Rattle.pb_read.specs.StandsFor.{GivesAll, StandsFor}
@@ -72,7 +74,9 @@ ballot_pieces ids are (place ∷ ballot) known none =
     let parts = or_parts (has_comma (slice_index_or ids place [])) (list_any (λ p. has_comma (slice_index_or ids p [])) ballot) none in
     (record { some = id.some; tidy = id.tidy; text = id.text; no_comma = parts.0 }, ballot_pieces ids are ballot (All-tail (λ p. p < length ids) place ballot known) parts.1)
 
-module _ (e : ElectionView) (rule counts : List ℕ) (selected : List Bool) (is : IsElection e) (of : IsOfFile e) (words : has_section_word e ≡ false) (commas : has_comma_in_vote e ≡ false)
+-- by the laws of rows and of money
+module _ (come_back : (rows : List Fields) → ComeBack rows → records_of (text_of_rows rows) ≡ rows) (reads_back : (h : ℕ) → h ≤ largest_money → money_of (money_text h) ≡ Ok h)
+    (e : ElectionView) (rule counts : List ℕ) (selected : List Bool) (is : IsElection e) (of : IsOfFile e) (words : has_section_word e ≡ false) (commas : has_comma_in_vote e ≡ false)
     (texts : AllByRecursion AllText (file_rows e rule counts selected)) where
   abbrev rows : List Fields
   rows = file_rows e rule counts selected
@@ -129,11 +133,11 @@ module _ (e : ElectionView) (rule counts : List ℕ) (selected : List Bool) (is 
       (omega arith, (omega arith, vote_fields (project_ids e) e.voters))
 
   back : records_of (text_of_rows rows) ≡ rows
-  back = records_of-text_of_rows rows (ComeBack-ascii rows (All-from_recursion HasField rows fields) (omega arith))
+  back = come_back rows (ComeBack-ascii rows (All-from_recursion HasField rows fields) (omega arith))
 
   gives_front : projects.GivesFront e (rows_of (metas ++ middle))
   gives_front =
-      subst (projects.GivesFront e) (sym (rows_of-append metas middle)) (projects.gives_projects counts selected e (rows_of metas) (gives_terms e rule is.budget_bounded of.limit) writable_projects)
+      subst (projects.GivesFront e) (sym (rows_of-append metas middle)) (projects.gives_projects reads_back counts selected e (rows_of metas) (gives_terms reads_back e rule is.budget_bounded of.limit) writable_projects)
 
   gives : GivesAll (record { voter = 0; vote = 1 }) e (rows_of rows)
   gives =

@@ -15,9 +15,10 @@ use crate::readable::{has_comma_in_vote, has_section_word, is_of_file};
 use crate::told::Told;
 use itoa::Buffer;
 use pb_core::election::Election;
+use pb_core::laws::money_reads_back;
 use pb_core::no_memory::NoMemory;
 use pb_core::project::Project;
-use pb_rows::RowsWriter;
+use pb_rows::{RowsWriter, rows_come_back};
 use std::alloc::Global;
 
 /// Writes an election as a .pb file: META, PROJECTS and VOTES, each with its header row, projects and voters in their
@@ -34,7 +35,9 @@ pub fn write_pb(alloc: Global, election: &Election, told: &Told<'_>) -> Result<V
     ensures ok { OnOk result (CanBeWritten election.now) }
     ensures fault { IfErr result (IsExportFault election.now) }
 {
-    // What is true of every election holds of what is read back.
+    // Rows and amounts that are written are read back; and what is true of every election holds of what is read back.
+    rows_come_back();
+    money_reads_back();
     let _budget = election.budget();
     if has_section_word(election) {
         return Err(ExportFault::SectionWord);

@@ -1,14 +1,14 @@
 // The limit on a ballot's length.
 
-ghost use Rattle.std.specs.Prelude.{◌≡◌, ◌==◌, Some, None, nat_le, if◌then◌else◌};
-ghost use Rattle.std.specs.List.{list_all};
+ghost use Rattle.std.specs.Prelude.{◌≡◌, ◌≤◌, ◌==◌, Some, None, length, nat_le, if◌then◌else◌};
+ghost use Rattle.std.specs.List.{list_all, position_or_len};
 ghost use Rattle.pb_core.specs.Election.{most_projects};
-ghost use Rattle.pb_core.specs.MoneyText.{fraction};
+ghost use Rattle.pb_core.specs.MoneyText.{fraction, is_mark};
 ghost use Rattle.pb_read.specs.Lengths.{max_length_of};
 
 use crate::fault::ReadKind;
 use pb_core::election::MOST_PROJECTS;
-use pb_core::money::{Money, parts};
+use pb_core::money::Money;
 use pb_core::money_fault::MoneyFault;
 
 /// The most projects that a ballot may approve, as the value of `max_length` says: digits, then perhaps
@@ -42,10 +42,20 @@ fn limit(projects: u64) -> Option<u32>
     }
 }
 
+/// Where the first point or comma stands; the text's length where there is none.
+fn mark_place(text: &[u8]) -> usize
+    ensures place { result ≡ position_or_len is_mark text.now }
+    ensures within { result ≤ length text.now }
+{
+    text.iter()
+        .take_while(|c| !(**c == b'.' || **c == b','))
+        .count()
+}
+
 /// Whether each digit after the first point or comma is `0`.
 fn has_zero_decimals(text: &[u8]) -> bool
     ensures { result ≡ list_all (λ c. c == 48) (fraction text.now) }
 {
-    let (_, decimals) = parts(text);
-    decimals.iter().all(|digit| *digit == b'0')
+    let mark = mark_place(text);
+    text.iter().skip(mark + 1).all(|digit| *digit == b'0')
 }

@@ -7,8 +7,8 @@ use Rattle.csv.specs.declared.parser.Config.{Config}
 use Rattle.csv.specs.declared.parser.State.{State}
 use Rattle.csv.specs.declared.parser.State.TheVariants as st
 use Rattle.csv.specs.declared.reader.Reader.{Reader}
-use Rattle.pb_rows.specs.Inner.Reading.{IsSetUp}
-use Rattle.pb_rows.specs.Reading.{Fields, IsNext, NextIsNoText, fault_of_kind, left_of, left_until, pb_config}
+use Rattle.pb_rows.specs.Inner.Reading.{IsSetUp, fault_of_kind}
+use Rattle.pb_rows.specs.Reading.{Fields, IsNext, NextIsNoText, left_of, pb_config}
 use Rattle.pb_rows.specs.declared.fault.RecordsFault.TheVariants.{NotText, ReadFailed}
 use Rattle.csv.specs.declared.error.ErrorKind.{ErrorKind}
 use Rattle.csv.specs.declared.error.ErrorKind.TheVariants as kind
@@ -89,7 +89,7 @@ reads_next s s2 (Some xs) (Some ys) found fields h = next (next_record pb_config
 
 -- the same, of a reader of csv and what it leaves
 pub read_leaves : {R : Type 0} (remaining : R → Option (List ℕ)) (old new : Reader R) (found : Bool) (fields : Fields)
-    → IsSetUp old → has_failed new ≡ false → ReadRecord remaining old new found fields → IsNext (left_of remaining old) (left_of remaining new) found fields
+    → IsSetUp old → has_failed new ≡ false → ReadRecord remaining old new found fields → IsNext (left_of remaining old None false) (left_of remaining new None false) found fields
 read_leaves remaining old new found fields is runs h =
     let known : source_of remaining new ≡ pending_of (remaining new.rdr) new = rw h.1 refl in
     rw known (reads_next old.state new.state (source_of remaining old) (pending_of (remaining new.rdr) new) found fields (rw is.config at h.0))
@@ -102,10 +102,10 @@ no_text_next (Some (first ∷ rest)) after fields h n = rw (h.1) at n
 
 -- the same, of an error of csv that stands for a field that is no text
 pub no_text_read : {R : Type 0} (remaining : R → Option (List ℕ)) (old new : Reader R) (why : ErrorKind)
-    → IsSetUp old → fault_of_kind why ≡ NotText → ExplainsRead remaining old new true why → NextIsNoText (left_of remaining old)
+    → IsSetUp old → fault_of_kind why ≡ NotText → ExplainsRead remaining old new true why → NextIsNoText (left_of remaining old None false)
 no_text_read remaining old new (kind.Io e) is named h = cc named
 no_text_read remaining old new (kind.Utf8 pos err) is named h =
-    no_text_next (left_of remaining old) _ h.1 (reads_next old.state new.state (source_of remaining old) (pending_of (remaining new.rdr) new) true h.1 (rw is.config at h.2)) h.3
+    no_text_next (left_of remaining old None false) _ h.1 (reads_next old.state new.state (source_of remaining old) (pending_of (remaining new.rdr) new) true h.1 (rw is.config at h.2)) h.3
 no_text_read remaining old new kind.OutOfMemory is named h = cc named
 no_text_read remaining old new (kind.UnequalLengths pos expected len) is named h = cc named
 no_text_read remaining old new (kind.Serialize text) is named h = cc named
@@ -122,8 +122,9 @@ failed_read remaining old new text (kind.Serialize why) is named h = absurd h
 failed_read remaining old new text (kind.Deserialize pos err) is named h = absurd h
 
 -- the next record, where an end is remembered
-pub next_until : (left after : Option (List Fields)) (found : Bool) (fields : Fields) → IsNext left after found fields → IsNext left (left_until None (not found) after) found fields
-next_until left after true fields next = next
-next_until None after false fields next = tt
-next_until (Some []) after false fields next = refl
-next_until (Some (first ∷ rest)) after false fields next = cc next.0
+pub next_until : {R : Type 0} (remaining : R → Option (List ℕ)) (new : Reader R) (left : Option (List Fields)) (found : Bool) (fields : Fields)
+    → IsNext left (left_of remaining new None false) found fields → IsNext left (left_of remaining new None (not found)) found fields
+next_until remaining new left true fields next = next
+next_until remaining new None false fields next = tt
+next_until remaining new (Some []) false fields next = refl
+next_until remaining new (Some (first ∷ rest)) false fields next = cc next.0

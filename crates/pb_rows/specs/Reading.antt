@@ -4,10 +4,7 @@ use Rattle.csv.specs.Reading.{default_config, reader_state, records, records_fro
 use Rattle.csv.specs.Records.{AllText}
 use Rattle.csv.specs.declared.parser.Config.{Config}
 use Rattle.csv.specs.declared.reader.Reader.{Reader}
-use Rattle.csv.specs.declared.error.ErrorKind.{ErrorKind}
-use Rattle.csv.specs.declared.error.ErrorKind.TheVariants as kind
 use Rattle.pb_rows.specs.declared.fault.RecordsFault.{RecordsFault}
-use Rattle.pb_rows.specs.declared.fault.RecordsFault.TheVariants.{ReadFailed, NotText, NoMemory}
 
 -- the fields of a record, each as its bytes
 abbrev pub Fields : Type 0
@@ -41,20 +38,10 @@ NextIsNoText None = ⊤
 NextIsNoText (Some []) = ⊥
 NextIsNoText (Some (first ∷ rest)) = ¬ AllText first
 
--- the records that a reader of csv still gives
-abbrev pub left_of : {R : Type 0} → (R → Option (List ℕ)) → Reader R → Option (List Fields)
-left_of remaining reader =
+-- the records that are left: unknown after a fault, none after the end, and else those that a reader of csv still gives
+abbrev pub left_of : {R : Type 0} → (R → Option (List ℕ)) → Reader R → Option RecordsFault → Bool → Option (List Fields)
+left_of remaining reader (Some fault) has_ended = None
+left_of remaining reader None true = Some []
+left_of remaining reader None false =
     option_map (λ bytes. records_from pb_config (length bytes + 1) (reader_state reader) bytes)
     (source_of remaining reader)
-
--- what is left of them: unknown after a fault, none after the end
-abbrev pub left_until : Option RecordsFault → Bool → Option (List Fields) → Option (List Fields)
-left_until None false left = left
-left_until None true left = Some []
-left_until (Some fault) has_ended left = None
-
--- the fault that an error of csv stands for
-abbrev pub fault_of_kind : ErrorKind → RecordsFault
-fault_of_kind (kind.Utf8 pos err) = NotText
-fault_of_kind kind.OutOfMemory = NoMemory
-fault_of_kind other = ReadFailed

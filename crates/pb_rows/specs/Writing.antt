@@ -1,8 +1,7 @@
 -- The text of rows.
 use Rattle.std.specs.Prelude.{◌≢◌, ◌<◌, ◌++◌, ℕ, Bool, true, List, [], ◌∷◌, All, length}
-use Rattle.csv.specs.Writing.{default_writer, row_text, writer_pending, writer_under, with_delimiter, with_flexible}
+use Rattle.csv.specs.Writing.{default_writer, row_text, with_delimiter, with_flexible}
 use Rattle.csv.specs.declared.writer.WriterBuilder.{WriterBuilder}
-use Rattle.csv.specs.declared.writer.Writer.{Writer}
 use Rattle.pb_rows.specs.Reading.{Fields}
 
 -- a row is written with `;` between its fields, quotes only where they are needed, and `\n` after it
@@ -28,7 +27,3 @@ text_of_rows (row ∷ rows) = text_of_row row ++ text_of_rows rows
 pub record ComeBack (rows : List Fields) : Type 0 where
   pub some_field : All (λ fields. 0 < length fields) rows
   pub no_mark : (rest : List ℕ) → text_of_rows rows ≢ 0xEF ∷ 0xBB ∷ 0xBF ∷ rest
-
--- what a writer of csv has written: what is in the writer underneath, and what is not yet there
-abbrev pub written_by : {W : Type 0} → Writer W → (W → List ℕ) → List ℕ
-written_by writer contents = contents (writer_under writer) ++ writer_pending writer

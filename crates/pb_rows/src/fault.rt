@@ -2,7 +2,7 @@
 
 ghost use Rattle.std.specs.Prelude.{◌≡◌};
 ghost use Rattle.csv.specs.Reading.{error_kind};
-ghost use Rattle.pb_rows.specs.Reading.{fault_of_kind};
+ghost use Rattle.pb_rows.specs.Inner.Reading.{fault_of_kind};
 
 use csv::ErrorKind;
 use thiserror::Error;
@@ -21,11 +21,11 @@ pub enum RecordsFault {
     NoMemory,
 }
 
-impl From<csv::Error> for RecordsFault {
+impl RecordsFault {
     /// What an error of csv stands for. The ones that a reader of records of any length never answers
     /// count as its failure.
     #[cold]
-    fn from(error: csv::Error) -> RecordsFault
+    pub(crate) fn of(error: csv::Error) -> RecordsFault
         ensures { result ≡ fault_of_kind (error_kind error) }
     {
         match error.kind() {

@@ -26,13 +26,13 @@ impl<R: Read> Model for Records<R> {
     ghost use Rattle.std.specs.Prelude.{◌≡◌, None, Some, true};
     ghost use Rattle.csv.specs.Reading.{has_failed};
     ghost use Rattle.pb_rows.specs.Inner.Reading.{IsSetUp};
-    ghost use Rattle.pb_rows.specs.Reading.{Left, left_of, left_until};
+    ghost use Rattle.pb_rows.specs.Reading.{Left, left_of};
     ghost use Rattle.pb_rows.specs.declared.fault.RecordsFault.TheVariants.{ReadFailed};
 
     ghost Value = { Left };
 
     ghost view = { λ s. record {
-      left = left_until s.fault s.has_ended (left_of R.remaining s.reader);
+      left = left_of R.remaining s.reader s.fault s.has_ended;
       fault = s.fault;
     } };
 
@@ -88,7 +88,7 @@ impl<R: Read> Records<R> {
                 Ok(found)
             }
             Err(error) => {
-                let fault = RecordsFault::from(error);
+                let fault = RecordsFault::of(error);
                 self.fault = Some(fault);
                 Err(fault)
             }
@@ -118,7 +118,7 @@ impl<R: Read> Records<R> {
                 Ok(is_record)
             }
             Err(refused) => {
-                let fault = RecordsFault::from(refused);
+                let fault = RecordsFault::of(refused);
                 self.fault = Some(fault);
                 Err(fault)
             }

@@ -1,8 +1,8 @@
 // Rows, written as text.
 
 ghost use Rattle.std.specs.Prelude.{◌≡◌, ◌++◌, [], false, map, true, IfOk, IsErr, OnErr, OnOk};
-ghost use Rattle.pb_rows.specs.Inner.Writing.{IsAtRowStart};
-ghost use Rattle.pb_rows.specs.Writing.{text_of_row, written_by};
+ghost use Rattle.pb_rows.specs.Inner.Writing.{IsAtRowStart, written_by};
+ghost use Rattle.pb_rows.specs.Writing.{text_of_row};
 
 use csv::{Writer, WriterBuilder};
 use std::alloc::{AllocError, Global};
@@ -20,14 +20,15 @@ pub struct RowsWriter {
 }
 
 impl Model for RowsWriter {
-    ghost use Rattle.std.specs.Prelude.{◌≡◌, true};
+    ghost use Rattle.std.specs.Prelude.{◌≡◌, ◌++◌, true};
+    ghost use Rattle.csv.specs.Writing.{writer_pending, writer_under};
     ghost use Rattle.pb_rows.specs.Inner.Writing.{IsAtRowStart};
-    ghost use Rattle.pb_rows.specs.Writing.{RowsView, written_by};
+    ghost use Rattle.pb_rows.specs.Writing.{RowsView};
 
     ghost Value = { RowsView };
 
     ghost view = { λ s. record {
-      text = written_by s.writer (λ text. text.items);
+      text = (writer_under s.writer).items ++ writer_pending s.writer;
       is_whole = s.is_whole;
     } };
 

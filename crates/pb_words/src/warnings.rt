@@ -12,36 +12,58 @@ use pb_ids::IdTable;
 use pb_read::{ReadFault, ReadKind, Warning, Watch};
 use std::alloc::{AllocError, Global};
 
-/// The names of warnings, in the order in which they are written.
-const NAMES: [&str; 9] = [
-    "VotesMissing",
-    "ProjectsMissing",
-    "SurplusFields",
-    "TooLongBallot",
-    "TooShortBallot",
-    "EmptyBallot",
-    "NoSupporter",
-    "OverBudget",
-    "CommaInId",
-];
+/// What is accepted, and probably not meant, in the order in which warnings are written.
+#[derive(Clone, Copy)]
+enum Oddity {
+    /// META's `num_votes` is not the number of votes.
+    VotesMissing,
+    /// META's `num_projects` is not the number of projects.
+    ProjectsMissing,
+    /// A vote has more fields than the row of column names.
+    SurplusFields,
+    /// A ballot approves more projects than META's `max_length`.
+    TooLongBallot,
+    /// A ballot approves fewer projects than META's `min_length`.
+    TooShortBallot,
+    /// A ballot approves nothing.
+    EmptyBallot,
+    /// Nobody approves a project.
+    NoSupporter,
+    /// A project costs more than the budget.
+    OverBudget,
+    /// A project's id has a comma, so no vote can name it.
+    CommaInId,
+}
 
-const VOTES_MISSING: usize = 0;
+impl Oddity {
+    /// All of them, in their order.
+    const ALL: [Oddity; 9] = [
+        Oddity::VotesMissing,
+        Oddity::ProjectsMissing,
+        Oddity::SurplusFields,
+        Oddity::TooLongBallot,
+        Oddity::TooShortBallot,
+        Oddity::EmptyBallot,
+        Oddity::NoSupporter,
+        Oddity::OverBudget,
+        Oddity::CommaInId,
+    ];
 
-const PROJECTS_MISSING: usize = 1;
-
-const SURPLUS_FIELDS: usize = 2;
-
-const TOO_LONG_BALLOT: usize = 3;
-
-const TOO_SHORT_BALLOT: usize = 4;
-
-const EMPTY_BALLOT: usize = 5;
-
-const NO_SUPPORTER: usize = 6;
-
-const OVER_BUDGET: usize = 7;
-
-const COMMA_IN_ID: usize = 8;
+    /// The name that rows have.
+    fn name(self) -> &'static str {
+        match self {
+            Oddity::VotesMissing => "VotesMissing",
+            Oddity::ProjectsMissing => "ProjectsMissing",
+            Oddity::SurplusFields => "SurplusFields",
+            Oddity::TooLongBallot => "TooLongBallot",
+            Oddity::TooShortBallot => "TooShortBallot",
+            Oddity::EmptyBallot => "EmptyBallot",
+            Oddity::NoSupporter => "NoSupporter",
+            Oddity::OverBudget => "OverBudget",
+            Oddity::CommaInId => "CommaInId",
+        }
+    }
+}
 
 /// The most warnings of one name.
 const MOST: u64 = 100;
@@ -88,17 +110,15 @@ impl Warnings {
         }
     }
 
-    /// Warns of the record with this number, by the name with this place.
-    fn warn(&mut self, name: usize, at: u32) {
-        if name >= 9 {
-            return;
-        }
-        self.counts[name] = self.counts[name].saturating_add(1);
-        if self.counts[name] > MOST {
+    /// Warns of the record with this number.
+    fn warn(&mut self, oddity: Oddity, at: u32) {
+        let place = oddity as usize;
+        self.counts[place] = self.counts[place].saturating_add(1);
+        if self.counts[place] > MOST {
             return;
         }
         let warning = Warning {
-            name: NAMES[name],
+            name: oddity.name(),
             number: u64::from(at),
             is_more: false,
         };
@@ -111,11 +131,11 @@ impl Warnings {
     fn take_project(&mut self, row: &ByteRecord, at: u32) -> Result<(), AllocError> {
         let id = self.seen.id(row);
         if id.contains(',') {
-            self.warn(COMMA_IN_ID, at);
+            self.warn(Oddity::CommaInId, at);
         }
         if let (Ok(cost), Some(budget)) = (Money::read(self.seen.value(row)), self.claims.budget) {
             if cost.0 > budget {
-                self.warn(OVER_BUDGET, at);
+                self.warn(Oddity::OverBudget, at);
             }
         }
         let place = u32::try_from(self.projects.len()).unwrap_or(u32::MAX);
@@ -127,17 +147,17 @@ impl Warnings {
     /// Takes a vote that is accepted.
     fn take_vote(&mut self, row: &ByteRecord, at: u32) {
         if row.len() > self.columns {
-            self.warn(SURPLUS_FIELDS, at);
+            self.warn(Oddity::SurplusFields, at);
         }
         let length = self.back(row);
         if length == 0 {
-            self.warn(EMPTY_BALLOT, at);
+            self.warn(Oddity::EmptyBallot, at);
         }
         if self.claims.max_length.unwrap_or(u64::MAX) < length {
-            self.warn(TOO_LONG_BALLOT, at);
+            self.warn(Oddity::TooLongBallot, at);
         }
         if length < self.claims.min_length.unwrap_or(0) {
-            self.warn(TOO_SHORT_BALLOT, at);
+            self.warn(Oddity::TooShortBallot, at);
         }
     }
 
@@ -157,10 +177,10 @@ impl Warnings {
     /// Warns of what is known at the end alone.
     fn take_end(&mut self) {
         if let Some(at) = broken(self.claims.votes, self.seen.votes) {
-            self.warn(VOTES_MISSING, at);
+            self.warn(Oddity::VotesMissing, at);
         }
         if let Some(at) = broken(self.claims.projects, self.seen.projects) {
-            self.warn(PROJECTS_MISSING, at);
+            self.warn(Oddity::ProjectsMissing, at);
         }
         for place in 0..self.projects.len() {
             let unbacked = match self.projects.get(place) {
@@ -168,23 +188,23 @@ impl Warnings {
                 _ => None,
             };
             if let Some(at) = unbacked {
-                self.warn(NO_SUPPORTER, at);
+                self.warn(Oddity::NoSupporter, at);
             }
         }
     }
 
-    /// Puts the warnings of the name with this place, and how many more there are.
-    fn put_named(&self, name: usize, all: &mut Vec<Warning>) -> Result<(), AllocError> {
-        let name_text = NAMES[name.min(8)];
+    /// Puts the warnings of this kind, and how many more there are.
+    fn put_oddity(&self, oddity: Oddity, all: &mut Vec<Warning>) -> Result<(), AllocError> {
+        let name = oddity.name();
         for warning in self.found.iter() {
-            if warning.name == name_text {
+            if warning.name == name {
                 all.push(*warning)?;
             }
         }
-        let count = self.counts[name.min(8)];
+        let count = self.counts[oddity as usize];
         if count > MOST {
             all.push(Warning {
-                name: name_text,
+                name,
                 number: count - MOST,
                 is_more: true,
             })?;
@@ -193,8 +213,8 @@ impl Warnings {
     }
 
     fn put_all(&self, all: &mut Vec<Warning>) -> Result<(), AllocError> {
-        for name in 0..9usize {
-            self.put_named(name, all)?;
+        for oddity in Oddity::ALL {
+            self.put_oddity(oddity, all)?;
         }
         Ok(())
     }

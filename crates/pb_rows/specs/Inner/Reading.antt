@@ -1,9 +1,13 @@
 -- The reader of a text, and how far it has come.
 use Rattle.std.specs.Prelude.{◌≡◌, ◌≤◌, ◌+◌, ◌++◌, ℕ, true, false, List, length, Option, Some, None, ⊤}
 use Rattle.csv.specs.Reading.{Ready, has_failed, is_flexible, names_headers, reader_config, reader_trim}
+use Rattle.csv.specs.declared.error.ErrorKind.{ErrorKind}
+use Rattle.csv.specs.declared.error.ErrorKind.TheVariants as kind
 use Rattle.csv.specs.declared.reader.Reader.{Reader}
 use Rattle.csv.specs.declared.reader.Trim.TheVariants as trim
 use Rattle.pb_rows.specs.Reading.{Fields, pb_config, records_of}
+use Rattle.pb_rows.specs.declared.fault.RecordsFault.{RecordsFault}
+use Rattle.pb_rows.specs.declared.fault.RecordsFault.TheVariants.{ReadFailed, NotText, NoMemory}
 
 -- a reader of csv that reads records as above
 pub record IsSetUp {R : Type 0} (reader : Reader R) : Type 0 where
@@ -13,6 +17,12 @@ pub record IsSetUp {R : Type 0} (reader : Reader R) : Type 0 where
   pub flexible : is_flexible reader ≡ true
   pub headers : names_headers reader ≡ false
   pub ready : Ready reader
+
+-- the fault that an error of csv stands for
+abbrev pub fault_of_kind : ErrorKind → RecordsFault
+fault_of_kind (kind.Utf8 pos err) = NotText
+fault_of_kind kind.OutOfMemory = NoMemory
+fault_of_kind other = ReadFailed
 
 -- these records were read so far, where the text is known: they, and then those that are left, are all its
 -- records
