@@ -10,8 +10,8 @@ use pb_durable::file_device::{FileDevice, FileFault, fault_of, keep_beside};
 use pb_durable::{Beside, DeviceFault, DurableDesk, JournalFile, Opened};
 use pb_read::read_pb;
 use pb_script::ROOM;
-use pb_serving::ServingFault;
 use pb_serving::run_serve::run_serve;
+use pb_serving::{Incoming, ServingFault};
 use std::cell::Cell;
 use std::fs::File;
 use std::io::{Error, ErrorKind, Write};
@@ -112,7 +112,11 @@ fn serve_desk<R: Input + AllocGlobal, W: Write>(
 ) -> Result<u64, ServingFault> {
     let at_hand = AtHand::new();
     let served = match Paced::new(rt.alloc(), rt.reader(), &at_hand) {
-        Ok(input) => run_serve(rt.alloc(), &mut desk, torn, input, &at_hand, writer),
+        Ok(input) => {
+            let pace = &at_hand;
+            let incoming = Incoming { input, pace };
+            run_serve(rt.alloc(), &mut desk, torn, incoming, writer)
+        }
         Err(_) => Err(ServingFault::App(AppFault::Memory)),
     };
     drop(desk);

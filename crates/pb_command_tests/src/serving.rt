@@ -7,7 +7,7 @@ use crate::checks::{THREE_VOTERS, same};
 use pb_durable::{Device, DeviceFault, DurableDesk, JournalFile, MemoryDevice, Opened, open};
 use pb_read::read_pb;
 use pb_serving::run_serve::run_serve;
-use pb_serving::{Always, Pace};
+use pb_serving::{Always, Incoming, Pace};
 use std::alloc::Global;
 use std::cell::Cell;
 use std::io::{Read, Result, Write};
@@ -197,11 +197,15 @@ fn no_answer_is_held_back(rt: HostRuntime) {
         seen: &seen,
         lines: 0,
     };
-    let input = Clerk {
+    let clerk = Clerk {
         seen: &seen,
         rest: b"",
     };
-    let bad_rows = run_serve(rt.alloc(), &mut desk, torn, input, &Never, &mut screen);
+    let incoming = Incoming {
+        input: clerk,
+        pace: &Never,
+    };
+    let bad_rows = run_serve(rt.alloc(), &mut desk, torn, incoming, &mut screen);
     drop(desk);
     same(&rt, bad_rows, Ok(1), "rows not of the form");
     same(&rt, seen.late.get(), false, "a row waited for");
@@ -215,8 +219,11 @@ fn rows_at_hand_share_their_syncs(rt: HostRuntime) {
     let (mut desk, torn) = opened(&rt, rt.alloc(), &seen, "journal;2\n\ngarbage");
     seen.syncs.set(0);
     let mut text = Vec::new(rt.alloc());
-    let input = AT_HAND.as_bytes();
-    let bad_rows = run_serve(rt.alloc(), &mut desk, torn, input, &Always, &mut text);
+    let incoming = Incoming {
+        input: AT_HAND.as_bytes(),
+        pace: &Always,
+    };
+    let bad_rows = run_serve(rt.alloc(), &mut desk, torn, incoming, &mut text);
     drop(desk);
     same(&rt, bad_rows, Ok(0), "rows not of the form");
     same(&rt, seen.syncs.get(), 3, "syncs");

@@ -6,9 +6,11 @@
 
 mod batch;
 mod heading;
+mod incoming;
 pub mod pace;
 pub mod run_serve;
 pub mod serving_fault;
 
+pub use incoming::Incoming;
 pub use pace::{Always, Pace};
 pub use serving_fault::ServingFault;

@@ -17,6 +17,7 @@ ghost use Rattle.pb_serving.specs.Answered.{heading, Answers, StandsWithin};
 
 use crate::batch::{BatchEnd, next_batch};
 use crate::heading::heading;
+use crate::incoming::Incoming;
 use crate::pace::Pace;
 use crate::serving_fault::ServingFault;
 use pb_commands::{AppFault, write_bad_row};
@@ -39,14 +40,13 @@ pub fn run_serve<D: Device, R: Read + Drop, P: Pace, W: Write>(
     alloc: Global,
     desk: &mut DurableDesk<D>,
     torn: usize,
-    input: R,
-    pace: &P,
+    incoming: Incoming<R, P>,
     writer: &mut W,
 ) -> Result<u64, ServingFault>
     requires { D.tells → IsDurable D.seen D.may_leave desk.old }
 
     // Where the bytes of the input are known, each row has its answer, and they alone decide the text.
-    ensures answered { IfOk result (λ bad. IfSome (R.remaining input) (λ bytes. (text : List ℕ)
+    ensures answered { IfOk result (λ bad. IfSome (R.remaining incoming.entry.input) (λ bytes. (text : List ℕ)
         × Answers (records_of bytes) desk.old.desk.journal desk.new.desk.journal text
         × Appends (W.contents writer.old) (W.contents writer.new) (heading torn desk.old.desk ++ text)
         × (bad + length desk.new.desk.journal ≡ length (records_of bytes) + length desk.old.desk.journal))) }
@@ -58,7 +58,8 @@ pub fn run_serve<D: Device, R: Read + Drop, P: Pace, W: Write>(
         (Only (D.seen desk.new.file.device) (D.may_leave desk.new.file.device)) }
 
     // Where it ends early, some first rows have been answered, and what was said of them stands in what a crash leaves.
-    ensures stopped { IfErr result (λ fault. fault ≢ ServingFault.Output → IfSome (R.remaining input) (λ bytes.
+    ensures stopped { IfErr result (λ fault. fault ≢ ServingFault.Output
+        → IfSome (R.remaining incoming.entry.input) (λ bytes.
         (rows rest : List Fields) × (text said left : List ℕ) × (kept : List EntryView)
         × (records_of bytes ≡ rows ++ rest) × Answers rows desk.old.desk.journal kept text
         × Appends (W.contents writer.old) (W.contents writer.new) said
@@ -73,7 +74,7 @@ pub fn run_serve<D: Device, R: Read + Drop, P: Pace, W: Write>(
     ensures any_moment { D.tells → LeavesOnly D.moment D.left_since desk.old.file.device desk.new.file.device
         (StandsWithin desk.old.desk.opening.version desk.old.desk.journal desk.new.desk.journal) }
 {
-    let ended = run(alloc, desk, torn, input, pace, writer);
+    let ended = run(alloc, desk, torn, incoming, writer);
     // The desk's journal is legal.
     let _entries = desk.desk().entries();
     ended
@@ -84,12 +85,11 @@ fn run<D: Device, R: Read + Drop, P: Pace, W: Write>(
     alloc: Global,
     desk: &mut DurableDesk<D>,
     torn: usize,
-    input: R,
-    pace: &P,
+    incoming: Incoming<R, P>,
     writer: &mut W,
 ) -> Result<u64, ServingFault>
     requires { D.tells → IsDurable D.seen D.may_leave desk.old }
-    ensures answered { IfOk result (λ bad. IfSome (R.remaining input) (λ bytes. (text : List ℕ)
+    ensures answered { IfOk result (λ bad. IfSome (R.remaining incoming.entry.input) (λ bytes. (text : List ℕ)
         × Answers (records_of bytes) desk.old.desk.journal desk.new.desk.journal text
         × Appends (W.contents writer.old) (W.contents writer.new) (heading torn desk.old.desk ++ text)
         × (bad + length desk.new.desk.journal ≡ length (records_of bytes) + length desk.old.desk.journal))) }
@@ -98,7 +98,8 @@ fn run<D: Device, R: Read + Drop, P: Pace, W: Write>(
         ≡ journal_text desk.new.desk.opening.version desk.new.desk.journal) }
     ensures durable { D.tells → OnOk result
         (Only (D.seen desk.new.file.device) (D.may_leave desk.new.file.device)) }
-    ensures stopped { IfErr result (λ fault. fault ≢ ServingFault.Output → IfSome (R.remaining input) (λ bytes.
+    ensures stopped { IfErr result (λ fault. fault ≢ ServingFault.Output
+        → IfSome (R.remaining incoming.entry.input) (λ bytes.
         (rows rest : List Fields) × (text said left : List ℕ) × (kept : List EntryView)
         × (records_of bytes ≡ rows ++ rest) × Answers rows desk.old.desk.journal kept text
         × Appends (W.contents writer.old) (W.contents writer.new) said
@@ -111,6 +112,7 @@ fn run<D: Device, R: Read + Drop, P: Pace, W: Write>(
 {
     let opened = heading(alloc, torn, desk.desk())?;
     write_out(writer, opened.as_slice())?;
+    let Incoming { input, pace } = incoming;
     let mut rows = RequestRows::new(alloc, input);
     let served = serve_rows(alloc, desk, &mut rows, pace, writer);
     drop(rows);

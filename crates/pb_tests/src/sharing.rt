@@ -85,20 +85,24 @@ fn asks(rt: &impl Abort, alloc: Global, shared: &SharedDesk, clerk: &mut Clerk, 
     drop(request);
 }
 
+/// The number of a clerk, and what that clerk asks.
+#[derive(Drop)]
+struct Step<'a>(usize, &'a Row);
+
 /// The clerk with this number asks this.
 fn asks_by(
     rt: &impl Abort,
     alloc: Global,
     shared: &SharedDesk,
     clerks: &mut Vec<Clerk>,
-    number: usize,
-    row: &Row,
+    step: &Step,
 )
     requires { All (λ clerk. clerk.desk ≡ shared.now) clerks.old.items }
     ensures { All (λ clerk. clerk.desk ≡ shared.now) clerks.new.items }
 {
-    assert!(rt; number < clerks.len());
-    asks(rt, alloc, shared, &mut clerks[number], row);
+    let Step(number, row) = step;
+    assert!(rt; *number < clerks.len());
+    asks(rt, alloc, shared, &mut clerks[*number], row);
 }
 
 /// The clerk with this number reads this many entries from the front word.
@@ -110,9 +114,6 @@ fn reads(rt: &impl Abort, shared: &SharedDesk, clerks: &mut Vec<Clerk>, number: 
     let front = shared.front(&mut clerks[number]);
     same(rt, front, entries, "the front word");
 }
-
-/// The number of a clerk, and what that clerk asks.
-struct Step(usize, Row);
 
 /// The clerks ask in turn.
 fn ask_in_turn(
@@ -126,67 +127,68 @@ fn ask_in_turn(
     ensures { All (λ clerk. clerk.desk ≡ shared.now) clerks.new.items }
 {
     for step in steps {
-        asks_by(rt, alloc, shared, clerks, step.0, &step.1);
+        asks_by(rt, alloc, shared, clerks, step);
     }
 }
 
-const FIVE: &[Step] = &[
-    Step(0, Row("cast", "ann", &[0], 1, Ok(Answer::Done))),
-    Step(0, Row("cast", "ann", &[1], 1, Ok(Answer::AlreadyCast))),
-    Step(0, Row("replace", "ann", &[0, 1], 1, Ok(Answer::Done))),
-    Step(0, Row("withdraw", "ann", &[], 1, Ok(Answer::Done))),
-    Step(0, Row("replace", "ann", &[0], 1, Ok(Answer::NoBallot))),
+/// What a request is answered where the journal is full.
+const IS_FULL: Said = Err(SharedFault::JournalFull);
+
+const CAST_ANN: Row = Row("cast", "ann", &[0], 1, Ok(Answer::Done));
+
+const CAST_BOB: Row = Row("cast", "bob", &[0], 1, Ok(Answer::Done));
+
+const REPLACE_ANN: Row = Row("replace", "ann", &[1], 1, Ok(Answer::Done));
+
+const SHUT: Row = Row("shut", "", &[], 1, Ok(Answer::Done));
+
+const SHUT_AGAIN: Row = Row("shut", "", &[], 1, Ok(Answer::DeskShut));
+
+const FIVE: &[Step<'static>] = &[
+    Step(0, &CAST_ANN),
+    Step(0, &Row("cast", "ann", &[1], 1, Ok(Answer::AlreadyCast))),
+    Step(0, &Row("replace", "ann", &[0, 1], 1, Ok(Answer::Done))),
+    Step(0, &Row("withdraw", "ann", &[], 1, Ok(Answer::Done))),
+    Step(0, &Row("replace", "ann", &[0], 1, Ok(Answer::NoBallot))),
 ];
 
-const AFTER_SHUT: &[Step] = &[
-    Step(0, Row("shut", "", &[], 1, Ok(Answer::Done))),
-    Step(0, Row("cast", "ann", &[0], 1, Ok(Answer::DeskShut))),
-    Step(0, Row("shut", "", &[], 1, Ok(Answer::DeskShut))),
+const AFTER_SHUT: &[Step<'static>] = &[
+    Step(0, &SHUT),
+    Step(0, &Row("cast", "ann", &[0], 1, Ok(Answer::DeskShut))),
+    Step(0, &SHUT_AGAIN),
 ];
 
-const FULL: &[Step] = &[
-    Step(0, Row("shut", "", &[], 1, Ok(Answer::Done))),
-    Step(0, Row("shut", "", &[], 1, Ok(Answer::DeskShut))),
-    Step(0, Row("shut", "", &[], 1, Err(SharedFault::JournalFull))),
+const FULL: &[Step<'static>] = &[
+    Step(0, &SHUT),
+    Step(0, &SHUT_AGAIN),
+    Step(0, &Row("shut", "", &[], 1, IS_FULL)),
 ];
 
-const UNKNOWN: &[Step] = &[Step(
+const UNKNOWN: &[Step<'static>] = &[Step(
     0,
-    Row("cast", "ann", &[0, 2, 9], 1, Ok(Answer::UnknownPlace(2))),
+    &Row("cast", "ann", &[0, 2, 9], 1, Ok(Answer::UnknownPlace(2))),
 )];
 
 /// Two clerks fill a journal of two entries. Neither is then served, by one try or by more.
-const FILLED: &[Step] = &[
-    Step(0, Row("shut", "", &[], 1, Ok(Answer::Done))),
-    Step(1, Row("shut", "", &[], 1, Ok(Answer::DeskShut))),
-    Step(1, Row("shut", "", &[], 1, Err(SharedFault::JournalFull))),
-    Step(0, Row("shut", "", &[], 3, Err(SharedFault::JournalFull))),
+const FILLED: &[Step<'static>] = &[
+    Step(0, &SHUT),
+    Step(1, &SHUT_AGAIN),
+    Step(1, &Row("shut", "", &[], 1, IS_FULL)),
+    Step(0, &Row("shut", "", &[], 3, IS_FULL)),
 ];
 
 /// A full journal is told to whoever asks, and the lock is free after it.
-const NO_ROOM: &[Step] = &[
-    Step(0, Row("cast", "ann", &[0], 1, Ok(Answer::Done))),
-    Step(
-        1,
-        Row("cast", "bob", &[0], 1, Err(SharedFault::JournalFull)),
-    ),
-    Step(
-        1,
-        Row("withdraw", "ann", &[], 1, Err(SharedFault::JournalFull)),
-    ),
-    Step(
-        0,
-        Row("cast", "bob", &[0], 1, Err(SharedFault::JournalFull)),
-    ),
-    Step(
-        0,
-        Row("withdraw", "ann", &[], 1, Err(SharedFault::JournalFull)),
-    ),
+const NO_ROOM: &[Step<'static>] = &[
+    Step(0, &CAST_ANN),
+    Step(1, &Row("cast", "bob", &[0], 1, IS_FULL)),
+    Step(1, &Row("withdraw", "ann", &[], 1, IS_FULL)),
+    Step(0, &Row("cast", "bob", &[0], 1, IS_FULL)),
+    Step(0, &Row("withdraw", "ann", &[], 1, IS_FULL)),
 ];
 
 /// The room of a desk, what two clerks ask, the number of entries that each then reads from the front word, and the
 /// journal.
-struct Served(u32, &'static [Step], u32, &'static str);
+struct Served(u32, &'static [Step<'static>], u32, &'static str);
 
 const SERVED: &[Served] = &[
     Served(
@@ -332,14 +334,6 @@ fn looks_at_the_room(rt: &impl Abort, shared: &SharedDesk, clerks: &mut Vec<Cler
     same(rt, looked, Ok(Err(room)), "a look");
 }
 
-const CAST_ANN: Row = Row("cast", "ann", &[0], 1, Ok(Answer::Done));
-
-const CAST_BOB: Row = Row("cast", "bob", &[0], 1, Ok(Answer::Done));
-
-const REPLACE_ANN: Row = Row("replace", "ann", &[1], 1, Ok(Answer::Done));
-
-const SHUT: Row = Row("shut", "", &[], 1, Ok(Answer::Done));
-
 /// Clerk 0 meets a note of clerk 1. Another note is dropped.
 fn a_note_is_met(rt: &impl Abort, shared: &SharedDesk, clerks: &mut Vec<Clerk>)
     requires { All (λ clerk. clerk.desk ≡ shared.now) clerks.old.items }
@@ -358,10 +352,10 @@ fn a_note_may_be_met_or_dropped(rt: HostRuntime) {
     let alloc = rt.alloc();
     let (shared, mut clerks) = share(&rt, alloc, desk_with_room(&rt, alloc, 10), 2);
     looks_at_the_room(&rt, &shared, &mut clerks, 10);
-    asks_by(&rt, alloc, &shared, &mut clerks, 1, &CAST_ANN);
+    asks_by(&rt, alloc, &shared, &mut clerks, &Step(1, &CAST_ANN));
     a_note_is_met(&rt, &shared, &mut clerks);
     reads(&rt, &shared, &mut clerks, 0, 1);
-    asks_by(&rt, alloc, &shared, &mut clerks, 0, &CAST_BOB);
+    asks_by(&rt, alloc, &shared, &mut clerks, &Step(0, &CAST_BOB));
     drop(clerks);
     let text = "journal;2\n1;1;cast;ann;0;done\n2;0;cast;bob;0;done\n";
     drop(finishes(&rt, alloc, shared, Vec::new(alloc), text));
@@ -404,8 +398,8 @@ fn each_asks(rt: &impl Abort, alloc: Global, shared: &SharedDesk, clerks: &mut V
 {
     let mut entries = 0u32;
     for number in 0..64 {
-        asks_by(rt, alloc, shared, clerks, number, &ALONE[0]);
-        asks_by(rt, alloc, shared, clerks, number, &ALONE[1]);
+        asks_by(rt, alloc, shared, clerks, &Step(number, &ALONE[0]));
+        asks_by(rt, alloc, shared, clerks, &Step(number, &ALONE[1]));
         entries = entries.saturating_add(2);
         reads(rt, shared, clerks, number, entries);
     }
@@ -418,7 +412,7 @@ fn each_clerk_is_served_alone(rt: HostRuntime) {
     let (shared, mut clerks) = share(&rt, alloc, desk_with_room(&rt, alloc, 1000), 64);
     each_asks(&rt, alloc, &shared, &mut clerks);
     reads(&rt, &shared, &mut clerks, 5, 128);
-    asks_by(&rt, alloc, &shared, &mut clerks, 9, &CAST_ANN);
+    asks_by(&rt, alloc, &shared, &mut clerks, &Step(9, &CAST_ANN));
     reads(&rt, &shared, &mut clerks, 5, 129);
     reads(&rt, &shared, &mut clerks, 5, 129);
     drop(clerks);
@@ -431,8 +425,8 @@ fn clerks_read_what_others_wrote(rt: HostRuntime) {
     let alloc = rt.alloc();
     let (shared, mut clerks) = share(&rt, alloc, desk_with_room(&rt, alloc, 10), 3);
     are_numbered(&rt, clerks.as_slice());
-    asks_by(&rt, alloc, &shared, &mut clerks, 0, &CAST_ANN);
-    asks_by(&rt, alloc, &shared, &mut clerks, 1, &REPLACE_ANN);
+    asks_by(&rt, alloc, &shared, &mut clerks, &Step(0, &CAST_ANN));
+    asks_by(&rt, alloc, &shared, &mut clerks, &Step(1, &REPLACE_ANN));
     looks_at_ann(&rt, alloc, &shared, &mut clerks);
     reads(&rt, &shared, &mut clerks, 0, 2);
     reads(&rt, &shared, &mut clerks, 2, 2);
@@ -494,7 +488,7 @@ fn leaves_voters(rt: &impl Abort, desk: Desk, voters: usize) {
 fn a_shut_desk_comes_back(rt: HostRuntime) {
     let alloc = rt.alloc();
     let (shared, mut clerks) = share(&rt, alloc, desk_in_use(&rt, alloc), 1);
-    asks_by(&rt, alloc, &shared, &mut clerks, 0, &SHUT);
+    asks_by(&rt, alloc, &shared, &mut clerks, &Step(0, &SHUT));
     let text = "journal;2\n1;5;cast;ann;0;done\n2;0;shut;;;done\n";
     leaves_voters(&rt, finishes(&rt, alloc, shared, clerks, text), 4);
 }

@@ -15,7 +15,7 @@ returns-in_err-opened-clause-stopped g c =
     let old = c.args.desk.now in
     let before = g.W.Write.contents c.args.writer.now in
     let head = heading c.args.torn old.desk in
-    any_err c.from_residual.result _ (λ fault other. unsaid (λ kept. g.D.Device.tells → (f : List ℕ) → g.D.Device.may_leave old.file.device f → StandsWithin old.desk.opening.version kept old.desk.journal f) (g.R.Read.remaining c.args.input) old.desk.journal before head
+    any_err c.from_residual.result _ (λ fault other. unsaid (λ kept. g.D.Device.tells → (f : List ℕ) → g.D.Device.may_leave old.file.device f → StandsWithin old.desk.opening.version kept old.desk.journal f) (g.R.Read.remaining c.args.incoming.input) old.desk.journal before head
     (λ tells f left. kept_all g.D.Device.moment g.D.Device.left_since g.D.Device.seen g.D.Device.may_leave old (c.requires tells) f left))
 
 pub returns-in_err-opened-clause-any_moment : goal.returns-in_err-opened-clause-any_moment
@@ -33,7 +33,7 @@ returns-in_err-bad_rows-clause-stopped g c =
     let after = g.W.Write.contents c.serve_rows-served.new.writer in
     let head_is : c.as_slice.result.now ≡ head = c.as_slice.ensures.value ∙ c.in_ok-opened.ensures ∙ ap (λ (d : DeskView). heading c.args.torn d) c.desk.ensures in
     let opened = subst (Appends before mid) head_is c.in_ok-write_out.ensures.ok in
-    let known = g.R.Read.remaining c.args.input in
+    let known = g.R.Read.remaining c.args.incoming.input in
     let left = c.new-rows.result.left in
     let now = c.serve_rows-served.new.desk in
     if_err c.from_residual-in_err-bad_rows.result c.in_err-bad_rows.field-0.0 _ c.from_residual-in_err-bad_rows.ensures.1 (λ other.
@@ -48,7 +48,7 @@ returns-in_err-close-clause-stopped g c =
     let after = g.W.Write.contents c.serve_rows-served.new.writer in
     let head_is : c.as_slice.result.now ≡ head = c.as_slice.ensures.value ∙ c.in_ok-opened.ensures ∙ ap (λ (d : DeskView). heading c.args.torn d) c.desk.ensures in
     let opened = subst (Appends before mid) head_is c.in_ok-write_out.ensures.ok in
-    let known = g.R.Read.remaining c.args.input in
+    let known = g.R.Read.remaining c.args.incoming.input in
     let left = c.new-rows.result.left in
     let now = c.serve_rows-served.new.desk in
     let end = c.close.new.self in
@@ -81,7 +81,7 @@ returns-clause-answered g c =
     let after = g.W.Write.contents c.serve_rows-served.new.writer in
     let head_is : c.as_slice.result.now ≡ head = c.as_slice.ensures.value ∙ c.in_ok-opened.ensures ∙ ap (λ (d : DeskView). heading c.args.torn d) c.desk.ensures in
     let opened = subst (Appends before mid) head_is c.in_ok-write_out.ensures.ok in
-    let known = g.R.Read.remaining c.args.input in
+    let known = g.R.Read.remaining c.args.incoming.input in
     let left = c.new-rows.result.left in
     let now = c.serve_rows-served.new.desk in
     subst (λ (d : DeskView). IfSome known (λ bytes. HasAnswered old.desk.journal d.journal before after head c.in_ok-bad_rows.bad_rows (records_of bytes))) (sym c.close.ensures.desk)
