@@ -1,4 +1,4 @@
-// The command `audit`: the report of a journal, alone, of a shut desk, or with the digests of what was read.
+//! The command `audit`: the report of a journal, alone, of a shut desk, or with the digests of what was read.
 
 use crate::counted::Counted;
 use crate::digested::{Digested, hex_of};

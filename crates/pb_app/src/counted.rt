@@ -1,4 +1,4 @@
-// A reader of a journal, of which the entries are counted as they go by.
+//! A reader of a journal, of which the entries are counted as they go by.
 
 use pb_words::Tally;
 use std::io::{Read, Result};

@@ -1,4 +1,4 @@
-// A reader whose bytes are digested as they go by.
+//! A reader whose bytes are digested as they go by.
 
 use sha2::{Digest, Sha256};
 use std::alloc::{AllocError, Global};

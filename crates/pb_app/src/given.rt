@@ -1,4 +1,4 @@
-// The texts that the command line names: standard input, or files.
+//! The texts that the command line names: standard input, or files.
 
 use pb_command_line::Source;
 use pb_commands::AppFault;

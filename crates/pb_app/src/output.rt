@@ -1,4 +1,4 @@
-// Where a result goes: to standard output, or to a file that gets it whole or not at all.
+//! Where a result goes: to standard output, or to a file that gets it whole or not at all.
 
 use pb_words::Tally;
 use std::alloc::Global;

@@ -1,4 +1,4 @@
-// Standard input, handed out a row at a time.
+//! Standard input, handed out a row at a time.
 
 ghost use Rattle.std.specs.Prelude.{◌≤◌, length};
 

@@ -1,4 +1,4 @@
-// The command `page`: a result that people look at.
+//! The command `page`: a result that people look at.
 
 ghost use Rattle.std.specs.Prelude.{◌≡◌, IfErr, IfOk, OnOk};
 ghost use Rattle.pb_rounds.specs.Counted.{IsCountFault};

@@ -1,4 +1,4 @@
-// What the command line asks for, done on real files.
+//! What the command line asks for, done on real files.
 
 use crate::audit::audit;
 use crate::given::{open, open_both};

@@ -1,4 +1,4 @@
-// How far reading and counting have come, shown in one line of standard error that is rewritten.
+//! How far reading and counting have come, shown in one line of standard error that is rewritten.
 
 use pb_core::gate::Gate;
 use pb_core::money::Money;

@@ -1,4 +1,4 @@
-// The command `serve`: a desk that stands on a file.
+//! The command `serve`: a desk that stands on a file.
 
 use crate::given::open_file;
 use crate::paced::{AtHand, Paced};

@@ -1,4 +1,4 @@
-// What is said on standard error, beside what programs read.
+//! What is said on standard error, beside what programs read.
 
 use crate::perform::Refusal;
 use pb_command_line::{Asked, Source, Task};

@@ -1,1 +1,2 @@
+-- The words that public contracts reach, a notion a file.
 pub mod Closed

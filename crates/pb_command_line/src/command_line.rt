@@ -1,4 +1,4 @@
-// The commands and options that the program knows, and what parsed arguments ask for.
+//! The commands and options that the program knows, and what parsed arguments ask for.
 
 use crate::task::{Asked, AuditRun, Ballots, DeskRun, Source, Task};
 use clap::{Arg, ArgAction, ArgMatches, Command, value_parser};

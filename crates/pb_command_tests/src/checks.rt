@@ -1,4 +1,4 @@
-// What tests ask of what they found, and the file that they read.
+//! What tests ask of what they found, and the file that they read.
 
 use std::fmt::Debug;
 use std::process::Abort;

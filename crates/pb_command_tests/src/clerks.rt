@@ -1,4 +1,4 @@
-// Clerks side by side: whichever of two is held, the other is served.
+//! Clerks side by side: whichever of two is held, the other is served.
 
 use crate::checks::{THREE_VOTERS, same};
 use pb_commands::run_desk::run_desk;

@@ -1,4 +1,4 @@
-// Closing a shared desk. The winners are worked by hand in docs/counting.md and the README.
+//! Closing a shared desk. The winners are worked by hand in docs/counting.md and the README.
 
 ghost use Rattle.std.specs.Prelude.{◌≡◌, All};
 

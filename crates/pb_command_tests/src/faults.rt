@@ -1,4 +1,4 @@
-// A writer that can't be flushed, and what the faults of a script and of a run say of themselves.
+//! A writer that can't be flushed, and what the faults of a script and of a run say of themselves.
 
 use crate::checks::{THREE_VOTERS, same};
 use pb_commands::AppFault;

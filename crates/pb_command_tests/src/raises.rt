@@ -1,4 +1,4 @@
-// What a count tells of its raises while it is done.
+//! What a count tells of its raises while it is done.
 
 use crate::checks::{THREE_VOTERS, same};
 use pb_commands::Counting;

@@ -1,5 +1,5 @@
-// Requests that are answered as they come in: when the answers leave, and how often the journal is synced; and a device in
-// memory, where memory suffices.
+//! Requests that are answered as they come in: when the answers leave, and how often the journal is synced; and a device in
+//! memory, where memory suffices.
 
 ghost use Rattle.std.specs.Prelude.{[]};
 

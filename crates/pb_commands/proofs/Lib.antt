@@ -1,3 +1,4 @@
+-- The lemmas that the proofs of this crate share.
 pub mod RowsGrown
 pub mod ReportSums
 pub mod Closings

@@ -1,3 +1,4 @@
+-- The words that public contracts reach, a notion a file.
 pub mod Report
 pub mod Tables
 pub mod Tabled

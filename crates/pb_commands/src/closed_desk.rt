@@ -1,4 +1,4 @@
-// The ballots that the journal of a shut desk leaves.
+//! The ballots that the journal of a shut desk leaves.
 
 ghost use Rattle.std.specs.Prelude.{◌≡◌, Err, IfErr, IfOk, IfSome, true};
 ghost use Rattle.pb_core.specs.Election.{ElectionView};

@@ -1,4 +1,4 @@
-// How to count, as one value.
+//! How to count, as one value.
 
 use pb_rounds::options::CountOptions;
 use std::alloc::Global;

@@ -1,4 +1,4 @@
-// The file of a counted election, as text.
+//! The file of a counted election, as text.
 
 ghost use Rattle.std.specs.Prelude.{◌≡◌, ◌++◌, IfErr, IfOk, OnOk, codes, decimal, string_bytes};
 ghost use Rattle.pb_commands.specs.Inner.Exporting.{IsStopped};

@@ -1,4 +1,4 @@
-// Why a run ends without what it was to write.
+//! Why a run ends without what it was to write.
 
 use pb_core::no_memory::NoMemory;
 use pb_desk::AuditFault;

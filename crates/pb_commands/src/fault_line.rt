@@ -1,4 +1,4 @@
-// What the program says of a fault: one line, and the status that it ends with.
+//! What the program says of a fault: one line, and the status that it ends with.
 
 ghost use Rattle.std.specs.Prelude.{◌≡◌, ◌++◌, OnOk, codes, map};
 ghost use Rattle.std.specs.Io.KnownBytes.{Appends};

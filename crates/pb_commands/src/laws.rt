@@ -1,4 +1,4 @@
-// Laws of the definitions.
+//! Laws of the definitions.
 
 ghost use Rattle.std.specs.Prelude.{◌≡◌, ◌↔◌, ◌<◌, ◌==◌, ◌++◌, ℕ, All, Bool, List, [], ◌∷◌, filter, map, true};
 ghost use Rattle.std.specs.Bool.{MatchBool};

@@ -1,4 +1,4 @@
-// The table of projects: who won and why, who lost and by how much.
+//! The table of projects: who won and why, who lost and by how much.
 
 ghost use Rattle.std.specs.Prelude.{◌≡◌, ◌++◌, ◌∷◌, ℕ, List, [], OnOk, decimal, length, map, string_bytes};
 ghost use Rattle.std.specs.List.{range_with_len};

@@ -1,4 +1,4 @@
-// The command `audit`: what a journal says of a file.
+//! The command `audit`: what a journal says of a file.
 
 ghost use Rattle.std.specs.Prelude.{◌≡◌, ◌≢◌, ◌++◌, ℕ, List, IfErr, IfOk, IfSome, OnOk, codes, if◌then◌else◌, true};
 ghost use Rattle.pb_desk.specs.Desk.{closed_election, standing_of};

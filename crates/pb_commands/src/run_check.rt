@@ -1,4 +1,4 @@
-// The command `check`: all that is wrong with a file, and what is probably not meant.
+//! The command `check`: all that is wrong with a file, and what is probably not meant.
 
 ghost use Rattle.std.specs.Prelude.{◌≡◌, ◌≢◌, ◌++◌, ℕ, List, IfErr, IfOk, IfSome, OnOk, map};
 ghost use Rattle.pb_rows.specs.Reading.{records_of};

@@ -1,4 +1,4 @@
-// Runs that write the file of a counted election.
+//! Runs that write the file of a counted election.
 
 ghost use Rattle.std.specs.Prelude.{◌≡◌, ◌≢◌, IfErr, IfSome, OnOk};
 ghost use Rattle.pb_read.specs.StandsFor.{StandsFor};

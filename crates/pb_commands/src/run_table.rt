@@ -1,4 +1,4 @@
-// Runs that write a table: who won and why, who lost and by how much, who paid.
+//! Runs that write a table: who won and why, who lost and by how much, who paid.
 
 ghost use Rattle.std.specs.Prelude.{◌≡◌, ◌≢◌, ◌++◌, ℕ, List, IfErr, IfOk, IfSome, OnOk};
 ghost use Rattle.pb_read.specs.StandsFor.{StandsFor};

@@ -1,3 +1,5 @@
+//! The tables that a run writes.
+
 /// A table that a run writes.
 #[derive(Clone, Copy, Debug, PartialEq, Eq)]
 pub enum Table {

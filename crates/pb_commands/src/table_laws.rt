@@ -1,4 +1,4 @@
-// Laws of the tables.
+//! Laws of the tables.
 
 ghost use Rattle.std.specs.Prelude.{◌≡◌, ◌<◌, ◌+◌, ◌-◌, ℕ, Some, false, length, slice_get, sum_by};
 ghost use Rattle.std.specs.List.{range_with_len};

@@ -1,4 +1,4 @@
-// The table of voters: who paid.
+//! The table of voters: who paid.
 
 ghost use Rattle.std.specs.Prelude.{◌≡◌, ◌++◌, ◌∷◌, ℕ, List, [], OnOk, decimal, length, map, string_bytes};
 ghost use Rattle.std.specs.List.{range_with_len};

@@ -1,3 +1,4 @@
+-- The lemmas that the proofs of this crate share.
 pub mod Conditions
 pub mod Elections
 pub mod MoneyBack

@@ -1,3 +1,5 @@
+//! What the desk answers.
+
 /// What the desk answers to a request. Any answer but `Done` changes neither the ballots nor whether
 /// the desk is shut.
 #[derive(Clone, Copy, Debug, PartialEq, Eq)]

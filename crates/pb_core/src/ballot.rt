@@ -1,3 +1,5 @@
+//! The places of the projects that a voter approves.
+
 ghost use Rattle.std.specs.Prelude.{◌≡◌, ◌↔◌, ℕ, List, IsTrue, IfOk, MatchOption};
 ghost use Rattle.pb_core.specs.Ballot.{IsBallot, approves, HasSameMembers};
 

@@ -1,3 +1,5 @@
+//! An election: its budget, its projects, and its voters with their ballots.
+
 ghost use Rattle.std.specs.Prelude.{◌≡◌, ◌<◌, ◌≤◌, ◌↔◌, ◌++◌, ◌∷◌, [], length, map, All, IsTrue, Contains};
 ghost use Rattle.std.specs.Prelude.{OnOk, OnErr, None};
 ghost use Rattle.pb_core.specs.Money.{largest_money};

@@ -1,3 +1,5 @@
+//! What is told how far work has come.
+
 use crate::money::Money;
 
 /// Told how far work has come, while it is done: a test can hold a worker there, and a program can show what it is told.

@@ -1,3 +1,5 @@
+//! Why a text names no amount of money.
+
 ghost use Rattle.std.specs.Prelude.{◌≡◌};
 ghost use Rattle.pb_core.specs.MoneyFault.{numbered_name};
 

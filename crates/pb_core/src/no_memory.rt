@@ -1,3 +1,5 @@
+//! The fault of memory that is refused.
+
 use std::alloc::{AllocError, AllocFailed};
 use thiserror::Error;
 

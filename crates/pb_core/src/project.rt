@@ -1,3 +1,5 @@
+//! A project that may be funded.
+
 ghost use Rattle.std.specs.Prelude.{◌≡◌, ◌≢◌, ◌<◌, ◌≤◌, [], string_bytes};
 ghost use Rattle.pb_core.specs.Money.{largest_money};
 

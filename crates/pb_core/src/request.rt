@@ -1,3 +1,5 @@
+//! What a clerk asks of the desk.
+
 ghost use Rattle.std.specs.Prelude.{◌≡◌, IfOk};
 ghost use Rattle.pb_core.specs.Request.{asked};
 

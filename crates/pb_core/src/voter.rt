@@ -1,3 +1,5 @@
+//! A voter with a ballot.
+
 use crate::ballot::Ballot;
 use crate::voter_id::VoterId;
 use std::alloc::{Allocator, Global};

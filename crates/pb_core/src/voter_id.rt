@@ -1,3 +1,5 @@
+//! The texts that are voters' ids.
+
 ghost use Rattle.std.specs.Prelude.{◌≡◌, ◌≢◌, ℕ, List, [], string_bytes, IfOk, MatchOption};
 ghost use Rattle.std.specs.Str.{trim};
 ghost use Rattle.pb_core.specs.Ballot.{IsVoterId};

@@ -1,3 +1,5 @@
+//! Why the desk did not serve a request.
+
 ghost use Rattle.std.specs.Prelude.{◌≡◌};
 ghost use Rattle.pb_desk.specs.DeskFault.{numbered_name};
 ghost use Rattle.pb_desk.specs.declared.desk_fault.DeskFault.TheVariants as fault;

@@ -1,3 +1,5 @@
+//! Why a desk was not made into an election.
+
 ghost use Rattle.std.specs.Prelude.{◌≡◌};
 
 use crate::desk::Desk;

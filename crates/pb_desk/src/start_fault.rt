@@ -1,3 +1,5 @@
+//! Why a desk was not started.
+
 ghost use Rattle.std.specs.Prelude.{◌≡◌};
 
 use pb_core::election::Election;

@@ -1,3 +1,4 @@
+-- The lemmas that the proofs of this crate share.
 pub mod Tidy
 pub mod Pieces
 pub mod Metas

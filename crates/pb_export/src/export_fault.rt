@@ -1,4 +1,4 @@
-// Why an election is not exported.
+//! Why an election is not exported.
 
 use thiserror::Error;
 

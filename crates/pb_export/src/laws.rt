@@ -1,4 +1,4 @@
-// Laws of the definitions.
+//! Laws of the definitions.
 
 ghost use Rattle.std.specs.Prelude.{◌≡◌, List, true};
 ghost use Rattle.pb_core.specs.Election.{ElectionView};

@@ -1,4 +1,4 @@
-// Whether an election can be read back from a file.
+//! Whether an election can be read back from a file.
 
 ghost use Rattle.std.specs.Prelude.{◌≡◌, ◌<◌, ◌&&◌, [], All, length, map, slice_index_or};
 ghost use Rattle.std.specs.List.{list_all, list_any};

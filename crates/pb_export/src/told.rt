@@ -1,4 +1,4 @@
-// What an exported file tells of the count beside the election; readers pass over it.
+//! What an exported file tells of the count beside the election; readers pass over it.
 
 /// What an exported file tells of the count beside the election; readers pass over it.
 #[derive(Clone, Copy)]

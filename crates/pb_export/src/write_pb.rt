@@ -1,4 +1,4 @@
-// Elections, written as .pb files.
+//! Elections, written as .pb files.
 
 ghost use Rattle.std.specs.Prelude.{◌≡◌, ◌<◌, ◌++◌, ℕ, All, IfErr, IfOk, OnOk, length, map, string_bytes};
 ghost use Rattle.csv.specs.Records.{AllText};

@@ -1,4 +1,4 @@
-// How crowded the places of a hash table are.
+//! How crowded the places of a hash table are.
 
 ghost use Rattle.std.specs.Prelude.{◌≡◌, ◌<◌, ◌≤◌, ℕ, true, IfOk, MatchOption};
 ghost use Rattle.pb_ids.specs.Inner.Crowd.{IsTable, has_lane, region_of};

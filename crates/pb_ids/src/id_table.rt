@@ -1,4 +1,4 @@
-// A table of ids.
+//! A table of ids.
 
 ghost use Rattle.std.specs.Prelude.{◌≡◌, IfOk, OnErr, OnOk};
 ghost use Rattle.std.specs.FinMap as map;

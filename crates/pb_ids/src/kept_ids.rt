@@ -1,4 +1,4 @@
-// Where ids and their places are kept.
+//! Where ids and their places are kept.
 
 ghost use Rattle.std.specs.Prelude.{◌≡◌, List, ℕ, None, Some, IfOk, OnErr, OnOk, if◌then◌else◌};
 ghost use Rattle.std.specs.Str.{bytes_eq};

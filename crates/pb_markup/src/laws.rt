@@ -1,4 +1,4 @@
-// Laws of the definitions.
+//! Laws of the definitions.
 
 ghost use Rattle.std.specs.Prelude.{◌≡◌, ◌||◌, ℕ, All, List, false, flat_map};
 ghost use Rattle.pb_markup.specs.Filling.{Filling, delimiters, page_of};

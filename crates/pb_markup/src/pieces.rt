@@ -1,4 +1,4 @@
-// Pieces of markup, filled with texts.
+//! Pieces of markup, filled with texts.
 
 ghost use Rattle.std.specs.Prelude.{◌≡◌, ◌++◌, OnOk, map};
 ghost use Rattle.pb_markup.specs.Filling.{filled, text_of};

@@ -1,3 +1,5 @@
+//! The values that fill the places of markup.
+
 use pb_core::money::Money;
 
 /// A value that fills a place of a piece of markup.

@@ -1,4 +1,4 @@
-// A text from outside, written so that it stays text.
+//! A text from outside, written so that it stays text.
 
 ghost use Rattle.std.specs.Prelude.{◌≡◌, ◌++◌, ◌||◌, ◌==◌, ◌↔◌, IsTrue, OnOk, false};
 ghost use Rattle.pb_markup.specs.Markup.{character, is_control, is_delimiter, written};

@@ -1,4 +1,4 @@
-// What became of the budget.
+//! What became of the budget.
 
 ghost use Rattle.std.specs.Prelude.{◌<◌, All, length};
 

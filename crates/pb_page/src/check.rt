@@ -1,4 +1,4 @@
-// How to check a result.
+//! How to check a result.
 
 use crate::facts::Facts;
 use crate::part::Part;

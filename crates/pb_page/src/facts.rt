@@ -1,3 +1,5 @@
+//! What a page says beside the outcome.
+
 use pb_rounds::options::CountOptions;
 
 /// A text that was read.

@@ -1,4 +1,4 @@
-// How many of each voter's choices won.
+//! How many of each voter's choices won.
 
 use pb_core::election::Election;
 use pb_core::no_memory::NoMemory;

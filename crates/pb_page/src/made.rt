@@ -1,4 +1,4 @@
-// The page of an outcome.
+//! The page of an outcome.
 
 ghost use Rattle.std.specs.Prelude.{◌<◌, All, IfOk, length};
 ghost use Rattle.pb_reasons.specs.Reasons.{IsCounted};

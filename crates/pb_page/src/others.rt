@@ -1,4 +1,4 @@
-// The projects that did not win.
+//! The projects that did not win.
 
 ghost use Rattle.std.specs.Prelude.{◌≡◌};
 

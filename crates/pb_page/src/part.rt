@@ -1,4 +1,4 @@
-// The pieces that a page is made of.
+//! The pieces that a page is made of.
 
 ghost use Rattle.std.specs.Prelude.{◌≡◌};
 ghost use Rattle.pb_page.specs.Page.{piece_of};

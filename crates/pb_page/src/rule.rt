@@ -1,4 +1,4 @@
-// How it was counted, in five sentences.
+//! How it was counted, in five sentences.
 
 use crate::budget::word;
 use crate::part::Part;

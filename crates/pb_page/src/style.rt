@@ -1,4 +1,4 @@
-// The head of a page, with how it looks.
+//! The head of a page, with how it looks.
 
 /// The head, and what the page is about. Values: the title, and again the title.
 pub(crate) const HEAD: &str = "<!DOCTYPE html>

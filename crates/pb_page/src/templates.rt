@@ -1,4 +1,4 @@
-// The pieces of a page. Values stand in the places of `~`.
+//! The pieces of a page. Values stand in the places of `~`.
 
 /// Who voted, what was spent, how many won. Values: voters, `people`, projects, `projects`, budget, winners, `projects`,
 /// spent, left.

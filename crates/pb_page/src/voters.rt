@@ -1,4 +1,4 @@
-// What the voters got.
+//! What the voters got.
 
 use crate::budget::{ten_thousandths, word};
 use crate::histogram::{KINDS, histogram};

@@ -1,4 +1,4 @@
-// The projects that won.
+//! The projects that won.
 
 ghost use Rattle.std.specs.Prelude.{◌≡◌, ◌<◌, All, length};
 

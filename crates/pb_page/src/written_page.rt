@@ -1,4 +1,4 @@
-// A page that grows by pieces.
+//! A page that grows by pieces.
 
 ghost use Rattle.std.specs.Prelude.{◌≡◌, ◌++◌, [], IfOk, OnOk, map};
 ghost use Rattle.pb_markup.specs.Filling.{filled, text_of};

@@ -1,3 +1,5 @@
+//! The prices of a list of projects, by several workers.
+
 ghost use Rattle.std.specs.Prelude.{◌≡◌, ◌+◌, ◌<◌, ◌≤◌, [], All, length, map, max, min, Err, IfOk, OnOk, OnErr, MatchBool, IsOkUnless};
 ghost use Rattle.std.specs.List.{AllZip};
 ghost use Rattle.pb_core.specs.Election.{most_projects};

@@ -1,3 +1,5 @@
+//! The answer to a worker's piece of work.
+
 use pb_core::money::Money;
 
 /// The price of one piece's project.

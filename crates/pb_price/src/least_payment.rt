@@ -1,3 +1,5 @@
+//! The least payment that covers a cost, by sorted rests.
+
 ghost use Rattle.std.specs.Prelude.{◌<◌, ◌≤◌, sum};
 ghost use Rattle.std.specs.List.Sorted.{IsNonDecreasing};
 ghost use Rattle.pb_price.specs.Inner.Payment.{IsLeastFrom};

@@ -1,3 +1,5 @@
+//! The pieces of work that workers share.
+
 use crate::supporters::Supporters;
 use pb_core::gate::Gate;
 use pb_core::money::Money;

@@ -1,3 +1,5 @@
+//! The price of one project.
+
 ghost use Rattle.std.specs.Prelude.{◌≡◌, ◌+◌, ◌<◌, ◌≤◌, All, length, map, min, sum, slice_index, IfOk, OnOk, OnErr};
 ghost use Rattle.pb_price.specs.Price.{AreRests, IsPrice, largest_share, largest_count};
 

@@ -1,3 +1,5 @@
+//! Why a list of projects gets no prices.
+
 ghost use Rattle.std.specs.Prelude.{◌≡◌};
 ghost use Rattle.pb_price.specs.PriceFault.{numbered_name};
 ghost use Rattle.pb_price.specs.declared.price_fault.PriceFault.TheVariants as fault;

@@ -1,3 +1,5 @@
+//! The price of one project in steps: from a lower bound up, without memory.
+
 ghost use Rattle.std.specs.Prelude.{◌≡◌, ◌<◌, ◌≤◌, ◌*◌, ◌^◌, ℕ, All, IfSome, None, Some, length};
 ghost use Rattle.pb_price.specs.Inner.Payment.{payers_above};
 ghost use Rattle.pb_price.specs.Price.{paid_at, total_rest, AreRests, IsPrice, largest_share};

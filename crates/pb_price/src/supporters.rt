@@ -1,3 +1,5 @@
+//! The supporters of each project.
+
 ghost use Rattle.std.specs.Prelude.{◌≡◌, ◌<◌, All, length, map, replicate, [], IfOk};
 ghost use Rattle.pb_price.specs.Supporters.{support_of};
 

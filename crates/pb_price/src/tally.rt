@@ -1,3 +1,5 @@
+//! How many prices were computed, and by how many workers.
+
 ghost use Rattle.std.specs.Prelude.{◌≡◌, ◌+◌, min};
 ghost use Rattle.pb_price.specs.Price.{largest_count};
 

@@ -1,3 +1,5 @@
+//! A worker who draws pieces of work and prices them.
+
 ghost use Rattle.std.specs.Prelude.{◌≡◌, [], All, length, IfOk, OnOk};
 ghost use Rattle.pb_price.specs.Inner.Claims.{drawn};
 ghost use Rattle.pb_price.specs.Inner.Working.{IsBatch, IsDone};

@@ -1,4 +1,4 @@
-// The check of a whole file: it goes on after a faulty row.
+//! The check of a whole file: it goes on after a faulty row.
 
 ghost use Rattle.std.specs.Prelude.{◌≡◌, [], None, IfOk, IfSome, OnOk};
 ghost use Rattle.pb_rows.specs.Reading.{records_of};

@@ -1,4 +1,4 @@
-// Where the columns of PROJECTS and VOTES stand.
+//! Where the columns of PROJECTS and VOTES stand.
 
 use crate::fault::ReadKind;
 use crate::row::Row;

@@ -1,4 +1,4 @@
-// The election as far as its rows were read.
+//! The election as far as its rows were read.
 
 ghost use Rattle.std.specs.Prelude.{◌≡◌, ◌≢◌, ◌≤◌, [], ◌∷◌, ◌++◌, IfErr, IfOk, OnOk, None};
 ghost use Rattle.pb_core.specs.Election.{project_ids, voter_ids};

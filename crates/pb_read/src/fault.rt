@@ -1,4 +1,4 @@
-// Why a file is refused, and where.
+//! Why a file is refused, and where.
 
 ghost use Rattle.std.specs.Prelude.{◌≡◌};
 ghost use Rattle.pb_read.specs.Kinds.{number_of, numbered_name};

@@ -1,4 +1,4 @@
-// Laws of the definitions.
+//! Laws of the definitions.
 
 ghost use Rattle.std.specs.Prelude.{◌≡◌, ◌≢◌, ◌⊎◌, ◌↔◌, ◌<◌, ◌≤◌, ◌-◌, ◌*◌, ℕ};
 ghost use Rattle.std.specs.Prelude.{List, [], ◌∷◌, length, take, Some, None, Ok, Err};

@@ -1,4 +1,4 @@
-// The limit on a ballot's length.
+//! The limit on a ballot's length.
 
 ghost use Rattle.std.specs.Prelude.{◌≡◌, ◌≤◌, ◌==◌, Some, None, length, nat_le, if◌then◌else◌};
 ghost use Rattle.std.specs.List.{list_all, position_or_len};

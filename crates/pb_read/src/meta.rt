@@ -1,4 +1,4 @@
-// What the rows of META say.
+//! What the rows of META say.
 
 use crate::fault::ReadKind;
 use crate::length::read_max_length;

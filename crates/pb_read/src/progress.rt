@@ -1,4 +1,4 @@
-// How far a file was read.
+//! How far a file was read.
 
 ghost use Rattle.std.specs.Prelude.{◌≡◌, ◌≢◌, None, false, Some, IfErr, OnOk, MatchResult};
 ghost use Rattle.pb_read.specs.Listed.{is_of_row};

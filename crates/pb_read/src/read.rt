@@ -1,4 +1,4 @@
-// The reader of a whole file.
+//! The reader of a whole file.
 
 ghost use Rattle.std.specs.Prelude.{◌≡◌, None, IfOk, IfErr, IfSome, OnErr, OnOk, MatchResult};
 ghost use Rattle.pb_core.specs.Election.{ElectionView};

@@ -1,4 +1,4 @@
-// A record of the file as its trimmed fields.
+//! A record of the file as its trimmed fields.
 
 ghost use Rattle.std.specs.Prelude.{◌≡◌, None, Some, IfErr, IfOk, OnErr};
 ghost use Rattle.std.specs.Str.{trim};

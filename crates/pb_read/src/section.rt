@@ -1,4 +1,4 @@
-// The three sections of a file.
+//! The three sections of a file.
 
 use crate::row::{Row, is_word};
 

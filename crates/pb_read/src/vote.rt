@@ -1,4 +1,4 @@
-// The projects that a vote names.
+//! The projects that a vote names.
 
 ghost use Rattle.std.specs.Prelude.{◌≡◌, List, ℕ, IfOk, true};
 ghost use Rattle.pb_read.specs.Inner.Ids.{Finds};

@@ -1,4 +1,4 @@
-// Who looks on at a check, and warns.
+//! Who looks on at a check, and warns.
 
 use crate::fault::{ReadFault, ReadKind};
 use csv::ByteRecord;

@@ -1,4 +1,4 @@
-// How a project ended.
+//! How a project ended.
 
 ghost use Rattle.std.specs.Prelude.{◌≡◌, ◌+◌, ◌-◌, ◌<◌, ◌^◌, ◌==◌, All, count_by, length};
 ghost use Rattle.pb_price.specs.Price.{total_rest};

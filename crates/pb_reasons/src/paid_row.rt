@@ -1,3 +1,5 @@
+//! What the supporters of one project paid.
+
 ghost use Rattle.std.specs.Prelude.{◌≡◌, ℕ, List, [], ◌∷◌, ◌++◌, IfOk, OnOk};
 
 use pb_core::money::Money;

@@ -1,3 +1,5 @@
+//! A payment of a voter.
+
 use pb_core::money::Money;
 
 /// What a voter paid for an elected project.

@@ -1,3 +1,5 @@
+//! Why a project is elected, or is not.
+
 use pb_core::money::Money;
 
 /// How an elected project was paid.

@@ -1,4 +1,4 @@
-// Why each project is elected, or is not.
+//! Why each project is elected, or is not.
 
 ghost use Rattle.std.specs.Prelude.{◌≡◌, ◌<◌, IfOk, length};
 ghost use Rattle.pb_rounds.specs.Outcome.{settled};

@@ -1,4 +1,4 @@
-// What one voter pays out of the share, round by round.
+//! What one voter pays out of the share, round by round.
 
 ghost use Rattle.std.specs.Prelude.{◌≡◌, ℕ, ◌<◌, List, All, AllPairs, IfOk, OnOk, filter, length, map, nat_lt, slice_index};
 ghost use Rattle.std.specs.List.Sorted.{IsStrictlyIncreasing};

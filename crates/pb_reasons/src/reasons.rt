@@ -1,4 +1,4 @@
-// Why an outcome is as it is.
+//! Why an outcome is as it is.
 
 ghost use Rattle.std.specs.Prelude.{◌≡◌, ◌<◌, IfOk, length};
 ghost use Rattle.pb_rounds.specs.Outcome.{settled};

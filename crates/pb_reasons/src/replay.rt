@@ -1,4 +1,4 @@
-// The rounds of an outcome, replayed: who paid what.
+//! The rounds of an outcome, replayed: who paid what.
 
 ghost use Rattle.std.specs.Prelude.{◌≡◌, ◌<◌, All, IfOk, OnOk, length, map, min, replicate, slice_index};
 ghost use Rattle.std.specs.List.Sorted.{IsStrictlyIncreasing};

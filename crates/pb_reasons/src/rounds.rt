@@ -1,4 +1,4 @@
-// Which round elected which project.
+//! Which round elected which project.
 
 ghost use Rattle.std.specs.Prelude.{◌<◌, ◌^◌, All, IfOk, length};
 ghost use Rattle.pb_reasons.specs.Inner.Kept.{AreRounds};

@@ -1,4 +1,4 @@
-// What the elected of an outcome come to together.
+//! What the elected of an outcome come to together.
 
 ghost use Rattle.std.specs.Prelude.{◌≡◌, ◌<◌, ◌^◌, All, length};
 ghost use Rattle.pb_price.specs.Supporters.{support_of};

@@ -1,3 +1,5 @@
+//! What a voter's ballot came to.
+
 use pb_core::money::Money;
 
 /// What a voter's ballot came to.

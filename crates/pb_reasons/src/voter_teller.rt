@@ -1,4 +1,4 @@
-// What the ballots came to, told voter by voter.
+//! What the ballots came to, told voter by voter.
 
 ghost use Rattle.std.specs.Prelude.{◌≡◌, ◌<◌, All, ◌^◌, IfOk, OnOk, count_by, filter, length, map, nat_lt, slice_index};
 ghost use Rattle.pb_rounds.specs.Outcome.{settled};

@@ -1,4 +1,4 @@
-// What tests ask of what they found.
+//! What tests ask of what they found.
 
 use std::fmt::Debug;
 use std::process::Abort;

@@ -1,4 +1,4 @@
-// Each allocation of a count refused in turn.
+//! Each allocation of a count refused in turn.
 
 use crate::checks::are;
 use crate::refusing::Refusing;

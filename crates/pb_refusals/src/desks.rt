@@ -1,4 +1,4 @@
-// Desks that serve: a refused call leaves the journal and every ballot as they were.
+//! Desks that serve: a refused call leaves the journal and every ballot as they were.
 
 use crate::checks::{are, same};
 use crate::elections::{id, one_voter};

@@ -1,4 +1,4 @@
-// Elections that grow: a refused addition leaves them as they were.
+//! Elections that grow: a refused addition leaves them as they were.
 
 use crate::walk::{Call, Heap, refused, walk};
 use pb_core::{Ballot, Election, Money, NoMemory, Project, Voter, VoterId};

@@ -1,4 +1,4 @@
-// A file whose reader fails.
+//! A file whose reader fails.
 
 use crate::checks::same;
 use pb_core::Election;

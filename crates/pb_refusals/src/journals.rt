@@ -1,4 +1,4 @@
-// A journal that is cut or damaged, whose reader fails, or whose writer fails.
+//! A journal that is cut or damaged, whose reader fails, or whose writer fails.
 
 use crate::checks::{are, same};
 use crate::files::{first, three_voters, whole_lines};

@@ -1,4 +1,4 @@
-// An allocator that refuses one allocation.
+//! An allocator that refuses one allocation.
 
 use std::alloc::{AllocError, Allocator};
 use std::sync::atomic::{AtomicU64, Ordering};

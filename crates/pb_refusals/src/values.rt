@@ -1,4 +1,4 @@
-// Values that hold memory: an amount's text, ids, ballots and copies.
+//! Values that hold memory: an amount's text, ids, ballots and copies.
 
 use crate::checks::are;
 use crate::elections::id;

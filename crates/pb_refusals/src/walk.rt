@@ -1,4 +1,4 @@
-// How the refusal moves over the allocations of a call, from the first to the last.
+//! How the refusal moves over the allocations of a call, from the first to the last.
 
 use crate::checks::holds;
 use crate::refusing::Refusing;

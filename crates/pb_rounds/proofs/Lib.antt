@@ -1,3 +1,4 @@
+-- The lemmas that the proofs of this crate share.
 pub mod BetweenShares
 pub mod BoundQueue
 pub mod TrialRounds

@@ -1,3 +1,4 @@
+-- The words that public contracts reach, a notion a file.
 pub mod Cheapest
 pub mod Completed
 pub mod Count

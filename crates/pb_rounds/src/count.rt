@@ -1,3 +1,5 @@
+//! Counts of elections, plain or completed by raises.
+
 ghost use Rattle.std.specs.Prelude.{◌≡◌, ◌+◌, ◌≤◌, None, IfOk, IfErr, MatchBool, MatchOption, IsOkUnless, length, ⊤};
 ghost use Rattle.pb_core.specs.Election.{IsElection};
 ghost use Rattle.pb_core.specs.Money.{largest_money};

@@ -1,3 +1,5 @@
+//! Why a count gives no outcome.
+
 ghost use Rattle.std.specs.Prelude.{◌≡◌};
 ghost use Rattle.pb_rounds.specs.CountFault.{numbered_name};
 ghost use Rattle.pb_rounds.specs.declared.count_fault.CountFault.TheVariants as fault;

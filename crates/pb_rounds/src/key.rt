@@ -1,3 +1,5 @@
+//! What a round orders projects by.
+
 ghost use Rattle.std.specs.Prelude.{◌≡◌, ◌≤◌};
 
 use pb_core::money::Money;

@@ -1,3 +1,5 @@
+//! What an approval is worth.
+
 ghost use Rattle.std.specs.Prelude.{◌≡◌, ◌<◌, ◌≤◌, length};
 ghost use Rattle.pb_rounds.specs.Run.{weight_of};
 

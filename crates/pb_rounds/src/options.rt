@@ -1,3 +1,5 @@
+//! How an election is counted.
+
 ghost use Rattle.std.specs.Prelude.{◌≡◌};
 ghost use Rattle.pb_rounds.specs.CountFault.{most_raises};
 ghost use Rattle.pb_rounds.specs.declared.measure.Measure.TheVariants.{Votes};

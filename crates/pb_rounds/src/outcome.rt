@@ -1,3 +1,5 @@
+//! What a count gives.
+
 use pb_core::money::Money;
 use std::alloc::{Allocator, Global};
 use std::marker::Model;

@@ -1,3 +1,5 @@
+//! What the rounds of a count price by, and with how many workers.
+
 ghost use Rattle.std.specs.Prelude.{◌≡◌, ◌<◌, ◌≤◌, All, length, true};
 ghost use Rattle.pb_price.specs.PriceFault.{is_worker_count};
 ghost use Rattle.pb_rounds.specs.Inner.Threads.{workers_for};

@@ -1,3 +1,5 @@
+//! The queue of stale prices.
+
 ghost use Rattle.std.specs.Prelude.{◌≡◌, ◌<◌, MatchOption, OnOk, length, [], ◌∷◌};
 ghost use Rattle.pb_rounds.specs.Inner.Queue.{IsDone, IsFull, IsTaken, PutsBack, Rises, TakesHeads};
 

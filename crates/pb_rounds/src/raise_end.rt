@@ -1,3 +1,5 @@
+//! What the outcome of a raise says of the raises.
+
 /// What the outcome of a raise is to its completion.
 #[derive(Clone, Copy)]
 pub(crate) enum RaiseEnd {

@@ -1,3 +1,4 @@
+-- The lemmas that the proofs of this crate share.
 mod NumberFacts
 mod OnlyThese
 pub mod PlacesText

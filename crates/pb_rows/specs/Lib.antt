@@ -1,3 +1,4 @@
+-- The words that public contracts reach, a notion a file.
 pub mod Reading
 pub mod Writing
 pub mod Numbers

@@ -1,4 +1,4 @@
-// Why a record could not be read.
+//! Why a record could not be read.
 
 ghost use Rattle.std.specs.Prelude.{◌≡◌};
 ghost use Rattle.csv.specs.Reading.{error_kind};

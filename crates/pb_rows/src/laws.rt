@@ -1,4 +1,4 @@
-// Laws of the definitions.
+//! Laws of the definitions.
 
 ghost use Rattle.std.specs.Prelude.{◌≡◌, List};
 ghost use Rattle.pb_rows.specs.Reading.{Fields, records_of};

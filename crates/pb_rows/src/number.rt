@@ -1,4 +1,4 @@
-// The exact spelling of numbers.
+//! The exact spelling of numbers.
 
 ghost use Rattle.std.specs.Prelude.{◌≡◌, ◌≢◌, ◌<◌, ◌^◌, ℕ, decimal, IfNone, IfSome};
 

@@ -1,4 +1,4 @@
-// Lists of places as text.
+//! Lists of places as text.
 
 ghost use Rattle.std.specs.Prelude.{◌≡◌, ◌≢◌, ◌++◌, ◌↔◌, ℕ, List, true, false, string_bytes};
 ghost use Rattle.std.specs.Prelude.{IsTrue, IfOk, OnErr, OnOk};

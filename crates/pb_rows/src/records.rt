@@ -1,4 +1,4 @@
-// The records of a text, one at a time.
+//! The records of a text, one at a time.
 
 ghost use Rattle.std.specs.Prelude.{◌≡◌, [], false, Some, None, IfOk, IfErr, IfSome, OnErr, OnOk, option_map};
 ghost use Rattle.csv.specs.Records.{AllText, fields_of};

@@ -1,4 +1,4 @@
-// Rows, written as text.
+//! Rows, written as text.
 
 ghost use Rattle.std.specs.Prelude.{◌≡◌, ◌++◌, [], false, map, true, IfOk, IsErr, OnErr, OnOk};
 ghost use Rattle.pb_rows.specs.Inner.Writing.{IsAtRowStart, written_by};

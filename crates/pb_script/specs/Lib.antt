@@ -1,3 +1,4 @@
+-- The words that public contracts reach, a notion a file.
 pub mod Script
 pub mod ScriptFault
 pub mod ScriptReading

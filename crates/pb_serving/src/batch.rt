@@ -1,4 +1,4 @@
-// The rows of the input that are served together.
+//! The rows of the input that are served together.
 
 ghost use Rattle.std.specs.Prelude.{◌≡◌, ◌≤◌, ◌+◌, ◌++◌, [], length, IfOk};
 ghost use Rattle.pb_serving.specs.Inner.Batch.{IsBatch};

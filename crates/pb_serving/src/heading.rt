@@ -1,4 +1,4 @@
-// What a run of `serve` says before the first answer.
+//! What a run of `serve` says before the first answer.
 
 ghost use Rattle.std.specs.Prelude.{◌≡◌, ◌++◌, IfOk, OnOk};
 ghost use Rattle.pb_serving.specs.Answered.{heading};

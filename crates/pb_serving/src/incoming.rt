@@ -1,4 +1,4 @@
-// The requests that come in.
+//! The requests that come in.
 
 use std::io::Read;
 

@@ -1,4 +1,4 @@
-// Whether a row is at hand.
+//! Whether a row is at hand.
 
 /// Whether the reader of requests has a row at hand.
 pub trait Pace {

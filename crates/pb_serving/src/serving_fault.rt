@@ -1,4 +1,4 @@
-// Why a run of `serve` ends early.
+//! Why a run of `serve` ends early.
 
 ghost use Rattle.std.specs.Prelude.{◌≡◌, OnOk};
 ghost use Rattle.std.specs.Io.KnownBytes.{Appends};

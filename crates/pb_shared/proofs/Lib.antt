@@ -1,3 +1,4 @@
+-- The lemmas that the proofs of this crate share.
 pub mod Told
 pub mod Moves
 pub mod LockSteps

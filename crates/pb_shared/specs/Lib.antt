@@ -1,3 +1,4 @@
+-- The words that public contracts reach, a notion a file.
 pub mod Clerk
 pub mod Refusal
 pub mod Rule

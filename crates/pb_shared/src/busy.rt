@@ -1,3 +1,5 @@
+//! What a call answers where another clerk holds the lock.
+
 use thiserror::Error;
 
 /// The clerk with this number held the lock, so nothing was done.

@@ -1,3 +1,5 @@
+//! A clerk of a shared desk.
+
 use crate::desk_rule::Place;
 use std::marker::Model;
 

@@ -1,3 +1,5 @@
+//! What one clerk hands another to see.
+
 use crate::desk_rule::Place;
 use std::marker::Model;
 

@@ -1,3 +1,5 @@
+//! Why a desk was not shared.
+
 use pb_desk::desk::Desk;
 use std::fmt;
 use thiserror::Error;

@@ -1,3 +1,5 @@
+//! A desk that several clerks share.
+
 use crate::desk_rule::DeskTable;
 use std::marker::Model;
 

@@ -1,3 +1,5 @@
+//! Why a request was not served on a shared desk.
+
 ghost use Rattle.std.specs.Prelude.{◌≡◌};
 ghost use Rattle.pb_shared.specs.SharedFault.{numbered_name};
 

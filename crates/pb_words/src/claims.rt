@@ -1,4 +1,4 @@
-// What META says that warnings rest on.
+//! What META says that warnings rest on.
 
 use crate::fields::text_at;
 use csv::ByteRecord;

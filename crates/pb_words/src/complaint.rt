@@ -1,4 +1,4 @@
-// A condition that a row of a script or a journal breaks, in words.
+//! A condition that a row of a script or a journal breaks, in words.
 
 use crate::fields::{bytes_at, place_of_no_text};
 use crate::words::Words;

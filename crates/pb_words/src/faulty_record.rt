@@ -1,4 +1,4 @@
-// A record of a .pb file that has a fault, and what is wrong with it, in words.
+//! A record of a .pb file that has a fault, and what is wrong with it, in words.
 
 use crate::fields::{bytes_at, column_of, place_of_no_text, text_at};
 use crate::mark::Mark;

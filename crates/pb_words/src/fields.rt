@@ -1,4 +1,4 @@
-// The fields of a record, trimmed as the readers trim them.
+//! The fields of a record, trimmed as the readers trim them.
 
 use csv::ByteRecord;
 use std::str;

@@ -1,4 +1,4 @@
-// The ids of a file's projects and voters, as far as it was read again.
+//! The ids of a file's projects and voters, as far as it was read again.
 
 use crate::fields::is_blank;
 use crate::mark::Mark;

@@ -1,4 +1,4 @@
-// What a file looks like that is none of the program's texts.
+//! What a file looks like that is none of the program's texts.
 
 use crate::text::Text;
 use crate::words::Words;

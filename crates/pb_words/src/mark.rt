@@ -1,4 +1,4 @@
-// Where a record begins in its text.
+//! Where a record begins in its text.
 
 /// Where a record begins in its text. The bytes before it may end with blank lines that are no records.
 #[derive(Clone, Copy)]

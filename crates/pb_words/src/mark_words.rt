@@ -1,4 +1,4 @@
-// Where a record stands in its text, in words.
+//! Where a record stands in its text, in words.
 
 use crate::mark::Mark;
 use crate::quote::{Span, span_of};

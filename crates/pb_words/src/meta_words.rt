@@ -1,4 +1,4 @@
-// Words for META: its values, which are judged at the head of PROJECTS, and its head.
+//! Words for META: its values, which are judged at the head of PROJECTS, and its head.
 
 use crate::fields::{other_separator, text_at};
 use crate::mark::Mark;

@@ -1,4 +1,4 @@
-// The line of the text at which a record begins, and the quotation mark that makes it run over several lines.
+//! The line of the text at which a record begins, and the quotation mark that makes it run over several lines.
 
 use crate::mark::Mark;
 use crate::text::Text;

@@ -1,4 +1,4 @@
-// What is said of each fault of a .pb file: what is wrong, the rule that is broken, and what to do.
+//! What is said of each fault of a .pb file: what is wrong, the rule that is broken, and what to do.
 
 use crate::words::Words;
 use pb_read::ReadKind;

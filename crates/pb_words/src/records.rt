@@ -1,4 +1,4 @@
-// The records of a file that is read again, each with the place at which it begins.
+//! The records of a file that is read again, each with the place at which it begins.
 
 use crate::mark::Mark;
 use csv::{ByteRecord, Position, Reader, ReaderBuilder};

@@ -1,4 +1,4 @@
-// The request in a row of a script or a journal, and which of its conditions a row breaks.
+//! The request in a row of a script or a journal, and which of its conditions a row breaks.
 
 use crate::complaint::{Complaint, complains_of};
 use crate::fields::raw_text;

@@ -1,4 +1,4 @@
-// The sections of a .pb file, and what may come next in one.
+//! The sections of a .pb file, and what may come next in one.
 
 use crate::fields::text_at;
 use csv::ByteRecord;

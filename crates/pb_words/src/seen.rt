@@ -1,4 +1,4 @@
-// What the records of a .pb file before a certain one say of its sections.
+//! What the records of a .pb file before a certain one say of its sections.
 
 use crate::fields::{column_of, is_blank, text_at};
 use crate::mark::Mark;

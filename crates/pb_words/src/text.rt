@@ -1,4 +1,4 @@
-// The text that words speak of. Where it is a file it is read again.
+//! The text that words speak of. Where it is a file it is read again.
 
 use crate::mark::Mark;
 use crate::records::Records;

@@ -1,4 +1,4 @@
-// A .pb file that is read again, from one fault to the next.
+//! A .pb file that is read again, from one fault to the next.
 
 use crate::faulty_record::FaultyRecord;
 use crate::ids::Ids;

@@ -1,4 +1,4 @@
-// Words that are being written: text from outside is made fit for a terminal.
+//! Words that are being written: text from outside is made fit for a terminal.
 
 use itoa::Buffer;
 use std::alloc::{AllocError, Global};

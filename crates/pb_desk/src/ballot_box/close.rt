@@ -1,4 +1,4 @@
-// The election that is left once no more changes.
+//! The election that is left once no more changes.
 
 ghost use Rattle.std.specs.Prelude.{◌≡◌, ◌≤◌, [], length, IfErr, IfOk};
 ghost use Rattle.std.specs.Vec.{vec_capacity};

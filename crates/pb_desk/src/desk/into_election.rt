@@ -1,4 +1,4 @@
-// The election that a desk leaves when it is shut.
+//! The election that a desk leaves when it is shut.
 
 ghost use Rattle.std.specs.Prelude.{◌≡◌, true, if◌then◌else◌, IfErr, IfOk, OnOk};
 ghost use Rattle.pb_desk.specs.Desk.{closed_election, standing_of};

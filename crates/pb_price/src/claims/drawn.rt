@@ -1,3 +1,5 @@
+//! What a claim knows of the numbers that it drew.
+
 ghost use Rattle.std.specs.Prelude.{ℕ, List};
 ghost use Rattle.std.specs.Borrow.{ftrue};
 

@@ -1,3 +1,5 @@
+//! The end of a shared desk: clerks come back, and the desk does.
+
 ghost use Rattle.std.specs.Prelude.{◌≡◌, All, IfOk, IfErr, IsOk};
 ghost use Rattle.pb_shared.specs.Clerk.{AreAll, desk_with, IsHeldByAnother, IsMergeOf};
 

@@ -1,3 +1,5 @@
+//! Looks at a shared desk, under its lock and without it.
+
 ghost use Rattle.std.specs.Prelude.{◌≡◌, IfOk, IfErr, OnOk};
 ghost use Rattle.std.specs.Fn.{FnOnceReturnsAt};
 ghost use Rattle.pb_shared.specs.Clerk.{desk_with, Reads, Sees};

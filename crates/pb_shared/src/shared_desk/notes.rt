@@ -1,3 +1,5 @@
+//! Notes from clerk to clerk.
+
 ghost use Rattle.std.specs.Prelude.{◌≡◌, length};
 ghost use Rattle.pb_shared.specs.Clerk.{Begins, Reads};
 

@@ -1,3 +1,5 @@
+//! The start of a shared desk.
+
 ghost use Rattle.std.specs.Prelude.{◌≡◌, ◌⊎◌, All, IfOk, IfErr, OnOk};
 ghost use Rattle.pb_shared.specs.Clerk.{AreClerks, AreNewcomers};
 ghost use Rattle.pb_shared.specs.Inner.Seats.{IsLaid};
