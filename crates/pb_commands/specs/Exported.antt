@@ -10,7 +10,7 @@ use Rattle.pb_reasons.specs.Reasons.{project_reason}
 use Rattle.pb_reasons.specs.declared.project_reason.Ending.{Ending}
 use Rattle.pb_reasons.specs.declared.project_reason.Ending.TheVariants.{Won, Lost}
 use Rattle.pb_rounds.specs.Counted.{IsCountFault, IsCountOf}
-use Rattle.pb_rounds.specs.Outcome.{OutcomeView, Settled, settled}
+use Rattle.pb_rounds.specs.Outcome.{OutcomeView}
 use Rattle.pb_rounds.specs.declared.measure.Measure.{Measure}
 use Rattle.pb_rounds.specs.declared.measure.Measure.TheVariants as measure
 use Rattle.pb_rounds.specs.declared.options.CountOptions.{CountOptions}
@@ -43,10 +43,10 @@ is_won (Won w) = true
 is_won (Lost l) = false
 
 -- how many ballots approve each project, and whether it is elected
-abbrev pub votes_of : ElectionView → Settled → List ℕ
+abbrev pub votes_of : ElectionView → OutcomeView → List ℕ
 votes_of e o = map (λ place. (project_reason e o place).votes) (range_with_len 0 (length e.projects))
 
-abbrev pub selected_of : ElectionView → Settled → List Bool
+abbrev pub selected_of : ElectionView → OutcomeView → List Bool
 selected_of e o = map (λ place. is_won (project_reason e o place).ending) (range_with_len 0 (length e.projects))
 
 -- the text is a file of the election, with what the count by these options came to; it is read back as the election
@@ -55,7 +55,7 @@ pub record IsExportOf (options : CountOptions) (e : ElectionView) (text : List �
   pub counted : IsCountOf e options outcome
   pub can : CanBeWritten e
   pub text_is : text
-      ≡ text_of_rows (file_rows e (rule_text options) (votes_of e (settled outcome)) (selected_of e (settled outcome)))
+      ≡ text_of_rows (file_rows e (rule_text options) (votes_of e outcome) (selected_of e outcome))
   pub reads_back : StandsFor (records_of text) e
 
 -- the text is such a file of an election that is such

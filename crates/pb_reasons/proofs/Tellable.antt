@@ -10,7 +10,7 @@ use Rattle.pb_rounds.specs.declared.options.CountOptions.{CountOptions}
 use Rattle.pb_reasons.proofs.ElectedPlaces.{count_elects_projects}
 use Rattle.pb_reasons.proofs.Printables.{sums_are_amounts}
 
-pub count_can_be_told : (e : ElectionView) (options : CountOptions) (o : OutcomeView) → IsElection e → IsCountOf e options o → CanBeTold e (settled o)
+pub count_can_be_told : (e : ElectionView) (options : CountOptions) (o : OutcomeView) → IsElection e → IsCountOf e options o → CanBeTold e o
 count_can_be_told e options o h counted =
     let places = count_elects_projects e options (settled o) (is_computed e options o counted) in
     let sums = sums_are_amounts e options o h (is_computed e options o counted) counted.within_budget counted.price_system in
