@@ -1,6 +1,7 @@
 use Rattle.std.proofs.Common.{◌≡◌, ◌<◌, ◌≤◌, [], length, get_or, subst, sym, ap, ◌∙◌, arith, refl}
 use Rattle.std.proofs.lemmas.List.{get_or_default}
-use Rattle.pb_price.specs.Supporters.{support_of, supporters_at}
+use Rattle.pb_price.proofs.SupporterLists.{known_voters}
+use Rattle.pb_price.specs.Supporters.{SupportView, support_of, supporters_at}
 use Rattle.pb_rounds.specs.Outcome.{OutcomeView}
 use Rattle.pb_reasons.specs.Inner.Kept.{AreReasons}
 use Rattle.pb_reasons.specs.declared.project_reason.Ending.TheVariants.{Won, Lost}
@@ -44,6 +45,15 @@ won-requires-clause-few c =
     let amounts = c.amounts.ensures ∙ c.index-paid.ensures ∙ get_or_default c.self.inside.paid.items c.index-round.result.now _ [] inside ∙ ap (λ n. get_or c.self.inside.paid.items n []) round in
     let all = few_amounts e o _ own place c.requires.known (rw (← round) below) c.amounts.result.now amounts in
     omega (arith, all, few_support e o _ own place c.requires.known c.of-supporters.ensures.is_support (supporters_at (support_of e) place) refl, few.1)
+
+pub lost-requires-clause-known : goal.lost-requires-clause-known
+lost-requires-clause-known c =
+    let e = c.args.election.now in
+    let o = c.args.outcome.now in
+    let own = subst (AreReasons e o) (sym c.self.view_is) c.requires.own in
+    let rests : c.as_slice.result.now ≡ o.rests = c.as_slice.ensures.value ∙ ap (λ (v : OutcomeView). v.rests) c.outcome.view_is in
+    known_voters _ c.of-supporters.ensures.is_support c.args.place (has_place e o _ own c.args.place c.requires.known) c.of-supporters.result.now c.as_slice.result.now c.of-supporters.ensures.supporters
+    (ap length rests ∙ c.requires.told.one_each ∙ sym (ap (λ (s : SupportView). s.voters) own.supporters))
 
 pub lost-requires-clause-short : goal.lost-requires-clause-short
 lost-requires-clause-short c =
