@@ -16,6 +16,7 @@ use Rattle.pb_read.specs.declared.fault.ReadKind.{ReadKind}
 use Rattle.pb_read.specs.declared.fault.ReadKind.TheVariants.{ReadFailed, NoMemory}
 use Rattle.pb_rounds.proofs.Counted.{is_computed, one_outcome, spent_is_none}
 use Rattle.pb_rounds.specs.Counted.{IsCountFault}
+use Rattle.pb_rounds.specs.Outcome.{OutcomeView}
 use Rattle.pb_rounds.specs.declared.count_fault.CountFault.{CountFault}
 use Rattle.pb_rounds.specs.declared.count_fault.CountFault.TheVariants as count
 use Rattle.pb_rounds.specs.declared.options.CountOptions.{CountOptions}
@@ -133,11 +134,16 @@ refused_by_count None options e fault r is stands refused = given_fault (λ app.
 refused_by_count (Some bytes) options e fault r is stands refused =
     given_fault (FailsBy (CountRefuses options) (CountWrites bytes options) bytes) r (merged (Count fault)) is (refused_count bytes options e fault stands refused)
 
+-- a report doesn't say how many prices were computed
+report_of_other : (e : ElectionView) (o : OutcomeView) (priced : List ℕ) → report_of e (record o { priced = priced }) ≡ report_of e o
+unfolding report_of
+report_of_other e o priced = refl
+
 -- an election and options have one report
 pub one_report : (e : ElectionView) (options : CountOptions) (a b : List ℕ) → IsReportOf e options a → IsReportOf e options b → a ≡ b
 one_report e options a b first second =
     let outcome = one_outcome e options first.0 second.0 first.1 second.1 in
-    first.2 ∙ ap (report_of e) outcome ∙ sym second.2
+    first.2 ∙ ap (report_of e) outcome ∙ report_of_other e second.0 first.0.priced ∙ sym second.2
 
 pub one_text : (bytes : List ℕ) (options : CountOptions) (a b : List ℕ) → CountWrites bytes options a → CountWrites bytes options b → a ≡ b
 one_text bytes options a b first second =

@@ -4,7 +4,7 @@ use Rattle.std.specs.Prelude.{IfErr, MatchBool, OnOk, Result, Ok, Err}
 use Rattle.pb_core.specs.Election.{ElectionView}
 use Rattle.pb_desk.specs.Desk.{DeskView, closed_election, standing_of}
 use Rattle.pb_rounds.specs.Counted.{IsCountFault, IsCountOf}
-use Rattle.pb_rounds.specs.Outcome.{OutcomeView, settled}
+use Rattle.pb_rounds.specs.Outcome.{OutcomeView}
 use Rattle.pb_rounds.specs.declared.count_fault.CountFault.{CountFault}
 use Rattle.pb_rounds.specs.declared.count_fault.CountFault.TheVariants.{NoMemory}
 use Rattle.pb_rounds.specs.declared.options.CountOptions.{CountOptions}
@@ -19,8 +19,8 @@ when_true b A B is a = subst (λ (t : Bool). MatchBool t A B) (sym is) a
 
 -- the desk's row and the report of a count of its ballots are what is to be written of the desk
 pub report_of_count : (d : DeskView) (options : CountOptions) (o : OutcomeView) → (standing_of d).is_shut ≡ true → IsCountOf (closed_election d) options o
-    → IsTextOf d options (text_of_row (entries_row d) ++ report_of (closed_election d) (settled o))
-report_of_count d options o shut counted = when_true (standing_of d).is_shut _ _ shut (report_of (closed_election d) (settled o), (o, counted, refl), refl)
+    → IsTextOf d options (text_of_row (entries_row d) ++ report_of (closed_election d) o)
+report_of_count d options o shut counted = when_true (standing_of d).is_shut _ _ shut (report_of (closed_election d) o, (o, counted, refl), refl)
 
 -- the report of a shut desk's ballots goes after the desk's row
 pub report_follows : (d : DeskView) (options : CountOptions) (e : ElectionView) (before middle after : List ℕ) (r : Result (Unit {0}) CountFault) → (standing_of d).is_shut ≡ true

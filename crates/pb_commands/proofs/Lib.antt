@@ -1,5 +1,6 @@
 -- The lemmas that the proofs of this crate share.
 pub mod RowsGrown
+pub mod Selected
 pub mod ReportSums
 pub mod Closings
 pub mod AuditWritten

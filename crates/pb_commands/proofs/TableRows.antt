@@ -10,7 +10,7 @@ use Rattle.pb_reasons.specs.Reasons.{project_reason, voter_payments, voter_reaso
 use Rattle.pb_reasons.specs.declared.payment.Payment.{Payment}
 use Rattle.pb_reasons.specs.declared.project_reason.ProjectReason.{ProjectReason}
 use Rattle.pb_reasons.specs.declared.voter_reason.VoterReason.{VoterReason}
-use Rattle.pb_rounds.specs.Outcome.{Settled}
+use Rattle.pb_rounds.specs.Outcome.{OutcomeView}
 use Rattle.pb_rows.specs.Reading.{Fields}
 use Rattle.pb_rows.specs.Writing.{text_of_row, text_of_rows}
 use Rattle.pb_commands.proofs.ReportSums.{id_at-known}
@@ -36,7 +36,7 @@ name_at-known : (e : ElectionView) (place : ℕ) (p : ProjectView) → place < l
 name_at-known e place p known is = get_or-map (λ (q : ProjectView). q.name) e.projects place p [] known ∙ ap (λ (q : ProjectView). q.name) (sym is)
 
 -- the row of a project, as it is written
-pub project_row_read : (e : ElectionView) (o : Settled) (place : ℕ) (p : ProjectView) → place < length e.projects → p ≡ get_or e.projects place p
+pub project_row_read : (e : ElectionView) (o : OutcomeView) (place : ℕ) (p : ProjectView) → place < length e.projects → p ≡ get_or e.projects place p
     → (reason : ProjectReason) → reason ≡ project_reason e o place
     → decimal place ∷ p.id ∷ p.name ∷ money_text p.cost ∷ decimal reason.votes ∷ ending_fields reason.ending ≡ project_table_row e o place
 project_row_read e o place p known is reason reason_is =
@@ -46,7 +46,7 @@ project_row_read e o place p known is reason reason_is =
     ∙ ap (λ cost. decimal place ∷ id_at e place ∷ name_at e place ∷ money_text cost ∷ decimal (project_reason e o place).votes ∷ ending_fields (project_reason e o place).ending) (sym (cost_at-known e place p known is))
 
 -- the row of a voter, as it is written
-pub voter_row_read : (e : ElectionView) (o : Settled) (voter : ℕ) (v : VoterView) → voter < length e.voters → v ≡ get_or e.voters voter v
+pub voter_row_read : (e : ElectionView) (o : OutcomeView) (voter : ℕ) (v : VoterView) → voter < length e.voters → v ≡ get_or e.voters voter v
     → (id : List ℕ) → id ≡ v.id → (r : VoterReason) → r ≡ voter_reason e o voter → (payments : List Payment) → payments ≡ voter_payments e o voter
     → id ∷ decimal r.votes ∷ decimal r.elected ∷ money_text r.paid ∷ money_text r.left ∷ payments_text payments ∷ [] ≡ voter_table_row e o voter
 voter_row_read e o voter v known is id id_is r r_is payments payments_is =

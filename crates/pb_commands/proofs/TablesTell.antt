@@ -35,7 +35,7 @@ no_round elected place none = elim (cases_lt (round_of elected place) (length el
 ]
 
 pub missing_told : (e : ElectionView) (options : CountOptions) (o : OutcomeView) (place : ℕ) → IsElection e → IsCountOf e options o → place < length e.projects → is_elected o.elected place ≡ false
-    → (lost : Lost) × ((project_reason e (settled o) place).ending ≡ ending.Lost lost) × (0 < lost.missing) × (lost.left + lost.missing ≡ cost_at (support_of e) place)
+    → (lost : Lost) × ((project_reason e o place).ending ≡ ending.Lost lost) × (0 < lost.missing) × (lost.left + lost.missing ≡ cost_at (support_of e) place)
 missing_told e options o place h counted known none =
     let told = count_can_be_told e options o h counted in
     let past = no_round o.elected place none in
@@ -45,13 +45,13 @@ missing_told e options o place h counted known none =
     let other = fails_before_first (λ (w : ElectedView). w.place == place) o.elected k d (omega (arith, past, below)) in
     absurd (true≢false (sym (eq-eqb _ _ same) ∙ other))) in (
       record { left = left; missing = cost_at (support_of e) place - left },
-      ap (ending_of e (settled o) place) (slice_get_past o.elected (round_of o.elected place) past),
+      ap (ending_of e o place) (slice_get_past o.elected (round_of o.elected place) past),
       omega (arith, short),
       omega (arith, short),
     )
 
 pub share_told : (e : ElectionView) (options : CountOptions) (o : OutcomeView) (voter : ℕ) → IsElection e → IsCountOf e options o → voter < length e.voters
-    → (voter_reason e (settled o) voter).paid + (voter_reason e (settled o) voter).left ≡ o.share
+    → (voter_reason e o voter).paid + (voter_reason e o voter).left ≡ o.share
 share_told e options o voter h counted known = (count_can_be_told e options o h counted).price_system.endowed voter known
 
 read_here : (elected : List ElectedView) (round : ℕ) (w : ElectedView) → slice_get elected round ≡ Some w → (round < length elected) × (get_or elected round w ≡ w)
@@ -61,13 +61,13 @@ read_here elected round w is = elim (cases_lt round (length elected)) [
 ]
 
 pub elected_told : (e : ElectionView) (options : CountOptions) (o : OutcomeView) (round : ℕ) (w : ElectedView) → IsElection e → IsCountOf e options o → slice_get o.elected round ≡ Some w
-    → (won : Won) × ((project_reason e (settled o) w.place).ending ≡ ending.Won won) × (won.round ≡ round + 1) × (won.price ≡ w.price) × (won.collected ≡ w.collected)
+    → (won : Won) × ((project_reason e o w.place).ending ≡ ending.Won won) × (won.round ≡ round + 1) × (won.price ≡ w.price) × (won.collected ≡ w.collected)
 elected_told e options o round w h counted is =
     let places = count_elects_projects e options (settled o) (is_computed e options o counted) in
     let here = read_here o.elected round w is in
     let numbered = round_is o.elected places.apart round w here.0 here.1 in (
-      record { round = round_of o.elected w.place + 1; price = w.price; collected = w.collected; in_full = count_by (λ voter. paid_for e (settled o) w.place voter == w.price) (supporters_at (support_of e) w.place) },
-      ap (ending_of e (settled o) w.place) (ap (slice_get o.elected) numbered ∙ is),
+      record { round = round_of o.elected w.place + 1; price = w.price; collected = w.collected; in_full = count_by (λ voter. paid_for e o w.place voter == w.price) (supporters_at (support_of e) w.place) },
+      ap (ending_of e o w.place) (ap (slice_get o.elected) numbered ∙ is),
       ap (λ n. n + 1) numbered,
       refl,
       refl,
@@ -110,9 +110,9 @@ spent_within s rests (w ∷ elected) (row ∷ rows) all =
     omega (arith, spent_within s rests elected rows all.1, all.0.covered, sum_by-cons (λ (w : ElectedView). w.collected) w elected, sum_by-cons (λ (w : ElectedView). cost_at s w.place) w elected)
 
 pub paid_told : (e : ElectionView) (options : CountOptions) (o : OutcomeView) → IsElection e → IsCountOf e options o
-    → sum_by (λ voter. (voter_reason e (settled o) voter).paid) (range_with_len 0 (length e.voters)) ≡ spent_on (support_of e) o.elected + (collected_for o.elected - spent_on (support_of e) o.elected)
+    → sum_by (λ voter. (voter_reason e o voter).paid) (range_with_len 0 (length e.voters)) ≡ spent_on (support_of e) o.elected + (collected_for o.elected - spent_on (support_of e) o.elected)
 paid_told e options o h counted =
     let told = count_can_be_told e options o h counted in
-    let all = columns_sum (support_of e) o.rests o.elected (all_payments e (settled o)) told.price_system.paid in
-    let within = spent_within (support_of e) o.rests o.elected (all_payments e (settled o)) told.price_system.paid in
+    let all = columns_sum (support_of e) o.rests o.elected (all_payments e o) told.price_system.paid in
+    let within = spent_within (support_of e) o.rests o.elected (all_payments e o) told.price_system.paid in
     all ∙ omega (arith, within)

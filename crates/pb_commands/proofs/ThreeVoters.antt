@@ -5,7 +5,7 @@ use Rattle.std.specs.Fmt.{digits}
 use Rattle.pb_core.specs.Election.{ElectionView}
 use Rattle.pb_price.specs.Supporters.{supporters_of}
 use Rattle.pb_read.specs.declared.fault.ReadKind.TheVariants.{MoneyTooFine}
-use Rattle.pb_rounds.specs.Outcome.{Settled}
+use Rattle.pb_rounds.specs.Outcome.{OutcomeView}
 use Rattle.pb_rows.specs.Writing.{text_of_row, text_of_rows}
 use Rattle.pb_commands.specs.Fault.{fields_of, line, merged}
 use Rattle.pb_commands.specs.Report.{report_of}
@@ -21,12 +21,13 @@ e = record {
 }
 
 -- after five raises both are elected
-abbrev o : Settled
+abbrev o : OutcomeView
 o = record {
   share = 3833;
   raised = 5;
   elected = record { place = 0; price = 1500; collected = 3000 } ∷ record { place = 1; price = 3667; collected = 6000 } ∷ [];
   rests = 2333 ∷ 0 ∷ 166 ∷ [];
+  priced = [];
 }
 
 report : report_of e o ≡ codes "budget;100.00\nvoters;3\nshare;38.33\nraises;5\nelected;a;30.00;15.00\nelected;b;60.00;36.67\nspent;90.00\nsurplus;0.00\n"

@@ -3,7 +3,7 @@ use Rattle.std.specs.Prelude.{◌≡◌, ℕ, List}
 use Rattle.pb_core.specs.Election.{ElectionView}
 use Rattle.pb_read.specs.StandsFor.{StandsFor}
 use Rattle.pb_rounds.specs.Counted.{IsCountFault, IsCountOf}
-use Rattle.pb_rounds.specs.Outcome.{OutcomeView, settled}
+use Rattle.pb_rounds.specs.Outcome.{OutcomeView}
 use Rattle.pb_rounds.specs.declared.options.CountOptions.{CountOptions}
 use Rattle.pb_rows.specs.Reading.{records_of}
 use Rattle.pb_commands.specs.Report.{report_of}
@@ -12,7 +12,7 @@ use Rattle.pb_commands.specs.declared.fault.AppFault.TheVariants.{Count}
 
 -- the text is the report of the election, counted with these options
 abbrev pub IsReportOf : ElectionView → CountOptions → List ℕ → Type 0
-IsReportOf e options text = (o : OutcomeView) × IsCountOf e options o × (text ≡ report_of e (settled o))
+IsReportOf e options text = (o : OutcomeView) × IsCountOf e options o × (text ≡ report_of e o)
 
 -- what these bytes, read as a file, make a run of `count` write
 abbrev pub CountWrites : List ℕ → CountOptions → List ℕ → Type 0

@@ -1,16 +1,15 @@
 -- What a run of `export` writes, and what refuses it.
-use Rattle.std.specs.Prelude.{◌≡◌, ◌++◌, ℕ, Bool, true, false, List, codes, decimal, length, map}
+use Rattle.std.specs.Prelude.{◌≡◌, ◌++◌, ℕ, Bool, List, codes, decimal, length, map}
 use Rattle.std.specs.List.{range_with_len}
 use Rattle.pb_core.specs.Election.{ElectionView}
 use Rattle.pb_core.specs.MoneyText.{money_text}
 use Rattle.pb_export.specs.Export.{CanBeWritten, IsExportFault}
 use Rattle.pb_export.specs.FileRows.{file_rows}
+use Rattle.pb_price.specs.Supporters.{support_of, supporters_at}
 use Rattle.pb_read.specs.StandsFor.{StandsFor}
-use Rattle.pb_reasons.specs.Reasons.{project_reason}
-use Rattle.pb_reasons.specs.declared.project_reason.Ending.{Ending}
-use Rattle.pb_reasons.specs.declared.project_reason.Ending.TheVariants.{Won, Lost}
 use Rattle.pb_rounds.specs.Counted.{IsCountFault, IsCountOf}
-use Rattle.pb_rounds.specs.Outcome.{OutcomeView, Settled, settled}
+use Rattle.pb_rounds.specs.Outcome.{OutcomeView}
+use Rattle.pb_rounds.specs.Run.{ElectedView, is_elected}
 use Rattle.pb_rounds.specs.declared.measure.Measure.{Measure}
 use Rattle.pb_rounds.specs.declared.measure.Measure.TheVariants as measure
 use Rattle.pb_rounds.specs.declared.options.CountOptions.{CountOptions}
@@ -37,17 +36,12 @@ abbrev pub rule_text : CountOptions → List ℕ
 rule_text options =
     measure_text options.measure ++ completion_text options.completion options.step options.max_raises
 
--- whether a project is elected
-abbrev pub is_won : Ending → Bool
-is_won (Won w) = true
-is_won (Lost l) = false
-
 -- how many ballots approve each project, and whether it is elected
-abbrev pub votes_of : ElectionView → Settled → List ℕ
-votes_of e o = map (λ place. (project_reason e o place).votes) (range_with_len 0 (length e.projects))
+abbrev pub votes_of : ElectionView → List ℕ
+votes_of e = map (λ place. length (supporters_at (support_of e) place)) (range_with_len 0 (length e.projects))
 
-abbrev pub selected_of : ElectionView → Settled → List Bool
-selected_of e o = map (λ place. is_won (project_reason e o place).ending) (range_with_len 0 (length e.projects))
+abbrev pub selected_of : ElectionView → List ElectedView → List Bool
+selected_of e elected = map (is_elected elected) (range_with_len 0 (length e.projects))
 
 -- the text is a file of the election, with what the count by these options came to; it is read back as the election
 pub record IsExportOf (options : CountOptions) (e : ElectionView) (text : List ℕ) : Type 0 where
@@ -55,7 +49,7 @@ pub record IsExportOf (options : CountOptions) (e : ElectionView) (text : List �
   pub counted : IsCountOf e options outcome
   pub can : CanBeWritten e
   pub text_is : text
-      ≡ text_of_rows (file_rows e (rule_text options) (votes_of e (settled outcome)) (selected_of e (settled outcome)))
+      ≡ text_of_rows (file_rows e (rule_text options) (votes_of e) (selected_of e outcome.elected))
   pub reads_back : StandsFor (records_of text) e
 
 -- the text is such a file of an election that is such

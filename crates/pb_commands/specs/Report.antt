@@ -5,13 +5,13 @@ use Rattle.pb_core.specs.MoneyText.{money_text}
 use Rattle.pb_price.specs.Supporters.{cost_at, support_of}
 use Rattle.pb_reasons.specs.Totals.{totals_of}
 use Rattle.pb_reasons.specs.declared.totals.Totals.{Totals}
-use Rattle.pb_rounds.specs.Outcome.{Settled}
+use Rattle.pb_rounds.specs.Outcome.{OutcomeView}
 use Rattle.pb_rounds.specs.Run.{ElectedView}
 use Rattle.pb_rows.specs.Reading.{Fields}
 use Rattle.pb_rows.specs.Writing.{text_of_rows}
 
 -- the rows above the elected projects: the budget, the number of voters, the share, and the number of raises
-abbrev pub opening_rows : ElectionView → Settled → List Fields
+abbrev pub opening_rows : ElectionView → OutcomeView → List Fields
 opening_rows e o =
     (codes "budget" ∷ money_text e.budget ∷ []) ∷ (codes "voters" ∷ decimal (length e.voters) ∷ [])
     ∷ (codes "share" ∷ money_text o.share ∷ []) ∷ (codes "raises" ∷ decimal o.raised ∷ []) ∷ []
@@ -31,6 +31,6 @@ closing_rows totals =
     (codes "spent" ∷ money_text totals.spent ∷ []) ∷ (codes "surplus" ∷ money_text totals.surplus ∷ []) ∷ []
 
 -- the report of a count, as text: the elected stand in order of election
-unfoldable pub report_of : ElectionView → Settled → List ℕ
+unfoldable pub report_of : ElectionView → OutcomeView → List ℕ
 report_of e o =
     text_of_rows (opening_rows e o ++ (map (elected_row e) o.elected ++ closing_rows (totals_of e o.elected)))

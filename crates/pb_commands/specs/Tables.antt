@@ -8,7 +8,7 @@ use Rattle.pb_reasons.specs.Reasons.{project_reason, voter_payments, voter_reaso
 use Rattle.pb_reasons.specs.declared.payment.Payment.{Payment}
 use Rattle.pb_reasons.specs.declared.project_reason.Ending.{Ending}
 use Rattle.pb_reasons.specs.declared.project_reason.Ending.TheVariants.{Won, Lost}
-use Rattle.pb_rounds.specs.Outcome.{Settled}
+use Rattle.pb_rounds.specs.Outcome.{OutcomeView}
 use Rattle.pb_rows.specs.Reading.{Fields}
 use Rattle.pb_rows.specs.Writing.{text_of_rows}
 use Rattle.pb_commands.specs.Report.{id_at}
@@ -26,7 +26,7 @@ ending_fields (Won w) =
 ending_fields (Lost l) = [] ∷ [] ∷ [] ∷ [] ∷ money_text l.left ∷ money_text l.missing ∷ []
 
 -- the row of the project at this place
-abbrev pub project_table_row : ElectionView → Settled → ℕ → Fields
+abbrev pub project_table_row : ElectionView → OutcomeView → ℕ → Fields
 project_table_row e o place =
     decimal place ∷ id_at e place ∷ name_at e place ∷ money_text (cost_at (support_of e) place)
     ∷ decimal (project_reason e o place).votes ∷ ending_fields (project_reason e o place).ending
@@ -37,14 +37,14 @@ payments_text payments =
     join_with_byte 44 (map (λ p. decimal p.place ++ (codes ":" ++ money_text p.amount)) payments)
 
 -- the row of the voter at this position
-abbrev pub voter_table_row : ElectionView → Settled → ℕ → Fields
+abbrev pub voter_table_row : ElectionView → OutcomeView → ℕ → Fields
 voter_table_row e o voter =
     let r = voter_reason e o voter in
     slice_index_or (voter_ids e) voter [] ∷ decimal r.votes ∷ decimal r.elected ∷ money_text r.paid
     ∷ money_text r.left ∷ payments_text (voter_payments e o voter) ∷ []
 
 -- a table of an outcome, as text: its columns, and then a row each, in the order of the file
-unfoldable pub table_of : Table → ElectionView → Settled → List ℕ
+unfoldable pub table_of : Table → ElectionView → OutcomeView → List ℕ
 table_of Projects e o =
     codes "place;project_id;name;cost;votes;round;price;collected;in_full;left;missing\n"
     ++ text_of_rows (map (project_table_row e o) (range_with_len 0 (length e.projects)))

@@ -1,8 +1,8 @@
 //! The file of a counted election, as text.
 
 ghost use Rattle.std.specs.Prelude.{◌≡◌, ◌++◌, IfErr, IfOk, OnOk, codes, decimal, string_bytes};
-ghost use Rattle.pb_commands.specs.Inner.Exporting.{IsStopped};
-ghost use Rattle.pb_commands.specs.Exported.{IsExportOf, completion_text, is_won, rule_text, selected_of, votes_of};
+ghost use Rattle.pb_commands.specs.Inner.Exporting.{IsStopped, is_won};
+ghost use Rattle.pb_commands.specs.Exported.{IsExportOf, completion_text, rule_text, selected_of, votes_of};
 ghost use Rattle.pb_commands.specs.Fault.{merged};
 
 use crate::counting::Counting;
@@ -51,7 +51,7 @@ fn votes_of(
     teller: &ProjectTeller,
 ) -> Result<Vec<u32>, NoMemory>
     requires { teller.now.0 ≡ election.now }
-    ensures { IfOk result (λ votes. votes.items ≡ votes_of election.now teller.now.1) }
+    ensures { IfOk result (λ votes. votes.items ≡ votes_of election.now) }
 {
     let mut votes = Vec::new(alloc);
     for place in 0..election.projects().len() {
@@ -68,7 +68,7 @@ fn selected_of(
     teller: &ProjectTeller,
 ) -> Result<Vec<bool>, NoMemory>
     requires { teller.now.0 ≡ election.now }
-    ensures { IfOk result (λ selected. selected.items ≡ selected_of election.now teller.now.1) }
+    ensures { IfOk result (λ selected. selected.items ≡ selected_of election.now teller.now.1.elected) }
 {
     let mut selected = Vec::new(alloc);
     for place in 0..election.projects().len() {

@@ -10,7 +10,7 @@ ghost use Rattle.pb_read.specs.StandsFor.{StandsFor};
 ghost use Rattle.pb_rows.specs.Reading.{records_of};
 ghost use Rattle.pb_rows.specs.Writing.{text_of_row};
 ghost use Rattle.pb_rounds.specs.Counted.{IsCountOf};
-ghost use Rattle.pb_rounds.specs.Outcome.{OutcomeView, settled};
+ghost use Rattle.pb_rounds.specs.Outcome.{OutcomeView};
 ghost use Rattle.pb_rounds.specs.declared.options.CountOptions.{CountOptions};
 ghost use Rattle.pb_script.specs.Script.{IsScript, ScriptRowView};
 ghost use Rattle.pb_script.specs.Serving.{program_room};
@@ -58,5 +58,5 @@ pub fn journals_recount()
         (d.journal ≡ served) }
     ensures winners { (d : DeskView) (options : CountOptions) (o : OutcomeView)
         → (standing_of d).is_shut ≡ true → IsCountOf (closed_election d) options o
-        → IsTextOf d options (text_of_row (entries_row d) ++ report_of (closed_election d) (settled o)) }
+        → IsTextOf d options (text_of_row (entries_row d) ++ report_of (closed_election d) o) }
 {}

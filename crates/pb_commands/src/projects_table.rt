@@ -3,7 +3,6 @@
 ghost use Rattle.std.specs.Prelude.{◌≡◌, ◌++◌, ◌∷◌, ℕ, List, [], OnOk, decimal, length, map, string_bytes};
 ghost use Rattle.std.specs.List.{range_with_len};
 ghost use Rattle.pb_core.specs.MoneyText.{money_text};
-ghost use Rattle.pb_rounds.specs.Outcome.{settled};
 ghost use Rattle.pb_rows.specs.Reading.{Fields};
 ghost use Rattle.pb_rows.specs.Writing.{text_of_row, text_of_rows};
 ghost use Rattle.pb_reasons.specs.Reasons.{IsCounted};
@@ -39,7 +38,7 @@ pub(crate) fn put_projects(
     requires { IsCounted election.now outcome.now }
     ensures { OnOk result (rows.new.text ≡ rows.old.text
         ++ text_of_rows (project_columns
-        ∷ map (project_table_row election.now (settled outcome.now)) (range_with_len 0 (length election.now.projects)))) }
+        ∷ map (project_table_row election.now outcome.now) (range_with_len 0 (length election.now.projects)))) }
 {
     rows.put_row(&[
         "place",

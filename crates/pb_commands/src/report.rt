@@ -3,7 +3,6 @@
 ghost use Rattle.std.specs.Prelude.{◌≡◌, ◌<◌, ◌++◌, ◌∷◌, [], All, OnOk, codes, decimal, length, map};
 ghost use Rattle.pb_core.specs.MoneyText.{money_text};
 ghost use Rattle.pb_reasons.specs.Reasons.{IsCounted};
-ghost use Rattle.pb_rounds.specs.Outcome.{settled};
 ghost use Rattle.pb_rows.specs.Writing.{text_of_row, text_of_rows};
 ghost use Rattle.pb_commands.specs.Report.{closing_rows, elected_row, opening_rows, report_of};
 
@@ -26,7 +25,7 @@ pub(crate) fn put_report(
     outcome: &Outcome,
 ) -> Result<(), NoMemory>
     requires { IsCounted election.now outcome.now }
-    ensures { OnOk result (rows.new.text ≡ rows.old.text ++ report_of election.now (settled outcome.now)) }
+    ensures { OnOk result (rows.new.text ≡ rows.old.text ++ report_of election.now outcome.now) }
 {
     // What is true of every election is true of the places of its elected projects.
     let _budget = election.budget();
@@ -44,7 +43,7 @@ fn put_opening(
     outcome: &Outcome,
 ) -> Result<(), NoMemory>
     ensures { OnOk result (rows.new.text ≡ rows.old.text
-        ++ text_of_rows (opening_rows election.now (settled outcome.now))) }
+        ++ text_of_rows (opening_rows election.now outcome.now)) }
 {
     put_amount(rows, alloc, "budget", election.budget())?;
     put_number(rows, "voters", election.voters().len() as u64)?;

@@ -4,7 +4,6 @@ ghost use Rattle.std.specs.Prelude.{◌≡◌, ◌≢◌, ◌++◌, ℕ, List, I
 ghost use Rattle.pb_read.specs.StandsFor.{StandsFor};
 ghost use Rattle.pb_reasons.specs.Reasons.{IsCounted};
 ghost use Rattle.pb_rounds.specs.Counted.{IsCountFault};
-ghost use Rattle.pb_rounds.specs.Outcome.{settled};
 ghost use Rattle.pb_rows.specs.Reading.{records_of};
 ghost use Rattle.pb_commands.specs.Closed.{ClosedRefuses, Leaves};
 ghost use Rattle.pb_commands.specs.Counted.{CountRefuses};
@@ -162,7 +161,7 @@ fn put_outcome(
 ) -> Result<(), NoMemory>
     requires { IsCounted election.now outcome.now }
     ensures { OnOk result (rows.new.text
-        ≡ rows.old.text ++ table_of table election.now (settled outcome.now)) }
+        ≡ rows.old.text ++ table_of table election.now outcome.now) }
 {
     match table {
         Table::Projects => put_projects(rows, alloc, election, outcome),

@@ -10,7 +10,7 @@ ghost use Rattle.pb_reasons.specs.declared.project_reason.Lost.{Lost};
 ghost use Rattle.pb_reasons.specs.declared.project_reason.Won.{Won};
 ghost use Rattle.pb_rounds.specs.Count.{spent_on};
 ghost use Rattle.pb_rounds.specs.Counted.{IsCountOf};
-ghost use Rattle.pb_rounds.specs.Outcome.{OutcomeView, settled};
+ghost use Rattle.pb_rounds.specs.Outcome.{OutcomeView};
 ghost use Rattle.pb_rounds.specs.Run.{ElectedView, is_elected};
 ghost use Rattle.pb_rounds.specs.declared.options.CountOptions.{CountOptions};
 ghost use Rattle.pb_reasons.specs.Totals.{collected_for};
@@ -21,17 +21,17 @@ ghost use Rattle.pb_reasons.specs.Totals.{collected_for};
 pub fn tables_tell()
     ensures missing { (e : ElectionView) (options : CountOptions) (o : OutcomeView) (place : ℕ)
         → IsElection e → IsCountOf e options o → place < length e.projects → is_elected o.elected place ≡ false
-        → (lost : Lost) × ((project_reason e (settled o) place).ending ≡ ending.Lost lost)
+        → (lost : Lost) × ((project_reason e o place).ending ≡ ending.Lost lost)
         × (0 < lost.missing) × (lost.left + lost.missing ≡ cost_at (support_of e) place) }
     ensures share { (e : ElectionView) (options : CountOptions) (o : OutcomeView) (voter : ℕ)
         → IsElection e → IsCountOf e options o → voter < length e.voters
-        → (voter_reason e (settled o) voter).paid + (voter_reason e (settled o) voter).left ≡ o.share }
+        → (voter_reason e o voter).paid + (voter_reason e o voter).left ≡ o.share }
     ensures elected { (e : ElectionView) (options : CountOptions) (o : OutcomeView) (round : ℕ) (w : ElectedView)
         → IsElection e → IsCountOf e options o → slice_get o.elected round ≡ Some w
-        → (won : Won) × ((project_reason e (settled o) w.place).ending ≡ ending.Won won)
+        → (won : Won) × ((project_reason e o w.place).ending ≡ ending.Won won)
         × (won.round ≡ round + 1) × (won.price ≡ w.price) × (won.collected ≡ w.collected) }
     ensures paid { (e : ElectionView) (options : CountOptions) (o : OutcomeView)
         → IsElection e → IsCountOf e options o
-        → sum_by (λ voter. (voter_reason e (settled o) voter).paid) (range_with_len 0 (length e.voters))
+        → sum_by (λ voter. (voter_reason e o voter).paid) (range_with_len 0 (length e.voters))
         ≡ spent_on (support_of e) o.elected + (collected_for o.elected - spent_on (support_of e) o.elected) }
 {}

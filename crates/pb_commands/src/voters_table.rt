@@ -3,7 +3,6 @@
 ghost use Rattle.std.specs.Prelude.{◌≡◌, ◌++◌, ◌∷◌, ℕ, List, [], OnOk, decimal, length, map, string_bytes};
 ghost use Rattle.std.specs.List.{range_with_len};
 ghost use Rattle.pb_core.specs.MoneyText.{money_text};
-ghost use Rattle.pb_rounds.specs.Outcome.{settled};
 ghost use Rattle.pb_rows.specs.Writing.{text_of_row, text_of_rows};
 ghost use Rattle.pb_reasons.specs.Reasons.{IsCounted};
 ghost use Rattle.pb_commands.specs.Tables.{payments_text, voter_table_row};
@@ -28,7 +27,7 @@ pub(crate) fn put_voters(
     requires { IsCounted election.now outcome.now }
     ensures { OnOk result (rows.new.text ≡ rows.old.text
         ++ text_of_rows (voter_columns
-        ∷ map (voter_table_row election.now (settled outcome.now)) (range_with_len 0 (length election.now.voters)))) }
+        ∷ map (voter_table_row election.now outcome.now) (range_with_len 0 (length election.now.voters)))) }
 {
     rows.put_row(&["voter_id", "votes", "elected", "paid", "left", "payments"])?;
     let mut teller = VoterTeller::of(alloc, election, outcome)?;

@@ -4,8 +4,7 @@ use Rattle.std.specs.Prelude.{All, slice_index}
 use Rattle.std.proofs.lemmas.Grind.{div_ceil_times}
 use Rattle.std.proofs.lemmas.List.Elements.{All-tail}
 use Rattle.std.proofs.lemmas.List.Sums.{sum_by-cons}
-use Rattle.pb_price.specs.Price.{paid_at, total_rest, AreRests, IsLeastPayment}
-use Rattle.pb_price.specs.Supporters.{SupportView, IsSupport, supporters_at}
+use Rattle.pb_price.specs.Price.{paid_at, total_rest, IsLeastPayment}
 use Rattle.pb_price.proofs.PriceSteps.{below_step, starts_below}
 
 module _ (rests : List ℕ) (share : ℕ) (alike : All (λ rest. rest ≡ share) rests) where
@@ -61,10 +60,3 @@ module _ (supporters list rests : List ℕ) (cost named share p : ℕ) (l : list
 
   pub none_beyond : share < p → total_rest supporters rests < cost
   none_beyond beyond = rw (← l, ← n) (no_price_beyond rests share alike list (rw l known) named (length list) refl some p p_is beyond)
-
--- supporters are voters
-pub known_voters : (s : SupportView) → IsSupport s → (place : ℕ) → place < length s.costs → (rests : List ℕ) → AreRests s.voters rests
-    → All (λ voter. voter < length rests) (supporters_at s place)
-known_voters s h place known rests are k d l =
-    let voter = h.supporters_known place [] (omega (arith, known, h.paired)) k d l in
-    omega (arith, voter, are.one_each)

@@ -1,5 +1,5 @@
 -- What is true of the supporters of an election.
-use Rattle.std.proofs.Common.{ℕ, ◌+◌, ◌<◌, ◌≤◌, length, sym, ◌∙◌, arith}
+use Rattle.std.proofs.Common.{◌≡◌, ℕ, ◌+◌, ◌<◌, ◌≤◌, List, [], length, sym, subst, ◌∙◌, arith}
 use Rattle.std.specs.Prelude.{All}
 use Rattle.std.specs.List.{range_with_len}
 use Rattle.std.specs.List.Sorted.{IsStrictlyIncreasing}
@@ -10,7 +10,8 @@ use Rattle.std.proofs.lemmas.List.Kept.{IsStrictlyIncreasing-filter}
 use Rattle.pb_core.specs.Ballot.{approves}
 use Rattle.pb_core.specs.Election.{ElectionView, IsElection}
 use Rattle.pb_core.specs.Money.{largest_money}
-use Rattle.pb_price.specs.Supporters.{ballot_at, supporters_of, support_of, IsSupport}
+use Rattle.pb_price.specs.Inner.Support.{HasSupportForm}
+use Rattle.pb_price.specs.Supporters.{ballot_at, supporters_at, supporters_of, support_of, IsSupport, SupportView}
 
 range_with_len_rises : (a n : ℕ) → IsStrictlyIncreasing (range_with_len a n)
 range_with_len_rises a n k h =
@@ -37,9 +38,8 @@ unfolding supporters_of
 supporters_of_known e place =
     All-filter (λ voter. approves (ballot_at e voter) place) (λ voter. voter < length e.voters) _ (range_with_len_below (length e.voters))
 
--- the supporters of an election are as a count needs them
-pub IsSupport-support_of : (e : ElectionView) → IsElection e → IsSupport (support_of e)
-IsSupport-support_of e h = record {
+form_of_election : (e : ElectionView) → IsElection e → HasSupportForm (support_of e)
+form_of_election e h = record {
   few_voters = h.few_voters;
   few_projects = omega (arith, length-map e.projects (λ p. p.cost), h.few_projects);
   paired = length-map-range_with_len (supporters_of e) 0 (length e.projects) ∙ sym (length-map e.projects (λ p. p.cost));
@@ -48,3 +48,20 @@ IsSupport-support_of e h = record {
   supporters_rise = All-map IsStrictlyIncreasing (supporters_of e) _ (λ k d l. supporters_of_rise e _);
   supporters_known = All-map (All (λ voter. voter < length e.voters)) (supporters_of e) _ (λ k d l. supporters_of_known e _);
 }
+
+-- what is true of the supporters of every election
+pub support_form : (s : SupportView) → IsSupport s → HasSupportForm s
+support_form s (e, h, is) = subst HasSupportForm (sym is) (form_of_election e h)
+
+-- supporters are voters, as a call has them
+pub known_voters : (s : SupportView) → IsSupport s → (place : ℕ) → place < length s.costs → (list rests : List ℕ) → list ≡ supporters_at s place → length rests ≡ s.voters
+    → All (λ voter. voter < length rests) list
+known_voters s h place known list rests is one_each = rw is (λ k d l.
+    let form = support_form s h in
+    let voter = form.supporters_known place [] (omega (arith, known, form.paired)) k d l in
+    omega (arith, voter, one_each))
+
+-- and rise
+pub supporters_increase : (s : SupportView) → IsSupport s → (place : ℕ) → place < length s.costs → (list : List ℕ) → list ≡ supporters_at s place → IsStrictlyIncreasing list
+supporters_increase s h place known list is =
+    let form = support_form s h in rw is (form.supporters_rise place [] (rw form.paired known))

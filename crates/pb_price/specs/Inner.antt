@@ -2,4 +2,5 @@
 pub mod Claims
 pub mod Lists
 pub mod Payment
+pub mod Support
 pub mod Working

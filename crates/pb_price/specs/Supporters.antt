@@ -1,10 +1,8 @@
 -- Who supports a project.
-use Rattle.std.specs.Prelude.{◌≡◌, ℕ, ◌<◌, ◌≤◌, List, [], length, map, filter, All, slice_index, slice_index_or}
+use Rattle.std.specs.Prelude.{◌≡◌, ℕ, List, [], length, map, filter, slice_index, slice_index_or}
 use Rattle.std.specs.List.{range_with_len}
-use Rattle.std.specs.List.Sorted.{IsStrictlyIncreasing}
 use Rattle.pb_core.specs.Ballot.{approves}
-use Rattle.pb_core.specs.Election.{ElectionView, most_projects, most_voters}
-use Rattle.pb_core.specs.Money.{largest_money}
+use Rattle.pb_core.specs.Election.{ElectionView, IsElection}
 
 -- the ballot of the voter at this position
 abbrev pub ballot_at : ElectionView → ℕ → List ℕ
@@ -37,12 +35,6 @@ supporters_at s place = slice_index_or s.supporters place []
 abbrev pub cost_at : SupportView → ℕ → ℕ
 cost_at s place = slice_index s.costs place
 
--- what is true of the supporters of every election
-pub record IsSupport (s : SupportView) : Type 0 where
-  pub few_voters : s.voters ≤ most_voters
-  pub few_projects : length s.costs ≤ most_projects
-  pub paired : length s.supporters ≡ length s.costs
-  pub costs_positive : All (λ cost. 0 < cost) s.costs
-  pub costs_bounded : All (λ cost. cost ≤ largest_money) s.costs
-  pub supporters_rise : All IsStrictlyIncreasing s.supporters
-  pub supporters_known : All (All (λ voter. voter < s.voters)) s.supporters
+-- these are the supporters of an election
+abbrev pub IsSupport : SupportView → Type 0
+IsSupport s = (e : ElectionView) × IsElection e × (s ≡ support_of e)

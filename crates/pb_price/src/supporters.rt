@@ -20,6 +20,7 @@ pub struct Supporters<A: Allocator = Global> {
 }
 
 impl<A: Allocator> Model for Supporters<A> {
+    ghost use Rattle.pb_price.specs.Inner.Support.{HasSupportForm};
     ghost use Rattle.pb_price.specs.Supporters.{SupportView, IsSupport};
 
     ghost Value = { SupportView };
@@ -27,6 +28,8 @@ impl<A: Allocator> Model for Supporters<A> {
     ghost view = { λ s. record { voters = s.voters; costs = s.costs.items; supporters = s.lists.items } };
 
     ghost invariant = { λ s. IsSupport
+        (record { voters = s.voters; costs = s.costs.items; supporters = s.lists.items })
+        × HasSupportForm
         (record { voters = s.voters; costs = s.costs.items; supporters = s.lists.items }) };
 }
 

@@ -6,7 +6,7 @@ use Rattle.std.proofs.lemmas.List.{map_more, append-nil, append_assoc, at_drop_a
 use Rattle.std.proofs.Math.Seq.{take-append_seam}
 use Rattle.std.proofs.lemmas.List.Sums.{sum_by_more}
 use Rattle.pb_price.specs.Price.{paid_at}
-use Rattle.pb_price.specs.Supporters.{IsSupport, SupportView, supporters_at}
+use Rattle.pb_price.specs.Supporters.{SupportView, supporters_at}
 use Rattle.pb_rounds.specs.Run.{ElectedView, charged}
 use Rattle.pb_rounds.proofs.ChargeStep.{charge_step-collected}
 use Rattle.pb_reasons.specs.Inner.Replay.{paid_by_supporters, row_of}
@@ -47,15 +47,6 @@ pub paid_all : (s : SupportView) (elected : List ElectedView) (rests : List ℕ)
     → paid ++ paid_by_supporters s rests (drop i elected) ≡ all → paid ≡ all
 paid_all s elected rests paid all i past so_far =
     sym (append-nil paid) ∙ ap (λ rows. paid ++ rows) (sym (at_drop_all (paid_by_supporters s rests) elected i past ∙ paid-nil s rests)) ∙ so_far
-
--- the supporters of a project are voters, and rise
-pub supporters_are_voters : (s : SupportView) → IsSupport s → (place : ℕ) → place < length s.costs → (rests : List ℕ) → length rests ≡ s.voters
-    → All (λ voter. voter < length rests) (supporters_at s place)
-supporters_are_voters s h place known rests one_each = λ k d below.
-    let voter = h.supporters_known place [] (rw h.paired known) k d below in rw one_each voter
-
-pub supporters_increase : (s : SupportView) → IsSupport s → (place : ℕ) → place < length s.costs → IsStrictlyIncreasing (supporters_at s place)
-supporters_increase s h place known = h.supporters_rise place [] (rw h.paired known)
 
 -- rests that a call got as a slice, and gave back
 pub whole_part : (n : ℕ) (new rest : List ℕ) → length new ≡ n → take n (new ++ rest) ≡ new

@@ -7,9 +7,10 @@ use Rattle.std.proofs.lemmas.List.Elements.{All-head, All-tail, Contains-get_or}
 use Rattle.std.proofs.lemmas.List.Sums.{fails_before_first, sum_by-cons}
 use Rattle.std.proofs.lemmas.Option.{slice_get_read, slice_get_past}
 use Rattle.pb_core.specs.Election.{ElectionView, ProjectView}
+use Rattle.pb_price.proofs.SupporterLists.{support_form}
 use Rattle.pb_price.specs.Supporters.{IsSupport, cost_at, support_of, supporters_at}
 use Rattle.pb_price.specs.Price.{total_rest}
-use Rattle.pb_rounds.specs.Outcome.{Settled}
+use Rattle.pb_rounds.specs.Outcome.{OutcomeView}
 use Rattle.pb_rounds.specs.Run.{ElectedView, is_listed}
 use Rattle.pb_rounds.proofs.Listed.{listed_from_contains}
 use Rattle.pb_rounds.proofs.Collected.{length-rises}
@@ -32,7 +33,7 @@ full_count due paid price (v ∷ supporters) same =
     sum_by-cons (λ amount. cond (amount == price) 1 0) (due v) (map due supporters)
     ∙ rw (here, later) (sym (sum_by-cons (λ u. cond (paid u == price) 1 0) v supporters))
 
-module _ (e : ElectionView) (o : Settled) (r : ReasonsView) (own : AreReasons e o r) where
+module _ (e : ElectionView) (o : OutcomeView) (r : ReasonsView) (own : AreReasons e o r) where
   as_many_costs : length (support_of e).costs ≡ length e.projects
   as_many_costs = simp length-map
 
@@ -136,5 +137,5 @@ module _ (e : ElectionView) (o : Settled) (r : ReasonsView) (own : AreReasons e 
   -- projects and voters are few
   pub few_projects : IsSupport r.supporters → (length e.projects ≤ 10000) × (length e.voters ≤ 1000000)
   few_projects h =
-      let own_support : IsSupport (support_of e) = subst IsSupport own.supporters h in
-      (omega (arith, own_support.few_projects, as_many_costs), own_support.few_voters)
+      let form = support_form (support_of e) (subst IsSupport own.supporters h) in
+      (omega (arith, form.few_projects, as_many_costs), form.few_voters)

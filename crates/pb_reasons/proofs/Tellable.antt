@@ -1,6 +1,7 @@
 -- The outcome of a count can be told.
+use Rattle.std.proofs.Common.{refl}
 use Rattle.pb_core.specs.Election.{ElectionView, IsElection}
-use Rattle.pb_price.proofs.SupporterLists.{IsSupport-support_of}
+use Rattle.pb_price.specs.Supporters.{IsSupport, support_of}
 use Rattle.pb_reasons.specs.Inner.Told.{CanBeTold}
 use Rattle.pb_rounds.proofs.Counted.{is_computed, settled_run}
 use Rattle.pb_rounds.proofs.Settled.{settled_has_rests, settled_is_paid_in_turn}
@@ -10,11 +11,11 @@ use Rattle.pb_rounds.specs.declared.options.CountOptions.{CountOptions}
 use Rattle.pb_reasons.proofs.ElectedPlaces.{count_elects_projects}
 use Rattle.pb_reasons.proofs.Printables.{sums_are_amounts}
 
-pub count_can_be_told : (e : ElectionView) (options : CountOptions) (o : OutcomeView) → IsElection e → IsCountOf e options o → CanBeTold e (settled o)
+pub count_can_be_told : (e : ElectionView) (options : CountOptions) (o : OutcomeView) → IsElection e → IsCountOf e options o → CanBeTold e o
 count_can_be_told e options o h counted =
     let places = count_elects_projects e options (settled o) (is_computed e options o counted) in
     let sums = sums_are_amounts e options o h (is_computed e options o counted) counted.within_budget counted.price_system in
-    let support = IsSupport-support_of e h in
+    let support : IsSupport (support_of e) = (e, h, refl) in
     let run = settled_run e options o counted in
     record {
       known = places.known;

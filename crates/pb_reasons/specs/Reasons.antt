@@ -5,7 +5,7 @@ use Rattle.pb_core.specs.Election.{ElectionView}
 use Rattle.pb_price.specs.Price.{total_rest}
 use Rattle.pb_price.specs.Supporters.{ballot_at, cost_at, support_of, supporters_at}
 use Rattle.pb_rounds.specs.Counted.{IsCountOf}
-use Rattle.pb_rounds.specs.Outcome.{OutcomeView, Settled}
+use Rattle.pb_rounds.specs.Outcome.{OutcomeView}
 use Rattle.pb_rounds.specs.Payments.{paid_in_turn}
 use Rattle.pb_rounds.specs.Run.{ElectedView, is_elected}
 use Rattle.pb_rounds.specs.declared.options.CountOptions.{CountOptions}
@@ -16,7 +16,7 @@ use Rattle.pb_reasons.specs.declared.project_reason.ProjectReason.{ProjectReason
 use Rattle.pb_reasons.specs.declared.voter_reason.VoterReason.{VoterReason}
 
 -- what each voter pays for each of the elected of an outcome, in order of election, out of the share
-abbrev pub all_payments : ElectionView → Settled → List (List ℕ)
+abbrev pub all_payments : ElectionView → OutcomeView → List (List ℕ)
 all_payments e o = paid_in_turn (support_of e) (replicate (length e.voters) o.share) o.elected
 
 -- the round that elected the project at this place, from 0; as many as there are elected where none did
@@ -24,12 +24,12 @@ abbrev pub round_of : List ElectedView → ℕ → ℕ
 round_of elected place = position_or_len (λ w. w.place == place) elected
 
 -- what a voter paid for the project at this place; 0 where it is not elected
-abbrev pub paid_for : ElectionView → Settled → (place voter : ℕ) → ℕ
+abbrev pub paid_for : ElectionView → OutcomeView → (place voter : ℕ) → ℕ
 paid_for e o place voter =
     slice_index (slice_index_or (all_payments e o) (round_of o.elected place) []) voter
 
 -- how a project ended, elected or not
-abbrev pub ending_of : ElectionView → Settled → ℕ → Option ElectedView → Ending
+abbrev pub ending_of : ElectionView → OutcomeView → ℕ → Option ElectedView → Ending
 ending_of e o place (Some w) =
     let supporters = supporters_at (support_of e) place in
     Won
@@ -44,14 +44,14 @@ ending_of e o place None =
     Lost (record { left = left; missing = cost_at (support_of e) place - left })
 
 -- why the project at this place is elected, or is not
-abbrev pub project_reason : ElectionView → Settled → ℕ → ProjectReason
+abbrev pub project_reason : ElectionView → OutcomeView → ℕ → ProjectReason
 project_reason e o place = record {
   votes = length (supporters_at (support_of e) place);
   ending = ending_of e o place (slice_get o.elected (round_of o.elected place));
 }
 
 -- what the ballot of the voter at this position came to
-abbrev pub voter_reason : ElectionView → Settled → ℕ → VoterReason
+abbrev pub voter_reason : ElectionView → OutcomeView → ℕ → VoterReason
 voter_reason e o voter = record {
   votes = length (ballot_at e voter);
   elected = count_by (is_elected o.elected) (ballot_at e voter);
@@ -60,7 +60,7 @@ voter_reason e o voter = record {
 }
 
 -- the voter's payments above 0, places rising
-abbrev pub voter_payments : ElectionView → Settled → ℕ → List Payment
+abbrev pub voter_payments : ElectionView → OutcomeView → ℕ → List Payment
 voter_payments e o voter =
     filter (λ p. nat_lt 0 p.amount)
     (map (λ place. record { place = place; amount = paid_for e o place voter }) (ballot_at e voter))

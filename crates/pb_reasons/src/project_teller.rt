@@ -1,7 +1,6 @@
 //! Why each project is elected, or is not.
 
 ghost use Rattle.std.specs.Prelude.{◌≡◌, ◌<◌, IfOk, length};
-ghost use Rattle.pb_rounds.specs.Outcome.{settled};
 ghost use Rattle.pb_reasons.specs.Inner.Kept.{AreReasons};
 ghost use Rattle.pb_reasons.specs.Inner.Told.{CanBeTold};
 ghost use Rattle.pb_reasons.specs.Reasons.{IsCounted, project_reason};
@@ -24,9 +23,9 @@ pub struct ProjectTeller<'a> {
 
 impl<'a> Model for ProjectTeller<'a> {
     ghost use Rattle.pb_core.specs.Election.{ElectionView};
-    ghost use Rattle.pb_rounds.specs.Outcome.{Settled};
+    ghost use Rattle.pb_rounds.specs.Outcome.{OutcomeView};
 
-    ghost Value = { ElectionView × Settled };
+    ghost Value = { ElectionView × OutcomeView };
 
     ghost view = { λ t. t.kept };
 }
@@ -39,7 +38,7 @@ impl<'a> ProjectTeller<'a> {
         outcome: &'a Outcome,
     ) -> Result<ProjectTeller<'a>, NoMemory>
         requires { IsCounted election.now outcome.now }
-        ensures { IfOk result (λ teller. teller ≡ (election.now, settled outcome.now)) }
+        ensures { IfOk result (λ teller. teller ≡ (election.now, outcome.now)) }
     {
         let kept = Kept::of(alloc, election, outcome)?;
         Ok(ProjectTeller { kept })
@@ -64,22 +63,22 @@ struct Kept<'a> {
 
 impl<'a> Model for Kept<'a> {
     ghost use Rattle.pb_core.specs.Election.{ElectionView};
-    ghost use Rattle.pb_rounds.specs.Outcome.{Settled, settled};
+    ghost use Rattle.pb_rounds.specs.Outcome.{OutcomeView};
     ghost use Rattle.pb_reasons.specs.Inner.Kept.{AreReasons};
     ghost use Rattle.pb_reasons.specs.Inner.Told.{CanBeTold};
 
-    ghost Value = { ElectionView × Settled };
+    ghost Value = { ElectionView × OutcomeView };
 
-    ghost view = { λ k. (k.election.now, settled k.outcome.now) };
+    ghost view = { λ k. (k.election.now, k.outcome.now) };
 
-    ghost invariant = { λ k. CanBeTold k.election.now (settled k.outcome.now)
-        × AreReasons k.election.now (settled k.outcome.now) k.reasons };
+    ghost invariant = { λ k. CanBeTold k.election.now k.outcome.now
+        × AreReasons k.election.now k.outcome.now k.reasons };
 }
 
 impl<'a> Kept<'a> {
     fn of(alloc: Global, election: &'a Election, outcome: &'a Outcome) -> Result<Kept<'a>, NoMemory>
         requires { IsCounted election.now outcome.now }
-        ensures { IfOk result (λ kept. kept ≡ (election.now, settled outcome.now)) }
+        ensures { IfOk result (λ kept. kept ≡ (election.now, outcome.now)) }
     {
         // What is true of every election is true of its reasons.
         let _budget = election.budget();

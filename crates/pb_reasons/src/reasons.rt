@@ -1,7 +1,6 @@
 //! Why an outcome is as it is.
 
 ghost use Rattle.std.specs.Prelude.{◌≡◌, ◌<◌, IfOk, length};
-ghost use Rattle.pb_rounds.specs.Outcome.{settled};
 ghost use Rattle.pb_reasons.specs.Inner.Kept.{AreReasons};
 ghost use Rattle.pb_reasons.specs.Inner.Told.{CanBeTold};
 ghost use Rattle.pb_reasons.specs.Reasons.{project_reason};
@@ -45,8 +44,8 @@ impl Reasons {
         election: &Election,
         outcome: &Outcome,
     ) -> Result<Reasons, NoMemory>
-        requires { CanBeTold election.now (settled outcome.now) }
-        ensures { IfOk result (AreReasons election.now (settled outcome.now)) }
+        requires { CanBeTold election.now outcome.now }
+        ensures { IfOk result (AreReasons election.now outcome.now) }
     {
         let elected = outcome.elected.as_slice();
         let supporters = Supporters::build(alloc, election)?;
@@ -66,10 +65,10 @@ impl Reasons {
         outcome: &Outcome,
         place: u32,
     ) -> ProjectReason
-        requires told { CanBeTold election.now (settled outcome.now) }
-        requires own { AreReasons election.now (settled outcome.now) self.now }
+        requires told { CanBeTold election.now outcome.now }
+        requires own { AreReasons election.now outcome.now self.now }
         requires known { place < length election.now.projects }
-        ensures { result ≡ project_reason election.now (settled outcome.now) place }
+        ensures { result ≡ project_reason election.now outcome.now place }
     {
         let supporters = self.supporters.of(place);
         let round = self.rounds[place as usize];

@@ -1,7 +1,6 @@
 //! What the ballots came to, told voter by voter.
 
 ghost use Rattle.std.specs.Prelude.{◌≡◌, ◌<◌, All, ◌^◌, IfOk, OnOk, count_by, filter, length, map, nat_lt, slice_index};
-ghost use Rattle.pb_rounds.specs.Outcome.{settled};
 ghost use Rattle.pb_reasons.specs.Inner.Told.{CanBeTold};
 ghost use Rattle.pb_reasons.specs.Inner.Turns.{amount_at};
 ghost use Rattle.pb_reasons.specs.Reasons.{IsCounted, voter_payments, voter_reason};
@@ -27,9 +26,9 @@ pub struct VoterTeller<'a> {
 
 impl<'a> Model for VoterTeller<'a> {
     ghost use Rattle.pb_core.specs.Election.{ElectionView};
-    ghost use Rattle.pb_rounds.specs.Outcome.{Settled};
+    ghost use Rattle.pb_rounds.specs.Outcome.{OutcomeView};
 
-    ghost Value = { ElectionView × Settled };
+    ghost Value = { ElectionView × OutcomeView };
 
     ghost view = { λ t. t.kept };
 }
@@ -42,7 +41,7 @@ impl<'a> VoterTeller<'a> {
         outcome: &'a Outcome,
     ) -> Result<VoterTeller<'a>, NoMemory>
         requires { IsCounted election.now outcome.now }
-        ensures { IfOk result (λ teller. teller ≡ (election.now, settled outcome.now)) }
+        ensures { IfOk result (λ teller. teller ≡ (election.now, outcome.now)) }
     {
         let kept = Kept::of(alloc, election, outcome)?;
         Ok(VoterTeller { kept })
@@ -71,15 +70,15 @@ struct Kept<'a> {
 impl<'a> Model for Kept<'a> {
     ghost use Rattle.std.specs.Prelude.{◌≡◌, length};
     ghost use Rattle.pb_core.specs.Election.{ElectionView};
-    ghost use Rattle.pb_rounds.specs.Outcome.{Settled, settled};
+    ghost use Rattle.pb_rounds.specs.Outcome.{OutcomeView};
     ghost use Rattle.pb_reasons.specs.Inner.Kept.{AreRounds};
     ghost use Rattle.pb_reasons.specs.Inner.Told.{CanBeTold};
 
-    ghost Value = { ElectionView × Settled };
+    ghost Value = { ElectionView × OutcomeView };
 
-    ghost view = { λ k. (k.election.now, settled k.outcome.now) };
+    ghost view = { λ k. (k.election.now, k.outcome.now) };
 
-    ghost invariant = { λ k. CanBeTold k.election.now (settled k.outcome.now)
+    ghost invariant = { λ k. CanBeTold k.election.now k.outcome.now
         × AreRounds (length k.election.now.projects) k.outcome.now.elected k.rounds.items
         × (length k.purse ≡ length k.outcome.now.elected) };
 }
@@ -87,7 +86,7 @@ impl<'a> Model for Kept<'a> {
 impl<'a> Kept<'a> {
     fn of(alloc: Global, election: &'a Election, outcome: &'a Outcome) -> Result<Kept<'a>, NoMemory>
         requires { IsCounted election.now outcome.now }
-        ensures { IfOk result (λ kept. kept ≡ (election.now, settled outcome.now)) }
+        ensures { IfOk result (λ kept. kept ≡ (election.now, outcome.now)) }
     {
         let elected = outcome.elected.as_slice();
         let rounds = rounds_of(alloc, elected, election.projects().len())?;

@@ -10,6 +10,7 @@ use Rattle.std.specs.declared.cmp.Ordering.TheVariants.{Less, Equal, Greater}
 use Rattle.std.proofs.lemmas.Bool.{true≢false}
 use Rattle.std.proofs.lemmas.List.Elements.{All-nil, All-cons, All-head, All-tail}
 use Rattle.pb_price.proofs.Payments.{least_from_price, price_from_least}
+use Rattle.pb_price.proofs.SupporterLists.{support_form}
 use Rattle.pb_price.specs.Price.{paid_at, price_at}
 use Rattle.pb_price.specs.Supporters.{SupportView, IsSupport, cost_at, supporters_at}
 use Rattle.pb_rounds.specs.declared.measure.Measure.{Measure}
@@ -131,7 +132,7 @@ all_were_first : (m : Measure) (s : SupportView) → IsSupport s → (share : �
     → EachWasFirst m s (replicate s.voters share) (range_with_len 0 (length s.costs)) (run_of m s share).elected
 unfolding run_of
 all_were_first m s h share = run_was_first m s (length s.costs) _ _ (λ place listed.
-    h.costs_positive place 0 (known_place s place listed))
+    (support_form s h).costs_positive place 0 (known_place s place listed))
 
 -- each of the elected, in order of election from this share, was the cheapest of its round
 abbrev pub EachWasCheapest : Measure → SupportView → ℕ → List ElectedView → Type 0

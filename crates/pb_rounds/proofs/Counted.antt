@@ -143,9 +143,10 @@ is_computed e options o h =
     ∙ ap (λ (x : Settled). Some x) (sym (settled_run e options o h))
 
 pub one_outcome : (e : ElectionView) (options : CountOptions) (first second : OutcomeView) → IsCountOf e options first → IsCountOf e options second
-    → settled first ≡ settled second
+    → first ≡ record second { priced = first.priced }
 one_outcome e options first second of_first of_second =
-    same_Some _ _ (sym (is_computed e options first of_first) ∙ is_computed e options second of_second)
+    ap (λ (s : Settled). record { share = s.share; raised = s.raised; elected = s.elected; rests = s.rests; priced = first.priced })
+    (same_Some _ _ (sym (is_computed e options first of_first) ∙ is_computed e options second of_second))
 
 -- where the raises are spent no outcome is computed, and the other way round
 pub spent_is_none : (e : ElectionView) (options : CountOptions) → IsCountFault e options RaisesSpent → count_of e options ≡ None

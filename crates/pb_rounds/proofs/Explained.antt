@@ -12,6 +12,7 @@ use Rattle.std.proofs.lemmas.List.Sums.{sum_by-cons}
 use Rattle.pb_price.specs.Supporters.{SupportView, IsSupport, supporters_at, cost_at}
 use Rattle.pb_price.specs.Price.{total_rest, price_at}
 use Rattle.pb_price.proofs.Payments.{least_from_price, short_from_no_price, collected_below}
+use Rattle.pb_price.proofs.SupporterLists.{support_form}
 use Rattle.pb_rounds.specs.declared.measure.Measure.{Measure}
 use Rattle.pb_rounds.specs.Key.{KeyView}
 use Rattle.pb_rounds.specs.Run.{run_of, ElectedView, RunView, best_of, charged, elected_by, then_run, run_from, without, is_listed}
@@ -53,8 +54,9 @@ pub record IsRound (s : SupportView) (rests left : List ℕ) : Type 0 where
 
 pub supporters_rise : (s : SupportView) → IsSupport s → (place : ℕ) → place < length s.costs → RisesWithin 0 s.voters (supporters_at s place)
 supporters_rise s h place below =
+    let form = support_form s h in
     rises_within (supporters_at s place) 0 s.voters (λ _. omega arith)
-    (h.supporters_known place [] (rw h.paired below)) (h.supporters_rise place [] (rw h.paired below))
+    (form.supporters_known place [] (rw form.paired below)) (form.supporters_rise place [] (rw form.paired below))
 
 -- the payments for one winner
 winner_paid : (m : Measure) (s : SupportView) → IsSupport s → (rests left : List ℕ) → IsRound s rests left
@@ -72,7 +74,7 @@ winner_paid m s h rests left round b found after less =
       within_price = λ v. rw (payment_at supporters b.price rests v) (payment-within_price supporters b.price rests v);
       collected = sum-payments_of supporters b.price rests (rw round.one_each (supporters_rise s h b.place below));
       covered = least.covers;
-      little_more = collected_below supporters rests (cost_at s b.place) b.price least (h.costs_positive b.place 0 below);
+      little_more = collected_below supporters rests (cost_at s b.place) b.price least ((support_form s h).costs_positive b.place 0 below);
       spent = λ v among short.
           let paid : payment_of supporters b.price rests v ≡ min (slice_index rests v) b.price = cond-true _ _ _ (listed_from_contains supporters v among) in
           omega (arith, paid, less v, charged_at supporters b.price rests v, payment_at supporters b.price rests v);

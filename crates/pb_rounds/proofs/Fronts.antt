@@ -2,9 +2,10 @@
 use Rattle.std.proofs.Common.{◌≡◌, ℕ, zero, suc, ◌+◌, ◌-◌, ◌<◌, ◌≤◌, ◌^◌, List, [], ◌∷◌, ◌++◌, length, replicate, set, Option, Some, None, Bool, true, refl, sym, subst, ◌∙◌, ap, inl, inr, arith}
 use Rattle.std.specs.Prelude.{All, IfNone, IfSome, MatchOption, slice_get, slice_index}
 use Rattle.std.specs.List.{range_with_len}
-use Rattle.std.proofs.lemmas.List.{get_or_default, length-map}
+use Rattle.std.proofs.lemmas.List.{get_or-map, get_or_default, length-map}
 use Rattle.std.proofs.lemmas.List.Sums.{sum_by-append, sum_by_push}
 use Rattle.std.proofs.lemmas.Option.{none-some, same_Some}
+use Rattle.pb_price.proofs.SupporterLists.{support_form}
 use Rattle.pb_price.specs.Price.{AreRests, NoRestRises, largest_share, price_at}
 use Rattle.pb_price.specs.Supporters.{IsSupport, SupportView, cost_at, supporters_at}
 use Rattle.pb_rounds.specs.Count.{spent_on}
@@ -186,7 +187,7 @@ module _ (f : FrontView) (h : IsFront f) where
           spent_small f.support h.is_support f.outcome.elected,
           cost_small f.support h.is_support head.place,
           (h.shared 0 fits).counted,
-          h.is_support.few_projects,
+          (support_form f.support h.is_support).few_projects,
         )
 
 -- what is added to each rest fits
@@ -199,13 +200,13 @@ pub first_in : (queue : List KeyView) (first : KeyView) → slice_get queue 0 �
 first_in [] first e = absurd (none-some first e)
 first_in (b ∷ queue) first e = inl (sym (same_Some _ _ e))
 
--- ---- taking the next project
+-- the rests of a front that is raised
+pub raised_small : (f : FrontView) → IsFront f → (more : ℕ) → f.outcome.share + more ≤ largest_share → All (λ rest. rest + more ≤ largest_share) f.outcome.rests
+raised_small f h more fits = λ k d below.
+    let bounded = (h.shared more fits).rests_are.bounded k (d + more) (rw (length-map f.outcome.rests (λ rest. rest + more)) below) in
+    subst (λ n. n ≤ largest_share) (get_or-map (λ rest. rest + more) f.outcome.rests k d (d + more) below) bounded
 
-pub supporters_within : (s : SupportView) → IsSupport s → (place : ℕ) → place < length s.costs → (list rests : List ℕ) → list ≡ supporters_at s place
-    → length rests ≡ s.voters → All (λ v. v < length rests) list
-supporters_within s is place below list rests list_is len =
-    subst (λ (xs : List ℕ). All (λ v. v < length rests) xs) (sym list_is)
-    (λ k d lt. (let known = is.supporters_known place [] (omega (arith, is.paired)) k d lt in omega (arith, known, len)))
+-- ---- taking the next project
 
 pub pays_by : (s : SupportView) (list seen rests : List ℕ) (price place : ℕ) (b : KeyView) → list ≡ supporters_at s place → place ≡ b.place → seen ≡ rests → price ≡ b.price
     → All (λ v. price ≤ slice_index seen v) list → CanAllPay s rests b

@@ -8,6 +8,7 @@ use Rattle.std.proofs.lemmas.List.Elements.{All-nil, All-cons, All-head, All-tai
 use Rattle.std.proofs.lemmas.List.Folds.{list_any_at}
 use Rattle.std.proofs.lemmas.List.FromFn.{length-range_with_len}
 use Rattle.pb_price.proofs.Bounds.{is_price_at}
+use Rattle.pb_price.proofs.SupporterLists.{support_form}
 use Rattle.pb_price.specs.Supporters.{SupportView, IsSupport, cost_at, supporters_at}
 use Rattle.pb_rounds.specs.declared.measure.Measure.{Measure}
 use Rattle.pb_rounds.specs.Cheapest.{IsCheaper, IsLeft}
@@ -71,7 +72,7 @@ module _ (m : Measure) (s : SupportView) (support : IsSupport s) (workers : ℕ)
   -- one round that elects the best of those that are left
   module _ (rests left : List ℕ) (before : List ElectedView) (h : AreAllLeft s left before) (known : ℕ → Option ℕ) (priced : List ℕ) where
     positive : (place : ℕ) → is_listed left place ≡ true → 0 < cost_at s place
-    positive place listed = support.costs_positive place 0 (h.is_left place listed).0
+    positive place listed = (support_form s support).costs_positive place 0 (h.is_left place listed).0
 
     module _ (b : KeyView) (best : best_of m s rests left ≡ Some b) (r : IsKeyRound m s workers rests left known b priced) where
       b_is : b ≡ key_of m s b.place b.price

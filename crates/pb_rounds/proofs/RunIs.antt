@@ -11,6 +11,7 @@ use Rattle.std.proofs.lemmas.List.Elements.{All-nil, All-cons, All-head, All-tai
 use Rattle.std.proofs.lemmas.List.FromFn.{length-range_with_len}
 use Rattle.std.proofs.lemmas.Option.{same_Some}
 use Rattle.pb_price.proofs.Payments.{least_from_price, no_price_from_short, price_from_least}
+use Rattle.pb_price.proofs.SupporterLists.{support_form}
 use Rattle.pb_price.specs.Price.{price_at}
 use Rattle.pb_price.specs.Supporters.{SupportView, IsSupport, cost_at, supporters_at}
 use Rattle.pb_rounds.specs.declared.measure.Measure.{Measure}
@@ -186,7 +187,7 @@ module _ (m : Measure) (s : SupportView) (share : ℕ) where
   unfolding run_of
   only_run run words =
       words_are_run m s run.elected (length s.costs) (replicate s.voters share) (range_with_len 0 (length s.costs)) run.rests
-      (λ place listed. words.is_support.costs_positive place 0 (known_place s place listed))
+      (λ place listed. (support_form s words.is_support).costs_positive place 0 (known_place s place listed))
       (let long = length-range_with_len 0 (length s.costs) in omega (arith, long))
       (words_from run words)
 

@@ -6,6 +6,7 @@ use Rattle.std.proofs.lemmas.Bool.{leb-true, and_parts}
 use Rattle.std.proofs.lemmas.List.{append_assoc}
 use Rattle.std.proofs.lemmas.Option.{none-some, same_Some}
 use Rattle.pb_core.specs.Election.{most_projects}
+use Rattle.pb_price.proofs.SupporterLists.{support_form}
 use Rattle.pb_price.specs.Price.{largest_share, price_at}
 use Rattle.pb_price.specs.Supporters.{IsSupport, SupportView, supporters_at}
 use Rattle.pb_rounds.specs.declared.measure.Measure.{Measure}
@@ -76,7 +77,7 @@ module _ (m : Measure) (s : SupportView) (workers share raised most : ℕ) (queu
   queue_known b i = listed-below st.left (length s.costs) b.place (RisesWithin-below st.left 0 (length s.costs) st.progress.rises) (st.queued.are_left b i)
 
   pub queue_within : length queue ≤ most_projects
-  queue_within = omega (arith, queue_few m s st.left st.known queue st.queued, st.progress.counted, is.few_projects)
+  queue_within = omega (arith, queue_few m s st.left st.known queue st.queued, st.progress.counted, (support_form s is).few_projects)
 
   module _ (rest : List KeyView) (places : List ℕ) (fresh : List KeyView) (best : Option KeyView) (h : PricesHeads m s o.rests most queue rest places fresh best)
       (done : IsDone best rest) (priced : OutcomeView) (priced_is : priced ≡ record o { priced = o.priced ++ length places ∷ [] }) where
@@ -148,7 +149,7 @@ module _ (m : Measure) (s : SupportView) (workers share raised most : ℕ) (queu
             (λ winner. IsKeyRound m s workers o.rests st.left st.known winner places
             × KeyRecord m s workers (charged (supporters_at s winner.place) winner.price o.rests) (without winner.place st.left) (known_after s o.rests places st.known) later))
             (sym found_best)
-            (priced_round m s o.rests st.left st.known st.lower queue st.queued most rest places fresh best h done w found workers (is.costs_positive w.place 0 winner_known) st.first, from_here)))
+            (priced_round m s o.rests st.left st.known st.lower queue st.queued most rest places fresh best h done w found workers ((support_form s is).costs_positive w.place 0 winner_known) st.first, from_here)))
 
         pub round_more : (all : List KeyView) → PutsBack w.place fresh rest all → 0 < workers → Queued m s workers share raised workers all paid
         round_more all back some = record {

@@ -7,6 +7,7 @@ use Rattle.std.proofs.lemmas.List.{length-replicate, length-set, get_or_past, ge
 use Rattle.std.proofs.lemmas.List.Folds.{list_any-append}
 use Rattle.std.proofs.lemmas.List.Sums.{sum_by_push, sum_by-append, sum_by-cons}
 use Rattle.pb_core.specs.Money.{largest_money}
+use Rattle.pb_price.proofs.SupporterLists.{support_form}
 use Rattle.pb_price.specs.Price.{largest_share, price_at}
 use Rattle.pb_price.specs.Supporters.{IsSupport, SupportView, cost_at, supporters_at}
 use Rattle.pb_rounds.specs.declared.measure.Measure.{Measure}
@@ -48,7 +49,7 @@ mark_more s elected marks h w known = record {
 
 pub cost_small : (s : SupportView) → IsSupport s → (place : ℕ) → cost_at s place ≤ largest_money
 cost_small s h place = elim (cases_lt place (length s.costs)) [
-  | inl below ↦ h.costs_bounded place 0 below
+  | inl below ↦ (support_form s h).costs_bounded place 0 below
   | inr past ↦ let none = get_or_past s.costs place 0 past in omega (arith, none)
 ]
 
@@ -129,7 +130,7 @@ module _ (m : Measure) (s : SupportView) (is : IsSupport s) (share : ℕ) (queue
 
   pub spent_fits : spent + cost_at s w.place < 2 ^ 128
   spent_fits =
-      omega (arith, t.spent_is, spent_small s is o.elected, cost_small s is w.place, t.bounded.progress.counted, is.few_projects)
+      omega (arith, t.spent_is, spent_small s is o.elected, cost_small s is w.place, t.bounded.progress.counted, (support_form s is).few_projects)
 
   module _ (paid : OutcomeView)
       (paid_is : paid ≡ record o { elected = o.elected ++ elected_by s o.rests w ∷ []; rests = charged (supporters_at s w.place) w.price o.rests })

@@ -38,8 +38,8 @@ pub record WasCheapest (m : Measure) (s : SupportView) (rests : List ℕ) (befor
       → IsCheaper m s w.place w.price other price
 
 -- A run at this share elects these, in this order, and leaves these rests: each of the elected was the cheapest of its
--- round, the rests are what all their payments left, and no project that is left has a price. The supporters are such as
--- those of every election.
+-- round, the rests are what all their payments left, and no project that is left has a price. The supporters are those
+-- of an election.
 pub record IsRun (m : Measure) (s : SupportView) (share : ℕ) (elected : List ElectedView) (rests : List ℕ) : Type 0 where
   pub cheapest : (before : List ElectedView) (w : ElectedView) (later : List ElectedView) → elected ≡ before ++ w ∷ later
       → WasCheapest m s (rests_after s (replicate s.voters share) before) before w

@@ -10,7 +10,7 @@ pub record OutcomeView : Type 0 where
   pub rests : List ℕ
   pub priced : List ℕ
 
--- what the rules settle of an outcome: all but how many prices were computed
+-- what a run settles of an outcome: all but how many prices were computed
 pub record Settled : Type 0 where
   pub share : ℕ
   pub raised : ℕ

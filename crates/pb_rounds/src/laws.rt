@@ -31,10 +31,12 @@ pub fn completion_is_its_rule()
         → (add1_of m e step limit ≡ None) ↔ AreSpent m e step limit }
 {}
 
-/// A count has one outcome, which `count_of` computes; it computes none exactly where the raises are spent.
+/// A count has one outcome, up to how many prices were computed, and `count_of` computes it; it computes none exactly
+/// where the raises are spent.
 pub fn count_is_computed()
     ensures one { (e : ElectionView) (options : CountOptions) (first second : OutcomeView)
-        → IsCountOf e options first → IsCountOf e options second → settled first ≡ settled second }
+        → IsCountOf e options first → IsCountOf e options second
+        → first ≡ record second { priced = first.priced } }
     ensures computed { (e : ElectionView) (options : CountOptions) (o : OutcomeView) → IsCountOf e options o
         → count_of e options ≡ Some (settled o) }
     ensures spent { (e : ElectionView) (options : CountOptions) → IsElection e → refusal_of options ≡ None

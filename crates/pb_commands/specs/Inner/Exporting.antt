@@ -1,6 +1,8 @@
--- What stops the making of a file; private contracts speak of it.
-use Rattle.std.specs.Prelude.{⊤}
+-- What stops the making of a file, and how a project ended; private contracts speak of it.
+use Rattle.std.specs.Prelude.{Bool, true, false, ⊤}
 use Rattle.pb_core.specs.Election.{ElectionView}
+use Rattle.pb_reasons.specs.declared.project_reason.Ending.{Ending}
+use Rattle.pb_reasons.specs.declared.project_reason.Ending.TheVariants.{Won, Lost}
 use Rattle.pb_rounds.specs.declared.options.CountOptions.{CountOptions}
 use Rattle.pb_commands.specs.Exported.{ExportRefuses}
 use Rattle.pb_commands.specs.declared.fault.AppFault.{AppFault}
@@ -10,3 +12,8 @@ use Rattle.pb_commands.specs.declared.fault.AppFault.TheVariants.{Memory}
 abbrev pub IsStopped : CountOptions → ElectionView → AppFault → Type 0
 IsStopped options e Memory = ⊤
 IsStopped options e fault = ExportRefuses options e fault
+
+-- whether a project is elected
+abbrev pub is_won : Ending → Bool
+is_won (Won w) = true
+is_won (Lost l) = false

@@ -2,7 +2,7 @@
 use Rattle.std.specs.Prelude.{◌≡◌, ℕ, ◌<◌, List, length, replicate, slice_index}
 use Rattle.pb_core.specs.Election.{ElectionView}
 use Rattle.pb_price.specs.Supporters.{SupportView, support_of}
-use Rattle.pb_rounds.specs.Outcome.{Settled}
+use Rattle.pb_rounds.specs.Outcome.{OutcomeView}
 use Rattle.pb_rounds.specs.Run.{ElectedView}
 use Rattle.pb_reasons.specs.Reasons.{round_of}
 use Rattle.pb_reasons.specs.Inner.Replay.{paid_by_supporters}
@@ -19,7 +19,7 @@ pub record ReasonsView : Type 0 where
   pub paid : List (List ℕ)
 
 -- these are the reasons of this outcome
-pub record AreReasons (e : ElectionView) (o : Settled) (r : ReasonsView) : Type 0 where
+pub record AreReasons (e : ElectionView) (o : OutcomeView) (r : ReasonsView) : Type 0 where
   pub supporters : r.supporters ≡ support_of e
   pub rounds : AreRounds (length e.projects) o.elected r.rounds
   pub paid : r.paid

@@ -3,7 +3,7 @@ use Rattle.std.specs.Prelude.{◌≡◌, ◌≢◌, ◌<◌, ◌≤◌, ◌^◌,
 use Rattle.pb_core.specs.Election.{ElectionView}
 use Rattle.pb_price.specs.Supporters.{support_of}
 use Rattle.pb_rounds.specs.Count.{spent_on}
-use Rattle.pb_rounds.specs.Outcome.{Settled}
+use Rattle.pb_rounds.specs.Outcome.{OutcomeView}
 use Rattle.pb_rounds.specs.PriceSystem.{IsPriceSystem}
 use Rattle.pb_rounds.specs.Run.{ElectedView}
 use Rattle.pb_reasons.specs.Reasons.{all_payments}
@@ -14,7 +14,7 @@ abbrev pub AreApart : ElectedView → ElectedView → Type 0
 AreApart v w = v.place ≢ w.place
 
 -- an outcome that can be told: its payments are a price system of it, and its sums are amounts of 64 bits
-pub record CanBeTold (e : ElectionView) (o : Settled) : Type 0 where
+pub record CanBeTold (e : ElectionView) (o : OutcomeView) : Type 0 where
   pub known : All (λ w. w.place < length e.projects) o.elected
   pub few : length o.elected ≤ length e.projects
   pub apart : AllPairs AreApart o.elected

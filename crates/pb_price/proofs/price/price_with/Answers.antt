@@ -1,8 +1,17 @@
 use Rattle.std.proofs.Common.{arith}
 use Rattle.std.proofs.lemmas.Result.{IfOk-from_err}
 use Rattle.pb_price.specs.Supporters.{supporters_at}
+use Rattle.pb_price.proofs.SupporterLists.{known_voters, support_form}
 use Rattle.pb_price.proofs.WalkedRests.{ordered_rests, ordered_slice, sum-ordered, gathered_total, least_from_ordered}
 use Rattle.pb_price.proofs.price.price_with.Goals as goal
+
+pub gather-requires-clause-known : goal.gather-requires-clause-known
+gather-requires-clause-known g c =
+    known_voters c.args.supporters.now c.of.ensures.is_support c.args.place c.requires.known c.of.result.now c.args.rests.now c.of.ensures.supporters c.requires.rests.one_each
+
+pub least_payment-payment-requires-clause-positive : goal.least_payment-payment-requires-clause-positive
+least_payment-payment-requires-clause-positive g c =
+    omega (arith, (support_form _ c.cost-cost.ensures.is_support).costs_positive c.args.place 0 c.requires.known, c.cost-cost.ensures.cost, c.cost.view_is)
 
 pub least_payment-payment-requires-clause-ordered : goal.least_payment-payment-requires-clause-ordered
 least_payment-payment-requires-clause-ordered g c =

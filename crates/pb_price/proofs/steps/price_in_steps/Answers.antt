@@ -3,12 +3,13 @@ use Rattle.pb_price.specs.Supporters.{supporters_at, cost_at}
 use Rattle.pb_price.specs.Inner.Payment.{IsPriceFor}
 use Rattle.pb_price.proofs.Bounds.{base_is_bound}
 use Rattle.pb_price.proofs.PriceSteps.{no_supporter}
+use Rattle.pb_price.proofs.SupporterLists.{support_form}
 use Rattle.pb_price.proofs.steps.price_in_steps.Goals as goal
 
 pub returns-then-is_empty : goal.returns-then-is_empty
 returns-then-is_empty g c =
     no_supporter (supporters_at c.args.supporters.now c.args.place) c.of-list.result.now c.args.rests.now (cost_at c.args.supporters.now c.args.place)
-    c.of-list.ensures.supporters (search rules) (c.of-list.ensures.is_support.costs_positive c.args.place 0 c.requires.known)
+    c.of-list.ensures.supporters (search rules) ((support_form _ c.of-list.ensures.is_support).costs_positive c.args.place 0 c.requires.known)
 
 pub loop-next-init : goal.loop-next-init
 loop-next-init g c =

@@ -1,10 +1,28 @@
-use Rattle.std.proofs.Common.{◌≡◌, drop, length, ◌∙◌, ap, arith}
+use Rattle.std.proofs.Common.{◌≡◌, drop, get_or, length, ◌∙◌, ap, arith}
 use Rattle.pb_rounds.specs.Run.{ElectedView, charged}
+use Rattle.pb_price.proofs.SupporterLists.{known_voters, supporters_increase}
 use Rattle.pb_price.specs.Supporters.{supporters_at}
 use Rattle.pb_rounds.proofs.Charged.{length-charged}
 use Rattle.pb_reasons.specs.Inner.Replay.{row_of}
 use Rattle.pb_reasons.proofs.Paying.{paid_all, paid_more, whole_part}
 use Rattle.pb_reasons.proofs.replay.replay.Goals as goal
+
+pub pay-requires-clause-known : goal.pay-requires-clause-known
+pay-requires-clause-known c =
+    let w = c.winner-item.result in
+    let place_is : c.winner.inside.place ≡ w.place = ap (λ (v : ElectedView). v.place) c.winner.view_is in
+    let item : w.place ≡ (get_or c.args.elected.now c.loop-winner.winner-index w).place = ap (λ (v : ElectedView). v.place) c.winner-item.is in
+    let known = c.requires c.loop-winner.winner-index w c.loop-winner-test.true in
+    known_voters c.args.supporters.now c.of.ensures.is_support c.winner.inside.place (omega (arith, place_is, item, known)) c.of.result.now c.deref_mut.result.now c.of.ensures.supporters
+    (ap length c.deref_mut.ensures.value ∙ c.loop-winner.invariant.one_each)
+
+pub pay-requires-clause-rise : goal.pay-requires-clause-rise
+pay-requires-clause-rise c =
+    let w = c.winner-item.result in
+    let place_is : c.winner.inside.place ≡ w.place = ap (λ (v : ElectedView). v.place) c.winner.view_is in
+    let item : w.place ≡ (get_or c.args.elected.now c.loop-winner.winner-index w).place = ap (λ (v : ElectedView). v.place) c.winner-item.is in
+    let known = c.requires c.loop-winner.winner-index w c.loop-winner-test.true in
+    supporters_increase c.args.supporters.now c.of.ensures.is_support c.winner.inside.place (omega (arith, place_is, item, known)) c.of.result.now c.of.ensures.supporters
 
 pub loop-winner-preserved : goal.loop-winner-preserved
 loop-winner-preserved c =

@@ -1,6 +1,7 @@
 use Rattle.std.proofs.Common.{◌≡◌, ◌≢◌, ◌<◌, List, ◌∷◌, Some, subst, sym, ◌∙◌, ap, arith}
 use Rattle.std.proofs.lemmas.Bool.{true≢false, eq-eqb, eqb-true}
 use Rattle.pb_price.proofs.Payments.{least_from_price, no_price_from_short, price_from_least}
+use Rattle.pb_price.proofs.SupporterLists.{support_form}
 use Rattle.pb_price.specs.Price.{price_at}
 use Rattle.pb_price.specs.Supporters.{cost_at, supporters_at}
 use Rattle.pb_rounds.specs.Inner.Bounds.{HasBounds}
@@ -50,7 +51,7 @@ loop-head-smaller g c =
     let b = c.requires.bounds in
     let h = subst (HasBounds b.0 c.args.supporters.now c.args.rests.now b.1) c.in-Some.ensures.0 (c.loop-head.invariant b.0 b.1 b.2) in
     let known = head_known b.0 c.args.supporters.now c.args.rests.now b.1 c.in-Some.head c.take_head.new.queue.keys h in
-    let bounded = c.requires.support.costs_bounded c.place.result 0 (omega (arith, known, c.place.ensures)) in
+    let bounded = (support_form _ c.requires.support).costs_bounded c.place.result 0 (omega (arith, known, c.place.ensures)) in
     let price : c.new.result.price ≡ c.in-Some-next_bound.next = ap (λ (k : KeyView). k.price) c.new.ensures in
     subst (λ (queue : List KeyView). looks_left c.insert.new.self.keys < looks_left queue) (sym c.in-Some.ensures.0)
     (subst (λ (queue : List KeyView). looks_left queue < looks_left (c.in-Some.head ∷ c.take_head.new.queue.keys)) (sym c.in_ok-insert-in-Some-2.ensures.keys)

@@ -1,5 +1,4 @@
-use Rattle.std.proofs.Common.{arith}
-use Rattle.pb_price.proofs.SupporterLists.{IsSupport-support_of}
+use Rattle.std.proofs.Common.{refl, arith}
 use Rattle.pb_rounds.specs.Inner.Count.{IsCompletionFault}
 use Rattle.pb_rounds.specs.Counted.{IsCountFault, IsCountOf}
 use Rattle.pb_rounds.specs.Inner.RaiseEnds.{IsCompletion}
@@ -29,4 +28,4 @@ pub returns-clause-faults : goal.returns-clause-faults
 returns-clause-faults g c =
     each_err (IsCompletionFault c.args.options.now.measure c.args.election.now c.args.options.now.step c.args.options.now.max_raises)
     (IsCountFault c.args.election.now c.args.options.now)
-    (λ fault h. add1_fault c.args.election.now c.args.options.now (IsSupport-support_of c.args.election.now c.complete.ensures.is_election) c.requires.in_range c.in-Add1.is fault h) c.complete.result c.complete.ensures.faults
+    (λ fault h. add1_fault c.args.election.now c.args.options.now (c.args.election.now, c.complete.ensures.is_election, refl) c.requires.in_range c.in-Add1.is fault h) c.complete.result c.complete.ensures.faults

@@ -1,6 +1,7 @@
 use Rattle.std.proofs.Common.{◌∙◌, length, ap, arith}
 use Rattle.pb_rounds.specs.Outcome.{OutcomeView}
-use Rattle.pb_rounds.proofs.Fronts.{first_in, pays_by, supporters_within, taken_is}
+use Rattle.pb_price.proofs.SupporterLists.{known_voters}
+use Rattle.pb_rounds.proofs.Fronts.{first_in, pays_by, taken_is}
 use Rattle.pb_rounds.proofs.front.take_next.Goals as goal
 
 pub of-list-requires : goal.of-list-requires
@@ -11,7 +12,7 @@ of-list-requires g c =
 pub can_pay-requires : goal.can_pay-requires
 can_pay-requires g c =
     let known = c.requires.known c.in_ok-head.field-0.now (first_in c.args.queue.now.keys c.in_ok-head.field-0.now c.in_ok-head.ensures.first) in
-    supporters_within c.args.supporters.now c.of-list.ensures.is_support c.place.result (omega (arith, known, c.place.ensures))
+    known_voters c.args.supporters.now c.of-list.ensures.is_support c.place.result (omega (arith, known, c.place.ensures))
     c.of-list.result.now c.as_slice.result.now c.of-list.ensures.supporters
     (ap length (c.as_slice.ensures.value ∙ ap (λ (o : OutcomeView). o.rests) c.outcome.view_is) ∙ c.requires.rests)
 

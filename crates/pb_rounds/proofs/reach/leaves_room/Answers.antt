@@ -1,5 +1,6 @@
 use Rattle.std.proofs.Common.{◌≡◌, ◌+◌, ◌*◌, ◌<◌, ◌≤◌, length, refl, ◌∙◌, ap, inl, inr, arith}
 use Rattle.pb_core.specs.Money.{largest_money}
+use Rattle.pb_price.proofs.SupporterLists.{support_form}
 use Rattle.pb_price.specs.Supporters.{supporters_at}
 use Rattle.pb_rounds.proofs.Room.{far_more, near_more}
 use Rattle.pb_rounds.proofs.reach.leaves_room.Goals as goal
@@ -12,7 +13,7 @@ loop-place-preserved g c =
     let shares : c.from-in-loop-place.result * c.from-in-loop-place-2.result ≡ length (supporters_at s c.loop-place.place) * c.args.share =
     ap (λ n. n * c.from-in-loop-place-2.result) count ∙ ap (λ n. length (supporters_at s c.loop-place.place) * n) (c.from-in-loop-place-2.ensures ∙ c.share.view_is) in
     let small : c.cost-cost.result ≤ largest_money =
-    omega (arith, c.cost-cost.ensures.cost, c.cost-cost.ensures.is_support.costs_bounded c.loop-place.place 0 (omega (arith, c.loop-place-test.true, c.projects-place-end.ensures.projects))) in
+    omega (arith, c.cost-cost.ensures.cost, (support_form _ c.cost-cost.ensures.is_support).costs_bounded c.loop-place.place 0 (omega (arith, c.loop-place-test.true, c.projects-place-end.ensures.projects))) in
     let seen = c.loop-place.invariant in
     elim c.if-from.branch [
       | then-from w ↦

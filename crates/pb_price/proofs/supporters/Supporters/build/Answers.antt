@@ -1,12 +1,14 @@
-use Rattle.std.proofs.Common.{length, ap}
+use Rattle.std.proofs.Common.{length, ap, refl}
 use Rattle.std.proofs.lemmas.Result.{IfOk-from_err}
-use Rattle.pb_price.proofs.SupporterLists.{IsSupport-support_of}
+use Rattle.pb_price.proofs.SupporterLists.{support_form}
+use Rattle.pb_price.specs.Supporters.{IsSupport, support_of}
 use Rattle.pb_price.proofs.supporters.Supporters.build.Goals as goal
 
 pub invariant_of-result : goal.invariant_of-result
 invariant_of-result g c =
+    let is_support : IsSupport (support_of c.args.election.now) = (c.args.election.now, c.voters.ensures.is_election, refl) in
     rw (ap length c.voters.ensures.voters, c.in_ok-costs.ensures, c.in_ok-lists.ensures)
-    (IsSupport-support_of c.args.election.now c.voters.ensures.is_election)
+    (is_support, support_form (support_of c.args.election.now) is_support)
 
 pub returns-in_err-costs : goal.returns-in_err-costs
 returns-in_err-costs g c = IfOk-from_err _ _ c.from_residual.ensures.0

@@ -1,7 +1,8 @@
 use Rattle.std.proofs.Common.{◌≡◌, ◌<◌, ◌≤◌, [], length, get_or, subst, sym, ap, ◌∙◌, arith, refl}
 use Rattle.std.proofs.lemmas.List.{get_or_default}
-use Rattle.pb_price.specs.Supporters.{support_of, supporters_at}
-use Rattle.pb_rounds.specs.Outcome.{OutcomeView, settled}
+use Rattle.pb_price.proofs.SupporterLists.{known_voters}
+use Rattle.pb_price.specs.Supporters.{SupportView, support_of, supporters_at}
+use Rattle.pb_rounds.specs.Outcome.{OutcomeView}
 use Rattle.pb_reasons.specs.Inner.Kept.{AreReasons}
 use Rattle.pb_reasons.specs.declared.project_reason.Ending.TheVariants.{Won, Lost}
 use Rattle.pb_reasons.proofs.Reasoned.{as_many_rows, cost_read, few_amounts, few_projects, few_support, has_place, project_lost, project_won, round_read, too_short}
@@ -10,13 +11,13 @@ use Rattle.pb_reasons.proofs.reasons.Reasons.project.Goals.{then-round-len, else
 
 pub of-supporters-requires : goal.of-supporters-requires
 of-supporters-requires c =
-    let own = subst (AreReasons c.args.election.now (settled c.args.outcome.now)) (sym c.self.view_is) c.requires.own in
-    has_place c.args.election.now (settled c.args.outcome.now) _ own c.args.place c.requires.known
+    let own = subst (AreReasons c.args.election.now c.args.outcome.now) (sym c.self.view_is) c.requires.own in
+    has_place c.args.election.now c.args.outcome.now _ own c.args.place c.requires.known
 
 pub index-requires : goal.index-requires
 index-requires c =
     let e = c.args.election.now in
-    let o = settled c.args.outcome.now in
+    let o = c.args.outcome.now in
     let own = subst (AreReasons e o) (sym c.self.view_is) c.requires.own in
     let rows = as_many_rows e o _ own in
     omega (arith, c.if-round-len.true, c.len.ensures, c.self.inside.paid.ok.0, rows, ap (λ (v : OutcomeView). length v.elected) c.outcome.view_is, c.outcome.inside.elected.ok.0)
@@ -24,7 +25,7 @@ index-requires c =
 pub won-requires-clause-rounds : goal.won-requires-clause-rounds
 won-requires-clause-rounds c =
     let e = c.args.election.now in
-    let o = settled c.args.outcome.now in
+    let o = c.args.outcome.now in
     let own = subst (AreReasons e o) (sym c.self.view_is) c.requires.own in
     let rows = as_many_rows e o _ own in
     let few = few_projects e o _ own c.of-supporters.ensures.is_support in
@@ -33,7 +34,7 @@ won-requires-clause-rounds c =
 pub won-requires-clause-few : goal.won-requires-clause-few
 won-requires-clause-few c =
     let e = c.args.election.now in
-    let o = settled c.args.outcome.now in
+    let o = c.args.outcome.now in
     let own = subst (AreReasons e o) (sym c.self.view_is) c.requires.own in
     let place = c.args.place in
     let rows = as_many_rows e o _ own in
@@ -45,10 +46,19 @@ won-requires-clause-few c =
     let all = few_amounts e o _ own place c.requires.known (rw (← round) below) c.amounts.result.now amounts in
     omega (arith, all, few_support e o _ own place c.requires.known c.of-supporters.ensures.is_support (supporters_at (support_of e) place) refl, few.1)
 
+pub lost-requires-clause-known : goal.lost-requires-clause-known
+lost-requires-clause-known c =
+    let e = c.args.election.now in
+    let o = c.args.outcome.now in
+    let own = subst (AreReasons e o) (sym c.self.view_is) c.requires.own in
+    let rests : c.as_slice.result.now ≡ o.rests = c.as_slice.ensures.value ∙ ap (λ (v : OutcomeView). v.rests) c.outcome.view_is in
+    known_voters _ c.of-supporters.ensures.is_support c.args.place (has_place e o _ own c.args.place c.requires.known) c.of-supporters.result.now c.as_slice.result.now c.of-supporters.ensures.supporters
+    (ap length rests ∙ c.requires.told.one_each ∙ sym (ap (λ (s : SupportView). s.voters) own.supporters))
+
 pub lost-requires-clause-short : goal.lost-requires-clause-short
 lost-requires-clause-short c =
     let e = c.args.election.now in
-    let o = settled c.args.outcome.now in
+    let o = c.args.outcome.now in
     let own = subst (AreReasons e o) (sym c.self.view_is) c.requires.own in
     let place = c.args.place in
     let rows = as_many_rows e o _ own in
@@ -63,7 +73,7 @@ lost-requires-clause-short c =
 pub overflow_cast-result : goal.overflow_cast-result
 overflow_cast-result c =
     let e = c.args.election.now in
-    let o = settled c.args.outcome.now in
+    let o = c.args.outcome.now in
     let own = subst (AreReasons e o) (sym c.self.view_is) c.requires.own in
     let supporters : c.of-supporters.result.now ≡ supporters_at (support_of e) c.args.place = c.of-supporters.ensures.supporters ∙ ap (λ s. supporters_at s c.args.place) own.supporters in
     let few = few_support e o _ own c.args.place c.requires.known c.of-supporters.ensures.is_support _ supporters in
@@ -72,7 +82,7 @@ overflow_cast-result c =
 pub returns : goal.returns
 returns c =
     let e = c.args.election.now in
-    let o = settled c.args.outcome.now in
+    let o = c.args.outcome.now in
     let own = subst (AreReasons e o) (sym c.self.view_is) c.requires.own in
     let place = c.args.place in
     let rows = as_many_rows e o _ own in

@@ -4,8 +4,17 @@ use Rattle.pb_rounds.specs.Inner.Front.{FrontView, IsFront}
 use Rattle.pb_rounds.specs.Inner.Queue.{IsIn}
 use Rattle.pb_rounds.specs.Key.{KeyView}
 use Rattle.pb_rounds.specs.Outcome.{OutcomeView}
-use Rattle.pb_rounds.proofs.Fronts.{queue_known, raised_front, rests_here}
+use Rattle.pb_rounds.proofs.Fronts.{queue_known, raised_front, raised_small, rests_here}
 use Rattle.pb_rounds.proofs.front.Front.extend.Goals as goal
+
+pub raise-requires-clause-small : goal.raise-requires-clause-small
+raise-requires-clause-small g c =
+    let f : FrontView = record { measure = c.self.inside.measure; support = c.self.inside.supporters.now; queue = c.self.inside.queue.keys; marks = c.self.inside.marks.items; spent = c.self.inside.spent; outcome = c.self.inside.outcome } in
+    let front : IsFront f = subst IsFront (sym c.self.view_is) c.requires.front in
+    let old : f.outcome.share ≡ c.args.self.now.outcome.share = ap (λ (v : FrontView). v.outcome.share) c.self.view_is in
+    let sum : f.outcome.share + (c.args.share - f.outcome.share) ≡ c.args.share = omega (arith, old, c.requires.from) in
+    let fits : f.outcome.share + (c.args.share - f.outcome.share) ≤ largest_share = omega (arith, sum, c.requires.small) in
+    raised_small f front (c.args.share - f.outcome.share) fits
 
 pub loop-head-init : goal.loop-head-init
 loop-head-init g c =
