@@ -15,7 +15,8 @@ use Rattle.pb_read.proofs.Keeps.{IsTidy, IsTidy-trimmed}
 use Rattle.pb_read.proofs.ListFacts.{AllByRecursion-left, AllByRecursion-right}
 use Rattle.pb_read.specs.MetaRows.{value_of}
 use Rattle.pb_read.specs.Lengths.{has_length_form, max_length_of}
-use Rattle.pb_read.specs.Rows.{field, is_blank, is_empty, rows_of, trimmed}
+use Rattle.pb_read.specs.Inner.Fields.{trimmed}
+use Rattle.pb_read.specs.Rows.{field, is_blank, is_empty, rows_of}
 use Rattle.pb_read.specs.StandsFor.{GivesProject, StandsFor}
 use Rattle.pb_read.specs.declared.fault.ReadKind.{ReadKind}
 use Rattle.pb_read.specs.declared.fault.ReadKind.TheVariants.{BadLength}

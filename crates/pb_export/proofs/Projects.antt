@@ -9,7 +9,8 @@ use Rattle.pb_core.specs.Election.{ElectionView, ProjectView}
 use Rattle.pb_core.specs.Money.{largest_money, money_of}
 use Rattle.pb_core.specs.MoneyText.{money_text}
 use Rattle.pb_rows.specs.Reading.{Fields}
-use Rattle.pb_read.specs.Rows.{head_of, is_blank, rows_of, trimmed}
+use Rattle.pb_read.specs.Inner.Fields.{trimmed}
+use Rattle.pb_read.specs.Rows.{head_of, is_blank, rows_of}
 use Rattle.pb_read.specs.StandsFor.{GivesAllButVoters, GivesProject, IsMeta, terms_of}
 use Rattle.pb_export.specs.Export.{is_section_word}
 use Rattle.pb_export.specs.FileRows.{project_row, projects_from, projects_rows, selected_text}

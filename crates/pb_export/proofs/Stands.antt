@@ -15,7 +15,8 @@ use Rattle.pb_rows.proofs.RoundTrip.{ComeBack-ascii}
 use Rattle.pb_rows.specs.Reading.{Fields, records_of}
 use Rattle.pb_rows.specs.Writing.{ComeBack, text_of_rows}
 use Rattle.pb_read.proofs.ListFacts.{AllByRecursion-append, AllByRecursion-left, AllByRecursion-right}
-use Rattle.pb_read.specs.Rows.{is_blank, rows_of, trimmed}
+use Rattle.pb_read.specs.Inner.Fields.{trimmed}
+use Rattle.pb_read.specs.Rows.{is_blank, rows_of}
 use Rattle.pb_read.specs.StandsFor.{GivesAll, StandsFor}
 use Rattle.pb_export.specs.Export.{has_comma, has_comma_in_vote, has_section_word, is_section_word}
 use Rattle.pb_export.specs.FileRows.{file_rows, meta_rows, projects_from, projects_rows, vote_row, votes_rows}

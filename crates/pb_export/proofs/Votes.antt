@@ -7,7 +7,8 @@ use Rattle.std.proofs.Math.Utf8.{encode}
 use Rattle.pb_core.specs.Ballot.{IsBallot}
 use Rattle.pb_core.specs.Election.{AreDistinct, ElectionView, VoterView, project_ids}
 use Rattle.pb_rows.specs.Reading.{Fields}
-use Rattle.pb_read.specs.Rows.{head_of, rows_of, trimmed}
+use Rattle.pb_read.specs.Inner.Fields.{trimmed}
+use Rattle.pb_read.specs.Rows.{head_of, rows_of}
 use Rattle.pb_read.specs.StandsFor.{GivesAll, GivesVoter}
 use Rattle.pb_export.specs.Export.{is_section_word}
 use Rattle.pb_export.specs.FileRows.{vote_row, vote_text, votes_rows}
