@@ -22,7 +22,8 @@ use Rattle.pb_read.specs.declared.fault.ReadKind.{ReadKind}
 use Rattle.pb_read.specs.declared.fault.ReadKind.TheVariants.{BadLength}
 use Rattle.std.proofs.lemmas.Slice.Eq.{bytes_eq-Decides}
 use Rattle.pb_export.proofs.Metas.{small_enough}
-use Rattle.pb_export.specs.Export.{is_of_file, is_small, is_tidy}
+use Rattle.pb_export.specs.Export.{is_of_file}
+use Rattle.pb_export.specs.Inner.Parts.{is_small, is_tidy}
 
 rows_tidy : (records : List Fields) → AllByRecursion AllText records → AllByRecursion IsTidy (rows_of records)
 rows_tidy [] texts = tt
