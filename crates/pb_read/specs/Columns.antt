@@ -1,5 +1,5 @@
 -- The columns that a header row names.
-use Rattle.std.specs.Prelude.{ℕ, Bool, ◌&&◌, List, [], Option, codes, length, nat_lt, option_map, position}
+use Rattle.std.specs.Prelude.{ℕ, Bool, ◌&&◌, List, Option, codes, length, nat_lt, option_map, position}
 use Rattle.std.specs.Option.{option_zip}
 use Rattle.pb_rows.specs.Reading.{Fields}
 use Rattle.pb_read.specs.Rows.{is_word}
