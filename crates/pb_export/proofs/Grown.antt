@@ -8,7 +8,8 @@ use Rattle.pb_rows.specs.Writing.{text_of_row, text_of_rows}
 use Rattle.pb_rows.proofs.RowsText.{text_of_rows-nil, text_of_rows-cons, text_of_rows-append}
 use Rattle.pb_read.proofs.ListFacts.{AllByRecursion-append}
 use Rattle.pb_export.specs.Inner.Growing.{Grows}
-use Rattle.pb_export.specs.FileRows.{project_row, projects_from}
+use Rattle.pb_export.specs.FileRows.{project_row}
+use Rattle.pb_export.specs.Inner.Parts.{projects_from}
 
 -- a text to which no row was added
 pub none_grown : (old : List ℕ) → Grows [] old old
@@ -37,4 +38,4 @@ projects_more votes selected place (q ∷ projects) zero j p below is at =
     ∙ ap (λ n. project_row p (slice_index votes n) (slice_index_or selected n false) ∷ []) same
 projects_more votes selected place (q ∷ projects) (suc i) j p below is at =
     ap (λ (rows : List Fields). project_row q (slice_index votes place) (slice_index_or selected place false) ∷ rows)
-    (projects_more votes selected (suc place) projects i j p (omega (arith, below)) is (omega (arith, at)))
+    (projects_more votes selected (place + 1) projects i j p (omega (arith, below)) is (omega (arith, at)))

@@ -4,6 +4,7 @@ pub mod Pieces
 pub mod Metas
 pub mod Projects
 pub mod Votes
+pub mod Words
 pub mod Stands
 pub mod Grown
 pub mod OfFile

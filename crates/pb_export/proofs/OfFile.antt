@@ -15,13 +15,15 @@ use Rattle.pb_read.proofs.Keeps.{IsTidy, IsTidy-trimmed}
 use Rattle.pb_read.proofs.ListFacts.{AllByRecursion-left, AllByRecursion-right}
 use Rattle.pb_read.specs.MetaRows.{value_of}
 use Rattle.pb_read.specs.Lengths.{has_length_form, max_length_of}
-use Rattle.pb_read.specs.Rows.{field, is_blank, is_empty, rows_of, trimmed}
+use Rattle.pb_read.specs.Inner.Fields.{trimmed}
+use Rattle.pb_read.specs.Rows.{field, is_blank, is_empty, rows_of}
 use Rattle.pb_read.specs.StandsFor.{GivesProject, StandsFor}
 use Rattle.pb_read.specs.declared.fault.ReadKind.{ReadKind}
 use Rattle.pb_read.specs.declared.fault.ReadKind.TheVariants.{BadLength}
 use Rattle.std.proofs.lemmas.Slice.Eq.{bytes_eq-Decides}
 use Rattle.pb_export.proofs.Metas.{small_enough}
-use Rattle.pb_export.specs.Export.{is_of_file, is_small, is_tidy}
+use Rattle.pb_export.specs.Export.{is_of_file}
+use Rattle.pb_export.specs.Inner.Parts.{is_small, is_tidy}
 
 rows_tidy : (records : List Fields) → AllByRecursion AllText records → AllByRecursion IsTidy (rows_of records)
 rows_tidy [] texts = tt

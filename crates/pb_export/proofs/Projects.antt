@@ -1,5 +1,5 @@
 -- PROJECTS, read back.
-use Rattle.std.proofs.Common.{◌≡◌, ◌≢◌, ◌≤◌, ℕ, suc, Bool, true, false, not, List, [], ◌∷◌, ◌++◌, decimal, Option, Some, None, Ok, refl, ap, sym, ◌∙◌}
+use Rattle.std.proofs.Common.{◌≡◌, ◌≢◌, ◌≤◌, ◌+◌, ℕ, Bool, true, false, cond, not, List, [], ◌∷◌, ◌++◌, codes, decimal, Option, Some, None, Ok, refl, ap, sym, ◌∙◌}
 use Rattle.std.specs.Prelude.{is_some, slice_index, slice_index_or}
 use Rattle.std.specs.List.{AllByRecursion, AllZip}
 use Rattle.std.specs.Str.{trim, trim_start, trim_end, chars}
@@ -9,10 +9,11 @@ use Rattle.pb_core.specs.Election.{ElectionView, ProjectView}
 use Rattle.pb_core.specs.Money.{largest_money, money_of}
 use Rattle.pb_core.specs.MoneyText.{money_text}
 use Rattle.pb_rows.specs.Reading.{Fields}
-use Rattle.pb_read.specs.Rows.{head_of, is_blank, rows_of, trimmed}
+use Rattle.pb_read.specs.Inner.Fields.{trimmed}
+use Rattle.pb_read.specs.Rows.{head_of, is_blank, rows_of}
 use Rattle.pb_read.specs.StandsFor.{GivesAllButVoters, GivesProject, IsMeta, terms_of}
-use Rattle.pb_export.specs.Export.{is_section_word}
-use Rattle.pb_export.specs.FileRows.{project_row, projects_from, projects_rows, selected_text}
+use Rattle.pb_export.specs.FileRows.{project_row, projects_rows}
+use Rattle.pb_export.specs.Inner.Parts.{is_section_word, projects_from}
 use Rattle.pb_export.proofs.Metas.{money_back}
 
 -- a project that a file can give
@@ -64,9 +65,9 @@ module _ (reads_back : (h : ℕ) → h ≤ largest_money → money_of (money_tex
   gives_from place (p ∷ projects) are =
       let count = slice_index votes place in
       let elected = slice_index_or selected place false in
-      let others : Fields = money_text p.cost ∷ decimal count ∷ p.name ∷ selected_text elected ∷ [] in
-      let rest = gives_from (suc place) projects are.1 in
-      rw (row_kept p.id others (projects_from votes selected (suc place) projects) are.0.tidy_id are.0.has_id)
+      let others : Fields = money_text p.cost ∷ decimal count ∷ p.name ∷ cond elected (codes "1") (codes "0") ∷ [] in
+      let rest = gives_from (place + 1) projects are.1 in
+      rw (row_kept p.id others (projects_from votes selected (place + 1) projects) are.0.tidy_id are.0.has_id)
       ((plain_row p.id others are.0.tidy_id are.0.no_head, rest.0), (gives_project p count elected are.0, rest.1))
 
   -- after META

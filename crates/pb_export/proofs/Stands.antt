@@ -1,5 +1,5 @@
 -- What is written of an election stands for it.
-use Rattle.std.proofs.Common.{◌≡◌, ◌≢◌, ◌<◌, ◌≤◌, ℕ, suc, Bool, false, not, List, [], ◌∷◌, ◌++◌, length, map, filter, All, Option, Some, None, Ok, get_or, refl, ap, sym, ◌∙◌, subst, arith, length-append}
+use Rattle.std.proofs.Common.{◌≡◌, ◌≢◌, ◌<◌, ◌≤◌, ◌+◌, ℕ, suc, Bool, false, not, List, [], ◌∷◌, ◌++◌, length, map, filter, All, Option, Some, None, Ok, get_or, refl, ap, sym, ◌∙◌, subst, arith, length-append}
 use Rattle.std.specs.Prelude.{slice_index_or}
 use Rattle.std.specs.List.{AllByRecursion, list_any}
 use Rattle.std.specs.Str.{IsUtf8, trim}
@@ -15,13 +15,16 @@ use Rattle.pb_rows.proofs.RoundTrip.{ComeBack-ascii}
 use Rattle.pb_rows.specs.Reading.{Fields, records_of}
 use Rattle.pb_rows.specs.Writing.{ComeBack, text_of_rows}
 use Rattle.pb_read.proofs.ListFacts.{AllByRecursion-append, AllByRecursion-left, AllByRecursion-right}
-use Rattle.pb_read.specs.Rows.{is_blank, rows_of, trimmed}
+use Rattle.pb_read.specs.Inner.Fields.{trimmed}
+use Rattle.pb_read.specs.Rows.{is_blank, rows_of}
 use Rattle.pb_read.specs.StandsFor.{GivesAll, StandsFor}
-use Rattle.pb_export.specs.Export.{has_comma, has_comma_in_vote, has_section_word, is_section_word}
-use Rattle.pb_export.specs.FileRows.{file_rows, meta_rows, projects_from, projects_rows, vote_row, votes_rows}
+use Rattle.pb_export.specs.Export.{has_comma, has_comma_in_vote, has_section_word}
+use Rattle.pb_export.specs.FileRows.{file_rows, meta_rows, projects_rows, votes_rows}
+use Rattle.pb_export.specs.Inner.Parts.{is_section_word, projects_from, vote_row}
 use Rattle.pb_export.proofs.OfFile.{IsOfFile}
 use Rattle.pb_export.proofs.Metas.{gives_terms}
 use Rattle.pb_export.proofs.Pieces.{IsPiece}
+use Rattle.pb_export.proofs.Words.{section_words}
 use Rattle.pb_export.proofs.Projects as projects
 use Rattle.pb_export.proofs.Votes as votes
 
@@ -38,7 +41,7 @@ meta_fields e rule = go e.max_length
 project_fields : (counts : List ℕ) (selected : List Bool) (place : ℕ) (ps : List ProjectView) → AllByRecursion HasField (projects_from counts selected place ps) × (length (projects_from counts selected place ps) ≡ length ps)
 project_fields counts selected place [] = (tt, refl)
 project_fields counts selected place (p ∷ ps) =
-    let rest = project_fields counts selected (suc place) ps in
+    let rest = project_fields counts selected (place + 1) ps in
     ((omega arith, rest.0), ap suc rest.1)
 
 vote_fields : (ids : List (List ℕ)) (vs : List VoterView) → AllByRecursion HasField (map (vote_row ids) vs)
@@ -63,7 +66,7 @@ ids_are : (counts : List ℕ) (selected : List Bool) (place : ℕ) (ps : List Pr
 unfolding AllText
 ids_are counts selected place [] texts are = tt
 ids_are counts selected place (p ∷ ps) texts are =
-    (record { some = are.0.has_id; tidy = are.0.tidy_id; text = texts.0.0 }, ids_are counts selected (suc place) ps texts.1 are.1)
+    (record { some = are.0.has_id; tidy = are.0.tidy_id; text = texts.0.0 }, ids_are counts selected (place + 1) ps texts.1 are.1)
 
 ballot_pieces : (ids : List (List ℕ)) → All IsId ids → (ballot : List ℕ) → All (λ place. place < length ids) ballot → list_any (λ place. has_comma (slice_index_or ids place [])) ballot ≡ false →
     AllByRecursion IsPiece (map (λ place. slice_index_or ids place []) ballot)
@@ -91,7 +94,7 @@ module _ (come_back : (rows : List Fields) → ComeBack rows → records_of (tex
   last = votes_rows (project_ids e) e.voters
 
   heads : (list_any (λ p. is_section_word p.id) e.projects ≡ false) × (list_any (λ v. is_section_word v.id) e.voters ≡ false)
-  heads = or_parts _ _ words
+  heads = or_parts _ _ (sym (section_words e) ∙ words)
 
   writable_projects : AllByRecursion projects.IsWritable e.projects
   writable_projects = recursion_from_All projects.IsWritable e.projects (λ k d within.

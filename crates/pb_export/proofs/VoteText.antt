@@ -3,7 +3,7 @@ use Rattle.std.proofs.Common.{◌≡◌, ℕ, ◌+◌, ◌<◌, List, [], ◌∷
 use Rattle.std.specs.Prelude.{◌⊎◌, slice_index_or}
 use Rattle.std.specs.List.{join_with_byte}
 use Rattle.std.proofs.lemmas.List.{length-map, map_more, length-take-le}
-use Rattle.pb_export.specs.FileRows.{vote_text}
+use Rattle.pb_export.specs.Inner.Parts.{vote_text}
 
 -- pieces with one piece more
 join-push : (c : ℕ) (p : List ℕ) (ps : List (List ℕ)) (x : List ℕ) → join_with_byte c ((p ∷ ps) ++ x ∷ []) ≡ join_with_byte c (p ∷ ps) ++ c ∷ x

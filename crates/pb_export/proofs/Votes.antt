@@ -7,10 +7,11 @@ use Rattle.std.proofs.Math.Utf8.{encode}
 use Rattle.pb_core.specs.Ballot.{IsBallot}
 use Rattle.pb_core.specs.Election.{AreDistinct, ElectionView, VoterView, project_ids}
 use Rattle.pb_rows.specs.Reading.{Fields}
-use Rattle.pb_read.specs.Rows.{head_of, rows_of, trimmed}
+use Rattle.pb_read.specs.Inner.Fields.{trimmed}
+use Rattle.pb_read.specs.Rows.{head_of, rows_of}
 use Rattle.pb_read.specs.StandsFor.{GivesAll, GivesVoter}
-use Rattle.pb_export.specs.Export.{is_section_word}
-use Rattle.pb_export.specs.FileRows.{vote_row, vote_text, votes_rows}
+use Rattle.pb_export.specs.FileRows.{votes_rows}
+use Rattle.pb_export.specs.Inner.Parts.{is_section_word, vote_row, vote_text}
 use Rattle.pb_export.proofs.Pieces.{IsPiece, ballot_back, names_back, pieces_back}
 use Rattle.pb_export.proofs.Projects.{GivesFront, plain_row, row_kept}
 

@@ -1,32 +1,23 @@
 -- Which elections a file can be written of.
-use Rattle.std.specs.Prelude.{◌≡◌, ◌==◌, ◌&&◌, ◌||◌, ℕ, Bool, true, false, ⊤, List, [], ◌∷◌, Option, None, Some, is_some, nat_le, slice_index_or}
+use Rattle.std.specs.Prelude.{◌≡◌, ◌==◌, ◌&&◌, ℕ, Bool, true, false, ⊤, List, [], ◌∷◌, ◌++◌, is_some, nat_le, slice_index_or}
 use Rattle.std.specs.List.{list_all, list_any}
+use Rattle.std.specs.Option.{option_map_or}
 use Rattle.std.specs.Str.{bytes_eq, trim}
-use Rattle.pb_core.specs.Election.{ElectionView, most_projects, project_ids}
+use Rattle.pb_core.specs.Election.{ElectionView, most_projects, project_ids, voter_ids}
 use Rattle.pb_read.specs.Rows.{head_of}
 use Rattle.pb_export.specs.declared.export_fault.ExportFault.{ExportFault}
 use Rattle.pb_export.specs.declared.export_fault.ExportFault.TheVariants.{SectionWord, CommaInId, OfNoFile, NoMemory}
 
--- a text has no white space at its ends
-abbrev pub is_tidy : List ℕ → Bool
-is_tidy text = bytes_eq (trim text) text
-
--- a limit on a ballot's length that a file can name
-abbrev pub is_small : Option ℕ → Bool
-is_small None = true
-is_small (Some most) = nat_le most most_projects
-
--- projects' ids and names are tidy, and the limit is small, as in every election that a file stands for
+-- projects' ids and names have no white space at their ends, and a limit on a ballot's length is one that a file can
+-- name, as in every election that a file stands for
 abbrev pub is_of_file : ElectionView → Bool
-is_of_file e = list_all (λ p. is_tidy p.id && is_tidy p.name) e.projects && is_small e.max_length
+is_of_file e =
+    list_all (λ p. bytes_eq (trim p.id) p.id && bytes_eq (trim p.name) p.name) e.projects
+    && option_map_or (λ most. nat_le most most_projects) e.max_length true
 
--- an id would be read as a section's head
-abbrev pub is_section_word : List ℕ → Bool
-is_section_word id = is_some (head_of (id ∷ []))
-
+-- the id of a project or a voter would be read as a section's head
 abbrev pub has_section_word : ElectionView → Bool
-has_section_word e =
-    list_any (λ p. is_section_word p.id) e.projects || list_any (λ v. is_section_word v.id) e.voters
+has_section_word e = list_any (λ id. is_some (head_of (id ∷ []))) (project_ids e ++ voter_ids e)
 
 -- an id has a comma (code 44)
 abbrev pub has_comma : List ℕ → Bool

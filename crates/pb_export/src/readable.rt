@@ -2,7 +2,8 @@
 
 ghost use Rattle.std.specs.Prelude.{◌≡◌, ◌<◌, ◌&&◌, [], All, length, map, slice_index_or};
 ghost use Rattle.std.specs.List.{list_all, list_any};
-ghost use Rattle.pb_export.specs.Export.{has_comma, has_comma_in_vote, has_section_word, is_of_file, is_section_word, is_small, is_tidy};
+ghost use Rattle.pb_export.specs.Export.{has_comma, has_comma_in_vote, has_section_word, is_of_file};
+ghost use Rattle.pb_export.specs.Inner.Parts.{is_section_word, is_small, is_tidy};
 
 use pb_core::election::{Election, MOST_PROJECTS};
 use pb_core::project::Project;

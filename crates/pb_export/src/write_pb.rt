@@ -8,7 +8,8 @@ ghost use Rattle.pb_rows.specs.Reading.{records_of};
 ghost use Rattle.pb_rows.specs.Writing.{text_of_row, text_of_rows};
 ghost use Rattle.pb_export.specs.Export.{CanBeWritten, IsExportFault};
 ghost use Rattle.pb_export.specs.Inner.Growing.{Grows};
-ghost use Rattle.pb_export.specs.FileRows.{file_rows, limit_rows, meta_rows, project_row, projects_rows, vote_text, votes_rows};
+ghost use Rattle.pb_export.specs.Inner.Parts.{limit_rows, vote_text};
+ghost use Rattle.pb_export.specs.FileRows.{file_rows, meta_rows, project_row, projects_rows, votes_rows};
 
 use crate::export_fault::ExportFault;
 use crate::readable::{has_comma_in_vote, has_section_word, is_of_file};

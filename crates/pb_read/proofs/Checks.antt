@@ -16,7 +16,7 @@ use Rattle.pb_read.proofs.Uniqueness.{refused_from_outside}
 use Rattle.pb_read.specs.FirstFault.{IsFaultAt, IsFromOutside}
 use Rattle.pb_read.specs.Listed.{AreListed, is_of_row, may_be_of_row, without}
 use Rattle.pb_read.specs.Inner.Machine.{Explains, Position, lowest_kind, row_fault, start}
-use Rattle.pb_read.specs.Rows.{trimmed}
+use Rattle.pb_read.specs.Inner.Fields.{trimmed}
 use Rattle.pb_read.specs.Stages.{next_row, the_end}
 use Rattle.pb_read.specs.StandsFor.{StandsFor, most_records}
 use Rattle.pb_read.specs.Inner.Tracking.{HasCome, HasEnded, IsNextRow, Tracks}

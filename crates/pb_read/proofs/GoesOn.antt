@@ -1,5 +1,5 @@
 -- Records that were read without fault may go on to stand for an election; after a fault nothing helps.
-use Rattle.std.proofs.Common.{◌≡◌, ◌≤◌, ◌==◌, Bool, true, false, cond, not, List, [], ◌∷◌, ◌++◌, length, map, filter, Option, Some, None, Ok, refl, ap, sym, ◌∙◌, subst, arith, append_assoc, length-append}
+use Rattle.std.proofs.Common.{◌≡◌, ◌≤◌, ◌==◌, Bool, true, false, cond, not, List, [], ◌∷◌, ◌++◌, length, map, filter, Option, Some, None, Result, Ok, Err, refl, ap, sym, ◌∙◌, subst, arith, append_assoc, length-append}
 use Rattle.std.specs.Prelude.{codes}
 use Rattle.std.specs.List.{AllByRecursion, list_all}
 use Rattle.std.specs.Str.{is_utf8, trim_start, trim_end, chars}
@@ -11,17 +11,21 @@ use Rattle.csv.specs.Records.{AllText}
 use lib.Utf8.{encode}
 use Rattle.pb_core.specs.Election.{ElectionView, IsElection}
 use Rattle.pb_rows.specs.Reading.{Fields}
+use Rattle.pb_read.proofs.Alike.{at_just}
 use Rattle.pb_read.proofs.LowestKind.{lowest_applies}
 use Rattle.pb_read.proofs.Keeps.{IsTidy, IsTidy-trimmed, kept, next_follows, opening_is_election}
 use Rattle.pb_read.proofs.ListFacts.{some≢none, ok≢err, same_Ok, AllByRecursion-append, AllByRecursion-left, AllByRecursion-right}
+use Rattle.pb_read.proofs.MachineLaws.{run-append}
 use Rattle.pb_read.proofs.Runs.{AreFull, run_fault, run_onto, run_row, runs}
-use Rattle.pb_read.specs.Stages.{the_end, blank, next_row, IsAt}
+use Rattle.pb_read.specs.Stages.{the_end, blank, next_row}
 use Rattle.pb_read.specs.declared.progress.Stage.TheVariants.{Start, Header, InMeta, InProjects, InVotes}
 use Rattle.pb_read.specs.declared.section.Section.TheVariants as section
-use Rattle.pb_read.specs.FirstFault.{HasNoFault, IsAtFault, IsFirstFault}
-use Rattle.pb_read.specs.Inner.Machine.{Position, start, advance, run, step, row_fault, lowest_kind}
+use Rattle.pb_read.specs.FirstFault.{HasNoFault, IsFirstFault}
+use Rattle.pb_read.specs.Inner.Positions.{IsJustAt}
+use Rattle.pb_read.specs.Inner.Machine.{Position, start, advance, bind, run, step, row_fault, lowest_kind}
 use Rattle.pb_read.specs.Inner.Tracking.{Reached}
-use Rattle.pb_read.specs.Rows.{head_of, is_blank, rows_of, trimmed}
+use Rattle.pb_read.specs.Inner.Fields.{trimmed}
+use Rattle.pb_read.specs.Rows.{head_of, is_blank, rows_of}
 use Rattle.pb_read.specs.StandsFor.{Describes, GivesAll, StandsFor, most_records}
 use Rattle.pb_read.specs.declared.columns.VoteColumns.{VoteColumns}
 use Rattle.pb_read.specs.declared.fault.ReadKind.{ReadKind}
@@ -56,7 +60,7 @@ AllByRecursion-weaker P Q f (x ∷ xs) all = (f x all.0, AllByRecursion-weaker P
 pub rows_of-are_full : (records : List Fields) → AreFull (rows_of records)
 rows_of-are_full records = AllByRecursion-rows_of _ records (AllByRecursion-from _ (λ r full. full) records)
 
-rows_of-are_tidy : (records : List Fields) → AllByRecursion AllText records → AllByRecursion IsTidy (rows_of records)
+pub rows_of-are_tidy : (records : List Fields) → AllByRecursion AllText records → AllByRecursion IsTidy (rows_of records)
 rows_of-are_tidy records text = AllByRecursion-rows_of IsTidy records (AllByRecursion-weaker AllText _ (λ r t full. IsTidy-trimmed r t) records text)
 
 -- the test of text decides it
@@ -134,19 +138,19 @@ completion_text (Header section.Votes, e) = refl
 completion_text (InVotes columns, e) = refl
 
 -- rows without fault, one after another
-run_keeps : (p q : Position) (rows more : List Fields) → AreFull more → AllByRecursion IsTidy more → IsAt rows p → IsElection p.1 → run p more ≡ Ok q → IsAt (rows ++ more) q × IsElection q.1
+pub run_keeps : (p q : Position) (rows more : List Fields) → AreFull more → AllByRecursion IsTidy more → IsJustAt rows p → IsElection p.1 → run p more ≡ Ok q → IsJustAt (rows ++ more) q × IsElection q.1
 run_keeps p q rows [] full tidy at sound e =
     let same : p ≡ q = cc in
-    subst (λ x. IsAt (rows ++ []) x × IsElection x.1) same (subst (λ xs. IsAt xs p) (sym (append-nil rows)) at, sound)
+    subst (λ x. IsJustAt (rows ++ []) x × IsElection x.1) same (subst (λ xs. IsJustAt xs p) (sym (append-nil rows)) at, sound)
 run_keeps p q rows (row ∷ more) full tidy at sound e = go (run_keeps (advance p (next_row row)) q (rows ++ row ∷ []) more full.1 tidy.1) (row_fault p (next_row row)) refl
   where
-    go : (IsAt (rows ++ row ∷ []) (advance p (next_row row)) → IsElection ((advance p (next_row row)).1) → run (advance p (next_row row)) more ≡ Ok q → IsAt ((rows ++ row ∷ []) ++ more) q × IsElection q.1) →
-        (fault : Option ReadKind) → row_fault p (next_row row) ≡ fault → IsAt (rows ++ row ∷ more) q × IsElection q.1
+    go : (IsJustAt (rows ++ row ∷ []) (advance p (next_row row)) → IsElection ((advance p (next_row row)).1) → run (advance p (next_row row)) more ≡ Ok q → IsJustAt ((rows ++ row ∷ []) ++ more) q × IsElection q.1) →
+        (fault : Option ReadKind) → row_fault p (next_row row) ≡ fault → IsJustAt (rows ++ row ∷ more) q × IsElection q.1
     go later (Some kind) f = absurd (ok≢err (sym e ∙ run_fault p row more kind f))
     go later None f =
         let next = kept p (next_row row) rows row (next_follows row full.0) tidy.0 f at sound in
         let rest = later next.0 next.1 (sym (run_row p row more (next_row row) refl f) ∙ e) in
-        (subst (λ xs. IsAt xs q) (append_assoc rows (row ∷ []) more) rest.0, rest.1)
+        (subst (λ xs. IsJustAt xs q) (append_assoc rows (row ∷ []) more) rest.0, rest.1)
 
 pub blank_passes : (p : Position) → row_fault p blank ≡ None
 unfolding row_fault
@@ -184,11 +188,11 @@ reached_next done p r so_far text none = go (is_blank (trimmed r)) refl
     go true e =
         let rows : rows_of (done ++ r ∷ []) ≡ rows_of done = rows_of-append done (r ∷ []) ∙ ap (λ xs. rows_of done ++ xs) (rows_of-blank r [] e) ∙ append-nil (rows_of done) in
         let stays : p ≡ advance p (next_row (trimmed r)) = sym (ap (advance p) (next_row-blank (trimmed r) e) ∙ advance-blank p) in
-        subst (λ q. Reached (done ++ r ∷ []) q) stays (record { text = all_text; at = subst (λ xs. IsAt xs p) (sym rows) so_far.at; sound = so_far.sound })
+        subst (λ q. Reached (done ++ r ∷ []) q) stays (record { text = all_text; at = subst (λ xs. IsJustAt xs p) (sym rows) so_far.at; sound = so_far.sound })
     go false e =
         let rows : rows_of (done ++ r ∷ []) ≡ rows_of done ++ trimmed r ∷ [] = rows_of-append done (r ∷ []) ∙ ap (λ xs. rows_of done ++ xs) (rows_of-full r [] e) in
         let next = kept p (next_row (trimmed r)) (rows_of done) (trimmed r) (next_follows (trimmed r) e) (IsTidy-trimmed r text) none so_far.at so_far.sound in
-        record { text = all_text; at = subst (λ xs. IsAt xs (advance p (next_row (trimmed r)))) (sym rows) next.0; sound = next.1 }
+        record { text = all_text; at = subst (λ xs. IsJustAt xs (advance p (next_row (trimmed r)))) (sym rows) next.0; sound = next.1 }
 
 -- more records may follow so that all of them describe an election
 abbrev pub MayGoOn : List Fields → Type 0
@@ -218,7 +222,7 @@ no_text_ends done r none way =
     let all : AllByRecursion AllText (done ++ r ∷ []) = AllByRecursion-left AllText (done ++ r ∷ []) way.0 way.2.text in
     none (AllByRecursion-right AllText done (r ∷ []) all).0
 
-run_from_start : (done : List Fields) (p : Position) → Reached done p → run start (rows_of done) ≡ Ok p
+pub run_from_start : (done : List Fields) (p : Position) → Reached done p → run start (rows_of done) ≡ Ok p
 run_from_start done p so_far = runs p (rows_of done) (rows_of-are_full done) so_far.at so_far.sound
 
 -- after a record at fault nothing helps
@@ -262,32 +266,47 @@ no_fault_so_far done p few so_far =
     let way = goes_on done p so_far in
     (few, way.0, way.1, way.2)
 
+-- the first of the records that are left is at fault: those before it have no fault, and with it they have;
+-- where none is left, those that were read stand for no election
+abbrev pub IsAtFault : List Fields → List Fields → Type 0
+IsAtFault done [] = (e : ElectionView) → ¬ StandsFor done e
+IsAtFault done (next ∷ rest) = ¬ HasNoFault (done ++ next ∷ [])
+
+-- where a kind applies, it is
+pub is_at_fault : (done left : List Fields) (p : Position) (kind : ReadKind) → Reached done p → lowest_kind (length done) p left ≡ Some kind → IsAtFault done left
+is_at_fault done [] p kind so_far e = end_ends done p kind so_far e
+is_at_fault done (r ∷ rest) p kind so_far e = by_text (list_all is_utf8 r) refl e
+  where
+    full : length done ≡ most_records → ¬ HasNoFault (done ++ r ∷ [])
+    full n none = omega (arith, n, none.0, length-append done (r ∷ []))
+
+    by_count : (all : Bool) → (length done == most_records) ≡ all → cond all (Some kinds.TooManyRecords) (row_fault p (next_row (trimmed r))) ≡ Some kind → ¬ HasNoFault (done ++ r ∷ [])
+    by_count true n f = full (eqb-true (length done) most_records n)
+    by_count false n f = λ none. fault_ends done p r kind so_far f (none.1, none.2, none.3)
+
+    by_text : (text : Bool) → list_all is_utf8 r ≡ text →
+        cond (not text) (Some kinds.NotText) (cond (length done == most_records) (Some kinds.TooManyRecords) (row_fault p (next_row (trimmed r)))) ≡ Some kind →
+        ¬ HasNoFault (done ++ r ∷ [])
+    by_text false t f = λ none. no_text_ends done r (λ text. false≢true (sym t ∙ test-from_AllText r text)) (none.1, none.2, none.3)
+    by_text true t f = by_count (length done == most_records) refl f
+
 -- the lowest kind that applies is the first fault
 pub first_fault : (done left : List Fields) (p : Position) (kind : ReadKind) → Reached done p → lowest_kind (length done) p left ≡ Some kind → IsFirstFault done left kind
 first_fault done left p kind so_far lowest =
     let found = lowest_applies (length done) p left kind lowest in
-    record {
-      at_fault = at_fault left lowest;
-      stage = p;
-      so_far = so_far.at;
-      sound = so_far.sound;
-      applies = found.0;
-      lowest = found.1;
-    }
-  where
-    at_fault : (left : List Fields) → lowest_kind (length done) p left ≡ Some kind → IsAtFault done left
-    at_fault [] e = end_ends done p kind so_far e
-    at_fault (r ∷ rest) e = by_text (list_all is_utf8 r) refl e
-      where
-        full : length done ≡ most_records → ¬ HasNoFault (done ++ r ∷ [])
-        full n none = omega (arith, n, none.0, length-append done (r ∷ []))
+    record { stage = p; so_far = at_just (rows_of done) p so_far.at; applies = found.0; lowest = found.1 }
 
-        by_count : (all : Bool) → (length done == most_records) ≡ all → cond all (Some kinds.TooManyRecords) (row_fault p (next_row (trimmed r))) ≡ Some kind → ¬ HasNoFault (done ++ r ∷ [])
-        by_count true n f = full (eqb-true (length done) most_records n)
-        by_count false n f = λ none. fault_ends done p r kind so_far f (none.1, none.2, none.3)
+bind_ok : (r : Result Position ReadKind) (f : Position → Result Position ReadKind) (q : Position) → bind r f ≡ Ok q → (p : Position) × (r ≡ Ok p)
+bind_ok (Ok p) f q e = (p, refl)
+bind_ok (Err kind) f q e = absurd (ok≢err (sym e))
 
-        by_text : (text : Bool) → list_all is_utf8 r ≡ text →
-            cond (not text) (Some kinds.NotText) (cond (length done == most_records) (Some kinds.TooManyRecords) (row_fault p (next_row (trimmed r)))) ≡ Some kind →
-            ¬ HasNoFault (done ++ r ∷ [])
-        by_text false t f = λ none. no_text_ends done r (λ text. false≢true (sym t ∙ test-from_AllText r text)) (none.1, none.2, none.3)
-        by_text true t f = by_count (length done == most_records) refl f
+-- records without a fault were read to some position
+pub reached_without_fault : (done : List Fields) → HasNoFault done → (p : Position) × Reached done p
+reached_without_fault done way =
+    let all : Describes (done ++ way.1) way.2 = way.3 in
+    let text : AllByRecursion AllText done = AllByRecursion-left AllText done way.1 all.text in
+    let whole = runs (InVotes all.columns, way.2) (rows_of (done ++ way.1)) (rows_of-are_full (done ++ way.1)) all.rows all.is_election in
+    let split = sym (run-append start (rows_of done) (rows_of way.1)) ∙ ap (run start) (sym (rows_of-append done way.1)) ∙ whole in
+    let ran = bind_ok (run start (rows_of done)) (λ p. run p (rows_of way.1)) (InVotes all.columns, way.2) split in
+    let at = run_keeps start ran.0 [] (rows_of done) (rows_of-are_full done) (rows_of-are_tidy done text) reached_start.at reached_start.sound ran.1 in
+    (ran.0, record { text = text; at = at.0; sound = at.1 })

@@ -25,12 +25,15 @@ use Rattle.pb_rows.specs.Reading.{Fields}
 use Rattle.pb_read.proofs.ListFacts.{IsPlain, some≢none, ok≢err, AllZip-push, AllByRecursion-append, is_among-Contains}
 use Rattle.pb_read.proofs.MachineLaws.{meta_of-push, passes_project, passes_vote, passes_head, PassesProject, PassesVote}
 use Rattle.pb_read.specs.Columns.{project_columns, vote_columns}
-use Rattle.pb_read.specs.Stages.{Next, the_end, blank, head, plain, next_row, IsAt}
+use Rattle.pb_read.specs.Stages.{Next, the_end, blank, head, plain, next_row}
 use Rattle.pb_read.specs.declared.progress.Stage.TheVariants.{Start, Header, InMeta, InProjects, InVotes}
+use Rattle.pb_read.specs.Inner.Positions.{IsJustAt}
 use Rattle.pb_read.specs.Inner.Machine.{Position, advance, budget_of, limit_of, amount_of, project_of, voter_of, with_project, with_voter, with_row, row_fault}
 use Rattle.pb_read.specs.MetaRows.{meta_of, value_of}
-use Rattle.pb_read.specs.Rows.{field, head_of, is_blank, is_empty, trimmed}
-use Rattle.pb_read.specs.StandsFor.{EndsIn, GivesAllButVoters, GivesProject, GivesVoter, IsMeta, opening, terms_of}
+use Rattle.pb_read.specs.Inner.Fields.{trimmed}
+use Rattle.pb_read.specs.Rows.{field, head_of, is_blank, is_empty}
+use Rattle.pb_read.specs.Inner.Opening.{opening}
+use Rattle.pb_read.specs.StandsFor.{EndsIn, GivesAllButVoters, GivesProject, GivesVoter, IsMeta, terms_of}
 use Rattle.pb_read.specs.Voting.{ballot_of, is_among}
 use Rattle.pb_read.specs.declared.columns.ProjectColumns.{ProjectColumns}
 use Rattle.pb_read.specs.declared.columns.VoteColumns.{VoteColumns}
@@ -163,8 +166,8 @@ ends_head : (Before : List Fields → Type 0) (name : Section) (rows : List Fiel
 ends_head Before name rows row before opens = (rows, row, refl, before, opens, tt)
 
 -- one row without fault
-pub kept : (p : Position) (n : Next) (rows : List Fields) (row : Fields) → Follows n row → IsTidy row → row_fault p n ≡ None → IsAt rows p → IsElection p.1 →
-    IsAt (rows ++ row ∷ []) (advance p n) × IsElection ((advance p n).1)
+pub kept : (p : Position) (n : Next) (rows : List Fields) (row : Fields) → Follows n row → IsTidy row → row_fault p n ≡ None → IsJustAt rows p → IsElection p.1 →
+    IsJustAt (rows ++ row ∷ []) (advance p n) × IsElection ((advance p n).1)
 unfolding row_fault
 kept p the_end rows row follows tidy none at sound = absurd follows
 kept p blank rows row follows tidy none at sound = absurd follows

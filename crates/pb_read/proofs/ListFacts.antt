@@ -11,7 +11,8 @@ use Rattle.std.proofs.lemmas.Map.Views.{Contains-from_any}
 use Rattle.std.proofs.lemmas.Slice.Eq.{bytes_eq-Decides}
 use Rattle.csv.specs.Records.{field_at}
 use Rattle.pb_rows.specs.Reading.{Fields}
-use Rattle.pb_read.specs.Rows.{field, head_of, is_blank, is_empty, trimmed}
+use Rattle.pb_read.specs.Inner.Fields.{trimmed}
+use Rattle.pb_read.specs.Rows.{field, head_of, is_blank, is_empty}
 use Rattle.pb_read.specs.Voting.{is_among}
 
 -- a row that is no section's head

@@ -1,16 +1,16 @@
 -- The first kind that applies, in the order of all kinds, has the lowest number.
-use Rattle.std.proofs.Common.{◌≡◌, ◌<◌, ◌≤◌, ◌+◌, ◌-◌, ◌⊎◌, ◌==◌, ℕ, zero, suc, Bool, true, false, cond, not, List, [], ◌∷◌, Option, Some, refl, ap, sym, ◌∙◌, subst, arith, inl, inr, get_or}
-use Rattle.std.specs.Prelude.{drop}
-use Rattle.std.specs.List.{find, list_all}
+use Rattle.std.proofs.Common.{◌≡◌, ◌<◌, ◌≤◌, ◌+◌, ◌-◌, ◌⊎◌, ◌==◌, ℕ, zero, suc, Bool, true, false, cond, not, List, [], ◌∷◌, Option, Some, None, refl, ap, sym, ◌∙◌, subst, arith, inl, inr, get_or}
+use Rattle.std.specs.Prelude.{drop, take}
+use Rattle.std.specs.List.{AllByRecursion, find, list_all}
 use Rattle.std.specs.Str.{is_utf8}
-use Rattle.std.proofs.lemmas.Bool.{cases_order}
+use Rattle.std.proofs.lemmas.Bool.{cases_order, true≢false}
 use Rattle.std.proofs.lemmas.Option.{same_Some}
 use Rattle.pb_rows.specs.Reading.{Fields}
-use Rattle.pb_read.proofs.ListFacts.{some≢none}
+use Rattle.pb_read.proofs.ListFacts.{AllByRecursion-right, cond_none, some≢none}
 use Rattle.pb_read.specs.Faults.{applies, applies_after}
 use Rattle.pb_read.specs.Kinds.{number_of}
 use Rattle.pb_read.specs.Inner.Machine.{Position, all_kinds, lowest_kind, row_fault}
-use Rattle.pb_read.specs.Rows.{trimmed}
+use Rattle.pb_read.specs.Inner.Fields.{trimmed}
 use Rattle.pb_read.specs.Stages.{Next, the_end, blank, head, plain, next_row}
 use Rattle.pb_read.specs.StandsFor.{most_records}
 use Rattle.pb_read.specs.declared.fault.ReadKind.{ReadKind}
@@ -141,3 +141,34 @@ pub lowest_applies : (done : ℕ) (p : Position) (left : List Fields) (kind : Re
 lowest_applies done p left kind e =
     let found = first_is_lowest (applies_after done p left) 1 all_kinds kind all_numbered (lowest_is_first done p left ∙ e) in
     (found.0, λ other below. found.1 other (numbered_from_one other) below)
+
+-- where some kind applies, one is found
+find_none : (test : ReadKind → Bool) (ks : List ReadKind) → find test ks ≡ None → AllByRecursion (λ kind. test kind ≡ false) ks
+find_none test [] none = tt
+find_none test (k ∷ ks) none =
+    let first = cond_none (test k) k (find test ks) none in
+    (first.0, find_none test ks first.1)
+
+at_place : (P : ReadKind → Type 0) (ks : List ReadKind) (n : ℕ) (last : ReadKind) → AllByRecursion P ks → P last → P (get_or ks n last)
+at_place P [] n last all at = at
+at_place P (k ∷ ks) zero last all at = all.0
+at_place P (k ∷ ks) (suc n) last all at = at_place P ks n last all.1 at
+
+each_kind : (P : ReadKind → Type 0) (kind : ReadKind) → AllByRecursion P all_kinds → P kind
+each_kind P kind all =
+    let last : AllByRecursion P (kinds.NoMemory ∷ kinds.BadLength ∷ []) = AllByRecursion-right P (take 20 all_kinds) (kinds.NoMemory ∷ kinds.BadLength ∷ []) all in
+    subst P (stands_at kind) (at_place P all_kinds (number_of kind - 1) kinds.NoMemory all last.0)
+
+-- a kind that applies, where none of a lower number does, is the first
+pub lowest_is : (done : ℕ) (p : Position) (left : List Fields) (kind : ReadKind) → applies_after done p left kind ≡ true →
+    ((other : ReadKind) → number_of other < number_of kind → applies_after done p left other ≡ false) → lowest_kind done p left ≡ Some kind
+lowest_is done p left kind here lower = go (lowest_kind done p left) refl
+  where
+    go : (found : Option ReadKind) → lowest_kind done p left ≡ found → lowest_kind done p left ≡ Some kind
+    go None e = absurd (true≢false (sym here ∙ each_kind (λ k. applies_after done p left k ≡ false) kind (find_none (applies_after done p left) all_kinds (lowest_is_first done p left ∙ e))))
+    go (Some k) e = e ∙ ap Some (by (cases_order (number_of k) (number_of kind)))
+      where
+        by : (number_of k ≡ number_of kind) ⊎ ((number_of k < number_of kind) ⊎ (number_of kind < number_of k)) → k ≡ kind
+        by (inl same) = same_number k kind same
+        by (inr (inl below)) = absurd (true≢false (sym (lowest_applies done p left k e).0 ∙ lower k below))
+        by (inr (inr above)) = absurd (true≢false (sym here ∙ (lowest_applies done p left k e).1 kind above))

@@ -15,7 +15,7 @@ use Rattle.pb_read.specs.Stages.{Next, next_row, plain}
 use Rattle.pb_read.specs.Inner.Machine.{Position, Explains, advance, budget_of, limit_of, project_row_checks, vote_row_checks, with_project, with_row, with_voter, row_fault}
 use Rattle.pb_read.specs.Inner.Progresses.{IsKept, IsRead, IsReady, place_of}
 use Rattle.pb_read.specs.Rows.{field, is_blank, is_word}
-use Rattle.pb_read.specs.StandsFor.{opening}
+use Rattle.pb_read.specs.Inner.Opening.{opening}
 use Rattle.pb_read.specs.declared.columns.ProjectColumns.{ProjectColumns}
 use Rattle.pb_read.specs.declared.columns.VoteColumns.{VoteColumns}
 use Rattle.pb_read.specs.declared.draft.Draft.{Draft}

@@ -12,12 +12,14 @@ use Rattle.pb_rows.specs.Reading.{Fields}
 use Rattle.pb_read.proofs.ListFacts.{IsPlain, Contains-is_among, AllByRecursion-left, AllByRecursion-right}
 use Rattle.pb_read.proofs.MachineLaws.{run-append, meta_of-push, head_passes, project_passes, vote_passes, PassesProject, PassesVote}
 use Rattle.pb_read.specs.Columns.{project_columns, vote_columns}
-use Rattle.pb_read.specs.Stages.{Next, head, plain, next_row, IsAt}
+use Rattle.pb_read.specs.Stages.{Next, head, plain, next_row}
 use Rattle.pb_read.specs.declared.progress.Stage.TheVariants.{Start, Header, InMeta, InProjects, InVotes}
+use Rattle.pb_read.specs.Inner.Positions.{IsJustAt}
 use Rattle.pb_read.specs.Inner.Machine.{Position, start, advance, amount_of, project_of, voter_of, run, bind, step, step_or, row_fault}
 use Rattle.pb_read.specs.MetaRows.{meta_of}
 use Rattle.pb_read.specs.Rows.{field, head_of, is_blank, is_empty}
-use Rattle.pb_read.specs.StandsFor.{EndsIn, GivesAll, GivesAllButVoters, GivesProject, GivesVoter, IsMeta, opening, terms_of}
+use Rattle.pb_read.specs.Inner.Opening.{opening}
+use Rattle.pb_read.specs.StandsFor.{EndsIn, GivesAll, GivesAllButVoters, GivesProject, GivesVoter, IsMeta, terms_of}
 use Rattle.pb_read.specs.Voting.{is_among}
 use Rattle.pb_read.specs.declared.columns.ProjectColumns.{ProjectColumns}
 use Rattle.pb_read.specs.declared.columns.VoteColumns.{VoteColumns}
@@ -237,7 +239,7 @@ run_votes rows columns e full all is =
     ∙ run_votes_body columns e [] e.voters all.2 all.5 ends.5.1 back.1.1 is
 
 -- what stands runs, wherever a file has come to
-pub runs : (p : Position) (rows : List Fields) → AreFull rows → IsAt rows p → IsElection p.1 → Runs start rows p
+pub runs : (p : Position) (rows : List Fields) → AreFull rows → IsJustAt rows p → IsElection p.1 → Runs start rows p
 runs (Start, e) rows full at sound = ap (run start) at.0 ∙ ap (λ x. Ok (Start, x)) (sym at.1)
 runs (Header section.Meta, e) rows full at sound =
     let ends = at.0 in

@@ -14,7 +14,7 @@ use Rattle.pb_read.specs.Stages.{next_row, the_end}
 use Rattle.pb_read.specs.FirstFault.{IsFaultAt, IsFirstFault, IsFromOutside}
 use Rattle.pb_read.specs.Inner.Machine.{Position, start, Explains, advance, lowest_kind, row_fault}
 use Rattle.pb_read.specs.Inner.Progresses.{EndsWith, StopsReading}
-use Rattle.pb_read.specs.Rows.{trimmed}
+use Rattle.pb_read.specs.Inner.Fields.{trimmed}
 use Rattle.pb_read.specs.StandsFor.{StandsFor, most_records}
 use Rattle.pb_read.specs.declared.fault.ReadFault.{ReadFault}
 use Rattle.pb_read.specs.declared.fault.ReadKind.{ReadKind}

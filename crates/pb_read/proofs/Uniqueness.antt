@@ -1,21 +1,27 @@
 -- Records stand for one election at most, or have one first fault.
-use Rattle.std.proofs.Common.{◌≡◌, ◌<◌, ◌≤◌, ◌+◌, ◌-◌, ◌⊎◌, ℕ, List, [], ◌∷◌, ◌++◌, length, take, refl, ap, sym, ◌∙◌, subst, arith, inl, inr, append_assoc, length-append}
-use Rattle.std.proofs.lemmas.Bool.{cases_order, true≢false}
+use Rattle.std.proofs.Common.{◌≡◌, ◌<◌, ◌≤◌, ◌+◌, ◌-◌, ◌⊎◌, ◌==◌, ℕ, cond, not, List, [], ◌∷◌, ◌++◌, length, take, Some, refl, ap, sym, ◌∙◌, subst, arith, inl, inr, append_assoc, length-append}
+use Rattle.std.specs.List.{list_all}
+use Rattle.std.specs.Str.{is_utf8}
+use Rattle.std.proofs.lemmas.Bool.{cases_order}
+use Rattle.std.proofs.lemmas.Option.{same_Some}
 use Rattle.std.proofs.Math.Seq.{take-append-add, take-append_seam}
 use Rattle.std.proofs.lemmas.List.{append-nil}
 use Rattle.pb_core.specs.Election.{ElectionView}
 use Rattle.pb_rows.specs.Reading.{Fields}
-use Rattle.pb_read.proofs.LowestKind.{same_number}
-use Rattle.pb_read.proofs.GoesOn.{rows_of-are_full}
+use Rattle.pb_read.proofs.Alike.{Alike, alike, at_just}
+use Rattle.pb_read.proofs.LowestKind.{lowest_is}
+use Rattle.pb_read.proofs.GoesOn.{IsAtFault, is_at_fault, reached_without_fault, rows_of-are_full, run_from_start}
 use Rattle.pb_read.proofs.ListFacts.{same_Ok}
 use Rattle.pb_read.proofs.Runs.{runs}
-use Rattle.pb_read.specs.Faults.{applies_after}
-use Rattle.pb_read.specs.Kinds.{number_of}
-use Rattle.pb_read.specs.FirstFault.{HasNoFault, IsAtFault, IsFaultAt, IsFirstFault, IsFromOutside}
-use Rattle.pb_read.specs.Inner.Machine.{start, run}
+use Rattle.pb_read.specs.FirstFault.{HasNoFault, IsFaultAt, IsFirstFault, IsFromOutside}
+use Rattle.pb_read.specs.Inner.Machine.{Position, start, run, lowest_kind}
+use Rattle.pb_read.specs.Inner.Tracking.{Reached}
+use Rattle.pb_read.specs.Inner.Fields.{trimmed}
 use Rattle.pb_read.specs.Rows.{rows_of}
-use Rattle.pb_read.specs.StandsFor.{Describes, StandsFor}
+use Rattle.pb_read.specs.Stages.{next_row, the_end}
+use Rattle.pb_read.specs.StandsFor.{Describes, StandsFor, most_records}
 use Rattle.pb_read.specs.declared.fault.ReadKind.{ReadKind}
+use Rattle.pb_read.specs.declared.fault.ReadKind.TheVariants as kinds
 use Rattle.pb_read.specs.declared.progress.Stage.TheVariants.{InVotes}
 
 pub one_election : (records : List Fields) (e f : ElectionView) → StandsFor records e → StandsFor records f → e ≡ f
@@ -24,18 +30,45 @@ one_election records e f se sf =
     let there = runs (InVotes sf.describes.columns, f) (rows_of records) (rows_of-are_full records) sf.describes.rows sf.describes.is_election in
     ap (λ p. p.1) (same_Ok (sym here ∙ there))
 
--- the first fault of records, with where they are cut
+-- the first fault of records, with where they are cut, and the position to which those before it were read
 record IsFirst (records : List Fields) (kind : ReadKind) (at : ℕ) : Type 0 where
   done : List Fields
   left : List Fields
   cut : records ≡ done ++ left
   at_is : at ≡ length done + 1
   no_fault_before : HasNoFault done
-  first : IsFirstFault done left kind
+  place : Position
+  reached : Reached done place
+  lowest : lowest_kind (length done) place left ≡ Some kind
+
+at_fault_of : (records : List Fields) (kind : ReadKind) (at : ℕ) (fault : IsFirst records kind at) → IsAtFault fault.done fault.left
+at_fault_of records kind at fault = is_at_fault fault.done fault.left fault.place kind fault.reached fault.lowest
+
+lowest_alike : (done : ℕ) (p q : Position) (left : List Fields) → Alike p q → lowest_kind done p left ≡ lowest_kind done q left
+lowest_alike done p q [] same = same the_end
+lowest_alike done p q (next ∷ rest) same =
+    ap (λ found. cond (not (list_all is_utf8 next)) (Some kinds.NotText) (cond (done == most_records) (Some kinds.TooManyRecords) found)) (same (next_row (trimmed next)))
+
+-- a first fault, from where the records before it have come
+first_from : (records : List Fields) (kind : ReadKind) (at : ℕ) (fault : IsFaultAt records kind at) → IsFirstFault fault.0 fault.1 kind → IsFirst records kind at
+first_from records kind at fault first =
+    let read = reached_without_fault fault.0 fault.4 in
+    let same = alike (rows_of fault.0) first.stage read.0 first.so_far (at_just (rows_of fault.0) read.0 read.1.at) in
+    let lowest = lowest_is (length fault.0) first.stage fault.1 kind first.applies first.lowest in
+    record {
+      done = fault.0;
+      left = fault.1;
+      cut = fault.2;
+      at_is = fault.3;
+      no_fault_before = fault.4;
+      place = read.0;
+      reached = read.1;
+      lowest = sym (lowest_alike (length fault.0) first.stage read.0 fault.1 same) ∙ lowest;
+    }
 
 -- what stands has no fault
 no_first_fault : (records : List Fields) (e : ElectionView) (kind : ReadKind) (at : ℕ) → StandsFor records e → ¬ IsFirst records kind at
-no_first_fault records e kind at stands fault = go fault.done fault.left fault.cut fault.first.at_fault
+no_first_fault records e kind at stands fault = go fault.done fault.left fault.cut (at_fault_of records kind at fault)
   where
     go : (done left : List Fields) → records ≡ done ++ left → IsAtFault done left → ⊥
     go done [] cut none = none e (subst (λ xs. StandsFor xs e) (cut ∙ append-nil done) stands)
@@ -74,7 +107,7 @@ regrouped done other next x more tail e same =
 
 -- a fault does not come after another
 not_after : (records : List Fields) (k l : ReadKind) (a b : ℕ) (f : IsFirst records k a) (g : IsFirst records l b) → length f.done < length g.done → ⊥
-not_after records k l a b f g shorter = go f.left f.cut f.first.at_fault
+not_after records k l a b f g shorter = go f.left f.cut (at_fault_of records k a f)
   where
     within : (done left : List Fields) (other rest : List Fields) → done ++ left ≡ other ++ rest → length done < length other → (next : Fields) × (more : List Fields) × (other ≡ done ++ next ∷ more)
     within [] left [] rest e l = absurd (omega (arith, l))
@@ -114,31 +147,23 @@ one_first_fault records k l a b f g = go (cases_order (length f.done) (length g.
     go (inl same) =
         let done : f.done ≡ g.done = same_front f.done g.done f.left g.left (sym f.cut ∙ g.cut) same in
         let left : f.left ≡ g.left = same_rest f.done f.left g.left (sym f.cut ∙ g.cut ∙ ap (λ xs. xs ++ g.left) (sym done)) in
-        let here = runs f.first.stage (rows_of f.done) (rows_of-are_full f.done) f.first.so_far f.first.sound in
-        let there = runs g.first.stage (rows_of g.done) (rows_of-are_full g.done) g.first.so_far g.first.sound in
-        let stage : f.first.stage ≡ g.first.stage = same_Ok (sym here ∙ ap (λ xs. run start (rows_of xs)) done ∙ there) in (
-          by_number (λ kind i. applies_after (length (done i)) (stage i) (left i) kind) (cases_order (number_of k) (number_of l)),
+        let place : f.place ≡ g.place = same_Ok (sym (run_from_start f.done f.place f.reached) ∙ ap (λ xs. run start (rows_of xs)) done ∙ run_from_start g.done g.place g.reached) in (
+          same_Some k l (sym f.lowest ∙ (λ i. lowest_kind (length (done i)) (place i) (left i)) ∙ g.lowest),
           f.at_is ∙ ap (λ n. n + 1) same ∙ sym g.at_is,
         )
-      where
-        by_number : ((kind : ReadKind) → applies_after (length f.done) f.first.stage f.left kind ≡ applies_after (length g.done) g.first.stage g.left kind) →
-            (number_of k ≡ number_of l) ⊎ ((number_of k < number_of l) ⊎ (number_of l < number_of k)) → k ≡ l
-        by_number same (inl numbers) = same_number k l numbers
-        by_number same (inr (inl lower)) = absurd (true≢false (sym f.first.applies ∙ same k ∙ g.first.lowest k lower))
-        by_number same (inr (inr higher)) = absurd (true≢false (sym g.first.applies ∙ sym (same l) ∙ f.first.lowest l higher))
 
 pub refused_from_outside : (records : List Fields) (e : ElectionView) (kind : ReadKind) (at : ℕ) → StandsFor records e → IsFaultAt records kind at → IsFromOutside kind
 refused_from_outside records e kind at stands fault = go fault.5
   where
     go : IsFirstFault fault.0 fault.1 kind ⊎ IsFromOutside kind → IsFromOutside kind
-    go (inl first) = absurd (no_first_fault records e kind at stands (record { done = fault.0; left = fault.1; cut = fault.2; at_is = fault.3; no_fault_before = fault.4; first = first }))
+    go (inl first) = absurd (no_first_fault records e kind at stands (first_from records kind at fault first))
     go (inr outside) = outside
 
 first_unless : (records : List Fields) (kind : ReadKind) (at : ℕ) → IsFaultAt records kind at → ¬ IsFromOutside kind → IsFirst records kind at
 first_unless records kind at fault inside = go fault.5
   where
     go : IsFirstFault fault.0 fault.1 kind ⊎ IsFromOutside kind → IsFirst records kind at
-    go (inl first) = record { done = fault.0; left = fault.1; cut = fault.2; at_is = fault.3; no_fault_before = fault.4; first = first }
+    go (inl first) = first_from records kind at fault first
     go (inr outside) = absurd (inside outside)
 
 -- a fault that is not from outside is one
@@ -154,7 +179,7 @@ none_before records kind at fault =
 
 -- with it they have one
 pub one_with_it : (records : List Fields) (kind : ReadKind) (at : ℕ) → IsFaultAt records kind at → ¬ IsFromOutside kind → at ≤ length records → ¬ HasNoFault (take at records)
-one_with_it records kind at fault inside within = go found.left found.cut found.first.at_fault
+one_with_it records kind at fault inside within = go found.left found.cut (at_fault_of records kind at found)
   where
     found : IsFirst records kind at
     found = first_unless records kind at fault inside

@@ -1,8 +1,8 @@
 -- The columns that a header row names.
-use Rattle.std.specs.Prelude.{ℕ, Bool, ◌&&◌, List, [], Option, codes, length, nat_lt, option_map, position}
-use Rattle.std.specs.Option.{option_map_or, option_zip}
+use Rattle.std.specs.Prelude.{ℕ, Bool, ◌&&◌, List, Option, codes, length, nat_lt, option_map, position}
+use Rattle.std.specs.Option.{option_zip}
 use Rattle.pb_rows.specs.Reading.{Fields}
-use Rattle.pb_read.specs.Rows.{field, is_word}
+use Rattle.pb_read.specs.Rows.{is_word}
 use Rattle.pb_read.specs.declared.columns.ProjectColumns.{ProjectColumns}
 use Rattle.pb_read.specs.declared.columns.VoteColumns.{VoteColumns}
 
@@ -25,7 +25,3 @@ vote_columns header =
 -- a row has a field at each of two places
 abbrev pub has_fields : ℕ → ℕ → Fields → Bool
 has_fields place other row = nat_lt place (length row) && nat_lt other (length row)
-
--- a project's name: empty where there is no such column, or the row ends before it
-abbrev pub name_field : ProjectColumns → Fields → List ℕ
-name_field columns row = option_map_or (field row) columns.name []

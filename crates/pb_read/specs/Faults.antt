@@ -1,9 +1,9 @@
 -- Which faults apply where a file has come so far.
-use Rattle.std.specs.Prelude.{ℕ, Bool, true, false, not, ◌||◌, ◌==◌, nat_le, List, [], ◌∷◌, length, Result, Ok, Err, is_none, unwrap_or}
+use Rattle.std.specs.Prelude.{ℕ, Bool, true, false, not, ◌||◌, ◌==◌, nat_le, List, [], ◌∷◌, length, map, Result, Ok, Err, is_none, unwrap_or}
 use Rattle.std.specs.Option.{option_map_or}
 use Rattle.std.specs.List.{list_all}
 use Rattle.std.specs.Result.{is_err, result_unwrap_or}
-use Rattle.std.specs.Str.{is_utf8}
+use Rattle.std.specs.Str.{is_utf8, trim}
 use Rattle.pb_core.specs.Election.{ElectionView, most_projects, most_voters, project_ids, voter_ids}
 use Rattle.pb_core.specs.Money.{money_of}
 use Rattle.pb_core.specs.declared.money_fault.MoneyFault.{MoneyFault}
@@ -11,7 +11,7 @@ use Rattle.pb_core.specs.declared.money_fault.MoneyFault.TheVariants as money
 use Rattle.pb_rows.specs.Reading.{Fields}
 use Rattle.pb_read.specs.Columns.{project_columns, vote_columns, has_fields}
 use Rattle.pb_read.specs.Stages.{Next, the_end, head, plain, next_row}
-use Rattle.pb_read.specs.Rows.{field, is_empty, trimmed}
+use Rattle.pb_read.specs.Rows.{field, is_empty}
 use Rattle.pb_read.specs.StandsFor.{most_records}
 use Rattle.pb_read.specs.Voting.{is_among, names_only}
 use Rattle.pb_read.specs.declared.fault.ReadKind.{ReadKind}
@@ -64,5 +64,5 @@ applies kind p next = false
 abbrev pub applies_after : ℕ → Stage × ElectionView → List Fields → ReadKind → Bool
 applies_after done p (next ∷ rest) NotText = not (list_all is_utf8 next)
 applies_after done p (next ∷ rest) TooManyRecords = done == most_records
-applies_after done p (next ∷ rest) kind = applies kind p (next_row (trimmed next))
+applies_after done p (next ∷ rest) kind = applies kind p (next_row (map trim next))
 applies_after done p [] kind = applies kind p the_end

@@ -1,12 +1,12 @@
 -- The first fault of a list of records.
-use Rattle.std.specs.Prelude.{◌≡◌, ◌≤◌, ◌<◌, ◌+◌, ◌⊎◌, ℕ, true, false, List, [], ◌∷◌, ◌++◌, length}
-use Rattle.pb_core.specs.Election.{ElectionView, IsElection}
+use Rattle.std.specs.Prelude.{◌≡◌, ◌≤◌, ◌<◌, ◌+◌, ◌⊎◌, ℕ, true, false, List, ◌++◌, length}
+use Rattle.pb_core.specs.Election.{ElectionView}
 use Rattle.pb_rows.specs.Reading.{Fields}
 use Rattle.pb_read.specs.Faults.{applies_after}
 use Rattle.pb_read.specs.Kinds.{number_of}
 use Rattle.pb_read.specs.Stages.{IsAt}
 use Rattle.pb_read.specs.Rows.{rows_of}
-use Rattle.pb_read.specs.StandsFor.{Describes, StandsFor, most_records}
+use Rattle.pb_read.specs.StandsFor.{Describes, most_records}
 use Rattle.pb_read.specs.declared.fault.ReadKind.{ReadKind}
 use Rattle.pb_read.specs.declared.progress.Stage.{Stage}
 use Rattle.pb_read.specs.declared.fault.ReadKind.TheVariants.{ReadFailed, NoMemory}
@@ -16,19 +16,11 @@ abbrev pub HasNoFault : List Fields → Type 0
 HasNoFault records =
     (length records ≤ most_records) × (end : List Fields) × (e : ElectionView) × Describes (records ++ end) e
 
--- the first of the records that are left is at fault: those before it have no fault, and with it they have;
--- where none is left, those that were read stand for no election
-abbrev pub IsAtFault : List Fields → List Fields → Type 0
-IsAtFault done [] = (e : ElectionView) → ¬ StandsFor done e
-IsAtFault done (next ∷ rest) = ¬ HasNoFault (done ++ next ∷ [])
-
 -- the first of the records that are left, or the end of the file, is at fault by this kind: no kind of a lower number
 -- applies to it
 pub record IsFirstFault (done left : List Fields) (kind : ReadKind) : Type 0 where
-  pub at_fault : IsAtFault done left
   pub stage : Stage × ElectionView
   pub so_far : IsAt (rows_of done) stage
-  pub sound : IsElection stage.1
   pub applies : applies_after (length done) stage left kind ≡ true
   pub lowest : (other : ReadKind) → number_of other < number_of kind →
       applies_after (length done) stage left other ≡ false

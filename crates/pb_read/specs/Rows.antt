@@ -7,10 +7,6 @@ use Rattle.pb_rows.specs.Reading.{Fields}
 use Rattle.pb_read.specs.declared.section.Section.{Section}
 use Rattle.pb_read.specs.declared.section.Section.TheVariants.{Meta, Projects, Votes}
 
--- a record's fields without the white space at their ends
-abbrev pub trimmed : Fields → Fields
-trimmed record' = map trim record'
-
 abbrev pub is_empty : List ℕ → Bool
 is_empty [] = true
 is_empty (b ∷ text) = false
@@ -19,9 +15,9 @@ is_empty (b ∷ text) = false
 abbrev pub is_blank : Fields → Bool
 is_blank row = list_all is_empty row
 
--- the rows that count
+-- the rows that count: fields without the white space at their ends, and no blank row
 abbrev pub rows_of : List Fields → List Fields
-rows_of records = filter (λ row. not (is_blank row)) (map trimmed records)
+rows_of records = filter (λ row. not (is_blank row)) (map (map trim) records)
 
 -- the field at a place, from 0; the empty text where the row ends before it
 abbrev pub field : Fields → ℕ → List ℕ

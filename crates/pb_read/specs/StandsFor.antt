@@ -1,11 +1,12 @@
 -- The election that a list of records stands for.
-use Rattle.std.specs.Prelude.{◌≡◌, ◌≤◌, ℕ, true, List, [], ◌∷◌, ◌++◌, length, Option, None, Some, Ok}
+use Rattle.std.specs.Prelude.{◌≡◌, ◌≤◌, ℕ, true, List, [], ◌∷◌, ◌++◌, length, None, Some, Ok}
 use Rattle.std.specs.List.{AllByRecursion, AllZip}
+use Rattle.std.specs.Option.{option_map_or}
 use Rattle.csv.specs.Records.{AllText}
 use Rattle.pb_core.specs.Election.{ElectionView, IsElection, ProjectView, VoterView, project_ids}
 use Rattle.pb_core.specs.Money.{money_of}
 use Rattle.pb_rows.specs.Reading.{Fields}
-use Rattle.pb_read.specs.Columns.{project_columns, vote_columns, has_fields, name_field}
+use Rattle.pb_read.specs.Columns.{project_columns, vote_columns, has_fields}
 use Rattle.pb_read.specs.MetaRows.{meta_of}
 use Rattle.pb_read.specs.Rows.{field, head_of, rows_of}
 use Rattle.pb_read.specs.Voting.{ballot_of, names_only}
@@ -15,15 +16,11 @@ use Rattle.pb_read.specs.declared.meta.Meta.{Meta}
 use Rattle.pb_read.specs.declared.section.Section.{Section}
 use Rattle.pb_read.specs.declared.section.Section.TheVariants as section
 
--- an election of this budget and this limit on a ballot's length, with neither projects nor voters yet
-abbrev pub opening : ℕ → Option ℕ → ElectionView
-opening budget max_length = record { budget = budget; max_length = max_length; projects = []; voters = [] }
-
--- a row of PROJECTS gives a project
+-- a row of PROJECTS gives a project; its name is empty where there is no such column, or the row ends before it
 pub record GivesProject (columns : ProjectColumns) (row : Fields) (project : ProjectView) : Type 0 where
   pub whole : has_fields columns.id columns.cost row ≡ true
   pub id : project.id ≡ field row columns.id
-  pub name : project.name ≡ name_field columns row
+  pub name : project.name ≡ option_map_or (field row) columns.name []
   pub cost : money_of (field row columns.cost) ≡ Ok project.cost
 
 -- a row of VOTES gives a voter, where the projects have these ids

@@ -5,7 +5,7 @@ ghost use Rattle.pb_rows.specs.Reading.{records_of};
 ghost use Rattle.pb_read.specs.Inner.Checking.{GoesOn, IsGoing, IsRefusal, Judges, JudgesEnd, JudgesRow};
 ghost use Rattle.pb_read.specs.Listed.{AreListed, is_of_row, may_be_of_row};
 ghost use Rattle.pb_read.specs.Inner.Progresses.{IsReady, place_of};
-ghost use Rattle.pb_read.specs.StandsFor.{opening};
+ghost use Rattle.pb_read.specs.Inner.Opening.{opening};
 ghost use Rattle.pb_read.specs.declared.progress.Stage.TheVariants.{Start};
 
 use crate::fault::{ReadFault, ReadKind};

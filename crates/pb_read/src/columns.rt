@@ -26,7 +26,8 @@ impl ProjectColumns {
     ghost use Rattle.pb_core.specs.Election.{ElectionView};
     ghost use Rattle.pb_read.specs.Inner.Drafts.{HasProject};
     ghost use Rattle.pb_read.specs.Inner.Machine.{Explains, project_row_checks};
-    ghost use Rattle.pb_read.specs.Columns.{name_field, project_columns};
+    ghost use Rattle.pb_read.specs.Inner.Fields.{name_field};
+    ghost use Rattle.pb_read.specs.Columns.{project_columns};
 
     /// The columns that a header row of PROJECTS names: `project_id` and `cost` are needed.
     pub(crate) fn of(header: &Row) -> Option<ProjectColumns>

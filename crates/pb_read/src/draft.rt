@@ -7,7 +7,7 @@ ghost use Rattle.pb_read.specs.Inner.Drafts.{HasVoter, IsAsBefore, IsTied};
 ghost use Rattle.pb_read.specs.Inner.Ids.{Finds};
 ghost use Rattle.pb_read.specs.Inner.Machine.{Explains, project_row_checks, vote_row_checks, with_project, with_voter};
 ghost use Rattle.pb_read.specs.Rows.{field};
-ghost use Rattle.pb_read.specs.StandsFor.{opening};
+ghost use Rattle.pb_read.specs.Inner.Opening.{opening};
 ghost use Rattle.pb_read.specs.Voting.{ballot_of};
 
 use crate::columns::{ProjectColumns, VoteColumns};

@@ -5,7 +5,7 @@ ghost use Rattle.pb_read.specs.Listed.{is_of_row};
 ghost use Rattle.pb_read.specs.Stages.{head, next_row, plain, the_end};
 ghost use Rattle.pb_read.specs.Inner.Machine.{budget_of, head_checks, limit_of};
 ghost use Rattle.pb_read.specs.Inner.Progresses.{Advances, EndsWith, IsRead, IsReady, Refuses, Stays, place_of};
-ghost use Rattle.pb_read.specs.StandsFor.{opening};
+ghost use Rattle.pb_read.specs.Inner.Opening.{opening};
 ghost use Rattle.pb_read.specs.declared.progress.Stage.TheVariants.{Start, Header};
 ghost use Rattle.pb_read.specs.declared.section.Section.TheVariants.{Projects};
 

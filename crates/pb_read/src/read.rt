@@ -7,7 +7,8 @@ ghost use Rattle.pb_rows.specs.Inner.Reading.{HasReadAtMost};
 ghost use Rattle.pb_read.specs.Stages.{next_row, the_end};
 ghost use Rattle.pb_read.specs.FirstFault.{IsFaultAt, IsFromOutside};
 ghost use Rattle.pb_read.specs.Inner.Progresses.{Advances, BlamesReader, EndsWith, IsReady, Refuses, StopsReading, place_of};
-ghost use Rattle.pb_read.specs.StandsFor.{StandsFor, opening};
+ghost use Rattle.pb_read.specs.Inner.Opening.{opening};
+ghost use Rattle.pb_read.specs.StandsFor.{StandsFor};
 ghost use Rattle.pb_read.specs.Inner.Tracking.{HasEnded, IsNextRow};
 ghost use Rattle.pb_read.specs.declared.progress.Stage.TheVariants.{Start};
 

@@ -5,7 +5,8 @@ ghost use Rattle.std.specs.Str.{trim};
 ghost use Rattle.csv.specs.Records.{fields_of};
 ghost use Rattle.pb_rows.specs.Reading.{NextIsNoText};
 ghost use Rattle.pb_read.specs.Columns.{column, has_fields};
-ghost use Rattle.pb_read.specs.Rows.{field, is_blank, is_word, trimmed};
+ghost use Rattle.pb_read.specs.Inner.Fields.{trimmed};
+ghost use Rattle.pb_read.specs.Rows.{field, is_blank, is_word};
 ghost use Rattle.pb_read.specs.Inner.Checking.{HasFound};
 ghost use Rattle.pb_read.specs.Inner.Tracking.{IsNextRow};
 
@@ -36,7 +37,7 @@ pub(crate) struct Row {
 impl Model for Row {
     ghost use Rattle.csv.specs.Records.{fields_of};
     ghost use Rattle.pb_rows.specs.Reading.{Fields};
-    ghost use Rattle.pb_read.specs.Rows.{trimmed};
+    ghost use Rattle.pb_read.specs.Inner.Fields.{trimmed};
 
     ghost Value = { Fields };
 

@@ -10,14 +10,16 @@ use Rattle.pb_core.specs.Election.{ElectionView, ProjectView, VoterView, most_pr
 use Rattle.pb_core.specs.Money.{money_of}
 use Rattle.pb_core.specs.declared.money_fault.MoneyFault.{MoneyFault}
 use Rattle.pb_rows.specs.Reading.{Fields}
-use Rattle.pb_read.specs.Columns.{project_columns, vote_columns, has_fields, name_field}
+use Rattle.pb_read.specs.Inner.Fields.{name_field, trimmed}
+use Rattle.pb_read.specs.Columns.{project_columns, vote_columns, has_fields}
 use Rattle.pb_read.specs.Faults.{applies}
 use Rattle.pb_read.specs.Inner.MoneyKinds.{kind_of_money}
 use Rattle.pb_read.specs.Lengths.{max_length_of}
 use Rattle.pb_read.specs.MetaRows.{meta_of}
 use Rattle.pb_read.specs.Stages.{Next, head, plain, the_end, next_row}
-use Rattle.pb_read.specs.Rows.{field, is_empty, is_word, trimmed}
-use Rattle.pb_read.specs.StandsFor.{most_records, opening}
+use Rattle.pb_read.specs.Rows.{field, is_empty, is_word}
+use Rattle.pb_read.specs.Inner.Opening.{opening}
+use Rattle.pb_read.specs.StandsFor.{most_records}
 use Rattle.pb_read.specs.Voting.{ballot_of, is_among, names_only}
 use Rattle.pb_read.specs.declared.columns.ProjectColumns.{ProjectColumns}
 use Rattle.pb_read.specs.declared.columns.VoteColumns.{VoteColumns}

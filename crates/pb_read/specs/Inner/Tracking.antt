@@ -5,14 +5,15 @@ use Rattle.csv.specs.Records.{AllText}
 use Rattle.pb_rows.specs.Reading.{Fields, IsNext}
 use Rattle.pb_core.specs.Election.{IsElection}
 use Rattle.pb_read.specs.Inner.Machine.{Position}
-use Rattle.pb_read.specs.Stages.{IsAt}
-use Rattle.pb_read.specs.Rows.{rows_of, trimmed}
+use Rattle.pb_read.specs.Inner.Positions.{IsJustAt}
+use Rattle.pb_read.specs.Inner.Fields.{trimmed}
+use Rattle.pb_read.specs.Rows.{rows_of}
 use Rattle.pb_read.specs.StandsFor.{most_records}
 
 -- the records are text, and were read to this position without fault
 pub record Reached (done : List Fields) (p : Position) : Type 0 where
   pub text : AllByRecursion AllText done
-  pub at : IsAt (rows_of done) p
+  pub at : IsJustAt (rows_of done) p
   pub sound : IsElection p.1
 
 -- the next record, as a row; or none is left

@@ -1,7 +1,7 @@
 use Rattle.std.proofs.Common.{◌∷◌, [], ℕ, List, codes, refl}
 use Rattle.std.specs.Str.{IsUtf8}
 use Rattle.csv.specs.Records.{AllText}
-use Rattle.pb_export.specs.FileRows.{limit_rows}
+use Rattle.pb_export.specs.Inner.Parts.{limit_rows}
 use Rattle.pb_export.proofs.Grown.{grown, none_grown, row_grown}
 use Rattle.pb_export.proofs.Tidy.{plain_text}
 use Rattle.pb_export.proofs.write_pb.put_meta.Goals as goal

@@ -1,11 +1,10 @@
-use Rattle.std.proofs.Common.{Bool, true, false, codes, refl, subst, arith}
+use Rattle.std.proofs.Common.{Bool, true, false, codes, cond, refl, subst, arith}
 use Rattle.std.specs.Str.{IsUtf8}
 use Rattle.csv.specs.Records.{AllText}
-use Rattle.pb_export.specs.FileRows.{selected_text}
 use Rattle.pb_export.proofs.Tidy.{decimal_plain, money_plain, plain_text}
 use Rattle.pb_export.proofs.write_pb.put_project.Goals as goal
 
-selected_is_text : (selected : Bool) → IsUtf8 (selected_text selected)
+selected_is_text : (selected : Bool) → IsUtf8 (cond selected (codes "1") (codes "0"))
 selected_is_text true = plain_text (codes "1") refl
 selected_is_text false = plain_text (codes "0") refl
 

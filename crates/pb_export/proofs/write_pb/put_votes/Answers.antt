@@ -4,7 +4,8 @@ use Rattle.csv.specs.Records.{AllText}
 use Rattle.pb_core.specs.Election.{ProjectView, VoterView, project_ids}
 use Rattle.pb_rows.specs.Reading.{Fields}
 use Rattle.pb_rows.specs.Writing.{text_of_row}
-use Rattle.pb_export.specs.FileRows.{vote_row, vote_text, votes_rows}
+use Rattle.pb_export.specs.FileRows.{votes_rows}
+use Rattle.pb_export.specs.Inner.Parts.{vote_row, vote_text}
 use Rattle.pb_export.specs.Inner.Growing.{Grows}
 use Rattle.pb_export.proofs.Grown.{none_grown, row_grown}
 use Rattle.pb_export.proofs.Tidy.{plain_text}
