@@ -1,10 +1,10 @@
 -- What a shared desk comes to once its clerks are back.
-use Rattle.std.specs.Prelude.{◌≡◌, true, false, List, length, Result, Ok, Err}
+use Rattle.std.specs.Prelude.{◌≡◌, true, false, List, length, map, Result, Ok, Err}
 use Rattle.pb_core.specs.Request.{EntryView}
 use Rattle.pb_desk.specs.Desk.{DeskView, closed_election, standing_of}
 use Rattle.pb_rounds.specs.Counted.{IsCountFault, IsCountOf}
 use Rattle.pb_rounds.specs.declared.options.CountOptions.{CountOptions}
-use Rattle.pb_shared.specs.Clerk.{ClerkView, IsHeldByAnother, IsMergeOf, SharedView, desk_with}
+use Rattle.pb_shared.specs.Clerk.{ClerkView, IsAnothers, IsMergeOf, SharedView, desk_with}
 use Rattle.pb_closing.specs.declared.close_fault.CloseFault.{CloseFault}
 use Rattle.pb_closing.specs.declared.close_fault.CloseFault.TheVariants.{Unfinished, NoMemory, NotCounted}
 use Rattle.pb_closing.specs.declared.closing.Closing.{Closing}
@@ -32,6 +32,6 @@ ComesTo d options (Err (Unfinished word)) = ⊥
 -- the start is a merge of the clerks' own calls; and the answer is what the desk with this journal comes to.
 -- Or a clerk who is not among these holds the lock.
 abbrev pub IsClosedAs : SharedView → List ClerkView → CountOptions → Result Closing CloseFault → Type 0
-IsClosedAs shared clerks options (Err (Unfinished word)) = IsHeldByAnother shared clerks word
+IsClosedAs shared clerks options (Err (Unfinished word)) = IsAnothers shared (map (λ c. c.sheet) clerks) word
 IsClosedAs shared clerks options answer = (journal : List EntryView) × IsMergeOf shared clerks journal
     × ComesTo (desk_with shared.start journal) options answer

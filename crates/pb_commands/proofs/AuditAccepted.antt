@@ -55,10 +55,10 @@ audited_by_reader (Some bytes) (Some journal) options fault r is accepts = λ te
 pub journal_from_outside : (o : OpeningView) (journal : List EntryView) → IsSound o program_room journal
     → (fault : AuditFault) → IsFaultOfJournal o.election program_room (journal_rows o.version journal) fault → IsOutsideFault (merged (Audit fault))
 journal_from_outside o journal sound (audit.ReadFailed row) fails = refl
-journal_from_outside o journal sound (audit.BadRow row) fails = absurd (no_fault o program_room journal (audit.BadRow row) (omega arith) sound fails tt)
-journal_from_outside o journal sound (audit.WrongNumber row) fails = absurd (no_fault o program_room journal (audit.WrongNumber row) (omega arith) sound fails tt)
-journal_from_outside o journal sound (audit.JournalFull row) fails = absurd (no_fault o program_room journal (audit.JournalFull row) (omega arith) sound fails tt)
-journal_from_outside o journal sound (audit.WrongAnswer row) fails = absurd (no_fault o program_room journal (audit.WrongAnswer row) (omega arith) sound fails tt)
+journal_from_outside o journal sound (audit.BadRow row) fails = absurd (no_fault o program_room journal (audit.BadRow row) (omega arith) sound fails (λ is. cc, λ i is. cc))
+journal_from_outside o journal sound (audit.WrongNumber row) fails = absurd (no_fault o program_room journal (audit.WrongNumber row) (omega arith) sound fails (λ is. cc, λ i is. cc))
+journal_from_outside o journal sound (audit.JournalFull row) fails = absurd (no_fault o program_room journal (audit.JournalFull row) (omega arith) sound fails (λ is. cc, λ i is. cc))
+journal_from_outside o journal sound (audit.WrongAnswer row) fails = absurd (no_fault o program_room journal (audit.WrongAnswer row) (omega arith) sound fails (λ is. cc, λ i is. cc))
 journal_from_outside o journal sound audit.NoMemory fails = refl
 
 pub audited_by_journal : (files journals : Option (List ℕ)) (options : CountOptions) (e : ElectionView) (fault : AuditFault) (r : Result (Unit {0}) AppFault)

@@ -24,8 +24,7 @@ use Rattle.pb_shared.specs.Clerk.{entries_by}
 use Rattle.pb_script.specs.Script.{IsScript, IsScriptRow, ScriptRowView}
 use Rattle.pb_script.specs.Inner.Script.{AreAsked}
 use Rattle.pb_shared.specs.Clerk.{AreClerks}
-use Rattle.pb_script.specs.Serving.{ServesScript, ShutAtEnd, requests_of}
-use Rattle.pb_script.specs.Inner.Serving.{ServesAll}
+use Rattle.pb_script.specs.Inner.Serving.{ServesAll, ServesScript, ShutAtEnd, requests_of}
 
 cond_answer : (test : Bool) (a b : Answer) → IsAnswer a → IsAnswer b → IsAnswer (cond test a b)
 cond_answer true a b is other = is

@@ -8,8 +8,8 @@ use Rattle.std.proofs.lemmas.List.Elements.{All-cons, All-nil, filter-append}
 use Rattle.std.proofs.lemmas.List.Sums.{count_by-le-length, length-filter}
 use Rattle.pb_core.specs.Request.{RequestView}
 use Rattle.pb_rows.specs.Reading.{Fields, IsNext}
-use Rattle.pb_script.specs.Script.{HasScriptForm, IsScriptRow, ScriptRowView, asked_by, most_rows}
-use Rattle.pb_script.specs.Inner.Script.{AreAsked, clerks_within}
+use Rattle.pb_script.specs.Script.{HasScriptForm, IsScriptRow, ScriptRowView, most_rows}
+use Rattle.pb_script.specs.Inner.Script.{AreAsked, clerks_within, asked_by}
 use Rattle.pb_script.specs.ScriptReading.{IsFaultOfScript, IsNextScriptFault}
 use Rattle.pb_script.specs.Inner.ScriptReading.{HaveAsked, HaveGone, NoneLeft, SplitsScript, TakesScriptRow}
 use Rattle.pb_script.specs.declared.script_fault.ScriptFault.{ScriptFault}

@@ -14,8 +14,7 @@ use Rattle.pb_shared.specs.Inner.Seats.{newcomer}
 use Rattle.pb_shared.specs.declared.share_fault.ShareFault.{ShareFault}
 use Rattle.pb_shared.specs.declared.share_fault.ShareFault.TheVariants as share
 use Rattle.pb_script.specs.declared.serve_script.Returned.{Returned}
-use Rattle.pb_script.specs.Serving.{requests_of}
-use Rattle.pb_script.specs.Inner.Serving.{AppendsFor, AreBack, AreCounts, HasServed, IsServingFault, ServesUpTo, list_of, unshared}
+use Rattle.pb_script.specs.Inner.Serving.{AppendsFor, AreBack, AreCounts, HasServed, IsServingFault, ServesUpTo, list_of, unshared, requests_of}
 
 -- an element of a list, read through a function
 pub read_through : {X Y : Type 0} (f : X → Y) (items : List X) (list : List Y) (i : ℕ) (x : X) → map f items ≡ list → i < length items → x ≡ get_or items i x →

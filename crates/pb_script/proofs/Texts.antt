@@ -1,8 +1,11 @@
 -- What is answered about the bytes of a script, where they may be known.
-use Rattle.std.proofs.Common.{◌≡◌, ◌∙◌, ℕ, ◌≤◌, List, Bool, length, Option, Some, None, ap, subst}
+use Rattle.std.proofs.Common.{◌≡◌, ◌∙◌, ◌++◌, ℕ, ◌≤◌, List, [], ◌∷◌, All, Bool, true, false, if◌then◌else◌, length, map, Option, Some, None, ap, refl, subst, sym}
+use Rattle.std.proofs.lemmas.List.{append-nil}
+use Rattle.std.proofs.lemmas.List.Elements.{All-cons, All-nil}
 use Rattle.std.specs.Prelude.{IfSome}
 use Rattle.pb_core.specs.Election.{ElectionView}
-use Rattle.pb_core.specs.Request.{RequestView}
+use Rattle.pb_core.specs.Request.{EntryView, RequestView, Shut}
+use Rattle.pb_desk.specs.Audit.{IsSound}
 use Rattle.pb_desk.specs.Desk.{DeskView}
 use Rattle.pb_desk.specs.Opening.{OpeningView}
 use Rattle.pb_desk.specs.Replay.{IsLegal}
@@ -11,8 +14,9 @@ use Rattle.pb_rows.specs.Reading.{Fields, records_of}
 use Rattle.pb_script.specs.Inner.ScriptReading.{SplitsScript}
 use Rattle.pb_script.specs.Served.{IsServeFault, IsServed}
 use Rattle.pb_shared.specs.Clerk.{AreClerks}
-use Rattle.pb_script.specs.Serving.{ShutAtEnd, program_room}
-use Rattle.pb_script.specs.Inner.Serving.{IsServingFault, ServesAll, opening_of}
+use Rattle.pb_script.specs.Script.{ScriptRowView}
+use Rattle.pb_script.specs.Serving.{program_room}
+use Rattle.pb_script.specs.Inner.Serving.{IsServingFault, ServesAll, ServesScript, ShutAtEnd, opening_of}
 use Rattle.pb_script.specs.declared.script_fault.ScriptFault.TheVariants as script
 use Rattle.pb_script.specs.declared.serve_fault.ServeFault.{ServeFault}
 use Rattle.pb_script.specs.declared.serve_fault.ServeFault.TheVariants.{Script, ClerkCount}
@@ -32,6 +36,34 @@ pub record IsWritten (d : DeskView) (text : List ℕ) : Type 0 where
   pub fits : length d.journal ≤ d.room
   pub text_is : text ≡ journal_text d.opening.version d.journal
 
+-- a journal that serves a script, in two parts
+record HasParts (shuts : Bool) (clerks : ℕ) (script : List ScriptRowView) (journal : List EntryView) : Type 0 where
+  served : List EntryView
+  last : List EntryView
+  serves : ServesScript clerks script served
+  asks : map (λ x. x.request) last ≡ (if shuts then Shut ∷ [] else [])
+  by_first : All (λ x. x.clerk ≡ 0) last
+  journal_is : journal ≡ served ++ last
+
+parts : (shuts : Bool) (clerks : ℕ) (script : List ScriptRowView) (journal : List EntryView) → ShutAtEnd shuts (ServesScript clerks script) journal → HasParts shuts clerks script journal
+parts false clerks script journal serves = record {
+  served = journal;
+  last = [];
+  serves = serves;
+  asks = refl;
+  by_first = All-nil (λ (x : EntryView). x.clerk ≡ 0);
+  journal_is = sym (append-nil journal);
+}
+parts true clerks script journal serves =
+    let last : EntryView = record { clerk = 0; request = Shut; answer = serves.1 } in record {
+      served = serves.0;
+      last = last ∷ [];
+      serves = serves.2;
+      asks = refl;
+      by_first = All-cons (λ (x : EntryView). x.clerk ≡ 0) last [] refl (All-nil (λ (x : EntryView). x.clerk ≡ 0));
+      journal_is = serves.3;
+    }
+
 -- the text of a desk's journal that has what each clerk asked serves the script
 text_served : (e : ElectionView) (clerks : ℕ) (shuts : Bool) (records : List Fields) (lists : List (List RequestView)) (d : DeskView) (text : List ℕ) → SplitsScript clerks records lists
     → IsServedBy e clerks shuts lists d → IsWritten d text → IsServed e clerks shuts records text
@@ -40,14 +72,20 @@ text_served e clerks shuts records lists d text split served written =
     let o = opening_of e in
     let P : OpeningView → Type 0 = λ o. IsLegal o d.journal in
     let legal = subst P served.opening written.legal in
+    let sound : IsSound o program_room d.journal =
+    record { legal = legal; fits = rw served.room at written.fits; entries = served_entries shuts o clerks records split.0 d.journal split.1 serves legal } in
+    let both = parts shuts clerks split.0 d.journal serves in
     record {
       script = split.0;
       is_script = split.1;
       in_range = served.in_range;
-      journal = d.journal;
-      sound = record { legal = legal; fits = rw served.room at written.fits; entries = served_entries shuts o clerks records split.0 d.journal split.1 serves legal };
-      serves = serves;
-      text_is = written.text_is ∙ ap (λ (o : OpeningView). journal_text o.version d.journal) served.opening;
+      served = both.served;
+      last = both.last;
+      in_order = both.serves.in_order;
+      by_clerks = both.serves.by_clerks;
+      ends = (both.asks, both.by_first);
+      sound = subst (IsSound o program_room) both.journal_is sound;
+      text_is = written.text_is ∙ ap (λ (o : OpeningView). journal_text o.version d.journal) served.opening ∙ ap (journal_text o.version) both.journal_is;
     }
 
 fault_of_serving : (clerks : ℕ) (records : List Fields) (lists : List (List RequestView)) (fault : ServeFault) → SplitsScript clerks records lists → IsServingFault clerks fault

@@ -1,5 +1,5 @@
 -- A script: the requests of a run's clerks, one a row.
-use Rattle.std.specs.Prelude.{◌≡◌, ℕ, ◌<◌, ◌≤◌, ◌==◌, List, [], ◌∷◌, decimal, filter, length, map}
+use Rattle.std.specs.Prelude.{◌≡◌, ℕ, ◌<◌, ◌≤◌, List, [], ◌∷◌, decimal, length}
 use Rattle.std.specs.List.{AllZip}
 use Rattle.std.specs.Str.{trim}
 use Rattle.csv.specs.Records.{AllText}
@@ -41,7 +41,3 @@ most_rows = 2000000
 pub record IsScript (clerks : ℕ) (records : List Fields) (script : List ScriptRowView) : Type 0 where
   pub few : length records ≤ most_rows
   pub rows : AllZip (IsScriptRow clerks) records script
-
--- what a clerk asks, in the order of the script
-abbrev pub asked_by : ℕ → List ScriptRowView → List RequestView
-asked_by clerk script = map (λ x. x.request) (filter (λ x. x.clerk == clerk) script)

@@ -8,9 +8,9 @@ ghost use Rattle.pb_rows.specs.Reading.{records_of};
 ghost use Rattle.pb_shared.specs.Clerk.{AreClerks, AreNewcomers, desk_with};
 ghost use Rattle.pb_script.specs.Script.{most_rows};
 ghost use Rattle.pb_script.specs.Served.{IsServeFault, IsServed};
-ghost use Rattle.pb_script.specs.Serving.{ShutAtEnd, program_room};
+ghost use Rattle.pb_script.specs.Serving.{program_room};
 ghost use Rattle.pb_script.specs.Inner.Script.{clerks_within};
-ghost use Rattle.pb_script.specs.Inner.Serving.{AppendsFor, AreCounts, HasServed, ServesAll, ServesUpTo, AreBack, IsServingFault, list_of, opening_of, unshared};
+ghost use Rattle.pb_script.specs.Inner.Serving.{AppendsFor, AreCounts, HasServed, ServesAll, ServesUpTo, AreBack, IsServingFault, list_of, opening_of, unshared, ShutAtEnd};
 
 use crate::requests::Requests;
 use crate::script::read_script;

@@ -1,5 +1,5 @@
 -- What the steps of a call come to for its clerk.
-use Rattle.std.proofs.Common.{◌≡◌, ℕ, zero, suc, ◌+◌, ◌<◌, ◌≤◌, List, [], ◌∷◌, ◌++◌, length, drop, All, Result, Ok, Err, IfOk, IfErr, Some, sym, unwrap_or, slice_get, slice_index_or, refl, ap, ◌∙◌, subst, arith, append_assoc, length-append}
+use Rattle.std.proofs.Common.{◌≡◌, ◌≢◌, ℕ, zero, suc, ◌+◌, ◌<◌, ◌≤◌, List, [], ◌∷◌, ◌++◌, length, drop, All, Result, Ok, Err, IfOk, IfErr, Some, sym, unwrap_or, slice_get, slice_index_or, refl, ap, ◌∙◌, subst, arith, append_assoc, length-append}
 use Rattle.std.proofs.Math.Seq.{drop-append_seam}
 use Rattle.std.specs.Prelude.{IsErrAnd}
 use Rattle.std.proofs.lemmas.Option.{none-some}
@@ -22,7 +22,7 @@ use Rattle.pb_shared.specs.declared.shared_fault.SharedFault.TheVariants.{Busy, 
 
 -- one exchange
 one_try : (d : SharedView) (x x' : Sheet) (word : ℕ) → x'.found ≡ x.found ++ word ∷ [] → Tries 1 d x word x'
-one_try d x x' word is = ([], All-nil (IsAnothers d x), omega arith, is)
+one_try d x x' word is = ([], All-nil (IsAnothers d (x ∷ [])), omega arith, is)
 
 -- the desk as it was taken out
 pub as_taken : (m m1 : Sitter) (desk : DeskView) (won_lock : HasWon m desk m1) → IsDeskOf m1 desk m1.0.sheet.seen
@@ -98,9 +98,10 @@ pub turned_away : (id : TableId) (m m' : Sitter) (c : ClerkView) (d : SharedView
 turned_away id m m' c d holder lost_lock view own =
     let sheet_is : m'.0.sheet ≡ record m.0.sheet { found = m.0.sheet.found ++ (holder + 1) ∷ [] } = λ i. (lost_lock.2 i).0.sheet in
     let found_is : m'.0.sheet.found ≡ m.0.sheet.found ++ (holder + 1) ∷ [] = ap (λ (x : Sheet). x.found) sheet_is in
+    let apart : Sheet → Type 0 = λ x. holder + 1 ≢ x.number + 1 in
     subst (λ (e : SharedView). Refuses 1 e c.sheet (Busy holder) m'.0.sheet) own (subst (λ (k : ClerkView). Refuses 1 k.desk k.sheet (Busy holder) m'.0.sheet) view (
       one_try (clerk_view id m).desk m.0.sheet m'.0.sheet (holder + 1) found_is,
-      (omega arith, (let known = lost_lock.0 in omega arith), λ same. lost_lock.1 (omega arith)),
+      (omega arith, (let known = lost_lock.0 in omega arith), All-cons apart m.0.sheet [] (λ same. lost_lock.1 (omega arith)) (All-nil apart)),
       ap length found_is ∙ length-append m.0.sheet.found ((holder + 1) ∷ []),
       sheet_is ∙ (λ i. record m.0.sheet { found = sym found_is i }),
     ))
@@ -121,12 +122,18 @@ reads_front id m m' c d word view own r =
 abbrev pub after_losses : Sheet → List ℕ → Sheet
 after_losses x words = record x { found = x.found ++ words }
 
+-- exchanges that were lost leave the clerk's number
+still_anothers : (d : SharedView) (x : Sheet) (lost : List ℕ) (word : ℕ) → IsAnothers d (after_losses x lost ∷ []) word → IsAnothers d (x ∷ []) word
+still_anothers d x lost word is =
+    let apart : Sheet → Type 0 = λ y. word ≢ y.number + 1 in
+    (is.0, is.1, All-cons apart x [] (is.2 0 x (omega arith)) (All-nil apart))
+
 -- one exchange more, after those that were lost
-module _ (d : SharedView) (x x' : Sheet) (lost : List ℕ) (tries : ℕ) (others : All (IsAnothers d x) lost) where
+module _ (d : SharedView) (x x' : Sheet) (lost : List ℕ) (tries : ℕ) (others : All (IsAnothers d (x ∷ [])) lost) where
   tries_later : (word : ℕ) → length lost < tries → Tries 1 d (after_losses x lost) word x' → Tries tries d x word x'
   tries_later word few t = (
     lost ++ t.0,
-    All-append (IsAnothers d x) lost t.0 others (λ k e inside. t.1 k e inside),
+    All-append (IsAnothers d (x ∷ [])) lost t.0 others (λ k e inside. still_anothers d x lost _ (t.1 k e inside)),
     (let none = t.2 in omega (arith, length-append lost t.0)),
     t.3 ∙ (append_assoc x.found lost (t.0 ++ word ∷ []) ∙ ap (λ l. x.found ++ l) (sym (append_assoc lost t.0 (word ∷ [])))),
   )
@@ -146,7 +153,7 @@ module _ (d : SharedView) (x x' : Sheet) (lost : List ℕ) (tries : ℕ) (others
 
   -- refused at the last of the tries
   pub refuses_last : (fault : SharedFault) → length lost + 1 ≡ tries → Refuses 1 d (after_losses x lost) fault x' → Refuses tries d x fault x'
-  refuses_last (Busy holder) last r = (tries_later (holder + 1) (omega arith) r.0, r.1, (let count = r.2 in omega (arith, length-append x.found lost)), r.3)
+  refuses_last (Busy holder) last r = (tries_later (holder + 1) (omega arith) r.0, still_anothers d x lost (holder + 1) r.1, (let count = r.2 in omega (arith, length-append x.found lost)), r.3)
   refuses_last JournalFull last r = full_later (omega arith) r
   refuses_last NoMemory last r = no_memory_later (omega arith) r
 
@@ -155,10 +162,10 @@ none_lost [] few = refl
 none_lost (word ∷ words) few = absurd (omega arith)
 
 -- one more lost exchange
-pub loses_again : (d : SharedView) (x x' : Sheet) (lost : List ℕ) (holder : ℕ) → All (IsAnothers d x) lost → Refuses 1 d (after_losses x lost) (Busy holder) x'
-    → All (IsAnothers d x) (lost ++ (holder + 1) ∷ []) × (x' ≡ after_losses x (lost ++ (holder + 1) ∷ []))
+pub loses_again : (d : SharedView) (x x' : Sheet) (lost : List ℕ) (holder : ℕ) → All (IsAnothers d (x ∷ [])) lost → Refuses 1 d (after_losses x lost) (Busy holder) x'
+    → All (IsAnothers d (x ∷ [])) (lost ++ (holder + 1) ∷ []) × (x' ≡ after_losses x (lost ++ (holder + 1) ∷ []))
 loses_again d x x' lost holder others r = (
-  All-append (IsAnothers d x) lost ((holder + 1) ∷ []) others (All-cons (IsAnothers d x) (holder + 1) [] r.1 (All-nil (IsAnothers d x))),
+  All-append (IsAnothers d (x ∷ [])) lost ((holder + 1) ∷ []) others (All-cons (IsAnothers d (x ∷ [])) (holder + 1) [] (still_anothers d x lost (holder + 1) r.1) (All-nil (IsAnothers d (x ∷ [])))),
   (
       let found_is : x'.found ≡ x.found ++ (lost ++ (holder + 1) ∷ []) = r.0.3 ∙ (ap (λ l. (x.found ++ lost) ++ (l ++ (holder + 1) ∷ [])) (none_lost r.0.0 r.0.2) ∙ append_assoc x.found lost ((holder + 1) ∷ [])) in
       r.3 ∙ (λ i. record x { found = found_is i })

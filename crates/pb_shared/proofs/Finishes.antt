@@ -1,5 +1,5 @@
 -- What the last state of the table says of the desk that it gives back.
-use Rattle.std.proofs.Common.{◌≡◌, ◌≢◌, ℕ, zero, suc, List, [], ◌∷◌, ◌++◌, length, map, All, Option, Some, None, sym, refl, ap, ◌∙◌, subst, arith}
+use Rattle.std.proofs.Common.{◌≡◌, ◌≢◌, ℕ, zero, suc, ◌+◌, List, [], ◌∷◌, ◌++◌, length, map, All, Option, Some, None, sym, refl, ap, ◌∙◌, subst, arith}
 use mathlib.Core.Option.{some, some-injective}
 use lib.ListN.{get_elem?}
 use Rattle.std.proofs.Math.ListN.{get_or-map}
@@ -7,7 +7,7 @@ use Rattle.atomic_table.specs.Seated.{TableId}
 use Rattle.atomic_table.specs.Table.{State, Final, Seen}
 use Rattle.pb_core.specs.Request.{EntryView}
 use Rattle.pb_desk.specs.Desk.{DeskView}
-use Rattle.pb_shared.specs.Clerk.{SharedView, ClerkView, AreAll, Begins, IsMergeOf, IsHeldByAnother, desk_with, entries_by}
+use Rattle.pb_shared.specs.Clerk.{SharedView, ClerkView, AreAll, Begins, IsAnothers, IsMergeOf, desk_with, entries_by}
 use Rattle.pb_shared.specs.Rule.{RoleFits, Runs, DeskRule}
 use Rattle.pb_shared.specs.Inner.Rule.{history}
 use Rattle.pb_shared.specs.Seats.{shared_view}
@@ -91,25 +91,28 @@ merges a tid id v d clerks word slot desk last view same free is =
 
 -- the lock is held for a clerk who was not handed back
 pub is_held : (a : About) (tid : TableId) (id : ℕ) (v : SeatView) (d : SharedView) (clerks : List ClerkView) (word : ℕ) (slot : Option DeskView) → IsLast a word slot id v
-    → shared_view tid a ≡ d → v.returned ≡ map (λ (c : ClerkView). c.sheet) clerks → word ≢ 0 → IsHeldByAnother d clerks word
+    → shared_view tid a ≡ d → v.returned ≡ map (λ (c : ClerkView). c.sheet) clerks → word ≢ 0 → IsAnothers d (map (λ (c : ClerkView). c.sheet) clerks) word
 is_held a tid id v d clerks zero slot last view same held = absurd (held refl)
 is_held a tid id v d clerks (suc holder) slot last view same held =
-    subst (λ (e : SharedView). IsHeldByAnother e clerks (suc holder)) view (
-      holder,
-      (let known = lock_known a (suc holder) last.home last.later last.seat_of last.views last.runs in omega arith),
+    subst (λ (e : SharedView). IsAnothers e (map (λ (c : ClerkView). c.sheet) clerks) (suc holder)) view (
       omega arith,
-      of_clerks (λ (x : Sheet). x.number ≢ holder) clerks v.returned same
-          (λ k e inside. let f = last.guest.2 k e inside in λ its. not_its (suc holder) _ f.holding (omega arith)),
+      (let known = lock_known a (suc holder) last.home last.later last.seat_of last.views last.runs in omega arith),
+      subst (All (λ (x : Sheet). suc holder ≢ x.number + 1)) same (λ k e inside. let f = last.guest.2 k e inside in not_its (suc holder) _ f.holding),
     )
 
 -- where all clerks were handed back, nobody holds the lock
-pub not_held : (d : SharedView) (clerks : List ClerkView) (word : ℕ) → AreAll d clerks → IsHeldByAnother d clerks word → ⊥
-not_held d clerks word all h =
-    let at = all h.0 h.1 in
+pub not_held : (d : SharedView) (clerks : List ClerkView) (word : ℕ) → AreAll d clerks → IsAnothers d (map (λ (c : ClerkView). c.sheet) clerks) word → ⊥
+not_held d clerks zero all h = let some = h.0 in omega arith
+not_held d clerks (suc holder) all h =
+    let at = all holder (let few = h.1 in omega arith) in
     let number : ClerkView → ℕ = λ c. c.sheet.number in
+    let sheet : ClerkView → Sheet = λ c. c.sheet in
+    let c = newcomer d holder in
     let n = length_map number clerks in
+    let m = length_map sheet clerks in
     let inside = at.1 in
-    h.3 at.0 (newcomer d h.0) (omega arith) (sym (get_or-map number clerks at.0 (newcomer d h.0)) ∙ at.2)
+    let its = ap (λ (x : Sheet). x.number) (get_or-map sheet clerks at.0 c) ∙ (sym (get_or-map number clerks at.0 c) ∙ at.2) in
+    h.2 at.0 c.sheet (omega arith) (omega (arith, its))
 
 pub emptied : {X : Type 0} (items taken all : List X) → length items ≡ 0 → items ++ taken ≡ all → taken ≡ all
 emptied [] taken all none_left e = e

@@ -52,13 +52,13 @@ AreNewcomers d clerks = (length clerks ≡ d.clerks)
 abbrev pub AreClerks : ℕ → Type 0
 AreClerks clerks = (0 < clerks) × (clerks ≤ most_clerks)
 
--- this lock word is that of another clerk of the desk
-abbrev pub IsAnothers : SharedView → Sheet → ℕ → Type 0
-IsAnothers d x word = (0 < word) × (word ≤ d.clerks) × (word ≢ x.number + 1)
+-- this lock word is that of a clerk of the desk, who is none of these
+abbrev pub IsAnothers : SharedView → List Sheet → ℕ → Type 0
+IsAnothers d sheets word = (0 < word) × (word ≤ d.clerks) × All (λ x. word ≢ x.number + 1) sheets
 
 -- the call's last exchange found this word; those before it, fewer than the tries, were lost to other clerks
 abbrev pub Tries : ℕ → SharedView → Sheet → ℕ → Sheet → Type 0
-Tries tries d x word x' = (lost : List ℕ) × All (IsAnothers d x) lost × (length lost < tries)
+Tries tries d x word x' = (lost : List ℕ) × All (IsAnothers d (x ∷ [])) lost × (length lost < tries)
     × (x'.found ≡ x.found ++ (lost ++ word ∷ []))
 
 -- the desk can have this journal now, as far as the clerk knows
@@ -96,8 +96,3 @@ pub record IsMergeOf (d : SharedView) (clerks : List ClerkView) (journal : List 
   pub can_be : CanHave d.start journal
   pub agrees : All (λ c. Begins c.sheet.seen journal × (entries_by c.sheet.number later ≡ c.sheet.mine)) clerks
   pub by_clerks : All (λ x. x.clerk < d.clerks) later
-
--- the lock word is held for a clerk who is not among these
-abbrev pub IsHeldByAnother : SharedView → List ClerkView → ℕ → Type 0
-IsHeldByAnother d clerks word =
-    (holder : ℕ) × (holder < d.clerks) × (word ≡ holder + 1) × All (λ c. c.sheet.number ≢ holder) clerks

@@ -21,8 +21,7 @@ pub record StepRule (s : Step (Option DeskView)) (x : Sheet) (word : ℕ) (x' : 
   pub found : x'.found ≡ x.found ++ (if is_try s x then word ∷ [] else [])
   pub read : x'.read ≡ x.read ++ (if is_front_load s then word ∷ [] else [])
 
--- where seats are split or joined: the second view, but with what the first has seen, found and read
+-- where seats are split or joined: the second view, but with the first's sheet, which keeps what was seen, found and
+-- read; only its number and own entries are the second's
 abbrev pub knowing : SeatView → SeatView → SeatView
-knowing v w = record w {
-  sheet = record w.sheet { seen = v.sheet.seen; found = v.sheet.found; read = v.sheet.read };
-}
+knowing v w = record w { sheet = record v.sheet { number = w.sheet.number; mine = w.sheet.mine } }

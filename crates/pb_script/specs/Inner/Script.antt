@@ -1,12 +1,16 @@
 -- What each clerk of a script asks, as lists.
-use Rattle.std.specs.Prelude.{◌≡◌, ℕ, ◌<◌, List, [], length, min, slice_index_or}
+use Rattle.std.specs.Prelude.{◌≡◌, ℕ, ◌<◌, ◌==◌, List, [], filter, length, map, min, slice_index_or}
 use Rattle.pb_core.specs.Request.{RequestView}
 use Rattle.pb_desk.specs.Replay.{most_clerks}
-use Rattle.pb_script.specs.Script.{ScriptRowView, asked_by}
+use Rattle.pb_script.specs.Script.{ScriptRowView}
 
 -- a run has this many clerks at most
 abbrev pub clerks_within : ℕ → ℕ
 clerks_within clerks = min clerks most_clerks
+
+-- what a clerk asks, in the order of the script
+abbrev pub asked_by : ℕ → List ScriptRowView → List RequestView
+asked_by clerk script = map (λ x. x.request) (filter (λ x. x.clerk == clerk) script)
 
 -- one list for each clerk, of what it asks in the order of the script
 pub record AreAsked (clerks : ℕ) (script : List ScriptRowView) (lists : List (List RequestView))

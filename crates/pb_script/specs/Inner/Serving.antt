@@ -1,16 +1,36 @@
 -- How far the clerks' requests were served.
-use Rattle.std.specs.Prelude.{◌≡◌, ℕ, ◌<◌, ◌≤◌, ◌++◌, ⊤, List, [], All, length, map, slice_index, slice_index_or, take}
+use Rattle.std.specs.Prelude.{◌≡◌, ℕ, ◌<◌, ◌≤◌, ◌++◌, ⊤, Bool, true, false, List, [], ◌∷◌, All, length, map, slice_index, slice_index_or, take}
 use Rattle.pb_core.specs.Election.{ElectionView}
-use Rattle.pb_core.specs.Request.{EntryView, RequestView}
+use Rattle.pb_core.specs.Request.{EntryView, RequestView, Shut}
+use Rattle.pb_core.specs.declared.answer.Answer.{Answer}
 use Rattle.pb_desk.specs.Opening.{OpeningView}
 use Rattle.pb_desk.specs.declared.version.Version.TheVariants.{Two}
-use Rattle.pb_shared.specs.Clerk.{AreClerks, ClerkView, SharedView}
+use Rattle.pb_shared.specs.Clerk.{AreClerks, ClerkView, SharedView, entries_by}
 use Rattle.pb_shared.specs.declared.share_fault.ShareFault.{ShareFault}
 use Rattle.pb_shared.specs.declared.share_fault.ShareFault.TheVariants as share
 use Rattle.pb_script.specs.declared.script_fault.ScriptFault.TheVariants as script
 use Rattle.pb_script.specs.declared.serve_fault.ServeFault.{ServeFault}
 use Rattle.pb_script.specs.declared.serve_fault.ServeFault.TheVariants.{Script, ClerkCount}
-use Rattle.pb_script.specs.Serving.{requests_of}
+use Rattle.pb_script.specs.Script.{ScriptRowView}
+use Rattle.pb_script.specs.Inner.Script.{asked_by}
+
+-- what a clerk asked in a journal, in order
+abbrev pub requests_of : ℕ → List EntryView → List RequestView
+requests_of clerk journal = map (λ x. x.request) (entries_by clerk journal)
+
+-- the journal serves a script for this many clerks: what each clerk asked in it is what the clerk's rows say,
+-- in their order, and it has no other entries
+pub record ServesScript (clerks : ℕ) (script : List ScriptRowView) (journal : List EntryView) : Type 0 where
+  pub in_order : (clerk : ℕ) → clerk < clerks → requests_of clerk journal ≡ asked_by clerk script
+  pub by_clerks : All (λ x. x.clerk < clerks) journal
+
+-- a run's journal is such a one; where the run shuts the desk at its end, one last entry, by clerk 0, asks for
+-- that after such a one
+abbrev pub ShutAtEnd : Bool → (List EntryView → Type 0) → List EntryView → Type 0
+ShutAtEnd false IsJournal journal = IsJournal journal
+ShutAtEnd true IsJournal journal =
+    (before : List EntryView) × (answer : Answer) × IsJournal before
+    × (journal ≡ before ++ record { clerk = 0; request = Shut; answer = answer } ∷ [])
 
 -- the requests of each clerk, by its number
 abbrev pub list_of : List (List RequestView) → ℕ → List RequestView

@@ -1,7 +1,7 @@
 //! The end of a shared desk: clerks come back, and the desk does.
 
-ghost use Rattle.std.specs.Prelude.{◌≡◌, All, IfOk, IfErr, IsOk};
-ghost use Rattle.pb_shared.specs.Clerk.{AreAll, desk_with, IsHeldByAnother, IsMergeOf};
+ghost use Rattle.std.specs.Prelude.{◌≡◌, map, All, IfOk, IfErr, IsOk};
+ghost use Rattle.pb_shared.specs.Clerk.{AreAll, desk_with, IsAnothers, IsMergeOf};
 
 use super::SharedDesk;
 use crate::clerk::Clerk;
@@ -19,7 +19,7 @@ impl SharedDesk {
         requires own { All (λ clerk. clerk.desk ≡ self) clerks.items }
         ensures ok { IfOk result (λ desk.
             (desk ≡ desk_with self.start desk.journal) × IsMergeOf self clerks.items desk.journal) }
-        ensures err { IfErr result (λ fault. IsHeldByAnother self clerks.items fault.0) }
+        ensures err { IfErr result (λ fault. IsAnothers self (map (λ c. c.sheet) clerks.items) fault.0) }
         ensures all { AreAll self clerks.items → IsOk result }
     {
         let SharedDesk { table } = self;
