@@ -21,13 +21,14 @@ use Rattle.pb_rounds.specs.declared.options.CountOptions.{CountOptions}
 use Rattle.pb_rows.specs.Reading.{records_of}
 use Rattle.pb_rows.specs.Writing.{text_of_row}
 use Rattle.pb_script.specs.Serving.{program_room}
-use Rattle.pb_commands.specs.Audited.{AuditWrites, IsDeskOf, IsTextOf, entries_row}
+use Rattle.pb_faults.specs.DeskRow.{entries_row}
+use Rattle.pb_commands.specs.Audited.{AuditWrites, IsDeskOf, IsTextOf}
 use Rattle.pb_commands.specs.Inner.Audited.{IsRefusedDesk}
 use Rattle.pb_commands.specs.Counted.{IsReportOf}
 use Rattle.pb_commands.specs.Ends.{Accepts, IfBothKnown, IsOutsideFault}
-use Rattle.pb_commands.specs.Fault.{merged}
-use Rattle.pb_commands.specs.declared.fault.AppFault.{AppFault}
-use Rattle.pb_commands.specs.declared.fault.AppFault.TheVariants.{Read, Audit, Count}
+use Rattle.pb_faults.specs.Fault.{merged}
+use Rattle.pb_faults.specs.declared.fault.AppFault.{AppFault}
+use Rattle.pb_faults.specs.declared.fault.AppFault.TheVariants.{Read, Audit, Count}
 use Rattle.pb_commands.proofs.Accepted.{count_from_outside, given_fault, one_report, read_from_outside}
 
 -- these bytes are those of one desk at most

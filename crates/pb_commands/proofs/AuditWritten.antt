@@ -20,9 +20,9 @@ use Rattle.pb_script.specs.Serving.{program_room}
 use Rattle.pb_commands.specs.Audited.{AuditRefuses, AuditWrites, IsDeskOf, IsTextOf}
 use Rattle.pb_commands.specs.Inner.Audited.{IsRefusedDesk}
 use Rattle.pb_commands.specs.Ends.{FailsBy, HasWritten, IfBothKnown, JudgesFile}
-use Rattle.pb_commands.specs.Fault.{merged}
-use Rattle.pb_commands.specs.declared.fault.AppFault.{AppFault}
-use Rattle.pb_commands.specs.declared.fault.AppFault.TheVariants.{Read, Audit, Count, Write}
+use Rattle.pb_faults.specs.Fault.{merged}
+use Rattle.pb_faults.specs.declared.fault.AppFault.{AppFault}
+use Rattle.pb_faults.specs.declared.fault.AppFault.TheVariants.{Read, Audit, Count, Write}
 use Rattle.pb_commands.proofs.Accepted.{given_fault}
 use Rattle.pb_commands.proofs.AuditAccepted.{IsAudited, desk_of}
 

@@ -20,9 +20,9 @@ use Rattle.pb_commands.proofs.AuditAccepted.{IsAudited, desk_of, journal_from_ou
 use Rattle.pb_commands.proofs.AuditWritten.{IsElectionFile, audit_judges, reader_judges}
 use Rattle.pb_commands.specs.Closed.{ClosedRefuses, Leaves}
 use Rattle.pb_commands.specs.Ends.{FailsBy, IfBothKnown, IsOutsideFault, JudgesFile}
-use Rattle.pb_commands.specs.Fault.{merged}
-use Rattle.pb_commands.specs.declared.fault.AppFault.{AppFault}
-use Rattle.pb_commands.specs.declared.fault.AppFault.TheVariants.{Read, Script, ClerkCount, Audit, OpenDesk, Count, Export, Open, Write, Memory}
+use Rattle.pb_faults.specs.Fault.{merged}
+use Rattle.pb_faults.specs.declared.fault.AppFault.{AppFault}
+use Rattle.pb_faults.specs.declared.fault.AppFault.TheVariants.{Read, Script, ClerkCount, Audit, OpenDesk, Count, Export, Open, Write, Memory}
 
 -- the fault is what refuses these bytes before anything is written
 abbrev pub Fails : List ℕ → List ℕ → AppFault → Type 0

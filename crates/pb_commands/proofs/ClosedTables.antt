@@ -14,10 +14,10 @@ use Rattle.pb_commands.proofs.ClosedDesks.{Bars, Fails, fails_more, one_left}
 use Rattle.pb_commands.proofs.TableAccepted.{table_from_outside}
 use Rattle.pb_commands.specs.Closed.{ClosedRefuses, Leaves}
 use Rattle.pb_commands.specs.Ends.{Accepts, FailsBy, HasWritten, IfBothKnown, IsOutsideFault, JudgesFile}
-use Rattle.pb_commands.specs.Fault.{merged}
+use Rattle.pb_faults.specs.Fault.{merged}
 use Rattle.pb_commands.specs.Tabled.{IsTableOf, TableWrites}
-use Rattle.pb_commands.specs.declared.fault.AppFault.{AppFault}
-use Rattle.pb_commands.specs.declared.fault.AppFault.TheVariants.{Count, Write}
+use Rattle.pb_faults.specs.declared.fault.AppFault.{AppFault}
+use Rattle.pb_faults.specs.declared.fault.AppFault.TheVariants.{Count, Write}
 use Rattle.pb_commands.specs.declared.table.Table.{Table}
 
 -- the file judges an error that is this fault

@@ -9,7 +9,8 @@ use Rattle.pb_rounds.specs.declared.count_fault.CountFault.{CountFault}
 use Rattle.pb_rounds.specs.declared.count_fault.CountFault.TheVariants.{NoMemory}
 use Rattle.pb_rounds.specs.declared.options.CountOptions.{CountOptions}
 use Rattle.pb_rows.specs.Writing.{text_of_row}
-use Rattle.pb_commands.specs.Audited.{IsTextOf, entries_row}
+use Rattle.pb_faults.specs.DeskRow.{entries_row}
+use Rattle.pb_commands.specs.Audited.{IsTextOf}
 use Rattle.pb_commands.specs.Inner.Audited.{IsRefusedDesk}
 use Rattle.pb_commands.specs.Counted.{IsReportOf}
 use Rattle.pb_commands.specs.Report.{report_of}

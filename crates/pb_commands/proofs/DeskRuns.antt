@@ -18,9 +18,9 @@ use Rattle.pb_script.specs.declared.serve_fault.ServeFault.TheVariants as serve
 use Rattle.pb_commands.specs.DeskRun.{DeskRefuses, DeskWrites}
 use Rattle.pb_commands.specs.Inner.DeskRun.{unserved}
 use Rattle.pb_commands.specs.Ends.{Accepts, FailsBy, HasWritten, IfBothKnown, IsOutsideFault, JudgesFile}
-use Rattle.pb_commands.specs.Fault.{merged}
-use Rattle.pb_commands.specs.declared.fault.AppFault.{AppFault}
-use Rattle.pb_commands.specs.declared.fault.AppFault.TheVariants.{Read, Script, Write}
+use Rattle.pb_faults.specs.Fault.{merged}
+use Rattle.pb_faults.specs.declared.fault.AppFault.{AppFault}
+use Rattle.pb_faults.specs.declared.fault.AppFault.TheVariants.{Read, Script, Write}
 use Rattle.pb_commands.proofs.Accepted.{given_fault, merged_again, read_from_outside}
 
 abbrev DeskFails : List ℕ → List ℕ → ℕ → Bool → AppFault → Type 0

@@ -22,9 +22,9 @@ use Rattle.pb_commands.specs.Closed.{ClosedRefuses, Leaves}
 use Rattle.pb_commands.specs.Ends.{Accepts, FailsBy, HasWritten, IfBothKnown, IsOutsideFault}
 use Rattle.pb_commands.specs.Exported.{ClosedExportRefuses, ExportWrites, IsExportOf}
 use Rattle.pb_commands.specs.Inner.Exporting.{IsStopped}
-use Rattle.pb_commands.specs.Fault.{merged}
-use Rattle.pb_commands.specs.declared.fault.AppFault.{AppFault}
-use Rattle.pb_commands.specs.declared.fault.AppFault.TheVariants.{Read, Script, ClerkCount, Audit, OpenDesk, Count, Export, Open, Write, Memory}
+use Rattle.pb_faults.specs.Fault.{merged}
+use Rattle.pb_faults.specs.declared.fault.AppFault.{AppFault}
+use Rattle.pb_faults.specs.declared.fault.AppFault.TheVariants.{Read, Script, ClerkCount, Audit, OpenDesk, Count, Export, Open, Write, Memory}
 
 -- one value more, for the next place
 pub one_put : {X : Type 0} (f : ℕ → X) (n : ℕ) (old new : List X) (x : X) → old ≡ map f (range_with_len 0 n) → new ≡ old ++ x ∷ [] → x ≡ f n → new ≡ map f (range_with_len 0 (n + 1))

@@ -16,10 +16,10 @@ use Rattle.pb_rows.specs.Reading.{records_of}
 use Rattle.pb_commands.proofs.Accepted.{given_fault, read_from_outside}
 use Rattle.pb_commands.specs.Counted.{CountRefuses}
 use Rattle.pb_commands.specs.Ends.{Accepts, FailsBy, IsOutsideFault}
-use Rattle.pb_commands.specs.Fault.{merged}
+use Rattle.pb_faults.specs.Fault.{merged}
 use Rattle.pb_commands.specs.Tabled.{IsTableOf, TableWrites}
-use Rattle.pb_commands.specs.declared.fault.AppFault.{AppFault}
-use Rattle.pb_commands.specs.declared.fault.AppFault.TheVariants.{Read, Count}
+use Rattle.pb_faults.specs.declared.fault.AppFault.{AppFault}
+use Rattle.pb_faults.specs.declared.fault.AppFault.TheVariants.{Read, Count}
 use Rattle.pb_commands.specs.declared.table.Table.{Table}
 
 module _ (table : Table) where

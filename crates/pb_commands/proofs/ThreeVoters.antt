@@ -7,9 +7,9 @@ use Rattle.pb_price.specs.Supporters.{supporters_of}
 use Rattle.pb_read.specs.declared.fault.ReadKind.TheVariants.{MoneyTooFine}
 use Rattle.pb_rounds.specs.Outcome.{OutcomeView}
 use Rattle.pb_rows.specs.Writing.{text_of_row, text_of_rows}
-use Rattle.pb_commands.specs.Fault.{fields_of, line, merged}
+use Rattle.pb_faults.specs.Fault.{line, merged, told}
 use Rattle.pb_commands.specs.Report.{report_of}
-use Rattle.pb_commands.specs.declared.fault.AppFault.TheVariants.{Read}
+use Rattle.pb_faults.specs.declared.fault.AppFault.TheVariants.{Read}
 
 -- budget 100.00; the first two voters approve the first project, the last two the second
 abbrev e : ElectionView
@@ -34,6 +34,6 @@ report : report_of e o ≡ codes "budget;100.00\nvoters;3\nshare;38.33\nraises;5
 unfolding report_of text_of_rows text_of_row fields_text is_blank escaped digits supporters_of
 report = refl
 
-too_fine : line (fields_of (merged (Read (record { kind = MoneyTooFine; at = 7 })))) ≡ codes "fault;read;12;MoneyTooFine;7\n"
+too_fine : line (told (merged (Read (record { kind = MoneyTooFine; at = 7 })))).1 ≡ codes "fault;read;12;MoneyTooFine;7\n"
 unfolding digits
 too_fine = refl

@@ -1,5 +1,5 @@
 -- What a run of `audit` writes, and what it refuses.
-use Rattle.std.specs.Prelude.{◌≡◌, ℕ, ◌++◌, MatchBool, List, [], ◌∷◌, true, codes, decimal, length, if◌then◌else◌}
+use Rattle.std.specs.Prelude.{◌≡◌, ℕ, ◌++◌, MatchBool, List, true}
 use Rattle.pb_core.specs.Election.{ElectionView}
 use Rattle.pb_desk.specs.Audit.{IsFaultOfJournal, IsSound}
 use Rattle.pb_desk.specs.Desk.{DeskView, closed_election, standing_of}
@@ -7,12 +7,13 @@ use Rattle.pb_desk.specs.Rows.{journal_rows}
 use Rattle.pb_read.specs.StandsFor.{StandsFor}
 use Rattle.pb_rounds.specs.Counted.{IsCountFault}
 use Rattle.pb_rounds.specs.declared.options.CountOptions.{CountOptions}
-use Rattle.pb_rows.specs.Reading.{Fields, records_of}
+use Rattle.pb_rows.specs.Reading.{records_of}
 use Rattle.pb_rows.specs.Writing.{text_of_row}
 use Rattle.pb_script.specs.Serving.{program_room}
 use Rattle.pb_commands.specs.Counted.{IsReportOf}
-use Rattle.pb_commands.specs.declared.fault.AppFault.{AppFault}
-use Rattle.pb_commands.specs.declared.fault.AppFault.TheVariants.{Audit, Count}
+use Rattle.pb_faults.specs.DeskRow.{entries_row}
+use Rattle.pb_faults.specs.declared.fault.AppFault.{AppFault}
+use Rattle.pb_faults.specs.declared.fault.AppFault.TheVariants.{Audit, Count}
 
 -- these bytes, read as a file and as a journal, are those of a desk of either version: the file stands for
 -- the election that it opened with, and the rows are its journal's
@@ -21,12 +22,6 @@ pub record IsDeskOf (bytes journal : List ℕ) (d : DeskView) : Type 0 where
   pub room : d.room ≡ program_room
   pub rows : records_of journal ≡ journal_rows d.opening.version d.journal
   pub sound : IsSound d.opening d.room d.journal
-
--- the row of a desk: how many entries its journal has, and whether it is shut
-abbrev pub entries_row : DeskView → Fields
-entries_row d =
-    codes "entries" ∷ decimal (length d.journal)
-    ∷ (if (standing_of d).is_shut then codes "shut" else codes "open") ∷ []
 
 -- what is written of a desk: its row, and where it is shut the report of the ballots that its journal leaves
 abbrev pub IsTextOf : DeskView → CountOptions → List ℕ → Type 0

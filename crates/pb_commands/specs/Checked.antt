@@ -3,12 +3,12 @@ use Rattle.std.specs.Prelude.{◌≡◌, ℕ, List, ◌∷◌, ◌++◌, codes, 
 use Rattle.pb_read.specs.declared.fault.ReadFault.{ReadFault}
 use Rattle.pb_rows.specs.Reading.{Fields}
 use Rattle.pb_rows.specs.Writing.{text_of_rows}
-use Rattle.pb_commands.specs.Fault.{fields_of}
-use Rattle.pb_commands.specs.declared.fault.AppFault.TheVariants.{Read}
+use Rattle.pb_faults.specs.Fault.{told}
+use Rattle.pb_faults.specs.declared.fault.AppFault.TheVariants.{Read}
 
 -- the row of a fault
 abbrev pub fault_row : ReadFault → Fields
-fault_row fault = codes "fault" ∷ fields_of (Read fault)
+fault_row fault = codes "fault" ∷ (told (Read fault)).1
 
 -- a row for each fault, and then rows of warnings
 abbrev pub IsTextOfCheck : List ReadFault → List ℕ → Type 0

@@ -4,8 +4,8 @@ use Rattle.pb_core.specs.Election.{ElectionView}
 use Rattle.pb_desk.specs.Desk.{DeskView, closed_election, standing_of}
 use Rattle.pb_rounds.specs.declared.options.CountOptions.{CountOptions}
 use Rattle.pb_commands.specs.Audited.{AuditRefuses, IsDeskOf}
-use Rattle.pb_commands.specs.declared.fault.AppFault.{AppFault}
-use Rattle.pb_commands.specs.declared.fault.AppFault.TheVariants.{OpenDesk}
+use Rattle.pb_faults.specs.declared.fault.AppFault.{AppFault}
+use Rattle.pb_faults.specs.declared.fault.AppFault.TheVariants.{OpenDesk}
 
 -- these bytes, read as a file and as a journal, are those of a shut desk, which leaves this election
 abbrev pub Leaves : List ℕ → List ℕ → ElectionView → Type 0

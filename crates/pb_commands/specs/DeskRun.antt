@@ -5,8 +5,8 @@ use Rattle.pb_read.specs.StandsFor.{StandsFor}
 use Rattle.pb_rows.specs.Reading.{records_of}
 use Rattle.pb_script.specs.Served.{IsServeFault, IsServed}
 use Rattle.pb_script.specs.declared.serve_fault.ServeFault.TheVariants as serve
-use Rattle.pb_commands.specs.declared.fault.AppFault.{AppFault}
-use Rattle.pb_commands.specs.declared.fault.AppFault.TheVariants.{Script, ClerkCount}
+use Rattle.pb_faults.specs.declared.fault.AppFault.{AppFault}
+use Rattle.pb_faults.specs.declared.fault.AppFault.TheVariants.{Script, ClerkCount}
 
 -- what these bytes, as a file and as a script for this many clerks, make a run of `desk` write that shuts the desk
 -- at its end, or does not

@@ -5,9 +5,9 @@ use Rattle.pb_core.specs.Election.{ElectionView}
 use Rattle.pb_read.specs.FirstFault.{IsFaultAt}
 use Rattle.pb_read.specs.StandsFor.{StandsFor}
 use Rattle.pb_rows.specs.Reading.{records_of}
-use Rattle.pb_commands.specs.Fault.{status_of}
-use Rattle.pb_commands.specs.declared.fault.AppFault.{AppFault}
-use Rattle.pb_commands.specs.declared.fault.AppFault.TheVariants.{Read, Open, Write, Memory}
+use Rattle.pb_faults.specs.Fault.{told}
+use Rattle.pb_faults.specs.declared.fault.AppFault.{AppFault}
+use Rattle.pb_faults.specs.declared.fault.AppFault.TheVariants.{Read, Open, Write, Memory}
 
 -- where the bytes of both readers are known, they are so
 abbrev pub IfBothKnown : Option (List ℕ) → Option (List ℕ) → (List ℕ → List ℕ → Type 0) → Type 0
@@ -19,7 +19,7 @@ HasWritten IsText before after = (text : List ℕ) × IsText text × Appends bef
 
 -- the fault of a device, or out of memory: it comes from outside, whatever the bytes are
 abbrev pub IsOutsideFault : AppFault → Type 0
-IsOutsideFault fault = status_of fault ≡ 3
+IsOutsideFault fault = (told fault).0 ≡ 3
 
 -- where there is a text of this kind to write, only a fault from outside stands against it
 abbrev pub Accepts : (List ℕ → Type 0) → Result (Unit {0}) AppFault → Type 0

@@ -18,8 +18,8 @@ use Rattle.pb_rounds.specs.declared.options.Completion.TheVariants as completion
 use Rattle.pb_rows.specs.Reading.{records_of}
 use Rattle.pb_rows.specs.Writing.{text_of_rows}
 use Rattle.pb_commands.specs.Closed.{ClosedRefuses, Leaves}
-use Rattle.pb_commands.specs.declared.fault.AppFault.{AppFault}
-use Rattle.pb_commands.specs.declared.fault.AppFault.TheVariants.{Count, Export}
+use Rattle.pb_faults.specs.declared.fault.AppFault.{AppFault}
+use Rattle.pb_faults.specs.declared.fault.AppFault.TheVariants.{Count, Export}
 
 -- the measure and the completion of a count, in words
 abbrev pub measure_text : Measure → List ℕ

@@ -2,7 +2,6 @@
 pub mod Report
 pub mod Tables
 pub mod Tabled
-pub mod Fault
 pub mod Ends
 pub mod Counted
 pub mod Audited

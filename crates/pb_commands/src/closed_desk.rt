@@ -8,11 +8,11 @@ ghost use Rattle.pb_rows.specs.Reading.{records_of};
 ghost use Rattle.pb_rounds.specs.declared.options.CountOptions.{CountOptions};
 ghost use Rattle.pb_commands.specs.Closed.{ClosedRefuses, Leaves};
 ghost use Rattle.pb_commands.specs.Ends.{FailsBy, IfBothKnown, IsOutsideFault, JudgesFile};
-ghost use Rattle.pb_commands.specs.Fault.{merged};
+ghost use Rattle.pb_faults.specs.Fault.{merged};
 
-use crate::fault::AppFault;
 use pb_core::election::Election;
 use pb_desk::{Desk, audit};
+use pb_faults::AppFault;
 use pb_read::read_pb;
 use pb_script::ROOM;
 use std::alloc::Global;

@@ -3,16 +3,16 @@
 ghost use Rattle.std.specs.Prelude.{◌≡◌, ◌++◌, IfErr, IfOk, OnOk, codes, decimal, string_bytes};
 ghost use Rattle.pb_commands.specs.Inner.Exporting.{IsStopped, is_won};
 ghost use Rattle.pb_commands.specs.Exported.{IsExportOf, completion_text, rule_text, selected_of, votes_of};
-ghost use Rattle.pb_commands.specs.Fault.{merged};
+ghost use Rattle.pb_faults.specs.Fault.{merged};
 
 use crate::counting::Counting;
-use crate::fault::AppFault;
 use itoa::Buffer;
 use pb_core::election::Election;
 use pb_core::gate::Gate;
 use pb_core::no_memory::NoMemory;
 use pb_export::Told;
 use pb_export::write_pb::write_pb;
+use pb_faults::AppFault;
 use pb_reasons::{Ending, ProjectTeller};
 use pb_rounds::count::count_watched;
 use pb_rounds::measure::Measure;

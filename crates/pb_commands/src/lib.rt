@@ -7,8 +7,6 @@
 mod closed_desk;
 mod counting;
 mod export_text;
-pub mod fault;
-mod fault_line;
 pub mod laws;
 mod projects_table;
 mod report;
@@ -24,6 +22,5 @@ mod voters_table;
 
 pub use closed_desk::closed_ballots;
 pub use counting::Counting;
-pub use fault::AppFault;
-pub use fault_line::{BAD_ARGUMENTS, write_bad_row};
+pub use pb_faults::{AppFault, BAD_ARGUMENTS, write_out};
 pub use table::Table;

@@ -1,21 +1,18 @@
 //! The command `audit`: what a journal says of a file.
 
-ghost use Rattle.std.specs.Prelude.{◌≡◌, ◌≢◌, ◌++◌, ℕ, List, IfErr, IfOk, IfSome, OnOk, codes, if◌then◌else◌, true};
+ghost use Rattle.std.specs.Prelude.{◌≡◌, ◌≢◌, ◌++◌, ℕ, List, IfErr, IfOk, IfSome, OnOk, true};
 ghost use Rattle.pb_desk.specs.Desk.{closed_election, standing_of};
-ghost use Rattle.pb_rows.specs.Writing.{text_of_row};
-ghost use Rattle.pb_commands.specs.Audited.{AuditRefuses, AuditWrites, IsTextOf, entries_row};
+ghost use Rattle.pb_commands.specs.Audited.{AuditRefuses, AuditWrites, IsTextOf};
 ghost use Rattle.pb_commands.specs.Inner.Audited.{IsRefusedDesk};
 ghost use Rattle.pb_commands.specs.Counted.{IsReportOf};
 ghost use Rattle.pb_commands.specs.Ends.{Accepts, FailsBy, HasWritten, IfBothKnown, JudgesFile};
-ghost use Rattle.pb_commands.specs.Fault.{merged};
+ghost use Rattle.pb_faults.specs.Fault.{merged};
 
 use crate::counting::Counting;
-use crate::fault::AppFault;
-use crate::run_count::{finished, put_count, write_out};
-use itoa::Buffer;
+use crate::run_count::{finished, put_count};
 use pb_core::gate::{Gate, NoGate};
-use pb_core::no_memory::NoMemory;
 use pb_desk::{Desk, audit};
+use pb_faults::{AppFault, put_entries, write_out};
 use pb_read::read_pb;
 use pb_rounds::count_fault::CountFault;
 use pb_rounds::options::CountOptions;
@@ -103,7 +100,7 @@ pub fn run_audit_watched<T: Threads + Sync, P: Read + Drop, J: Read + Drop, G: G
     let election = read_pb(counting.alloc, file)?;
     let desk = audit(counting.alloc, election, ROOM, journal)?;
     let text = desk_text(counting, desk)?;
-    write_out(writer, text.as_slice())
+    write_out(writer, text.as_slice(), AppFault::Write)
 }
 
 /// What is said of a desk.
@@ -171,21 +168,4 @@ fn put_ballots<T: Threads + Sync, G: Gate>(
             Err(CountFault::NoMemory)
         }
     }
-}
-
-/// Writes the row of a desk: how many entries its journal has, and whether it is shut.
-pub fn put_entries(rows: &mut RowsWriter, desk: &Desk) -> Result<(), NoMemory>
-    ensures { OnOk result (rows.new.text ≡ rows.old.text ++ text_of_row (entries_row desk.now)) }
-{
-    let mut digits = Buffer::new();
-    let state = state_of(desk.is_shut());
-    rows.put_row(&["entries", digits.format(desk.entries()), state])?;
-    Ok(())
-}
-
-/// Whether a desk is shut, as its row says it.
-fn state_of(is_shut: bool) -> &'static str
-    ensures { result.now ≡ (if is_shut then codes "shut" else codes "open") }
-{
-    if is_shut { "shut" } else { "open" }
 }

@@ -8,10 +8,9 @@ ghost use Rattle.pb_commands.specs.Checked.{IsTextOfCheck, fault_row};
 ghost use Rattle.pb_commands.specs.Inner.Checked.{warning_row};
 ghost use Rattle.pb_commands.specs.Ends.{HasWritten, IsOutsideFault};
 
-use crate::fault::AppFault;
-use crate::run_count::write_out;
 use itoa::Buffer;
 use pb_core::no_memory::NoMemory;
+use pb_faults::{AppFault, write_out};
 use pb_read::{ReadFault, Warning, Watch, list_faults};
 use pb_rows::RowsWriter;
 use std::alloc::Global;
@@ -60,7 +59,7 @@ fn put_out<W: Write, N: Watch>(
     ensures unchanged { IfErr result (λ fault. fault ≢ AppFault.Write → writer.new ≡ writer.old) }
 {
     let text = check_text(alloc, faults, notes)?;
-    write_out(writer, text.as_slice())
+    write_out(writer, text.as_slice(), AppFault::Write)
 }
 
 /// The text of the rows of these faults, and of the warnings.

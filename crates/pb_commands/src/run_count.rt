@@ -1,18 +1,17 @@
 //! The command `count`: a file's report.
 
 ghost use Rattle.std.specs.Prelude.{◌≡◌, ◌≢◌, ◌++◌, ℕ, List, IfErr, IfOk, IfSome, OnOk};
-ghost use Rattle.std.specs.Io.KnownBytes.{Appends};
 ghost use Rattle.pb_rounds.specs.Counted.{IsCountFault};
 ghost use Rattle.pb_rounds.specs.declared.count_fault.CountFault.TheVariants as count;
 ghost use Rattle.pb_commands.specs.Counted.{CountRefuses, CountWrites, IsReportOf};
 ghost use Rattle.pb_commands.specs.Ends.{Accepts, FailsBy, HasWritten};
-ghost use Rattle.pb_commands.specs.Fault.{merged};
+ghost use Rattle.pb_faults.specs.Fault.{merged};
 
 use crate::counting::Counting;
-use crate::fault::AppFault;
 use crate::report::put_report;
 use pb_core::election::Election;
 use pb_core::gate::{Gate, NoGate};
+use pb_faults::{AppFault, write_out};
 use pb_read::read_pb;
 use pb_rounds::count::count_watched;
 use pb_rounds::count_fault::CountFault;
@@ -88,7 +87,7 @@ pub fn run_count_watched<T: Threads + Sync, R: Read + Drop, G: Gate, W: Write>(
     let report = report_text(counting, &election);
     drop(election);
     let text = report?;
-    write_out(writer, text.as_slice())
+    write_out(writer, text.as_slice(), AppFault::Write)
 }
 
 /// The report of an election, counted with these options.
@@ -133,16 +132,5 @@ pub(crate) fn put_count<T: Threads + Sync, G: Gate>(
     let (rt, alloc) = (counting.rt, counting.alloc);
     let outcome = count_watched(rt, alloc, election, counting.options, counting.gate)?;
     put_report(rows, alloc, election, &outcome)?;
-    Ok(())
-}
-
-/// Writes the whole text, and sees that it leaves the writer.
-pub(crate) fn write_out<W: Write>(writer: &mut W, text: &[u8]) -> Result<(), AppFault>
-    ensures ok { OnOk result (Appends (W.contents writer.old) (W.contents writer.new) text.now) }
-    ensures fault { IfErr result (λ fault. fault ≡ AppFault.Write) }
-{
-    if writer.write_all(text).is_err() || writer.flush().is_err() {
-        return Err(AppFault::Write);
-    }
     Ok(())
 }

@@ -4,11 +4,10 @@ ghost use Rattle.std.specs.Prelude.{◌≡◌, ◌≢◌, IfErr, IfSome, OnOk};
 ghost use Rattle.pb_commands.specs.DeskRun.{DeskRefuses, DeskWrites};
 ghost use Rattle.pb_commands.specs.Inner.DeskRun.{unserved};
 ghost use Rattle.pb_commands.specs.Ends.{Accepts, FailsBy, HasWritten, IfBothKnown, JudgesFile};
-ghost use Rattle.pb_commands.specs.Fault.{merged};
+ghost use Rattle.pb_faults.specs.Fault.{merged};
 
-use crate::fault::AppFault;
-use crate::run_count::write_out;
 use pb_core::gate::Gate;
+use pb_faults::{AppFault, write_out};
 use pb_read::read_pb;
 use pb_script::ServeFault;
 use pb_script::serve_script::serve_script;
@@ -66,7 +65,7 @@ pub fn run_desk<T: Threads + Sync, P: Read + Drop, S: Read + Drop, G: Gate, W: W
         Ok(text) => text,
         Err(fault) => return Err(unserved(fault)),
     };
-    write_out(writer, text.as_slice())
+    write_out(writer, text.as_slice(), AppFault::Write)
 }
 
 /// A script that is not served, as a run answers it.

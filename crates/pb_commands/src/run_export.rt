@@ -6,14 +6,13 @@ ghost use Rattle.pb_rows.specs.Reading.{records_of};
 ghost use Rattle.pb_commands.specs.Closed.{Leaves};
 ghost use Rattle.pb_commands.specs.Ends.{Accepts, FailsBy, HasWritten, IfBothKnown, JudgesFile};
 ghost use Rattle.pb_commands.specs.Exported.{ClosedExportRefuses, ExportRefuses, ExportWrites};
-ghost use Rattle.pb_commands.specs.Fault.{merged};
+ghost use Rattle.pb_faults.specs.Fault.{merged};
 
 use crate::closed_desk::closed_ballots;
 use crate::counting::Counting;
 use crate::export_text::export_text;
-use crate::fault::AppFault;
-use crate::run_count::write_out;
 use pb_core::gate::Gate;
+use pb_faults::{AppFault, write_out};
 use pb_read::read_pb;
 use std::io::{Read, Write};
 use std::thread::Threads;
@@ -53,7 +52,7 @@ pub fn run_export<T: Threads + Sync, R: Read + Drop, G: Gate, W: Write>(
     let made = export_text(counting, &election);
     drop(election);
     match made {
-        Ok(text) => write_out(writer, text.as_slice()),
+        Ok(text) => write_out(writer, text.as_slice(), AppFault::Write),
         Err(fault) => Err(fault),
     }
 }
@@ -101,7 +100,7 @@ pub fn run_closed_export<T: Threads + Sync, P: Read + Drop, J: Read + Drop, G: G
     let made = export_text(counting, &election);
     drop(election);
     match made {
-        Ok(text) => write_out(writer, text.as_slice()),
+        Ok(text) => write_out(writer, text.as_slice(), AppFault::Write),
         Err(fault) => Err(fault),
     }
 }

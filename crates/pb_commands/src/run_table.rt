@@ -8,20 +8,20 @@ ghost use Rattle.pb_rows.specs.Reading.{records_of};
 ghost use Rattle.pb_commands.specs.Closed.{ClosedRefuses, Leaves};
 ghost use Rattle.pb_commands.specs.Counted.{CountRefuses};
 ghost use Rattle.pb_commands.specs.Ends.{Accepts, FailsBy, HasWritten, IfBothKnown, JudgesFile};
-ghost use Rattle.pb_commands.specs.Fault.{merged};
+ghost use Rattle.pb_faults.specs.Fault.{merged};
 ghost use Rattle.pb_commands.specs.Tabled.{IsTableOf, TableWrites};
 ghost use Rattle.pb_commands.specs.Tables.{table_of};
 
 use crate::closed_desk::closed_ballots;
 use crate::counting::Counting;
-use crate::fault::AppFault;
 use crate::projects_table::put_projects;
-use crate::run_count::{finished, write_out};
+use crate::run_count::finished;
 use crate::table::Table;
 use crate::voters_table::put_voters;
 use pb_core::election::Election;
 use pb_core::gate::Gate;
 use pb_core::no_memory::NoMemory;
+use pb_faults::{AppFault, write_out};
 use pb_read::read_pb;
 use pb_rounds::count::count_watched;
 use pb_rounds::count_fault::CountFault;
@@ -67,7 +67,7 @@ pub fn run_table<T: Threads + Sync, R: Read + Drop, G: Gate, W: Write>(
     let made = table_text(counting, &election, table);
     drop(election);
     let text = made?;
-    write_out(writer, text.as_slice())
+    write_out(writer, text.as_slice(), AppFault::Write)
 }
 
 /// Reads a .pb file and a journal, audits the journal, counts the ballots that its shut desk leaves with these options,
@@ -110,7 +110,7 @@ pub fn run_closed_table<T: Threads + Sync, P: Read + Drop, J: Read + Drop, G: Ga
     let made = table_text(counting, &election, table);
     drop(election);
     let text = made?;
-    write_out(writer, text.as_slice())
+    write_out(writer, text.as_slice(), AppFault::Write)
 }
 
 /// This table of an election, counted with these options.

@@ -18,8 +18,8 @@ use Rattle.pb_rows.specs.Writing.{text_of_row, text_of_rows}
 use Rattle.pb_script.specs.Script.{HasScriptForm}
 use Rattle.pb_script.specs.Inner.ScriptReading.{HaveGone, NoneLeft}
 use Rattle.pb_script.specs.declared.script_fault.ScriptFault.TheVariants.{BadRow}
-use Rattle.pb_commands.specs.Fault.{fields_of, line}
-use Rattle.pb_commands.specs.declared.fault.AppFault.TheVariants.{Script}
+use Rattle.pb_faults.specs.Fault.{line, told}
+use Rattle.pb_faults.specs.declared.fault.AppFault.TheVariants.{Script}
 use Rattle.pb_serving.specs.Answered.{answers_from, Answers, Becomes}
 use Rattle.pb_serving.specs.Inner.Batch.{Asks}
 
@@ -56,7 +56,7 @@ answers-some entry row (x ∷ entries) = ap (λ (l : List ℕ). text_of_row (row
 answers-append : (entry row : ℕ) (a b : List (Option EntryView)) → answers_from entry row (a ++ b) ≡ answers_from entry row a ++ answers_from (entry + length (added a)) (row + length a) b
 answers-append entry row [] b = let same : entry + 0 ≡ entry = omega arith in let here : row + 0 ≡ row = omega arith in rw (same, here) refl
 answers-append entry row (None ∷ a) b =
-    let said = line (fields_of (Script (BadRow row))) in
+    let said = line (told (Script (BadRow row))).1 in
     let at : suc row + length a ≡ row + length (None ∷ a) = omega arith in
     ap (λ (l : List ℕ). said ++ l) (answers-append entry (suc row) a b)
     ∙ sym (append_assoc said (answers_from entry (suc row) a) (answers_from (entry + length (added a)) (suc row + length a) b))
@@ -170,13 +170,13 @@ module _ (all left mid : Option (List Fields)) (old journal now : List EntryView
 
   -- a row that has not the form
   pub bad_more : (fields : Fields) → Progress all left old journal before after row bad → HaveGone left (fields ∷ []) mid → ¬ HasScriptForm most_clerks fields
-      → Appends after later (line (fields_of (Script (BadRow (row + 1))))) → Progress all mid old journal before later (row + 1) (bad + 1)
+      → Appends after later (line (told (Script (BadRow (row + 1)))).1) → Progress all mid old journal before later (row + 1) (bad + 1)
   bad_more fields p goes none said =
       let known = p.row_is in
       let sums = p.bad_is in
       let here : 1 + length p.became ≡ row + 1 = omega (arith, known) in
-      let alone : answers_from (length old + 1 + length (added p.became)) (row + 1) (None ∷ []) ≡ line (fields_of (Script (BadRow (row + 1)))) = append-nil _ in
-      let text : answers_from (length old + 1) 1 p.became ++ line (fields_of (Script (BadRow (row + 1)))) ≡ answers_from (length old + 1) 1 (p.became ++ None ∷ []) =
+      let alone : answers_from (length old + 1 + length (added p.became)) (row + 1) (None ∷ []) ≡ line (told (Script (BadRow (row + 1)))).1 = append-nil _ in
+      let text : answers_from (length old + 1) 1 p.became ++ line (told (Script (BadRow (row + 1)))).1 ≡ answers_from (length old + 1) 1 (p.became ++ None ∷ []) =
       ap (λ (l : List ℕ). answers_from (length old + 1) 1 p.became ++ l) (sym alone ∙ ap (λ (k : ℕ). answers_from (length old + 1 + length (added p.became)) k (None ∷ [])) (sym here))
       ∙ sym (answers-append (length old + 1) 1 p.became (None ∷ [])) in
       record {

@@ -11,9 +11,9 @@ use Rattle.pb_rows.specs.Reading.{Fields}
 use Rattle.pb_rows.specs.Writing.{text_of_row}
 use Rattle.pb_script.specs.Script.{HasScriptForm, IsScriptRow}
 use Rattle.pb_script.specs.declared.script_fault.ScriptFault.TheVariants.{BadRow}
-use Rattle.pb_commands.specs.Audited.{entries_row}
-use Rattle.pb_commands.specs.Fault.{fields_of, line}
-use Rattle.pb_commands.specs.declared.fault.AppFault.TheVariants.{Script}
+use Rattle.pb_faults.specs.DeskRow.{entries_row}
+use Rattle.pb_faults.specs.Fault.{line, told}
+use Rattle.pb_faults.specs.declared.fault.AppFault.TheVariants.{Script}
 
 -- what is said first: how many bytes were cut off the journal, where there were any, and the row of its desk
 abbrev pub heading : ℕ → DeskView → List ℕ
@@ -28,7 +28,7 @@ Becomes row (Some x) = IsScriptRow most_clerks row (record { clerk = x.clerk; re
 -- what is said to the rows that became these, where the next entry and the next row have these numbers
 abbrev pub answers_from : ℕ → ℕ → List (Option EntryView) → List ℕ
 answers_from entry row [] = []
-answers_from entry row (None ∷ more) = line (fields_of (Script (BadRow row))) ++ answers_from entry (suc row) more
+answers_from entry row (None ∷ more) = line (told (Script (BadRow row))).1 ++ answers_from entry (suc row) more
 answers_from entry row (Some x ∷ more) = text_of_row (row_of entry x) ++ answers_from (suc entry) (suc row) more
 
 -- these rows of the input were answered by this text, and their entries came to the journal

@@ -1,7 +1,7 @@
 -- What the program says of a fault of `serve`.
 use Rattle.std.specs.Prelude.{ℕ, List, [], ◌∷◌, codes}
-use Rattle.pb_commands.specs.Fault.{merged, fields_of as of_app, status_of as app_status}
-use Rattle.pb_commands.specs.declared.fault.AppFault.TheVariants as app
+use Rattle.pb_faults.specs.Fault.{merged, told as of_app}
+use Rattle.pb_faults.specs.declared.fault.AppFault.TheVariants as app
 use Rattle.pb_desk.specs.declared.desk_fault.DeskFault.TheVariants as desk
 use Rattle.pb_durable.specs.declared.device_fault.DeviceFault.{DeviceFault}
 use Rattle.pb_durable.specs.declared.device_fault.DeviceFault.TheVariants as device
@@ -12,17 +12,11 @@ use Rattle.pb_durable.specs.declared.open_fault.OpenFault.TheVariants as opening
 use Rattle.pb_serving.specs.declared.serving_fault.ServingFault.{ServingFault}
 use Rattle.pb_serving.specs.declared.serving_fault.ServingFault.TheVariants.{App, Spelling, Output}
 
--- the fields of its line
-abbrev pub fields_of : ServingFault → List (List ℕ)
-fields_of (App fault) = of_app (merged fault)
-fields_of Spelling = codes "spelling" ∷ []
-fields_of Output = of_app app.Write
-
--- the status that the program then ends with
-abbrev pub status_of : ServingFault → ℕ
-status_of (App fault) = app_status (merged fault)
-status_of Spelling = 1
-status_of Output = 3
+-- the status that the program ends with, and the fields of its line
+abbrev pub told : ServingFault → ℕ × List (List ℕ)
+told (App fault) = of_app (merged fault)
+told Spelling = (1, codes "spelling" ∷ [])
+told Output = of_app app.Write
 
 -- the fault of a journal that was not read or written
 abbrev pub of_device : DeviceFault → ServingFault

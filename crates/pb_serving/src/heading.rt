@@ -4,9 +4,9 @@ ghost use Rattle.std.specs.Prelude.{◌≡◌, ◌++◌, IfOk, OnOk};
 ghost use Rattle.pb_serving.specs.Answered.{heading};
 
 use itoa::Buffer;
-use pb_commands::run_audit::put_entries;
 use pb_core::no_memory::NoMemory;
 use pb_desk::Desk;
+use pb_faults::put_entries;
 use pb_rows::RowsWriter;
 use std::alloc::Global;
 

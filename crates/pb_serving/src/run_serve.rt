@@ -12,7 +12,7 @@ ghost use Rattle.pb_durable.specs.Inner.Either.{StandsForEither};
 ghost use Rattle.pb_rows.specs.Reading.{records_of, Fields};
 ghost use Rattle.pb_rows.specs.Writing.{text_of_rows};
 ghost use Rattle.pb_script.specs.declared.script_fault.ScriptFault.TheVariants.{BadRow};
-ghost use Rattle.pb_commands.specs.Fault.{fields_of, line};
+ghost use Rattle.pb_faults.specs.Fault.{line, told};
 ghost use Rattle.pb_serving.specs.Answered.{heading, Answers, StandsWithin};
 
 use crate::batch::{BatchEnd, next_batch};
@@ -20,8 +20,8 @@ use crate::heading::heading;
 use crate::incoming::Incoming;
 use crate::pace::Pace;
 use crate::serving_fault::ServingFault;
-use pb_commands::{AppFault, write_bad_row};
 use pb_durable::{Asked, Device, DurableDesk};
+use pb_faults::{AppFault, write_bad_row, write_out};
 use pb_script::{RequestRows, ScriptFault};
 use std::alloc::Global;
 use std::io::{Read, Write};
@@ -111,7 +111,7 @@ fn run<D: Device, R: Read + Drop, P: Pace, W: Write>(
         (StandsWithin desk.old.desk.opening.version desk.old.desk.journal desk.new.desk.journal) }
 {
     let opened = heading(alloc, torn, desk.desk())?;
-    write_out(writer, opened.as_slice())?;
+    write_out(writer, opened.as_slice(), ServingFault::Output)?;
     let Incoming { input, pace } = incoming;
     let mut rows = RequestRows::new(alloc, input);
     let served = serve_rows(alloc, desk, &mut rows, pace, writer);
@@ -205,27 +205,16 @@ fn answer<D: Device, W: Write>(
     let answers = desk.serve_all(alloc, asks)?;
     drop(answers);
     let text = desk.desk().rows_after(alloc, before)?;
-    write_out(writer, text.as_slice())
+    write_out(writer, text.as_slice(), ServingFault::Output)
 }
 
 /// Says that this row, from 1, has not the form.
 fn say_bad_row<W: Write>(writer: &mut W, row: u64) -> Result<(), ServingFault>
     ensures ok { OnOk result (Appends (W.contents writer.old) (W.contents writer.new)
-        (line (fields_of (AppFault.Script (BadRow row))))) }
+        (line (told (AppFault.Script (BadRow row))).1)) }
     ensures fault { IfErr result (λ fault. fault ≡ ServingFault.Output) }
 {
     if write_bad_row(writer, row).is_err() || writer.flush().is_err() {
-        return Err(ServingFault::Output);
-    }
-    Ok(())
-}
-
-/// Writes the whole text, and sees that it leaves the writer.
-fn write_out<W: Write>(writer: &mut W, text: &[u8]) -> Result<(), ServingFault>
-    ensures ok { OnOk result (Appends (W.contents writer.old) (W.contents writer.new) text.now) }
-    ensures fault { IfErr result (λ fault. fault ≡ ServingFault.Output) }
-{
-    if writer.write_all(text).is_err() || writer.flush().is_err() {
         return Err(ServingFault::Output);
     }
     Ok(())

@@ -2,13 +2,13 @@
 
 ghost use Rattle.std.specs.Prelude.{◌≡◌, OnOk};
 ghost use Rattle.std.specs.Io.KnownBytes.{Appends};
-ghost use Rattle.pb_commands.specs.Fault.{line};
-ghost use Rattle.pb_serving.specs.Fault.{fields_of, status_of};
+ghost use Rattle.pb_faults.specs.Fault.{line};
+ghost use Rattle.pb_serving.specs.Fault.{told};
 
-use pb_commands::AppFault;
 use pb_core::no_memory::NoMemory;
 use pb_desk::DeskFault;
 use pb_durable::{DeviceFault, DurableFault, OpenFault};
+use pb_faults::AppFault;
 use std::io;
 use std::io::Write;
 use thiserror::Error;
@@ -35,7 +35,7 @@ pub enum ServingFault {
 impl ServingFault {
     /// Writes the fault's line. After a fault some of the line may have gone out.
     pub fn write_line<W: Write>(&self, writer: &mut W) -> io::Result<()>
-        ensures { OnOk result (Appends (W.contents writer.old) (W.contents writer.new) (line (fields_of self.now))) }
+        ensures { OnOk result (Appends (W.contents writer.old) (W.contents writer.new) (line (told self.now).1)) }
     {
         match self {
             ServingFault::App(fault) => fault.write_line(writer),
@@ -46,7 +46,7 @@ impl ServingFault {
 
     /// The status that the program then ends with.
     pub fn status(&self) -> u8
-        ensures { result ≡ status_of self.now }
+        ensures { result ≡ (told self.now).0 }
     {
         match self {
             ServingFault::App(fault) => fault.status(),
@@ -113,7 +113,7 @@ impl From<DurableFault> for ServingFault {
 
 impl From<NoMemory> for ServingFault {
     ghost use Rattle.std.specs.Prelude.{◌≡◌};
-    ghost use Rattle.pb_commands.specs.declared.fault.AppFault.TheVariants.{Memory};
+    ghost use Rattle.pb_faults.specs.declared.fault.AppFault.TheVariants.{Memory};
     ghost use Rattle.pb_serving.specs.declared.serving_fault.ServingFault.TheVariants.{App};
 
     ghost from_gives = { λ _ e. e ≡ App Memory };

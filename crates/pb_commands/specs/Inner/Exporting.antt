@@ -5,8 +5,8 @@ use Rattle.pb_reasons.specs.declared.project_reason.Ending.{Ending}
 use Rattle.pb_reasons.specs.declared.project_reason.Ending.TheVariants.{Won, Lost}
 use Rattle.pb_rounds.specs.declared.options.CountOptions.{CountOptions}
 use Rattle.pb_commands.specs.Exported.{ExportRefuses}
-use Rattle.pb_commands.specs.declared.fault.AppFault.{AppFault}
-use Rattle.pb_commands.specs.declared.fault.AppFault.TheVariants.{Memory}
+use Rattle.pb_faults.specs.declared.fault.AppFault.{AppFault}
+use Rattle.pb_faults.specs.declared.fault.AppFault.TheVariants.{Memory}
 
 -- memory was refused, or the election is
 abbrev pub IsStopped : CountOptions → ElectionView → AppFault → Type 0

@@ -2,7 +2,7 @@ use Rattle.std.proofs.Common.{◌≡◌, false, true, rules}
 use Rattle.pb_desk.specs.Desk.{standing_of}
 use Rattle.pb_commands.proofs.Accepted.{stays_merged}
 use Rattle.pb_commands.proofs.ClosedDesks.{is_file, journal_bars, journal_is_judged, journal_refuses, left_bars, left_is_file, left_is_judged, left_is_merged, left_ok, left_refuses, open_bars, open_refuses, reader_bars, reader_is_judged, reader_refuses}
-use Rattle.pb_commands.specs.declared.fault.AppFault.TheVariants.{Read, Audit}
+use Rattle.pb_faults.specs.declared.fault.AppFault.TheVariants.{Read, Audit}
 use Rattle.pb_commands.proofs.closed_desk.closed_ballots.Goals as goal
 
 pub returns-in_err-election-clause-fault : goal.returns-in_err-election-clause-fault

@@ -2,7 +2,7 @@ use Rattle.pb_commands.proofs.Accepted.{refused_of_both, stays_merged}
 use Rattle.pb_commands.proofs.AuditAccepted.{audited_by_desk, audited_by_journal, audited_by_reader}
 use Rattle.pb_commands.proofs.AuditWritten.{audit_written, judged_by_audit, judged_by_count, judged_by_reader, judged_by_writer, refused_by_desk, refused_by_journal, write_fails}
 use Rattle.pb_commands.specs.Audited.{AuditRefuses, AuditWrites}
-use Rattle.pb_commands.specs.declared.fault.AppFault.TheVariants.{Read, Audit, Count}
+use Rattle.pb_faults.specs.declared.fault.AppFault.TheVariants.{Read, Audit, Count}
 use Rattle.pb_commands.proofs.run_audit.run_audit_watched.Goals as goal
 
 pub returns-in_err-election-clause-fault : goal.returns-in_err-election-clause-fault

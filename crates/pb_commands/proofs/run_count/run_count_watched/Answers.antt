@@ -1,6 +1,6 @@
 use Rattle.pb_commands.proofs.Accepted.{accepted_by_count, accepted_by_reader, refused_by_count, refused_by_reader, stays_merged}
 use Rattle.pb_commands.specs.Counted.{CountRefuses, CountWrites}
-use Rattle.pb_commands.specs.declared.fault.AppFault.TheVariants.{Read, Count}
+use Rattle.pb_faults.specs.declared.fault.AppFault.TheVariants.{Read, Count}
 use Rattle.pb_commands.proofs.run_count.run_count_watched.Goals as goal
 
 pub returns-in_err-election-clause-fault : goal.returns-in_err-election-clause-fault

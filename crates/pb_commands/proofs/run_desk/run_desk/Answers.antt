@@ -2,7 +2,7 @@ use Rattle.pb_commands.proofs.Accepted.{refused_of_both, stays_merged}
 use Rattle.pb_commands.proofs.AuditWritten.{judged_by_reader, judged_by_writer}
 use Rattle.pb_commands.proofs.DeskRuns.{accepted_by_reader, accepted_by_script, desk_unwritten, desk_written, judged_by_script, refused_by_script, script_merged}
 use Rattle.pb_commands.specs.DeskRun.{DeskRefuses, DeskWrites}
-use Rattle.pb_commands.specs.declared.fault.AppFault.TheVariants.{Read}
+use Rattle.pb_faults.specs.declared.fault.AppFault.TheVariants.{Read}
 use Rattle.pb_commands.proofs.run_desk.run_desk.Goals as goal
 
 pub returns-in_err-election-clause-fault : goal.returns-in_err-election-clause-fault

@@ -3,7 +3,7 @@ use Rattle.pb_rows.specs.Reading.{records_of}
 use Rattle.pb_commands.proofs.Accepted.{refused_by_reader, stays_merged}
 use Rattle.pb_commands.proofs.Exports.{accepted_by_reader, stopped_accepts}
 use Rattle.pb_commands.specs.Exported.{ExportRefuses, ExportWrites}
-use Rattle.pb_commands.specs.declared.fault.AppFault.TheVariants.{Read}
+use Rattle.pb_faults.specs.declared.fault.AppFault.TheVariants.{Read}
 use Rattle.pb_commands.proofs.run_export.run_export.Goals as goal
 
 pub returns-in_err-election-clause-fault : goal.returns-in_err-election-clause-fault

@@ -1,8 +1,8 @@
 use Rattle.pb_commands.proofs.Accepted.{given_fault, stays_merged}
 use Rattle.std.proofs.Common.{◌≡◌}
 use Rattle.pb_commands.proofs.ClosedTables.{barred_as, count_bars, count_judged, count_refuses, judged_as, refused_as, table_not_written, table_written, writer_judged}
-use Rattle.pb_commands.specs.Fault.{merged}
-use Rattle.pb_commands.specs.declared.fault.AppFault.TheVariants.{Count}
+use Rattle.pb_faults.specs.Fault.{merged}
+use Rattle.pb_faults.specs.declared.fault.AppFault.TheVariants.{Count}
 use Rattle.pb_commands.proofs.run_table.run_closed_table.Goals as goal
 
 pub returns-in_err-election-clause-fault : goal.returns-in_err-election-clause-fault

@@ -4,7 +4,7 @@ use Rattle.pb_read.specs.StandsFor.{StandsFor}
 use Rattle.pb_rows.specs.Reading.{records_of}
 use Rattle.pb_commands.specs.Counted.{CountRefuses}
 use Rattle.pb_commands.specs.Tabled.{TableWrites}
-use Rattle.pb_commands.specs.declared.fault.AppFault.TheVariants.{Read, Count}
+use Rattle.pb_faults.specs.declared.fault.AppFault.TheVariants.{Read, Count}
 use Rattle.pb_commands.proofs.run_table.run_table.Goals as goal
 
 pub returns-in_err-election-clause-fault : goal.returns-in_err-election-clause-fault

@@ -17,8 +17,8 @@ use Rattle.pb_serving.proofs.Answering.{any_err, bad_more, batch_more, done, gon
 use Rattle.pb_serving.proofs.Batches.{asks_clerks}
 use Rattle.pb_serving.proofs.Standings.{begins, goes_on, kept_all, kept_first}
 use Rattle.pb_script.specs.declared.script_fault.ScriptFault.TheVariants.{BadRow}
-use Rattle.pb_commands.specs.Fault.{fields_of, line}
-use Rattle.pb_commands.specs.declared.fault.AppFault.TheVariants.{Script}
+use Rattle.pb_faults.specs.Fault.{line, told}
+use Rattle.pb_faults.specs.declared.fault.AppFault.TheVariants.{Script}
 use Rattle.pb_serving.proofs.run_serve.serve_rows.Goals.{in-More, in-Bad+in_ok-say_bad_row-in-Bad}
 use Rattle.pb_serving.proofs.run_serve.serve_rows.Goals as goal
 
@@ -183,7 +183,7 @@ loop-preserved g c =
           let here = ends end.Bad w.in-Bad.is in
           let between = gone_mid left after batch.rows here.0 here.2 in
           let at : c.loop.row + c.len.result + 1 ≡ c.loop.row + length asks + 1 = omega (arith, size) in
-          let line_is = subst (λ (n : ℕ). Appends (contents c.answer.new.writer) (contents w.say_bad_row.new.writer) (line (fields_of (Script (BadRow n))))) at w.in_ok-say_bad_row-in-Bad.ensures.ok in
+          let line_is = subst (λ (n : ℕ). Appends (contents c.answer.new.writer) (contents w.say_bad_row.new.writer) (line (told (Script (BadRow n))).1)) at w.in_ok-say_bad_row-in-Bad.ensures.ok in
           record {
             few = omega (arith, row, size, few, before);
             fewer = omega (arith, row, bad, size, fewer);

@@ -1,6 +1,6 @@
 use Rattle.std.proofs.Common.{◌++◌, codes, flat_map, map, take}
 use Rattle.std.specs.Io.KnownBytes.{Appends}
-use Rattle.pb_commands.proofs.fault_line.write_fields.Given as goal
+use Rattle.pb_faults.proofs.fault_line.write_fields.Given as goal
 
 abbrev pub invariant-loop-field : goal.invariant-loop-field
 invariant-loop-field g l =

@@ -46,7 +46,7 @@ pub enum AppFault {
 
 impl AppFault {
     ghost use Rattle.std.specs.Prelude.{◌≡◌};
-    ghost use Rattle.pb_commands.specs.Fault.{merged};
+    ghost use Rattle.pb_faults.specs.Fault.{merged};
 
     /// The same fault; out of memory is `Memory`, whichever crate met it. The faults that runs answer are so.
     pub fn merged(&self) -> AppFault
@@ -70,8 +70,8 @@ impl AppFault {
 
 impl From<ReadFault> for AppFault {
     ghost use Rattle.std.specs.Prelude.{◌≡◌};
-    ghost use Rattle.pb_commands.specs.Fault.{merged};
-    ghost use Rattle.pb_commands.specs.declared.fault.AppFault.TheVariants.{Read};
+    ghost use Rattle.pb_faults.specs.Fault.{merged};
+    ghost use Rattle.pb_faults.specs.declared.fault.AppFault.TheVariants.{Read};
 
     ghost from_gives = { λ fault app. app ≡ merged (Read fault) };
 
@@ -82,8 +82,8 @@ impl From<ReadFault> for AppFault {
 
 impl From<AuditFault> for AppFault {
     ghost use Rattle.std.specs.Prelude.{◌≡◌};
-    ghost use Rattle.pb_commands.specs.Fault.{merged};
-    ghost use Rattle.pb_commands.specs.declared.fault.AppFault.TheVariants.{Audit};
+    ghost use Rattle.pb_faults.specs.Fault.{merged};
+    ghost use Rattle.pb_faults.specs.declared.fault.AppFault.TheVariants.{Audit};
 
     ghost from_gives = { λ fault app. app ≡ merged (Audit fault) };
 
@@ -94,8 +94,8 @@ impl From<AuditFault> for AppFault {
 
 impl From<CountFault> for AppFault {
     ghost use Rattle.std.specs.Prelude.{◌≡◌};
-    ghost use Rattle.pb_commands.specs.Fault.{merged};
-    ghost use Rattle.pb_commands.specs.declared.fault.AppFault.TheVariants.{Count};
+    ghost use Rattle.pb_faults.specs.Fault.{merged};
+    ghost use Rattle.pb_faults.specs.declared.fault.AppFault.TheVariants.{Count};
 
     ghost from_gives = { λ fault app. app ≡ merged (Count fault) };
 
@@ -106,8 +106,8 @@ impl From<CountFault> for AppFault {
 
 impl From<ExportFault> for AppFault {
     ghost use Rattle.std.specs.Prelude.{◌≡◌};
-    ghost use Rattle.pb_commands.specs.Fault.{merged};
-    ghost use Rattle.pb_commands.specs.declared.fault.AppFault.TheVariants.{Export};
+    ghost use Rattle.pb_faults.specs.Fault.{merged};
+    ghost use Rattle.pb_faults.specs.declared.fault.AppFault.TheVariants.{Export};
 
     ghost from_gives = { λ fault app. app ≡ merged (Export fault) };
 
@@ -118,7 +118,7 @@ impl From<ExportFault> for AppFault {
 
 impl From<NoMemory> for AppFault {
     ghost use Rattle.std.specs.Prelude.{◌≡◌};
-    ghost use Rattle.pb_commands.specs.declared.fault.AppFault.TheVariants.{Memory};
+    ghost use Rattle.pb_faults.specs.declared.fault.AppFault.TheVariants.{Memory};
 
     ghost from_gives = { λ _ app. app ≡ Memory };
 
@@ -129,7 +129,7 @@ impl From<NoMemory> for AppFault {
 
 impl From<AllocError> for AppFault {
     ghost use Rattle.std.specs.Prelude.{◌≡◌};
-    ghost use Rattle.pb_commands.specs.declared.fault.AppFault.TheVariants.{Memory};
+    ghost use Rattle.pb_faults.specs.declared.fault.AppFault.TheVariants.{Memory};
 
     ghost from_gives = { λ _ app. app ≡ Memory };
 

@@ -1,13 +1,12 @@
 //! What the program says of a fault: one line, and the status that it ends with.
 
-ghost use Rattle.std.specs.Prelude.{◌≡◌, ◌++◌, OnOk, codes, map};
+ghost use Rattle.std.specs.Prelude.{◌≡◌, ◌++◌, ◌∷◌, ◌==◌, [], OnOk, codes, decimal, if◌then◌else◌, map};
 ghost use Rattle.std.specs.Io.KnownBytes.{Appends};
-ghost use Rattle.pb_commands.specs.Fault.{fields_at, fields_of, line, merged, read_status, status_of};
+ghost use Rattle.pb_faults.specs.Fault.{line, merged, told, told_at};
 ghost use Rattle.pb_script.specs.declared.script_fault.ScriptFault.TheVariants.{BadRow};
 
 use crate::fault::AppFault;
 use itoa::Buffer;
-use pb_export::ExportFault;
 use pb_rounds::count_fault::CountFault;
 use std::io;
 use std::io::Write;
@@ -24,25 +23,29 @@ impl AppFault {
     /// the line may have gone out.
     pub fn write_line<W: Write>(&self, writer: &mut W) -> io::Result<()>
         ensures { OnOk result (Appends (W.contents writer.old) (W.contents writer.new)
-            (line (fields_of (merged self.now)))) }
+            (line (told (merged self.now)).1)) }
     {
         match self.merged() {
             AppFault::Read(fault) => {
                 let at = u64::from(fault.at);
-                write_numbered(writer, "read", fault.number(), fault.name(), at)
+                write_at(writer, "read", fault.number(), fault.name(), at)
             }
             AppFault::Script(fault) => {
                 let at = u64::from(fault.at());
-                write_numbered(writer, "script", fault.number(), fault.name(), at)
+                write_at(writer, "script", fault.number(), fault.name(), at)
             }
             AppFault::ClerkCount => write_fields(writer, &["clerks", "1", "ClerkCount"]),
             AppFault::Audit(fault) => {
                 let row = fault.at().unwrap_or(0);
-                write_numbered(writer, "audit", fault.number(), fault.name(), row)
+                write_at(writer, "audit", fault.number(), fault.name(), row)
             }
             AppFault::OpenDesk => write_fields(writer, &["open-desk"]),
-            AppFault::Count(fault) => write_count(writer, fault),
-            AppFault::Export(fault) => write_export(writer, fault),
+            AppFault::Count(fault) => {
+                write_numbered(writer, "count", fault.number(), fault.name())
+            }
+            AppFault::Export(fault) => {
+                write_numbered(writer, "export", fault.number(), fault.name())
+            }
             AppFault::Open(number) => write_open(writer, number),
             AppFault::Write => write_fields(writer, &["write"]),
             AppFault::Memory => write_fields(writer, &["memory"]),
@@ -52,7 +55,7 @@ impl AppFault {
     /// The status that the program then ends with: 1 where what it read or its count is refused, 2 where
     /// the arguments are, 3 where a device failed or memory was refused.
     pub fn status(&self) -> u8
-        ensures { result ≡ status_of (merged self.now) }
+        ensures { result ≡ (told (merged self.now)).0 }
     {
         match self.merged() {
             AppFault::Read(fault) => read_status(fault.number()),
@@ -69,7 +72,7 @@ impl AppFault {
 
 /// The status where a file, a script or a journal has the fault with this number: 1 is a reader that failed.
 fn read_status(number: u32) -> u8
-    ensures { result ≡ read_status number }
+    ensures { result ≡ (if number == 1 then 3 else 1) }
 {
     if number == 1 { NO_DEVICE } else { REFUSED }
 }
@@ -77,13 +80,13 @@ fn read_status(number: u32) -> u8
 /// Writes the line of a row of a script that has not the form. The rows have their numbers from 1.
 pub fn write_bad_row<W: Write>(writer: &mut W, row: u64) -> io::Result<()>
     ensures { OnOk result (Appends (W.contents writer.old) (W.contents writer.new)
-        (line (fields_of (AppFault.Script (BadRow row))))) }
+        (line (told (AppFault.Script (BadRow row))).1)) }
 {
-    write_numbered(writer, "script", 2, "BadRow", row)
+    write_at(writer, "script", 2, "BadRow", row)
 }
 
-/// Writes the line of a numbered fault, with its record or row.
-fn write_numbered<W: Write>(
+/// Writes the line of the fault with this number and name in this record or row.
+fn write_at<W: Write>(
     writer: &mut W,
     what: &str,
     number: u32,
@@ -91,7 +94,7 @@ fn write_numbered<W: Write>(
     at: u64,
 ) -> io::Result<()>
     ensures { OnOk result (Appends (W.contents writer.old) (W.contents writer.new)
-        (line (fields_at what.now number name.now at))) }
+        (line (told_at what.now number name.now at).1)) }
 {
     let mut number_digits = Buffer::new();
     let mut at_digits = Buffer::new();
@@ -99,30 +102,19 @@ fn write_numbered<W: Write>(
     write_fields(writer, &[what, number, name, at_digits.format(at)])
 }
 
-/// Writes the line of a count that is refused.
-fn write_count<W: Write>(writer: &mut W, fault: CountFault) -> io::Result<()>
+/// Writes the line of the fault with this number and name, which is of no record or row.
+fn write_numbered<W: Write>(writer: &mut W, what: &str, number: u32, name: &str) -> io::Result<()>
     ensures { OnOk result (Appends (W.contents writer.old) (W.contents writer.new)
-        (line (fields_of (AppFault.Count fault)))) }
+        (line (what.now ∷ decimal number ∷ name.now ∷ []))) }
 {
     let mut digits = Buffer::new();
-    let number = digits.format(fault.number());
-    write_fields(writer, &["count", number, fault.name()])
-}
-
-/// Writes the line of an election that is not exported.
-fn write_export<W: Write>(writer: &mut W, fault: ExportFault) -> io::Result<()>
-    ensures { OnOk result (Appends (W.contents writer.old) (W.contents writer.new)
-        (line (fields_of (AppFault.Export fault)))) }
-{
-    let mut digits = Buffer::new();
-    let number = digits.format(fault.number());
-    write_fields(writer, &["export", number, fault.name()])
+    write_fields(writer, &[what, digits.format(number), name])
 }
 
 /// Writes the line of the file with this number on the command line, which could not be opened.
 fn write_open<W: Write>(writer: &mut W, number: u32) -> io::Result<()>
     ensures { OnOk result (Appends (W.contents writer.old) (W.contents writer.new)
-        (line (fields_of (AppFault.Open number)))) }
+        (line (told (AppFault.Open number)).1)) }
 {
     let mut digits = Buffer::new();
     write_fields(writer, &["open", digits.format(number)])

@@ -1,0 +1,54 @@
+-- What the program says of a fault: one line, and the status that it then ends with.
+use Rattle.std.specs.Prelude.{ℕ, List, [], ◌∷◌, ◌++◌, ◌==◌, codes, decimal, flat_map, if◌then◌else◌, unwrap_or}
+use Rattle.pb_desk.specs.AuditFault.{numbered_name as of_audit}
+use Rattle.pb_desk.specs.declared.audit_fault.AuditFault.TheVariants as audit
+use Rattle.pb_export.specs.ExportFault.{numbered_name as of_export}
+use Rattle.pb_export.specs.declared.export_fault.ExportFault.TheVariants as export
+use Rattle.pb_read.specs.Kinds.{numbered_name as of_read}
+use Rattle.pb_read.specs.declared.fault.ReadKind.{ReadKind}
+use Rattle.pb_read.specs.declared.fault.ReadKind.TheVariants as read
+use Rattle.pb_rounds.specs.CountFault.{numbered_name as of_count}
+use Rattle.pb_rounds.specs.declared.count_fault.CountFault.TheVariants as count
+use Rattle.pb_script.specs.ScriptFault.{numbered_name as of_script}
+use Rattle.pb_script.specs.declared.script_fault.ScriptFault.TheVariants as script
+use Rattle.pb_faults.specs.declared.fault.AppFault.{AppFault}
+use Rattle.pb_faults.specs.declared.fault.AppFault.TheVariants.{Read, Script, ClerkCount, Audit, OpenDesk, Count, Export, Open, Write, Memory}
+
+-- the same fault, in which out of memory is one case, whichever crate met it
+abbrev pub merged : AppFault → AppFault
+merged (Read fault) = of_kind fault.kind
+  where
+    of_kind : ReadKind → AppFault
+    of_kind read.NoMemory = Memory
+    of_kind kind = Read fault
+merged (Script script.NoMemory) = Memory
+merged (Audit audit.NoMemory) = Memory
+merged (Count count.NoMemory) = Memory
+merged (Export export.NoMemory) = Memory
+merged fault = fault
+
+-- what is told of a file, a script or a journal that has the fault with this number and name in this record or
+-- row; fault 1 is a reader that failed
+abbrev pub told_at : List ℕ → ℕ → List ℕ → ℕ → ℕ × List (List ℕ)
+told_at what number name at = (if number == 1 then 3 else 1, what ∷ decimal number ∷ name ∷ decimal at ∷ [])
+
+-- What is told of a merged fault: the status that the program ends with, and the fields of its line. The status
+-- is 3 where a device failed or memory was refused; 2 where the arguments are refused, the options of a count
+-- among them; 1 where what was read is, or its count. Options in range can still be too few raises for a file.
+abbrev pub told : AppFault → ℕ × List (List ℕ)
+told (Read fault) = told_at (codes "read") (of_read fault.kind).0 (of_read fault.kind).1 fault.at
+told (Script fault) = told_at (codes "script") (of_script fault).0 (of_script fault).1 (of_script fault).2
+told ClerkCount = (2, codes "clerks" ∷ codes "1" ∷ codes "ClerkCount" ∷ [])
+told (Audit fault) =
+    told_at (codes "audit") (of_audit fault).0 (of_audit fault).1 (unwrap_or (of_audit fault).2 0)
+told OpenDesk = (1, codes "open-desk" ∷ [])
+told (Count count.RaisesSpent) = (1, codes "count" ∷ codes "4" ∷ codes "RaisesSpent" ∷ [])
+told (Count fault) = (2, codes "count" ∷ decimal (of_count fault).0 ∷ (of_count fault).1 ∷ [])
+told (Export fault) = (1, codes "export" ∷ decimal (of_export fault).0 ∷ (of_export fault).1 ∷ [])
+told (Open number) = (3, codes "open" ∷ decimal number ∷ [])
+told Write = (3, codes "write" ∷ [])
+told Memory = (3, codes "memory" ∷ [])
+
+-- the line of these fields: a `;` stands before each
+abbrev pub line : List (List ℕ) → List ℕ
+line fields = codes "fault" ++ (flat_map (λ field. codes ";" ++ field) fields ++ codes "\n")

@@ -1,0 +1,13 @@
+//! What several commands say alike: the line of each fault, with the status that the program then ends with, the row of a
+//! desk, and how a text goes out.
+#![tactic(auto)]
+
+mod desk_row;
+pub mod fault;
+mod fault_line;
+mod writing;
+
+pub use desk_row::put_entries;
+pub use fault::AppFault;
+pub use fault_line::{BAD_ARGUMENTS, write_bad_row};
+pub use writing::write_out;
