@@ -34,17 +34,18 @@ impl<F: Read> Walk<F> {
             if !self.records.advance() {
                 return Ok(false);
             }
+            self.keep(false)?;
             let mark = self.records.mark();
-            self.ids.keep(&self.seen, &self.records.last, mark, false)?;
             self.seen.take(&self.records.last, mark);
         }
         Ok(self.records.advance())
     }
 
-    /// Leaves the record out that was read last.
-    pub(crate) fn leave_out(&mut self) -> Result<(), AllocError> {
+    /// Keeps the id of the record that was read last, which is left out or not.
+    pub(crate) fn keep(&mut self, is_left_out: bool) -> Result<(), AllocError> {
         let mark = self.records.mark();
-        self.ids.keep(&self.seen, &self.records.last, mark, true)
+        self.ids
+            .keep(&self.seen, &self.records.last, mark, is_left_out)
     }
 
     /// The record that was read last, with its fault.
@@ -53,7 +54,7 @@ impl<F: Read> Walk<F> {
             kind,
             record: &self.records.last,
             mark: self.records.mark(),
-            seen: self.seen,
+            seen: &self.seen,
         }
     }
 }
