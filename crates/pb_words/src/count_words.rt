@@ -32,15 +32,19 @@ pub fn count_words<R: Files>(
 
 /// Puts which option a count refuses.
 fn put_option(out: &mut Words, fault: CountFault, options: &CountOptions) {
-    let (option, value, range) = match fault {
-        CountFault::WorkerCount => ("workers", u64::from(options.workers), "1 to 64"),
-        CountFault::StepRange => ("step", options.step.0, "1 to 1000000000"),
-        CountFault::RaisesRange => ("raises", u64::from(options.max_raises), "0 to 1000000"),
-        CountFault::RaisesSpent | CountFault::NoMemory => {
-            return out.put("Memory was refused.\n");
+    match fault {
+        CountFault::WorkerCount => {
+            put_range(out, "workers", u64::from(options.workers), "1 to 64")
         }
-    };
-    put_range(out, option, value, range)
+        CountFault::StepRange => put_range(out, "step", options.step.0, "1 to 1000000000"),
+        CountFault::RaisesRange => put_range(
+            out,
+            "raises",
+            u64::from(options.max_raises),
+            "0 to 1000000",
+        ),
+        CountFault::RaisesSpent | CountFault::NoMemory => out.put("Memory was refused.\n"),
+    }
 }
 
 /// Puts that an option is out of its range.

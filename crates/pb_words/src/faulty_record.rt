@@ -4,8 +4,7 @@ use crate::fields::{bytes_at, column_of, place_of_no_text, text_at};
 use crate::mark::Mark;
 use crate::mark_words::put_subject;
 use crate::read_rules::words_of;
-use crate::section::{Section, Stage};
-use crate::seen::Seen;
+use crate::section::{Names, Section, Stage};
 use crate::words::Value::{Bytes, Number, Quoted, Text};
 use crate::words::Words;
 use csv::ByteRecord;
@@ -25,15 +24,21 @@ pub(crate) struct FaultyRecord<'r> {
     pub(crate) record: &'r ByteRecord,
     /// Where the record begins.
     pub(crate) mark: Mark,
-    /// What the records before say.
-    pub(crate) seen: &'r Seen,
+    /// What might come where it stands, and what things are called there.
+    pub(crate) stage: Stage,
+    pub(crate) names: &'static Names,
+    /// The row's id, and its other value; the empty text where it has none.
+    pub(crate) id: &'r str,
+    pub(crate) value: &'r str,
+    /// Whether the row does not end before its id.
+    pub(crate) reaches_id: bool,
 }
 
 impl<'r> FaultyRecord<'r> {
     /// What to do about a row that is in another form than rows have, or in the wrong section.
     pub(crate) fn remedy(&self) -> Option<&'static str> {
-        let is_project = self.seen.stage == Stage::Rows(Section::Projects);
-        if is_project && column_of(self.record, Section::Votes.names().id_column).is_some() {
+        let is_project = self.stage == Stage::Rows(Section::Projects);
+        if is_project && column_of(self.record, "voter_id").is_some() {
             return Some(NO_VOTES);
         }
         let is_one_field = self.kind == ReadKind::MissingField && self.record.len() == 1;
@@ -45,25 +50,36 @@ impl<'r> FaultyRecord<'r> {
 
     /// Puts what is wrong with the record by itself.
     pub(crate) fn put(&self, out: &mut Words) {
-        let names = self.seen.stage.section().names();
-        let id = self.seen.id(self.record);
         match self.kind {
             ReadKind::NotText => self.put_no_text(out),
-            ReadKind::NoSection => {
-                self.put_head(out, " is no section's head, and META is due.\n", "")
+            ReadKind::NoSection => self.put_head(out, " is no section's head, and META is due.\n"),
+            ReadKind::SectionOrder => self.put_head(out, self.stage.due_head()),
+            ReadKind::NoHeader => {
+                self.put_head(out, " stands where ");
+                out.put(self.names.header_due)
             }
-            ReadKind::SectionOrder => self.put_head(out, self.seen.stage.due_head(), ""),
-            ReadKind::NoHeader => self.put_head(out, " stands where ", names.header_due),
             ReadKind::MissingColumn => self.put_no_column(out),
             ReadKind::MissingField => self.put_short(out),
-            ReadKind::EmptyId => self.put_value(out, names.id_column, "", id),
+            ReadKind::EmptyId => self.put_value(out, self.names.id_column, "", self.id),
             ReadKind::BadMoney
             | ReadKind::MoneyTooFine
             | ReadKind::MoneyTooLarge
             | ReadKind::ZeroCost => {
-                self.put_value(out, names.value_column, id, self.seen.value(self.record))
+                self.put_value(out, self.names.value_column, self.id, self.value)
             }
             kind => out.fill(": {}.\n", &[Text(words_of(kind).what)]),
+        }
+    }
+
+    /// Puts on which line its id stood first, where that is known.
+    pub(crate) fn put_repeated(&self, out: &mut Words, first: Option<u64>) {
+        out.fill(
+            ", column {}: {}",
+            &[Text(self.names.id_column), Quoted(self.id)],
+        );
+        match first {
+            Some(line) => out.fill(" stood first on line {}.\n", &[Number(line)]),
+            None => out.put(" stood in an earlier row.\n"),
         }
     }
 
@@ -78,19 +94,16 @@ impl<'r> FaultyRecord<'r> {
         )
     }
 
-    fn put_head(&self, out: &mut Words, rule: &str, due: &str) {
-        out.fill(
-            ": {}{}{}",
-            &[Quoted(text_at(self.record, 0)), Text(rule), Text(due)],
-        )
+    fn put_head(&self, out: &mut Words, rule: &str) {
+        out.fill(": {}", &[Quoted(text_at(self.record, 0))]);
+        out.put(rule)
     }
 
     fn put_no_column(&self, out: &mut Words) {
-        let names = self.seen.stage.section().names();
-        let missing = if column_of(self.record, names.id_column).is_some() {
-            names.value_column
+        let missing = if column_of(self.record, self.names.id_column).is_some() {
+            self.names.value_column
         } else {
-            names.id_column
+            self.names.id_column
         };
         out.fill(
             ": the row of column names begins with {} and lacks the column `{}`.\n",
@@ -99,12 +112,11 @@ impl<'r> FaultyRecord<'r> {
     }
 
     fn put_short(&self, out: &mut Words) {
-        let names = self.seen.stage.section().names();
-        put_subject(out, names.subject, self.seen.id(self.record));
-        let missing = if self.seen.id_place.unwrap_or(0) < self.record.len() {
-            names.value_column
+        put_subject(out, self.names.subject, self.id);
+        let missing = if self.reaches_id {
+            self.names.value_column
         } else {
-            names.id_column
+            self.names.id_column
         };
         out.fill(": the row ends before the column `{}`.\n", &[Text(missing)])
     }
@@ -112,7 +124,8 @@ impl<'r> FaultyRecord<'r> {
     /// Puts a value of this column, in the row with this id, and the rule that it breaks.
     fn put_value(&self, out: &mut Words, column: &str, id: &str, value: &str) {
         out.fill(", column {}", &[Text(column)]);
-        put_subject(out, self.seen.stage.section().names().subject, id);
-        out.fill(": {}{}", &[Quoted(value), Text(words_of(self.kind).rule)])
+        put_subject(out, self.names.subject, id);
+        out.fill(": {}", &[Quoted(value)]);
+        out.put(words_of(self.kind).rule)
     }
 }

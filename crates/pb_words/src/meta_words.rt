@@ -72,12 +72,13 @@ pub(crate) fn put_missing_key<R: Files>(
     mark: Mark,
 ) {
     put_mark(out, text, mark);
-    let (key, remedy) = if seen.budget.is_none() {
-        ("budget", ADD_BUDGET)
+    let remedy = if seen.budget.is_none() {
+        out.put(": META ends here without the key `budget`.\n");
+        ADD_BUDGET
     } else {
-        ("vote_type", ADD_VOTE_TYPE)
+        out.put(": META ends here without the key `vote_type`.\n");
+        ADD_VOTE_TYPE
     };
-    out.fill(": META ends here without the key `{}`.\n", &[Own(key)]);
     put_separator(out, separator_at(text, seen.last), remedy)
 }
 

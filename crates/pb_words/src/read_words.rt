@@ -146,16 +146,23 @@ fn put_found<R: Files>(
 /// Puts what is wrong with a record, and what to do.
 fn put_record<R: Files>(out: &mut Words, text: &Text<'_, R>, ids: &Ids, faulty: &FaultyRecord<'_>) {
     put_mark(out, text, faulty.mark);
-    let remedy = match faulty.kind {
-        ReadKind::UnknownProject => put_unknown(out, text, ids, faulty),
-        ReadKind::RepeatedProject | ReadKind::RepeatedVoter => {
-            put_repeated(out, text, ids, faulty)
+    let mut remedy = words_of(faulty.kind).remedy;
+    match faulty.kind {
+        ReadKind::UnknownProject => {
+            let unknown = ids.unknown_of(faulty.value);
+            let left_out = line_at(text, ids.left_out.mark(unknown));
+            out.put(", column vote");
+            put_subject(out, "voter", faulty.id);
+            remedy = put_unknown(out, ids, unknown, left_out);
         }
-        kind => {
-            faulty.put(out);
-            words_of(kind).remedy
+        ReadKind::RepeatedProject => {
+            faulty.put_repeated(out, line_at(text, ids.projects.mark(faulty.id)))
         }
-    };
+        ReadKind::RepeatedVoter => {
+            faulty.put_repeated(out, line_at(text, ids.voters.mark(faulty.id)))
+        }
+        _ => faulty.put(out),
+    }
     if !put_quotes(out, text, faulty.mark) {
         put_remedy(out, text, faulty, remedy);
     }
@@ -168,7 +175,7 @@ fn put_remedy<R: Files>(
     faulty: &FaultyRecord<'_>,
     remedy: &str,
 ) {
-    let is_before_meta = faulty.seen.stage == Stage::Start && faulty.kind == ReadKind::NoSection;
+    let is_before_meta = faulty.stage == Stage::Start && faulty.kind == ReadKind::NoSection;
     if is_before_meta && put_late_meta(out, text, faulty.mark) {
         return;
     }
@@ -179,46 +186,19 @@ fn put_remedy<R: Files>(
     put_separator(out, separator, faulty.remedy().unwrap_or(remedy))
 }
 
-/// Puts where a repeated id stood first; answers what to do.
-fn put_repeated<R: Files>(
-    out: &mut Words,
-    text: &Text<'_, R>,
-    ids: &Ids,
-    faulty: &FaultyRecord<'_>,
-) -> &'static str {
-    let id = faulty.seen.id(faulty.record);
-    let column = faulty.seen.stage.section().names().id_column;
-    out.fill(", column {}: {}", &[Own(column), Quoted(id)]);
-    let first = match faulty.kind {
-        ReadKind::RepeatedVoter => ids.voters.mark(id),
-        _ => ids.projects.mark(id),
-    };
-    match first {
-        Some(first) => out.fill(
-            " stood first on line {}.\n",
-            &[Number(line_of(text, first))],
-        ),
-        None => out.put(" stood in an earlier row.\n"),
-    }
-    words_of(faulty.kind).remedy
+/// The line at which a record begins, if there is one.
+fn line_at<R: Files>(text: &Text<'_, R>, mark: Option<Mark>) -> Option<u64> {
+    Some(line_of(text, mark?))
 }
 
-/// Puts which id no project has, and the nearest one, or where that project was left out; answers what to do.
-fn put_unknown<R: Files>(
-    out: &mut Words,
-    text: &Text<'_, R>,
-    ids: &Ids,
-    faulty: &FaultyRecord<'_>,
-) -> &'static str {
-    out.put(", column vote");
-    put_subject(out, "voter", faulty.seen.id(faulty.record));
-    let unknown = ids.unknown_of(faulty.seen.value(faulty.record));
+/// Puts which id no project has, and the nearest one, or on which line that project was left out; answers what to do.
+fn put_unknown(out: &mut Words, ids: &Ids, unknown: &str, left_out: Option<u64>) -> &'static str {
     out.fill(": {}", &[Quoted(unknown)]);
-    match ids.left_out.mark(unknown) {
-        Some(mark) => {
+    match left_out {
+        Some(line) => {
             out.fill(
                 " is the id of a project that was left out, on line {}.\n",
-                &[Number(line_of(text, mark))],
+                &[Number(line)],
             );
             MEND_PROJECT
         }
@@ -245,14 +225,20 @@ fn put_no_project(out: &mut Words, ids: &Ids, unknown: &str) -> &'static str {
 
 /// Puts what is missing at the end of the file, where its records say this.
 fn put_end<R: Files>(out: &mut Words, text: &Text<'_, R>, seen: &Seen, kind: ReadKind) {
-    out.fill("{}: the file ends", &[Name(text.path)]);
+    let due = seen.stage.due_at_end();
     if seen.last.at > 0 {
         out.fill(
-            " after line {} (record {})",
-            &[Number(line_of(text, seen.last)), Number(seen.last.at)],
+            "{}: the file ends after line {} (record {}), and {}",
+            &[
+                Name(text.path),
+                Number(line_of(text, seen.last)),
+                Number(seen.last.at),
+                Own(due),
+            ],
         );
+    } else {
+        out.fill("{}: the file ends, and {}", &[Name(text.path), Own(due)]);
     }
-    out.fill(", and {}", &[Own(seen.stage.due_at_end())]);
     if !put_quotes(out, text, seen.last) {
         out.put(words_of(kind).remedy);
     }

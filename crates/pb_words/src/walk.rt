@@ -50,11 +50,16 @@ impl<F: Read> Walk<F> {
 
     /// The record that was read last, with its fault.
     pub(crate) fn faulty_record(&self, kind: ReadKind) -> FaultyRecord<'_> {
+        let record = &self.records.last;
         FaultyRecord {
             kind,
-            record: &self.records.last,
+            record,
             mark: self.records.mark(),
-            seen: &self.seen,
+            stage: self.seen.stage,
+            names: self.seen.stage.section().names(),
+            id: self.seen.id(record),
+            value: self.seen.value(record),
+            reaches_id: self.seen.id_place.unwrap_or(0) < record.len(),
         }
     }
 }
