@@ -8,7 +8,7 @@ use pb_core::money::Money;
 #[derive(Clone, Copy)]
 pub(crate) struct Claim {
     /// The number of its record.
-    at: u32,
+    at: u64,
     /// None where the value is no whole number.
     number: Option<u64>,
 }
@@ -36,7 +36,7 @@ impl Claims {
     }
 
     /// Takes a row of META, the record with this number.
-    pub(crate) fn take(&mut self, row: &ByteRecord, at: u32) {
+    pub(crate) fn take(&mut self, row: &ByteRecord, at: u64) {
         let key = text_at(row, 0);
         let value = text_at(row, 1);
         let number = whole_number(value);
@@ -63,7 +63,7 @@ impl Claims {
 }
 
 /// The number of a claim's record, where the claim is of other than so many.
-pub(crate) fn broken(claim: Option<Claim>, count: u64) -> Option<u32> {
+pub(crate) fn broken(claim: Option<Claim>, count: u64) -> Option<u64> {
     let claim = claim?;
     if claim.number == Some(count) {
         return None;

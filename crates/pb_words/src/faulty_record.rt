@@ -3,19 +3,19 @@
 use crate::fields::{bytes_at, column_of, place_of_no_text, text_at};
 use crate::mark::Mark;
 use crate::mark_words::put_subject;
-use crate::read_rules::{put_broken, words_of};
-use crate::section::{Section, Stage};
-use crate::seen::Seen;
+use crate::read_rules::words_of;
+use crate::section::{Names, Section, Stage};
+use crate::words::Value::{Bytes, Number, Quoted, Text};
 use crate::words::Words;
 use csv::ByteRecord;
 use pb_read::ReadKind;
 
 /// What to do about a row that is one field in quotes.
-const NO_QUOTES: &str = "Quotation marks make the whole row one field: take them out.";
+const NO_QUOTES: &str = "Quotation marks make the whole row one field: take them out.\n";
 
 /// What to do about the column names of VOTES among the projects.
 const NO_VOTES: &str =
-    "These are the column names of VOTES: put the section's head, VOTES, on a line before them.";
+    "These are the column names of VOTES: put the section's head, VOTES, on a line before them.\n";
 
 /// A record with its fault.
 #[derive(Clone, Copy)]
@@ -24,106 +24,108 @@ pub(crate) struct FaultyRecord<'r> {
     pub(crate) record: &'r ByteRecord,
     /// Where the record begins.
     pub(crate) mark: Mark,
-    /// What the records before say.
-    pub(crate) seen: Seen,
+    /// What might come where it stands, and what things are called there.
+    pub(crate) stage: Stage,
+    pub(crate) names: &'static Names,
+    /// The row's id, and its other value; the empty text where it has none.
+    pub(crate) id: &'r str,
+    pub(crate) value: &'r str,
+    /// Whether the row does not end before its id.
+    pub(crate) reaches_id: bool,
 }
 
 impl<'r> FaultyRecord<'r> {
-    /// The record's id; the empty text where it has none.
-    pub(crate) fn id(&self) -> &'r str {
-        self.seen.id(self.record)
-    }
-
-    /// The record's other value; the empty text where it has none.
-    pub(crate) fn value(&self) -> &'r str {
-        self.seen.value(self.record)
-    }
-
     /// What to do about a row that is in another form than rows have, or in the wrong section.
     pub(crate) fn remedy(&self) -> Option<&'static str> {
-        let is_project = self.seen.stage == Stage::Rows(Section::Projects);
-        if is_project && column_of(self.record, Section::Votes.id_column()).is_some() {
-            Some(NO_VOTES)
-        } else if self.kind == ReadKind::MissingField
-            && self.record.len() == 1
-            && bytes_at(self.record, 0).contains(&b';')
-        {
-            Some(NO_QUOTES)
-        } else {
-            None
+        let is_project = self.stage == Stage::Rows(Section::Projects);
+        if is_project && column_of(self.record, "voter_id").is_some() {
+            return Some(NO_VOTES);
         }
+        let is_one_field = self.kind == ReadKind::MissingField && self.record.len() == 1;
+        if is_one_field && bytes_at(self.record, 0).contains(&b';') {
+            return Some(NO_QUOTES);
+        }
+        None
     }
 
     /// Puts what is wrong with the record by itself.
     pub(crate) fn put(&self, out: &mut Words) {
-        let section = self.seen.section();
         match self.kind {
             ReadKind::NotText => self.put_no_text(out),
-            ReadKind::NoSection => {
-                self.put_head(out, " is no section's head, and META is due.\n")
-            }
-            ReadKind::SectionOrder => self.put_head(out, self.seen.stage.due_head()),
+            ReadKind::NoSection => self.put_head(out, " is no section's head, and META is due.\n"),
+            ReadKind::SectionOrder => self.put_head(out, self.stage.due_head()),
             ReadKind::NoHeader => {
                 self.put_head(out, " stands where ");
-                out.put(section.header_due())
+                out.put(self.names.header_due)
             }
             ReadKind::MissingColumn => self.put_no_column(out),
             ReadKind::MissingField => self.put_short(out),
-            ReadKind::EmptyId => self.put_value(out, section.id_column(), "", self.id()),
+            ReadKind::EmptyId => self.put_value(out, self.names.id_column, "", self.id),
             ReadKind::BadMoney
             | ReadKind::MoneyTooFine
             | ReadKind::MoneyTooLarge
             | ReadKind::ZeroCost => {
-                self.put_value(out, section.value_column(), self.id(), self.value())
+                self.put_value(out, self.names.value_column, self.id, self.value)
             }
-            kind => out.put_all(&[": ", words_of(kind).what, ".\n"]),
+            kind => out.fill(": {}.\n", &[Text(words_of(kind).what)]),
+        }
+    }
+
+    /// Puts on which line its id stood first, where that is known.
+    pub(crate) fn put_repeated(&self, out: &mut Words, first: Option<u64>) {
+        out.fill(
+            ", column {}: {}",
+            &[Text(self.names.id_column), Quoted(self.id)],
+        );
+        match first {
+            Some(line) => out.fill(" stood first on line {}.\n", &[Number(line)]),
+            None => out.put(" stood in an earlier row.\n"),
         }
     }
 
     fn put_no_text(&self, out: &mut Words) {
         let place = place_of_no_text(self.record).unwrap_or(0);
-        out.put(", field ");
-        out.put_number((place as u64).saturating_add(1));
-        out.put(": ");
-        out.put_quoted(bytes_at(self.record, place));
-        out.put(" is not UTF-8 text.\n");
+        out.fill(
+            ", field {}: {} is not UTF-8 text.\n",
+            &[
+                Number((place as u64).saturating_add(1)),
+                Bytes(bytes_at(self.record, place)),
+            ],
+        )
     }
 
     fn put_head(&self, out: &mut Words, rule: &str) {
-        out.put(": ");
-        out.put_quoted(text_at(self.record, 0).as_bytes());
-        out.put(rule);
+        out.fill(": {}", &[Quoted(text_at(self.record, 0))]);
+        out.put(rule)
     }
 
     fn put_no_column(&self, out: &mut Words) {
-        let section = self.seen.section();
-        let id = section.id_column();
-        let missing = match column_of(self.record, id) {
-            Some(_) => section.value_column(),
-            None => id,
+        let missing = if column_of(self.record, self.names.id_column).is_some() {
+            self.names.value_column
+        } else {
+            self.names.id_column
         };
-        out.put(": the row of column names begins with ");
-        out.put_quoted(text_at(self.record, 0).as_bytes());
-        out.put_all(&[" and lacks the column `", missing, "`.\n"]);
+        out.fill(
+            ": the row of column names begins with {} and lacks the column `{}`.\n",
+            &[Quoted(text_at(self.record, 0)), Text(missing)],
+        )
     }
 
     fn put_short(&self, out: &mut Words) {
-        let section = self.seen.section();
-        put_subject(out, section.subject(), self.id());
-        let missing = if self.seen.id_place.unwrap_or(0) < self.record.len() {
-            section.value_column()
+        put_subject(out, self.names.subject, self.id);
+        let missing = if self.reaches_id {
+            self.names.value_column
         } else {
-            section.id_column()
+            self.names.id_column
         };
-        out.put_all(&[": the row ends before the column `", missing, "`.\n"]);
+        out.fill(": the row ends before the column `{}`.\n", &[Text(missing)])
     }
 
     /// Puts a value of this column, in the row with this id, and the rule that it breaks.
     fn put_value(&self, out: &mut Words, column: &str, id: &str, value: &str) {
-        out.put(", column ");
-        out.put(column);
-        put_subject(out, self.seen.section().subject(), id);
-        out.put(": ");
-        put_broken(out, self.kind, value.as_bytes())
+        out.fill(", column {}", &[Text(column)]);
+        put_subject(out, self.names.subject, id);
+        out.fill(": {}", &[Quoted(value)]);
+        out.put(words_of(self.kind).rule)
     }
 }

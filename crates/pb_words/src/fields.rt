@@ -27,8 +27,7 @@ pub(crate) fn text_at(record: &ByteRecord, place: usize) -> &str {
 /// Whether all fields are empty once trimmed.
 pub(crate) fn is_blank(record: &ByteRecord) -> bool {
     for place in 0..record.len() {
-        let field = bytes_at(record, place);
-        if !field.is_empty() && !is_white(field) {
+        if !is_white(bytes_at(record, place)) {
             return false;
         }
     }

@@ -1,7 +1,8 @@
 //! Words for files: those that cannot be opened, read or written.
 
 use crate::mark_words::put_record_number;
-use crate::text::Text;
+use crate::text::{Text, is_file};
+use crate::words::Value::Name;
 use crate::words::Words;
 use std::alloc::{AllocError, Global};
 use std::fs;
@@ -11,7 +12,7 @@ use std::rt::Files;
 /// Words for a file that could not be opened. It is tried once more, for the system's reason.
 pub fn open_words<R: Files>(rt: &R, alloc: Global, path: &str) -> Result<String, AllocError> {
     let mut out = Words::new(alloc);
-    out.put_name(Some(path));
+    out.put_name(path);
     match fs::open(rt, path) {
         Ok(file) => {
             drop(file);
@@ -19,7 +20,7 @@ pub fn open_words<R: Files>(rt: &R, alloc: Global, path: &str) -> Result<String,
         }
         Err(error) => {
             out.put_error(&error);
-            out.put_all(&[open_remedy(error.kind()), "\n"]);
+            out.put(open_remedy(error.kind()));
         }
     }
     out.finish()
@@ -28,9 +29,11 @@ pub fn open_words<R: Files>(rt: &R, alloc: Global, path: &str) -> Result<String,
 /// What to do where a file cannot be opened for this reason.
 fn open_remedy(kind: ErrorKind) -> &'static str {
     match kind {
-        ErrorKind::NotFound => "Check the file's name, and the folder that the command runs in.",
-        ErrorKind::PermissionDenied => "Give yourself leave to read the file, or copy it.",
-        _ => "Check the file's name, and that it may be read.",
+        ErrorKind::NotFound => {
+            "Check the file's name, and the folder that the command runs in.\n"
+        }
+        ErrorKind::PermissionDenied => "Give yourself leave to read the file, or copy it.\n",
+        _ => "Check the file's name, and that it may be read.\n",
     }
 }
 
@@ -41,19 +44,15 @@ pub fn write_words(
     reason: Option<&Error>,
 ) -> Result<String, AllocError> {
     let mut out = Words::new(alloc);
-    match path {
-        Some(path) => out.put_name(Some(path)),
-        None => out.put("standard output"),
-    }
+    out.put_name(path.unwrap_or("standard output"));
     match reason {
         Some(error) => out.put_error(error),
         None => out.put(": the output could not be written.\n"),
     }
-    out.put(match path {
-        Some(_) => {
-            "Look for a full disk, or a folder that may not be written; what stood there stands.\n"
-        }
-        None => "Look for a full disk or a closed pipe; what was written in part is void.\n",
+    out.put(if path.is_some() {
+        "Look for a full disk, or a folder that may not be written; what stood there stands.\n"
+    } else {
+        "Look for a full disk or a closed pipe; what was written in part is void.\n"
     });
     out.finish()
 }
@@ -65,21 +64,26 @@ pub(crate) fn put_reading_failed<R: Files>(
     path: &str,
     at: u64,
 ) {
-    let is_file = match fs::metadata(text.rt, path) {
-        Ok(metadata) if metadata.is_dir() => {
-            out.put_name(Some(path));
-            return out.put(": this is a folder.\nName a file in it.\n");
-        }
-        Ok(metadata) => metadata.is_file(),
-        Err(_) => false,
-    };
+    if is_folder(text.rt, path) {
+        return out.fill(
+            "{}: this is a folder.\nName a file in it.\n",
+            &[Name(Some(path))],
+        );
+    }
     put_record_number(out, text, at);
-    if is_file {
+    if is_file(text.rt, path) {
         put_failure(text.rt, out, path);
     } else {
         out.put(": the reader failed.\n");
     }
-    out.put("Check the disk or the connection, then run again.\n");
+    out.put("Check the disk or the connection, then run again.\n")
+}
+
+fn is_folder<R: Files>(rt: &R, path: &str) -> bool {
+    match fs::metadata(rt, path) {
+        Ok(metadata) => metadata.is_dir(),
+        Err(_) => false,
+    }
 }
 
 /// Reads a file once more, and puts the system's reason where that fails too.
@@ -114,8 +118,6 @@ fn read_all<F: Read>(file: &mut F) -> Option<Error> {
 /// Words for a command line that names a file where a command is due.
 pub fn mistaken_words(alloc: Global, path: &str) -> Result<String, AllocError> {
     let mut out = Words::new(alloc);
-    out.put("Did you mean `pb_app count ");
-    out.put_name(Some(path));
-    out.put("`?\n");
+    out.fill("Did you mean `pb_app count {}`?\n", &[Name(Some(path))]);
     out.finish()
 }

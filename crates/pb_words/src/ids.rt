@@ -1,11 +1,11 @@
 //! The ids of a file's projects and voters, as far as it was read again.
 
 use crate::fields::is_blank;
+use crate::firsts::Firsts;
 use crate::mark::Mark;
 use crate::section::{Section, Stage};
 use crate::seen::Seen;
 use csv::ByteRecord;
-use pb_ids::IdTable;
 use pb_read::{ReadFault, ReadKind};
 use std::alloc::{AllocError, Global};
 use std::cell::Cell;
@@ -17,16 +17,16 @@ const LONGEST: usize = 64;
 /// For so many ids the nearest one is looked for.
 const MOST_COMPARED: u32 = 100;
 
-/// The ids of projects and voters that words may need, each with the place in `marks` of its first row.
+/// The ids of projects and voters that words may need, each with where its first row stands.
 #[derive(Drop)]
 pub(crate) struct Ids {
     alloc: Global,
     keeps_projects: bool,
     keeps_voters: bool,
-    projects: IdTable,
-    left_out: IdTable,
-    voters: IdTable,
-    marks: Vec<Mark>,
+    pub(crate) projects: Firsts,
+    /// The projects that were left out.
+    pub(crate) left_out: Firsts,
+    pub(crate) voters: Firsts,
     /// The ids of the projects that were not left out.
     project_ids: Vec<String>,
     compared: Cell<u32>,
@@ -35,15 +35,22 @@ pub(crate) struct Ids {
 impl Ids {
     /// No id yet; those will be kept that the words for these faults need.
     pub(crate) fn new(alloc: Global, faults: &[ReadFault]) -> Ids {
+        let mut keeps_projects = false;
+        let mut keeps_voters = false;
+        for fault in faults {
+            match fault.kind {
+                ReadKind::UnknownProject | ReadKind::RepeatedProject => keeps_projects = true,
+                ReadKind::RepeatedVoter => keeps_voters = true,
+                _ => {}
+            }
+        }
         Ids {
             alloc,
-            keeps_projects: has_kind(faults, ReadKind::UnknownProject)
-                || has_kind(faults, ReadKind::RepeatedProject),
-            keeps_voters: has_kind(faults, ReadKind::RepeatedVoter),
-            projects: IdTable::new(alloc),
-            left_out: IdTable::new(alloc),
-            voters: IdTable::new(alloc),
-            marks: Vec::new(alloc),
+            keeps_projects,
+            keeps_voters,
+            projects: Firsts::new(alloc),
+            left_out: Firsts::new(alloc),
+            voters: Firsts::new(alloc),
             project_ids: Vec::new(alloc),
             compared: Cell::new(0),
         }
@@ -64,73 +71,30 @@ impl Ids {
         match seen.stage {
             Stage::Rows(Section::Projects) if self.keeps_projects => {
                 if is_left_out {
-                    self.keep_left_out(id, mark)
+                    self.left_out.keep(self.alloc, id, mark)
                 } else {
                     self.keep_project(id, mark)
                 }
             }
             Stage::Rows(Section::Votes) if self.keeps_voters && !is_left_out => {
-                self.keep_voter(id, mark)
+                self.voters.keep(self.alloc, id, mark)
             }
             _ => Ok(()),
         }
     }
 
-    /// The place in `marks` that is next.
-    fn next_place(&self) -> u32 {
-        u32::try_from(self.marks.len()).unwrap_or(u32::MAX)
-    }
-
-    fn keep_left_out(&mut self, id: &str, mark: Mark) -> Result<(), AllocError> {
-        if self.left_out.get(id).is_some() {
-            return Ok(());
-        }
-        let place = self.next_place();
-        self.left_out.insert(self.alloc, id, place)?;
-        self.marks.push(mark)?;
-        Ok(())
-    }
-
     fn keep_project(&mut self, id: &str, mark: Mark) -> Result<(), AllocError> {
-        let place = self.next_place();
-        self.projects.insert(self.alloc, id, place)?;
-        self.marks.push(mark)?;
-        self.project_ids.push(String::from_str(self.alloc, id)?)?;
+        self.projects.keep(self.alloc, id, mark)?;
+        let id = String::from_str(self.alloc, id)?;
+        self.project_ids.push(id)?;
         Ok(())
-    }
-
-    fn keep_voter(&mut self, id: &str, mark: Mark) -> Result<(), AllocError> {
-        let place = self.next_place();
-        self.voters.insert(self.alloc, id, place)?;
-        self.marks.push(mark)?;
-        Ok(())
-    }
-
-    /// Where an id stood first in this section.
-    pub(crate) fn first(&self, section: Section, id: &str) -> Option<Mark> {
-        match section {
-            Section::Votes => self.mark_at(self.voters.get(id)),
-            _ => self.mark_at(self.projects.get(id)),
-        }
-    }
-
-    /// Where the project with this id stands, if it was left out.
-    pub(crate) fn left_out(&self, id: &str) -> Option<Mark> {
-        self.mark_at(self.left_out.get(id))
-    }
-
-    fn mark_at(&self, place: Option<u32>) -> Option<Mark> {
-        match self.marks.get(place? as usize) {
-            Some(mark) => Some(*mark),
-            None => None,
-        }
     }
 
     /// The first id that a vote names and that no project has.
     pub(crate) fn unknown_of<'v>(&self, vote: &'v str) -> &'v str {
         for piece in vote.split(',') {
             let id = piece.trim();
-            if !id.is_empty() && self.projects.get(id).is_none() {
+            if !id.is_empty() && !self.projects.has(id) {
                 return id;
             }
         }
@@ -141,7 +105,7 @@ impl Ids {
     pub(crate) fn are_apart_by_blanks(&self, piece: &str) -> bool {
         let mut count = 0u64;
         for id in piece.split_whitespace() {
-            if self.projects.get(id).is_none() {
+            if !self.projects.has(id) {
                 return false;
             }
             count = count.saturating_add(1);
@@ -149,9 +113,9 @@ impl Ids {
         count > 1
     }
 
-    /// The place in `project_ids` of the id that is nearest to this one, if one is near: it differs in case alone, or
-    /// in at most a third of the characters. It is looked for a limited number of times.
-    pub(crate) fn nearest(&self, id: &str) -> Result<Option<usize>, AllocError> {
+    /// The id of a project that is nearest to this one, if one is near: it differs in case alone, or in at most a third
+    /// of the characters. It is looked for a limited number of times.
+    pub(crate) fn nearest(&self, id: &str) -> Result<Option<&str>, AllocError> {
         let compared = self.compared.get();
         if compared >= MOST_COMPARED {
             return Ok(None);
@@ -159,37 +123,27 @@ impl Ids {
         self.compared.set(compared.saturating_add(1));
         nearest(self.alloc, self.project_ids.as_slice(), id)
     }
-
-    /// The id of a project that was not left out.
-    pub(crate) fn project_id(&self, place: usize) -> &str {
-        match self.project_ids.get(place) {
-            Some(id) => id.as_str(),
-            None => "",
-        }
-    }
 }
 
-fn has_kind(faults: &[ReadFault], kind: ReadKind) -> bool {
-    faults.iter().any(|fault| fault.kind == kind)
-}
-
-fn nearest(alloc: Global, project_ids: &[String], id: &str) -> Result<Option<usize>, AllocError> {
+fn nearest<'i>(
+    alloc: Global,
+    project_ids: &'i [String],
+    id: &str,
+) -> Result<Option<&'i str>, AllocError> {
     let length = id.chars().count();
     let mut best = None;
     let mut least = length / 3 + 1;
-    for place in 0..project_ids.len() {
-        let other = project_ids[place].as_str();
+    for other in project_ids {
+        let other = other.as_str();
         if other.eq_ignore_ascii_case(id) {
-            return Ok(Some(place));
+            return Ok(Some(other));
         }
-        if other.len() > LONGEST || id.len() > LONGEST {
-            continue;
-        }
-        if other.chars().count().abs_diff(length) < least {
+        let is_short = other.len() <= LONGEST && id.len() <= LONGEST;
+        if is_short && other.chars().count().abs_diff(length) < least {
             let distance = levenshtein(alloc, other, id)?;
             if distance < least {
                 least = distance;
-                best = Some(place);
+                best = Some(other);
             }
         }
     }

@@ -1,70 +1,70 @@
 //! What a file looks like that is none of the program's texts.
 
 use crate::text::Text;
-use crate::words::Words;
 use std::io::Read;
 use std::rt::Files;
 
-/// What a file looks like, and what to do with it.
+/// What a file looks like that begins with certain bytes.
 #[derive(Clone, Copy)]
-pub(crate) struct Looks {
-    what: &'static str,
-    remedy: &'static str,
+struct Look {
+    begins: &'static [u8],
+    /// What it looks like, and what to do with it.
+    words: &'static str,
 }
 
-impl Looks {
-    /// Puts what the file looks like, and what to do.
-    pub(crate) fn put(&self, out: &mut Words) {
-        out.put(": ");
-        out.put(self.what);
-        out.put(".\n");
-        out.put(self.remedy);
-        out.put("\n")
-    }
-}
+const LOOKS: &[Look] = &[
+    Look {
+        begins: b"\x1f\x8b",
+        words: ": the file looks like a gzip archive.\nUnpack it first, as by `gunzip`.\n",
+    },
+    Look {
+        begins: b"PK\x03\x04",
+        words: ": the file looks like a zip archive, or a document of an office program.\nUnpack it first, or save the document as text with `;` between the fields.\n",
+    },
+    Look {
+        begins: b"\xff\xfe",
+        words: UTF_16,
+    },
+    Look {
+        begins: b"\xfe\xff",
+        words: UTF_16,
+    },
+    Look {
+        begins: b"%PDF",
+        words: ": the file looks like a PDF document.\nFetch the file itself, which is text.\n",
+    },
+];
 
-/// What a text that is a file looks like by its first bytes; none where they say nothing.
-pub(crate) fn looks_of<R: Files>(text: &Text<'_, R>) -> Option<Looks> {
-    let mut file = text.open()?;
+const UTF_16: &str =
+    ": the file looks like text in the encoding UTF-16.\nSave the file again with the encoding UTF-8.\n";
+
+const EMPTY: &str = ": the file is empty.\nFetch or save the file again.\n";
+
+const WEB_PAGE: &str =
+    ": the file looks like a web page.\nFetch the file itself, and not the page that shows it.\n";
+
+/// What a text that is a file looks like by its first bytes, and what to do; none where they say nothing.
+pub(crate) fn looks_of<R: Files>(text: &Text<'_, R>) -> Option<&'static str> {
+    let mut file = text.open_at(0)?;
     let mut buffer = [0u8; 512];
-    let count = match file.read(&mut buffer) {
-        Ok(count) => count,
-        Err(_) => 0,
-    };
+    let count = file.read(&mut buffer).unwrap_or(0);
     drop(file);
     looks_by(&buffer[..count])
 }
 
 /// What a text looks like that begins with these bytes.
-fn looks_by(bytes: &[u8]) -> Option<Looks> {
-    if bytes.is_empty() {
-        return Some(Looks {
-            what: "the file is empty",
-            remedy: "Fetch or save the file again.",
-        });
+fn looks_by(bytes: &[u8]) -> Option<&'static str> {
+    for look in LOOKS {
+        if bytes.starts_with(look.begins) {
+            return Some(look.words);
+        }
     }
-    match bytes {
-        [0x1f, 0x8b, ..] => Some(Looks {
-            what: "the file looks like a gzip archive",
-            remedy: "Unpack it first, as by `gunzip`.",
-        }),
-        [b'P', b'K', 3, 4, ..] => Some(Looks {
-            what: "the file looks like a zip archive, or a document of an office program",
-            remedy: "Unpack it first, or save the document as text with `;` between the fields.",
-        }),
-        [0xff, 0xfe, ..] | [0xfe, 0xff, ..] => Some(Looks {
-            what: "the file looks like text in the encoding UTF-16",
-            remedy: "Save the file again with the encoding UTF-8.",
-        }),
-        [b'%', b'P', b'D', b'F', ..] => Some(Looks {
-            what: "the file looks like a PDF document",
-            remedy: "Fetch the file itself, which is text.",
-        }),
-        _ if is_web_page(bytes) => Some(Looks {
-            what: "the file looks like a web page",
-            remedy: "Fetch the file itself, and not the page that shows it.",
-        }),
-        _ => None,
+    if bytes.is_empty() {
+        Some(EMPTY)
+    } else if is_web_page(bytes) {
+        Some(WEB_PAGE)
+    } else {
+        None
     }
 }
 

@@ -3,29 +3,33 @@
 use crate::mark::Mark;
 use crate::quote::{Span, span_of};
 use crate::text::Text;
+use crate::words::Value::{Name, Number, Text as Own};
 use crate::words::Words;
 use std::rt::Files;
 
 /// What is said of a quotation mark that is never closed.
-const UNCLOSED: &str = " and is not closed, so all that follows is one field.
+const UNCLOSED: &str =
+    "A quotation mark opens on line {} and is not closed, so all that follows is one field.
 Close it, or double it where it belongs to the text.
 ";
 
+/// What is said of a field in quotes that runs over several lines.
+const OVER_LINES: &str =
+    "A quotation mark opens on line {} and is closed on line {}, so the lines between are one field.\n";
+
 /// Puts where a record stands that was not read again: `standard input: record 32`.
 pub(crate) fn put_record_number<R>(out: &mut Words, text: &Text<'_, R>, at: u64) {
-    out.put_name(text.path);
-    out.put_all(&[": ", text.unit, " "]);
-    out.put_number(at);
+    out.fill("{}: {} {}", &[Name(text.path), Own(text.unit), Number(at)])
 }
 
 /// Puts where a record begins: `city.pb: line 39 (record 32)`.
 pub(crate) fn put_mark<R: Files>(out: &mut Words, text: &Text<'_, R>, mark: Mark) {
-    out.put_name(text.path);
-    out.put(": line ");
-    out.put_number(line_of(text, mark));
-    out.put_all(&[" (", text.unit, " "]);
-    out.put_number(mark.at.saturating_sub(text.before));
-    out.put(")");
+    let line = line_of(text, mark);
+    let at = mark.at.saturating_sub(text.before);
+    out.fill(
+        "{}: line {} ({} {})",
+        &[Name(text.path), Number(line), Own(text.unit), Number(at)],
+    )
 }
 
 /// The line at which a record begins.
@@ -39,8 +43,8 @@ pub(crate) fn line_of<R: Files>(text: &Text<'_, R>, mark: Mark) -> u64 {
 /// Puts whose row it is, where it has an id: `, project p7`.
 pub(crate) fn put_subject(out: &mut Words, subject: &str, id: &str) {
     if !id.is_empty() {
-        out.put_all(&[", ", subject, " "]);
-        out.put_id(id.as_bytes());
+        out.fill(", {} ", &[Own(subject)]);
+        out.put_id(id);
     }
 }
 
@@ -54,29 +58,12 @@ pub(crate) fn put_quotes<R: Files>(out: &mut Words, text: &Text<'_, R>, mark: Ma
 }
 
 fn put_span(out: &mut Words, span: &Span) -> bool {
-    match span.unclosed() {
-        Some(opened) => {
-            put_quote_opening(out, opened);
-            out.put(UNCLOSED);
-            true
-        }
-        None => {
-            put_over(out, span.over());
-            false
-        }
+    if let Some(opened) = span.unclosed() {
+        out.fill(UNCLOSED, &[Number(opened)]);
+        return true;
     }
-}
-
-fn put_over(out: &mut Words, over: Option<(u64, u64)>) {
-    if let Some((opens, closes)) = over {
-        put_quote_opening(out, opens);
-        out.put(" and is closed on line ");
-        out.put_number(closes);
-        out.put(", so the lines between are one field.\n")
+    if let Some((opens, closes)) = span.over {
+        out.fill(OVER_LINES, &[Number(opens), Number(closes)]);
     }
-}
-
-fn put_quote_opening(out: &mut Words, line: u64) {
-    out.put("A quotation mark opens on line ");
-    out.put_number(line)
+    false
 }

@@ -32,7 +32,7 @@ pub(crate) struct Span {
     /// The line of the last quotation mark that opened a field.
     opened: u64,
     /// The lines of the first quoted field that runs over several: where it opens and where it closes.
-    over: Option<(u64, u64)>,
+    pub(crate) over: Option<(u64, u64)>,
 }
 
 impl Span {
@@ -54,76 +54,38 @@ impl Span {
         }
     }
 
-    /// The lines of the first quoted field that runs over several lines: where it opens and where it closes.
-    pub(crate) fn over(&self) -> Option<(u64, u64)> {
-        self.over
-    }
-
-    fn is_done(&self) -> bool {
-        matches!(self.state, State::Done)
-    }
-
     /// Takes the next byte.
     fn take(&mut self, byte: u8) {
-        self.state = match self.state {
-            State::Before => self.before(byte),
-            State::Begins => self.begin_field(byte),
-            State::Plain => plain(byte),
-            State::Quoted => self.quoted(byte),
-            State::Closing => self.closing(byte),
-            State::Done => State::Done,
-        };
-    }
-
-    fn before(&mut self, byte: u8) -> State {
-        match byte {
-            b'\n' => {
+        match (self.state, byte) {
+            (State::Before, b'\n') => {
                 self.line = self.line.saturating_add(1);
                 self.begins = self.line;
-                State::Before
             }
-            b'\r' => State::Before,
-            _ => self.begin_field(byte),
-        }
-    }
-
-    fn begin_field(&mut self, byte: u8) -> State {
-        if byte == b'"' {
-            self.opened = self.line;
-            State::Quoted
-        } else {
-            plain(byte)
-        }
-    }
-
-    fn quoted(&mut self, byte: u8) -> State {
-        match byte {
-            b'"' => State::Closing,
-            b'\n' => {
-                self.line = self.line.saturating_add(1);
-                State::Quoted
+            (State::Quoted, b'\n') => self.line = self.line.saturating_add(1),
+            (State::Before | State::Begins, b'"') => self.opened = self.line,
+            (State::Closing, b'"') => {}
+            (State::Closing, _) if self.over.is_none() && self.opened < self.line => {
+                self.over = Some((self.opened, self.line));
             }
-            _ => State::Quoted,
+            _ => {}
         }
-    }
-
-    fn closing(&mut self, byte: u8) -> State {
-        if byte == b'"' {
-            return State::Quoted;
-        }
-        if self.over.is_none() && self.opened < self.line {
-            self.over = Some((self.opened, self.line));
-        }
-        plain(byte)
+        self.state = self.state.behind(byte);
     }
 }
 
-/// What comes after a byte that is in no quotes.
-fn plain(byte: u8) -> State {
-    match byte {
-        b';' => State::Begins,
-        b'\n' | b'\r' => State::Done,
-        _ => State::Plain,
+impl State {
+    /// The state behind the next byte.
+    fn behind(self, byte: u8) -> State {
+        match (self, byte) {
+            (State::Done, _) => State::Done,
+            (State::Before, b'\n' | b'\r') => State::Before,
+            (State::Quoted, b'"') => State::Closing,
+            (State::Quoted, _) => State::Quoted,
+            (State::Before | State::Begins | State::Closing, b'"') => State::Quoted,
+            (_, b';') => State::Begins,
+            (_, b'\n' | b'\r') => State::Done,
+            _ => State::Plain,
+        }
     }
 }
 
@@ -158,5 +120,5 @@ fn take_all(span: &mut Span, bytes: &[u8]) -> bool {
     for byte in bytes {
         span.take(*byte);
     }
-    span.is_done()
+    matches!(span.state, State::Done)
 }

@@ -1,124 +1,105 @@
 //! The request in a row of a script or a journal, and which of its conditions a row breaks.
 
-use crate::complaint::{Complaint, complains_of};
-use crate::fields::raw_text;
+use crate::complaint::{Complaint, Condition};
+use crate::words::Value::{Number, Text};
 use crate::words::Words;
 use csv::ByteRecord;
 use pb_rows::read_number;
 
+const CLERK: &Condition = &Condition {
+    field: "clerk",
+    broken: " is no number of a clerk",
+    remedy: "Write the clerk's number in digits, without a sign, a space or leading zeros.",
+};
+
+const LAST_CLERK: &Condition = &Condition {
+    field: "clerk",
+    broken: " is above the last clerk, who is ",
+    remedy: "Correct the clerk's number, or raise `--clerks`: clerks count from 0.",
+};
+
+const REQUEST: &Condition = &Condition {
+    field: "request",
+    broken: " is no request",
+    remedy: "Write `cast`, `replace`, `withdraw` or `shut`, in small letters.",
+};
+
+const NO_VOTER: &Condition = &Condition {
+    field: "voter",
+    broken: " stands beside `shut`, which names no voter",
+    remedy: "Take the voter out.",
+};
+
+const VOTER: &Condition = &Condition {
+    field: "voter",
+    broken: " is no voter",
+    remedy: "Give the row its voter's id.",
+};
+
+const NO_PLACES: &Condition = &Condition {
+    field: "places",
+    broken: " stands beside a request that names no places",
+    remedy: "Take the places out.",
+};
+
+const PLACE: &Condition = &Condition {
+    field: "places",
+    broken: " is no place",
+    remedy: "Write places as numbers from 0, with `,` between two and no spaces.",
+};
+
 /// Puts how many fields a row has, and how many are due.
-pub(crate) fn put_field_count(out: &mut Words, row: &ByteRecord, due: &str) {
+pub(crate) fn put_field_count(out: &mut Words, row: &ByteRecord, due: u64) {
     let count = row.len() as u64;
-    out.put(": the row has ");
-    out.put_number(count);
-    out.put_all(&[if count == 1 { " field" } else { " fields" }, due]);
+    let fields = if count == 1 { "field" } else { "fields" };
+    out.fill(
+        ": the row has {} {}, and {} are due.\n",
+        &[Number(count), Text(fields), Number(due)],
+    )
 }
 
-/// The fields of a row's request, as far as they are known to be text.
-#[derive(Clone, Copy)]
-pub(crate) struct RequestFields<'r> {
-    pub(crate) clerk: &'r str,
-    pub(crate) request: &'r str,
-    pub(crate) voter: &'r str,
-    pub(crate) places: &'r str,
-}
-
-/// The request of a row whose clerk stands at this place.
-pub(crate) fn request_at(row: &ByteRecord, place: usize) -> RequestFields<'_> {
-    RequestFields {
-        clerk: raw_text(row, place),
-        request: raw_text(row, place.saturating_add(1)),
-        voter: raw_text(row, place.saturating_add(2)),
-        places: raw_text(row, place.saturating_add(3)),
-    }
-}
-
-/// The complaint of a clerk who is none of this many.
-pub(crate) fn bad_clerk<'r>(fields: &RequestFields<'r>, clerks: u32) -> Option<Complaint<'r>> {
-    let Some(clerk) = read_number(fields.clerk) else {
-        return complains_of(
-            "clerk",
-            fields.clerk,
-            " is no number of a clerk",
-            "Write the clerk's number in digits, without a sign, a space or leading zeros.",
-        );
+/// The first condition that a clerk, one of this many, a request and a voter break.
+pub(crate) fn bad_asking<'r>(
+    clerk: &'r str,
+    clerks: u32,
+    request: &'r str,
+    voter: &'r str,
+) -> Option<Complaint<'r>> {
+    let is_request = matches!(request, "cast" | "replace" | "withdraw" | "shut");
+    let has_voter = !voter.trim().is_empty();
+    let bad_voter = if request == "shut" {
+        NO_VOTER.unless(!has_voter, voter)
+    } else {
+        VOTER.unless(has_voter, voter)
     };
-    if clerk < clerks {
-        return None;
-    }
-    Some(Complaint {
-        field: "clerk",
-        value: fields.clerk.as_bytes(),
-        rule: " is above the last clerk, who is ",
-        number: Some(u64::from(clerks).saturating_sub(1)),
-        remedy: "Correct the clerk's number, or raise `--clerks`: clerks count from 0.",
-    })
+    bad_clerk(clerk, clerks)
+        .or(REQUEST.unless(is_request, request))
+        .or(bad_voter)
 }
 
-/// The complaint of a request that is none.
-pub(crate) fn bad_request<'r>(fields: &RequestFields<'r>) -> Option<Complaint<'r>> {
-    if matches!(fields.request, "cast" | "replace" | "withdraw" | "shut") {
-        return None;
+fn bad_clerk(text: &str, clerks: u32) -> Option<Complaint<'_>> {
+    match read_number(text) {
+        None => CLERK.unless(false, text),
+        Some(clerk) if clerk < clerks => None,
+        Some(_) => Some(Complaint {
+            condition: LAST_CLERK,
+            value: text.as_bytes(),
+            end: Number(u64::from(clerks).saturating_sub(1)),
+        }),
     }
-    complains_of(
-        "request",
-        fields.request,
-        " is no request",
-        "Write `cast`, `replace`, `withdraw` or `shut`, in small letters.",
-    )
 }
 
-/// The complaint of a voter who is missing, or of one who is too many.
-pub(crate) fn bad_voter<'r>(fields: &RequestFields<'r>) -> Option<Complaint<'r>> {
-    let is_empty = fields.voter.trim().is_empty();
-    if fields.request == "shut" {
-        if is_empty {
-            return None;
-        }
-        return complains_of(
-            "voter",
-            fields.voter,
-            " stands beside `shut`, which names no voter",
-            "Take the voter out.",
-        );
-    }
-    if is_empty {
-        return complains_of(
-            "voter",
-            fields.voter,
-            " is no voter",
-            "Give the row its voter's id.",
-        );
-    }
-    None
-}
-
-/// The complaint of places where a request has none.
-pub(crate) fn surplus_places<'r>(fields: &RequestFields<'r>) -> Option<Complaint<'r>> {
-    if fields.places.is_empty() || matches!(fields.request, "cast" | "replace") {
+/// The first condition that the places beside a request break.
+pub(crate) fn bad_places<'r>(request: &str, places: &'r str) -> Option<Complaint<'r>> {
+    if places.is_empty() {
         return None;
     }
-    complains_of(
-        "places",
-        fields.places,
-        " stands beside a request that names no places",
-        "Take the places out.",
-    )
-}
-
-/// The complaint of a piece of the places that is no number.
-pub(crate) fn bad_places<'r>(fields: &RequestFields<'r>) -> Option<Complaint<'r>> {
-    if fields.places.is_empty() {
-        return None;
+    if !matches!(request, "cast" | "replace") {
+        return NO_PLACES.unless(false, places);
     }
-    for piece in fields.places.split(',') {
+    for piece in places.split(',') {
         if read_number(piece).is_none() {
-            return complains_of(
-                "places",
-                piece,
-                " is no place",
-                "Write places as numbers from 0, with `,` between two and no spaces.",
-            );
+            return PLACE.unless(false, piece);
         }
     }
     None

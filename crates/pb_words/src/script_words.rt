@@ -2,19 +2,21 @@
 
 use crate::complaint::{Complaint, no_text};
 use crate::count_words::put_range;
-use crate::fields::{other_separator, place_of_no_text};
+use crate::fields::{other_separator, place_of_no_text, raw_text};
 use crate::file_words::put_reading_failed;
+use crate::mark::Mark;
 use crate::mark_words::{put_mark, put_quotes, put_record_number};
 use crate::meta_words::put_separator;
-use crate::row_form::{
-    bad_clerk, bad_places, bad_request, bad_voter, put_field_count, request_at, surplus_places,
-};
+use crate::row_form::{bad_asking, bad_places, put_field_count};
 use crate::text::Text;
 use crate::words::Words;
 use csv::ByteRecord;
 use pb_script::ScriptFault;
 use std::alloc::{AllocError, Global};
 use std::rt::Files;
+
+/// What to do about a row of other than four fields.
+const FOUR_FIELDS: &str = "Write it as CLERK;REQUEST;VOTER;PLACES, with three `;`.\n";
 
 /// Words for a fault of the script with this path, of a run with this many clerks; no path is standard input.
 /// No fault is a run whose number of clerks is not 1 to 64.
@@ -26,9 +28,8 @@ pub fn script_words<R: Files>(
     clerks: u32,
 ) -> Result<String, AllocError> {
     let mut out = Words::new(alloc);
-    let text = Text::of_rows(rt, alloc, path);
     match fault {
-        Some(fault) => put_words(&mut out, &text, fault, clerks),
+        Some(fault) => put_words(&mut out, &Text::new(rt, alloc, path, "row"), fault, clerks),
         None => put_range(&mut out, "clerks", u64::from(clerks), "1 to 64"),
     }
     out.finish()
@@ -44,63 +45,56 @@ fn put_words<R: Files>(out: &mut Words, text: &Text<'_, R>, fault: ScriptFault, 
         }
     }
     put_record_number(out, text, at);
-    out.put_all(&[": ", what_and_remedy(fault), "\n"]);
+    out.put(what_and_remedy(fault));
 }
 
 /// What is wrong and what to do, where no more than the fault is known.
 fn what_and_remedy(fault: ScriptFault) -> &'static str {
     match fault {
         ScriptFault::ReadFailed(_) => {
-            "the script could not be read any further.\nCheck the disk or the connection, then run again."
+            ": the script could not be read any further.\nCheck the disk or the connection, then run again.\n"
         }
         ScriptFault::BadRow(_) => {
-            "the row is not a request of a clerk of this run.\nCompare it with the form CLERK;REQUEST;VOTER;PLACES, and the clerk's number with `--clerks`."
+            ": the row is not a request of a clerk of this run.\nCompare it with the form CLERK;REQUEST;VOTER;PLACES, and the clerk's number with `--clerks`.\n"
         }
         ScriptFault::TooManyRows => {
-            "the script has more than 2,000,000 rows.\nA script with more rows cannot be served."
+            ": the script has more than 2,000,000 rows.\nA script with more rows cannot be served.\n"
         }
-        ScriptFault::NoMemory => { "memory was refused.\nRun again on a machine with more memory." }
+        ScriptFault::NoMemory => {
+            ": memory was refused.\nRun again on a machine with more memory.\n"
+        }
     }
 }
 
 /// Reads the script again up to a bad row, and puts which condition it breaks; answers whether it was found.
 fn put_row<R: Files>(out: &mut Words, text: &Text<'_, R>, at: u64, clerks: u32) -> bool {
-    let Some(mut records) = text.records() else {
+    let Some(records) = text.records_at(Mark::start(), at) else {
         return false;
     };
-    let is_there = records.advance_to(at);
-    if is_there {
-        let mark = records.mark();
-        put_mark(out, text, mark);
-        put_row_words(out, &records.last, clerks);
-        put_quotes(out, text, mark);
-    }
+    let mark = records.mark();
+    put_mark(out, text, mark);
+    put_row_words(out, &records.last, clerks);
+    put_quotes(out, text, mark);
     drop(records);
-    is_there
+    true
 }
 
 /// Puts which condition a row breaks, and what to do.
 fn put_row_words(out: &mut Words, row: &ByteRecord, clerks: u32) {
     if row.len() != 4 && place_of_no_text(row).is_none() {
-        put_field_count(out, row, ", and 4 are due.\n");
-        return match other_separator(row) {
-            Some(separator) => put_separator(out, separator),
-            None => out.put("Write it as CLERK;REQUEST;VOTER;PLACES, with three `;`.\n"),
-        };
+        put_field_count(out, row, 4);
+        return put_separator(out, other_separator(row), FOUR_FIELDS);
     }
     match complaint_of(row, clerks.min(64)) {
-        Some(complaint) => complaint.put(out, complaint.remedy),
+        Some(complaint) => complaint.put(out, complaint.condition.remedy),
         None => out.put(": the row is refused.\n"),
     }
 }
 
 /// The first condition that a row of four fields breaks.
 fn complaint_of(row: &ByteRecord, clerks: u32) -> Option<Complaint<'_>> {
-    let fields = request_at(row, 0);
+    let request = raw_text(row, 1);
     no_text(row)
-        .or(bad_clerk(&fields, clerks))
-        .or(bad_request(&fields))
-        .or(bad_voter(&fields))
-        .or(surplus_places(&fields))
-        .or(bad_places(&fields))
+        .or(bad_asking(raw_text(row, 0), clerks, request, raw_text(row, 2)))
+        .or(bad_places(request, raw_text(row, 3)))
 }

@@ -11,6 +11,40 @@ pub(crate) enum Section {
     Votes,
 }
 
+/// What things are called in a section.
+#[derive(Clone, Copy)]
+pub(crate) struct Names {
+    /// The column of its rows' ids.
+    pub(crate) id_column: &'static str,
+    /// The other column that its rows need.
+    pub(crate) value_column: &'static str,
+    /// What its rows are.
+    pub(crate) subject: &'static str,
+    /// What is missing where it has no row of column names.
+    pub(crate) header_due: &'static str,
+}
+
+const META: &Names = &Names {
+    id_column: "key",
+    value_column: "value",
+    subject: "key",
+    header_due: "META's row of column names is due.\n",
+};
+
+const PROJECTS: &Names = &Names {
+    id_column: "project_id",
+    value_column: "cost",
+    subject: "project",
+    header_due: "PROJECTS' row of column names is due.\n",
+};
+
+const VOTES: &Names = &Names {
+    id_column: "voter_id",
+    value_column: "vote",
+    subject: "voter",
+    header_due: "VOTES' row of column names is due.\n",
+};
+
 impl Section {
     /// The section that a record is the head of.
     pub(crate) fn headed_by(record: &ByteRecord) -> Option<Section> {
@@ -26,39 +60,12 @@ impl Section {
         }
     }
 
-    /// The column of its rows' ids.
-    pub(crate) fn id_column(self) -> &'static str {
+    /// What things are called in it.
+    pub(crate) fn names(self) -> &'static Names {
         match self {
-            Section::Meta => "key",
-            Section::Projects => "project_id",
-            Section::Votes => "voter_id",
-        }
-    }
-
-    /// The other column that its rows need.
-    pub(crate) fn value_column(self) -> &'static str {
-        match self {
-            Section::Meta => "value",
-            Section::Projects => "cost",
-            Section::Votes => "vote",
-        }
-    }
-
-    /// What its rows are.
-    pub(crate) fn subject(self) -> &'static str {
-        match self {
-            Section::Meta => "key",
-            Section::Projects => "project",
-            Section::Votes => "voter",
-        }
-    }
-
-    /// What is missing where it has no row of column names.
-    pub(crate) fn header_due(self) -> &'static str {
-        match self {
-            Section::Meta => "META's row of column names is due.\n",
-            Section::Projects => "PROJECTS' row of column names is due.\n",
-            Section::Votes => "VOTES' row of column names is due.\n",
+            Section::Meta => META,
+            Section::Projects => PROJECTS,
+            Section::Votes => VOTES,
         }
     }
 }
@@ -75,6 +82,14 @@ pub(crate) enum Stage {
 }
 
 impl Stage {
+    /// The section that is read.
+    pub(crate) fn section(self) -> Section {
+        match self {
+            Stage::Start => Section::Meta,
+            Stage::Header(section) | Stage::Rows(section) => section,
+        }
+    }
+
     /// What is due where another section's head stands.
     pub(crate) fn due_head(self) -> &'static str {
         match self {
@@ -89,7 +104,7 @@ impl Stage {
     pub(crate) fn due_at_end(self) -> &'static str {
         match self {
             Stage::Start => "META is due.\n",
-            Stage::Header(section) => section.header_due(),
+            Stage::Header(section) => section.names().header_due,
             Stage::Rows(Section::Meta) => "PROJECTS is still to come.\n",
             Stage::Rows(Section::Projects) => "VOTES is still to come.\n",
             Stage::Rows(Section::Votes) => "a record is missing.\n",

@@ -38,14 +38,6 @@ impl Seen {
         }
     }
 
-    /// The section that is read.
-    pub(crate) fn section(&self) -> Section {
-        match self.stage {
-            Stage::Start => Section::Meta,
-            Stage::Header(section) | Stage::Rows(section) => section,
-        }
-    }
-
     /// Takes a record that has no fault.
     pub(crate) fn take(&mut self, record: &ByteRecord, mark: Mark) {
         if is_blank(record) {
@@ -71,8 +63,9 @@ impl Seen {
         match self.stage {
             Stage::Start => {}
             Stage::Header(section) => {
-                self.id_place = column_of(record, section.id_column());
-                self.value_place = column_of(record, section.value_column());
+                let names = section.names();
+                self.id_place = column_of(record, names.id_column);
+                self.value_place = column_of(record, names.value_column);
                 self.stage = Stage::Rows(section);
             }
             Stage::Rows(Section::Meta) => self.take_key(text_at(record, 0), mark),

@@ -1,5 +1,6 @@
 //! Words for a desk that stands on a file: why it does not, and which rows it did not take.
 
+use crate::words::Value::{Name, Number};
 use crate::words::Words;
 use std::alloc::{AllocError, Global};
 use std::io::Error;
@@ -9,7 +10,7 @@ pub fn locked_words(alloc: Global, path: &str) -> Result<String, AllocError> {
     path_words(
         alloc,
         path,
-        ": another run serves this journal.\nWait until it has ended, or hand your rows to it.\n",
+        "{}: another run serves this journal.\nWait until it has ended, or hand your rows to it.\n",
     )
 }
 
@@ -18,7 +19,7 @@ pub fn unopened_words(alloc: Global, path: &str, reason: &Error) -> Result<Strin
     failure_words(
         alloc,
         path,
-        reason,
+        Some(reason),
         "Name a file in a folder that is there, and that you may read and write.\n",
     )
 }
@@ -28,21 +29,19 @@ pub fn unkept_words(alloc: Global, path: &str, reason: &Error) -> Result<String,
     failure_words(
         alloc,
         path,
-        reason,
+        Some(reason),
         "What was answered stands. Look for a full or failing disk; then run `serve` again, and send the rows that have no answer.\n",
     )
 }
 
 /// Words for an answer that could not be written, for this reason.
 pub fn unanswered_words(alloc: Global, reason: Option<&Error>) -> Result<String, AllocError> {
-    let mut out = Words::new(alloc);
-    out.put("standard output");
-    match reason {
-        Some(error) => out.put_error(error),
-        None => out.put(": an answer could not be written.\n"),
-    }
-    out.put("What was served stands in the journal, with its answer or without.\n");
-    out.finish()
+    failure_words(
+        alloc,
+        "standard output",
+        reason,
+        "What was served stands in the journal, with its answer or without.\n",
+    )
 }
 
 /// Words for a journal that is legal, and not spelled as a desk spells it.
@@ -50,37 +49,36 @@ pub fn spelling_words(alloc: Global, path: &str) -> Result<String, AllocError> {
     path_words(
         alloc,
         path,
-        ": its rows are legal, and not spelled as a desk spells them: with other line ends, needless quotation marks, or a byte order mark.\nIt was left as it is. Get the desk's own copy.\n",
+        "{}: its rows are legal, and not spelled as a desk spells them: with other line ends, needless quotation marks, or a byte order mark.\nIt was left as it is. Get the desk's own copy.\n",
     )
 }
 
 /// Words for so many bytes behind a journal's text that are kept in this file.
 pub fn torn_words(alloc: Global, path: &str, bytes: usize) -> Result<String, AllocError> {
     let mut out = Words::new(alloc);
-    out.put_number(bytes as u64);
-    out.put(" bytes behind the journal's text were cut off, and stand in ");
-    out.put_name(Some(path));
-    out.put(".\nSend each row that has no answer once more.\n");
+    out.fill(
+        "{} bytes behind the journal's text were cut off, and stand in {}.\nSend each row that has no answer once more.\n",
+        &[Number(bytes as u64), Name(Some(path))],
+    );
     out.finish()
 }
 
 /// Words for so many rows that were not of the form.
 pub fn bad_rows_words(alloc: Global, rows: u64) -> Result<String, AllocError> {
-    let mut out = Words::new(alloc);
-    out.put_number(rows);
-    out.put(if rows == 1 {
-        " row was not of the form clerk;request;voter;places, and changed nothing.\n"
+    let form = if rows == 1 {
+        "{} row was not of the form clerk;request;voter;places, and changed nothing.\n"
     } else {
-        " rows were not of the form clerk;request;voter;places, and changed nothing.\n"
-    });
+        "{} rows were not of the form clerk;request;voter;places, and changed nothing.\n"
+    };
+    let mut out = Words::new(alloc);
+    out.fill(form, &[Number(rows)]);
     out.finish()
 }
 
-/// The path, and a text.
-fn path_words(alloc: Global, path: &str, text: &str) -> Result<String, AllocError> {
+/// A text with the path in it.
+fn path_words(alloc: Global, path: &str, form: &str) -> Result<String, AllocError> {
     let mut out = Words::new(alloc);
-    out.put_name(Some(path));
-    out.put(text);
+    out.fill(form, &[Name(Some(path))]);
     out.finish()
 }
 
@@ -88,12 +86,15 @@ fn path_words(alloc: Global, path: &str, text: &str) -> Result<String, AllocErro
 fn failure_words(
     alloc: Global,
     path: &str,
-    reason: &Error,
+    reason: Option<&Error>,
     remedy: &str,
 ) -> Result<String, AllocError> {
     let mut out = Words::new(alloc);
-    out.put_name(Some(path));
-    out.put_error(reason);
+    out.put_name(path);
+    match reason {
+        Some(error) => out.put_error(error),
+        None => out.put(": an answer could not be written.\n"),
+    }
     out.put(remedy);
     out.finish()
 }

@@ -14,72 +14,70 @@ pub(crate) struct Text<'a, R> {
     alloc: Global,
     /// Its path; none is standard input.
     pub(crate) path: Option<&'a str>,
-    /// What its records are called.
+    /// What its records are called: a .pb file's `record`, a script's or a journal's `row`.
     pub(crate) unit: &'static str,
     /// How many records come before the one with number 1.
     pub(crate) before: u64,
 }
 
 impl<'a, R> Text<'a, R> {
-    /// The .pb file with this path; no path is standard input.
-    pub(crate) fn of_records(rt: &'a R, alloc: Global, path: Option<&'a str>) -> Text<'a, R> {
+    /// The text with this path, whose records are called so; no path is standard input.
+    pub(crate) fn new(
+        rt: &'a R,
+        alloc: Global,
+        path: Option<&'a str>,
+        unit: &'static str,
+    ) -> Text<'a, R> {
         Text {
             rt,
             alloc,
             path,
-            unit: "record",
-            before: 0,
-        }
-    }
-
-    /// The script or the journal with this path; no path is standard input.
-    pub(crate) fn of_rows(rt: &'a R, alloc: Global, path: Option<&'a str>) -> Text<'a, R> {
-        Text {
-            rt,
-            alloc,
-            path,
-            unit: "row",
+            unit,
             before: 0,
         }
     }
 }
 
 impl<'a, R: Files> Text<'a, R> {
-    /// Opens the text again, if it is a file. A pipe or a device is not: it has given what it had.
-    pub(crate) fn open(&self) -> Option<R::File> {
-        let path = self.path?;
-        match fs::metadata(self.rt, path) {
-            Ok(metadata) if metadata.is_file() => {}
-            _ => return None,
-        }
-        match fs::open(self.rt, path) {
-            Ok(file) => Some(file),
-            Err(_) => None,
-        }
-    }
-
-    /// Opens the text again, behind so many bytes.
+    /// Opens the text again behind so many bytes, if it is a file.
     pub(crate) fn open_at(&self, byte: u64) -> Option<R::File> {
-        let mut file = self.open()?;
-        match file.seek(SeekFrom::Start(byte)) {
-            Ok(_) => Some(file),
-            Err(_) => {
-                drop(file);
-                None
-            }
+        let path = self.path?;
+        if !is_file(self.rt, path) {
+            return None;
         }
+        behind(fs::open(self.rt, path).ok()?, byte)
     }
 
-    /// Its records, if it is a file that can be read again.
-    pub(crate) fn records(&self) -> Option<Records<R::File>> {
-        self.records_from(Mark::start())
-    }
-
-    /// Its records from this mark on.
+    /// Its records from this mark on, if it is a file that can be read again.
     pub(crate) fn records_from(&self, start: Mark) -> Option<Records<R::File>> {
-        match self.open_at(start.byte) {
-            Some(file) => Some(Records::new(self.alloc, file, start)),
-            None => None,
-        }
+        let file = self.open_at(start.byte)?;
+        Some(Records::new(self.alloc, file, start))
     }
+
+    /// Its records from the one with this number on, which is read last; none where it has no such record.
+    pub(crate) fn records_at(&self, start: Mark, at: u64) -> Option<Records<R::File>> {
+        let mut records = self.records_from(start)?;
+        if records.advance_to(at) {
+            return Some(records);
+        }
+        drop(records);
+        None
+    }
+}
+
+/// Whether a path names a file. A pipe or a device is none: it has given what it had.
+pub(crate) fn is_file<R: Files>(rt: &R, path: &str) -> bool {
+    match fs::metadata(rt, path) {
+        Ok(metadata) => metadata.is_file(),
+        Err(_) => false,
+    }
+}
+
+/// A file behind so many bytes.
+fn behind<F: Seek + Drop>(mut file: F, byte: u64) -> Option<F> {
+    if file.seek(SeekFrom::Start(byte)).is_ok() {
+        return Some(file);
+    }
+    drop(file);
+    None
 }

@@ -34,26 +34,32 @@ impl<F: Read> Walk<F> {
             if !self.records.advance() {
                 return Ok(false);
             }
+            self.keep(false)?;
             let mark = self.records.mark();
-            self.ids.keep(&self.seen, &self.records.last, mark, false)?;
             self.seen.take(&self.records.last, mark);
         }
         Ok(self.records.advance())
     }
 
-    /// Leaves the record out that was read last.
-    pub(crate) fn leave_out(&mut self) -> Result<(), AllocError> {
+    /// Keeps the id of the record that was read last, which is left out or not.
+    pub(crate) fn keep(&mut self, is_left_out: bool) -> Result<(), AllocError> {
         let mark = self.records.mark();
-        self.ids.keep(&self.seen, &self.records.last, mark, true)
+        self.ids
+            .keep(&self.seen, &self.records.last, mark, is_left_out)
     }
 
     /// The record that was read last, with its fault.
     pub(crate) fn faulty_record(&self, kind: ReadKind) -> FaultyRecord<'_> {
+        let record = &self.records.last;
         FaultyRecord {
             kind,
-            record: &self.records.last,
+            record,
             mark: self.records.mark(),
-            seen: self.seen,
+            stage: self.seen.stage,
+            names: self.seen.stage.section().names(),
+            id: self.seen.id(record),
+            value: self.seen.value(record),
+            reaches_id: self.seen.id_place.unwrap_or(0) < record.len(),
         }
     }
 }

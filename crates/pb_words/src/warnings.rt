@@ -3,6 +3,7 @@
 use crate::claims::{Claims, broken};
 use crate::fields::is_blank;
 use crate::mark::Mark;
+use crate::oddities::{List, Oddities, Oddity};
 use crate::section::{Section, Stage};
 use crate::seen::Seen;
 use csv::ByteRecord;
@@ -12,67 +13,11 @@ use pb_ids::IdTable;
 use pb_read::{ReadFault, ReadKind, Warning, Watch};
 use std::alloc::{AllocError, Global};
 
-/// What is accepted, and probably not meant, in the order in which warnings are written.
-#[derive(Clone, Copy)]
-enum Oddity {
-    /// META's `num_votes` is not the number of votes.
-    VotesMissing,
-    /// META's `num_projects` is not the number of projects.
-    ProjectsMissing,
-    /// A vote has more fields than the row of column names.
-    SurplusFields,
-    /// A ballot approves more projects than META's `max_length`.
-    TooLongBallot,
-    /// A ballot approves fewer projects than META's `min_length`.
-    TooShortBallot,
-    /// A ballot approves nothing.
-    EmptyBallot,
-    /// Nobody approves a project.
-    NoSupporter,
-    /// A project costs more than the budget.
-    OverBudget,
-    /// A project's id has a comma, so no vote can name it.
-    CommaInId,
-}
-
-impl Oddity {
-    /// All of them, in their order.
-    const ALL: [Oddity; 9] = [
-        Oddity::VotesMissing,
-        Oddity::ProjectsMissing,
-        Oddity::SurplusFields,
-        Oddity::TooLongBallot,
-        Oddity::TooShortBallot,
-        Oddity::EmptyBallot,
-        Oddity::NoSupporter,
-        Oddity::OverBudget,
-        Oddity::CommaInId,
-    ];
-
-    /// The name that rows have.
-    fn name(self) -> &'static str {
-        match self {
-            Oddity::VotesMissing => "VotesMissing",
-            Oddity::ProjectsMissing => "ProjectsMissing",
-            Oddity::SurplusFields => "SurplusFields",
-            Oddity::TooLongBallot => "TooLongBallot",
-            Oddity::TooShortBallot => "TooShortBallot",
-            Oddity::EmptyBallot => "EmptyBallot",
-            Oddity::NoSupporter => "NoSupporter",
-            Oddity::OverBudget => "OverBudget",
-            Oddity::CommaInId => "CommaInId",
-        }
-    }
-}
-
-/// The most warnings of one name.
-const MOST: u64 = 100;
-
 /// A project, and how it is backed.
 #[derive(Clone, Copy)]
 struct Backed {
     /// The number of its record.
-    at: u32,
+    at: u64,
     /// The last vote that named it, from 1; 0 is none.
     vote: u64,
 }
@@ -87,11 +32,7 @@ pub struct Warnings {
     columns: usize,
     places: IdTable,
     projects: Vec<Backed>,
-    /// At most 100 of each name, and how many there are of each.
-    found: Vec<Warning>,
-    counts: [u64; 9],
-    /// Whether no memory was refused.
-    is_whole: bool,
+    oddities: Oddities,
 }
 
 impl Warnings {
@@ -104,145 +45,105 @@ impl Warnings {
             columns: 0,
             places: IdTable::new(alloc),
             projects: Vec::new(alloc),
-            found: Vec::new(alloc),
-            counts: [0; 9],
-            is_whole: true,
-        }
-    }
-
-    /// Warns of the record with this number.
-    fn warn(&mut self, oddity: Oddity, at: u32) {
-        let place = oddity as usize;
-        self.counts[place] = self.counts[place].saturating_add(1);
-        if self.counts[place] > MOST {
-            return;
-        }
-        let warning = Warning {
-            name: oddity.name(),
-            number: u64::from(at),
-            is_more: false,
-        };
-        if self.found.push(warning).is_err() {
-            self.is_whole = false;
+            oddities: Oddities::new(alloc),
         }
     }
 
     /// Takes a project that is accepted.
-    fn take_project(&mut self, row: &ByteRecord, at: u32) -> Result<(), AllocError> {
+    fn take_project(&mut self, row: &ByteRecord, at: u64) -> Result<(), AllocError> {
         let id = self.seen.id(row);
         if id.contains(',') {
-            self.warn(Oddity::CommaInId, at);
+            self.oddities.warn(Oddity::CommaInId, at);
         }
-        if let (Ok(cost), Some(budget)) = (Money::read(self.seen.value(row)), self.claims.budget) {
-            if cost.0 > budget {
-                self.warn(Oddity::OverBudget, at);
-            }
+        if is_above(self.seen.value(row), self.claims.budget) {
+            self.oddities.warn(Oddity::OverBudget, at);
         }
         let place = u32::try_from(self.projects.len()).unwrap_or(u32::MAX);
-        self.places.insert(self.alloc, self.seen.id(row), place)?;
+        self.places.insert(self.alloc, id, place)?;
         self.projects.push(Backed { at, vote: 0 })?;
         Ok(())
     }
 
     /// Takes a vote that is accepted.
-    fn take_vote(&mut self, row: &ByteRecord, at: u32) {
+    fn take_vote(&mut self, row: &ByteRecord, at: u64) {
         if row.len() > self.columns {
-            self.warn(Oddity::SurplusFields, at);
+            self.oddities.warn(Oddity::SurplusFields, at);
         }
         let length = self.back(row);
         if length == 0 {
-            self.warn(Oddity::EmptyBallot, at);
+            self.oddities.warn(Oddity::EmptyBallot, at);
         }
-        if self.claims.max_length.unwrap_or(u64::MAX) < length {
-            self.warn(Oddity::TooLongBallot, at);
+        if length > self.claims.max_length.unwrap_or(u64::MAX) {
+            self.oddities.warn(Oddity::TooLongBallot, at);
         }
         if length < self.claims.min_length.unwrap_or(0) {
-            self.warn(Oddity::TooShortBallot, at);
+            self.oddities.warn(Oddity::TooShortBallot, at);
         }
     }
 
-    /// Notes which projects a vote names, and answers how many they are.
+    /// Notes which projects the last vote names, and answers how many they are.
     fn back(&mut self, row: &ByteRecord) -> u64 {
         let mut length = 0u64;
         for piece in self.seen.value(row).split(',') {
-            let place = self.places.get(piece.trim()).unwrap_or(u32::MAX) as usize;
-            if place < self.projects.len() && self.projects[place].vote < self.seen.votes {
-                self.projects[place].vote = self.seen.votes;
+            if self.is_backed(piece.trim()) {
                 length = length.saturating_add(1);
             }
         }
         length
     }
 
+    /// Notes that the last vote names this project, and answers whether it did not name it before.
+    fn is_backed(&mut self, id: &str) -> bool {
+        let place = self.places.get(id).unwrap_or(u32::MAX) as usize;
+        if place < self.projects.len() && self.projects[place].vote < self.seen.votes {
+            self.projects[place].vote = self.seen.votes;
+            true
+        } else {
+            false
+        }
+    }
+
     /// Warns of what is known at the end alone.
     fn take_end(&mut self) {
         if let Some(at) = broken(self.claims.votes, self.seen.votes) {
-            self.warn(Oddity::VotesMissing, at);
+            self.oddities.warn(Oddity::VotesMissing, at);
         }
         if let Some(at) = broken(self.claims.projects, self.seen.projects) {
-            self.warn(Oddity::ProjectsMissing, at);
+            self.oddities.warn(Oddity::ProjectsMissing, at);
         }
-        for place in 0..self.projects.len() {
-            let unbacked = match self.projects.get(place) {
-                Some(project) if project.vote == 0 => Some(project.at),
-                _ => None,
-            };
-            if let Some(at) = unbacked {
-                self.warn(Oddity::NoSupporter, at);
+        for project in &self.projects {
+            if project.vote == 0 {
+                self.oddities.warn(Oddity::NoSupporter, project.at);
             }
         }
-    }
-
-    /// Puts the warnings of this kind, and how many more there are.
-    fn put_oddity(&self, oddity: Oddity, all: &mut Vec<Warning>) -> Result<(), AllocError> {
-        let name = oddity.name();
-        for warning in self.found.iter() {
-            if warning.name == name {
-                all.push(*warning)?;
-            }
-        }
-        let count = self.counts[oddity as usize];
-        if count > MOST {
-            all.push(Warning {
-                name,
-                number: count - MOST,
-                is_more: true,
-            })?;
-        }
-        Ok(())
-    }
-
-    fn put_all(&self, all: &mut Vec<Warning>) -> Result<(), AllocError> {
-        for oddity in Oddity::ALL {
-            self.put_oddity(oddity, all)?;
-        }
-        Ok(())
     }
 }
 
 impl Watch for Warnings {
     fn see(&mut self, record: &ByteRecord, at: u32, refused: Option<ReadKind>) {
-        let mark = Mark {
-            at: u64::from(at),
-            ..Mark::start()
-        };
         if is_blank(record) {
             return;
         }
         if refused.is_some() {
-            self.seen.count();
-            return;
+            return self.seen.count();
         }
+        let at = u64::from(at);
         let is_head = Section::headed_by(record).is_some();
         let stage = self.seen.stage;
-        self.seen.take(record, mark);
+        self.seen.take(
+            record,
+            Mark {
+                at,
+                ..Mark::start()
+            },
+        );
         match stage {
             _ if is_head => {}
             Stage::Header(_) => self.columns = record.len(),
             Stage::Rows(Section::Meta) => self.claims.take(record, at),
             Stage::Rows(Section::Projects) => {
                 if self.take_project(record, at).is_err() {
-                    self.is_whole = false;
+                    self.oddities.found.is_whole = false;
                 }
             }
             Stage::Rows(Section::Votes) => self.take_vote(record, at),
@@ -251,18 +152,21 @@ impl Watch for Warnings {
     }
 
     fn warnings(&mut self, faults: &[ReadFault]) -> Result<Vec<Warning>, NoMemory> {
-        let mut all = Vec::new(self.alloc);
+        let mut all = List::new(self.alloc);
         if !ends_early(faults, self.seen.stage) {
             self.take_end();
-            if self.put_all(&mut all).is_err() {
-                self.is_whole = false;
-            }
+            self.oddities.put_all(&mut all);
         }
-        if self.is_whole {
-            return Ok(all);
-        }
-        drop(all);
-        Err(NoMemory)
+        all.is_whole &= self.oddities.found.is_whole;
+        all.finish()
+    }
+}
+
+/// Whether a cost is above the budget, where both are known.
+fn is_above(cost: &str, budget: Option<u64>) -> bool {
+    match Money::read(cost) {
+        Ok(cost) => cost.0 > budget.unwrap_or(u64::MAX),
+        Err(_) => false,
     }
 }
 

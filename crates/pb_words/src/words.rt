@@ -11,6 +11,20 @@ const MOST_SHOWN: usize = 60;
 /// The most characters of a file's name that are shown.
 const MOST_OF_NAME: usize = 4096;
 
+/// What stands in words in the place of a `{}`.
+#[derive(Clone, Copy)]
+pub(crate) enum Value<'v> {
+    /// A text that is the program's own.
+    Text(&'v str),
+    Number(u64),
+    /// A text from outside, in quotes and cut after 60 characters; three dots after the quotes say that it goes on.
+    Quoted(&'v str),
+    /// The same of bytes, which may be no text.
+    Bytes(&'v [u8]),
+    /// The name of a file as it was given; none is standard input.
+    Name(Option<&'v str>),
+}
+
 /// Words that are being written. Where memory is refused they are void, which their end tells.
 #[derive(Drop)]
 pub(crate) struct Words {
@@ -48,47 +62,53 @@ impl Words {
         }
     }
 
-    /// Puts these texts, one after the other.
-    pub(crate) fn put_all(&mut self, pieces: &[&str]) {
-        for piece in pieces {
+    /// Puts a text that is the program's own, with the next one of these values in place of each `{}`.
+    pub(crate) fn fill(&mut self, form: &str, values: &[Value<'_>]) {
+        let mut place = 0usize;
+        for piece in form.split("{}") {
             self.put(piece);
+            if let Some(value) = values.get(place) {
+                self.put_value(value);
+            }
+            place = place.saturating_add(1);
+        }
+    }
+
+    fn put_value(&mut self, value: &Value<'_>) {
+        match value {
+            Value::Text(text) => self.put(text),
+            Value::Number(number) => self.put_number(*number),
+            Value::Quoted(text) => self.put_quoted(text.as_bytes()),
+            Value::Bytes(bytes) => self.put_quoted(bytes),
+            Value::Name(path) => { self.put_cut(path.unwrap_or("standard input"), MOST_OF_NAME) }
         }
     }
 
     /// Puts a number in decimal.
-    pub(crate) fn put_number(&mut self, number: u64) {
+    fn put_number(&mut self, number: u64) {
         let mut digits = Buffer::new();
         self.put(digits.format(number));
     }
 
-    /// Puts a number, if there is one.
-    pub(crate) fn put_some(&mut self, number: Option<u64>) {
-        if let Some(number) = number {
-            self.put_number(number)
-        }
-    }
-
-    /// Puts a value in quotes, cut after 60 characters; three dots after the quotes say that it goes on.
-    pub(crate) fn put_quoted(&mut self, value: &[u8]) {
+    fn put_quoted(&mut self, value: &[u8]) {
         self.put("\"");
         let is_whole = self.put_escaped(value, MOST_SHOWN);
-        self.put("\"");
-        if !is_whole {
-            self.put("...");
-        }
+        self.put(if is_whole { "\"" } else { "\"..." });
     }
 
     /// Puts an id without quotes, cut as a value is.
-    pub(crate) fn put_id(&mut self, id: &[u8]) {
-        if !self.put_escaped(id, MOST_SHOWN) {
-            self.put("...");
-        }
+    pub(crate) fn put_id(&mut self, id: &str) {
+        self.put_cut(id, MOST_SHOWN)
     }
 
-    /// Puts the name of a file as it was given; none is standard input.
-    pub(crate) fn put_name(&mut self, path: Option<&str>) {
-        let path = path.unwrap_or("standard input");
-        if !self.put_escaped(path.as_bytes(), MOST_OF_NAME) {
+    /// Puts the name of a file as it was given.
+    pub(crate) fn put_name(&mut self, path: &str) {
+        self.put_cut(path, MOST_OF_NAME)
+    }
+
+    /// Puts at most this many characters of a text; three dots say that it goes on.
+    fn put_cut(&mut self, text: &str, most: usize) {
+        if !self.put_escaped(text.as_bytes(), most) {
             self.put("...");
         }
     }
@@ -128,17 +148,24 @@ impl Words {
     }
 
     fn put_char(&mut self, c: char) {
-        let put = match c {
-            '\n' => self.text.push_str("\\n"),
-            '\r' => self.text.push_str("\\r"),
-            '\t' => self.text.push_str("\\t"),
-            '"' => self.text.push_str("\\\""),
-            '\\' => self.text.push_str("\\\\"),
-            _ if is_hidden(c) => {
-                let code = u32::from(c);
-                write!(&mut self.text, "\\u{{{code:x}}}")
-            }
-            _ => self.text.push(c),
+        let escape = match c {
+            '\n' => "\\n",
+            '\r' => "\\r",
+            '\t' => "\\t",
+            '"' => "\\\"",
+            '\\' => "\\\\",
+            _ => return self.put_plain(c),
+        };
+        self.put(escape)
+    }
+
+    /// Puts a character that has no escape of its own.
+    fn put_plain(&mut self, c: char) {
+        let code = u32::from(c);
+        let put = if is_hidden(code) {
+            write!(&mut self.text, "\\u{{{code:x}}}")
+        } else {
+            self.text.push(c)
         };
         if put.is_err() {
             self.is_whole = false;
@@ -147,17 +174,11 @@ impl Words {
 }
 
 /// Whether a character is a control character, or one that is not seen or turns the direction of a line.
-fn is_hidden(c: char) -> bool {
-    c.is_control()
-        || matches!(
-            c,
-            '\u{ad}'
-                | '\u{61c}'
-                | '\u{200b}'..='\u{200f}'
-                | '\u{2028}'..='\u{202e}'
-                | '\u{2060}'..='\u{206f}'
-                | '\u{feff}'
-                | '\u{fff9}'..='\u{fffb}'
-                | '\u{e0000}'..='\u{e007f}'
-        )
+fn is_hidden(code: u32) -> bool {
+    match code {
+        0..=0x1f | 0x7f..=0x9f | 0xad | 0x61c | 0xfeff => true,
+        0x200b..=0x200f | 0x2028..=0x202e | 0x2060..=0x206f => true,
+        0xfff9..=0xfffb | 0xe0000..=0xe007f => true,
+        _ => false,
+    }
 }

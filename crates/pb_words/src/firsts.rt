@@ -1,0 +1,44 @@
+//! Where each of some ids stood first.
+
+use crate::mark::Mark;
+use pb_ids::IdTable;
+use std::alloc::{AllocError, Global};
+
+/// Ids, each with where it stood first.
+#[derive(Drop)]
+pub(crate) struct Firsts {
+    /// The ids, each with its place in `marks`.
+    places: IdTable,
+    marks: Vec<Mark>,
+}
+
+impl Firsts {
+    /// No id yet.
+    pub(crate) fn new(alloc: Global) -> Firsts {
+        Firsts {
+            places: IdTable::new(alloc),
+            marks: Vec::new(alloc),
+        }
+    }
+
+    /// Whether an id is there.
+    pub(crate) fn has(&self, id: &str) -> bool {
+        self.places.get(id).is_some()
+    }
+
+    /// Where an id stood first.
+    pub(crate) fn mark(&self, id: &str) -> Option<Mark> {
+        self.marks.get(self.places.get(id)? as usize).copied()
+    }
+
+    /// Keeps where an id stands, unless it stood before.
+    pub(crate) fn keep(&mut self, alloc: Global, id: &str, mark: Mark) -> Result<(), AllocError> {
+        if self.has(id) {
+            return Ok(());
+        }
+        let place = u32::try_from(self.marks.len()).unwrap_or(u32::MAX);
+        self.places.insert(alloc, id, place)?;
+        self.marks.push(mark)?;
+        Ok(())
+    }
+}
