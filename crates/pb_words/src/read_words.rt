@@ -13,7 +13,7 @@ use crate::section::{Section, Stage};
 use crate::seen::Seen;
 use crate::text::Text;
 use crate::walk::Walk;
-use crate::words::Value::{Name, Number, Quoted, Text as Own};
+use crate::words::Value::{Name, Number, Own, Quoted};
 use crate::words::Words;
 use pb_read::{ReadFault, ReadKind};
 use std::alloc::{AllocError, Global};
