@@ -31,16 +31,14 @@ pub fn journal_words<R: Files>(
 }
 
 fn put_words<R: Files>(out: &mut Words, audited: &Audited<'_, R>) {
-    if let Some(path) = audited.journal.path {
-        if matches!(audited.fault, AuditFault::ReadFailed(_)) {
-            return put_reading_failed(out, &audited.journal, path, audited.at);
-        }
-        if put_found(out, audited) {
-            return;
-        }
+    let is_put = match audited.fault {
+        AuditFault::ReadFailed(_) => put_reading_failed(out, &audited.journal, audited.at),
+        _ => put_found(out, audited),
+    };
+    if !is_put {
+        put_record_number(out, &audited.journal, audited.at);
+        out.put(what_and_remedy(audited.fault));
     }
-    put_record_number(out, &audited.journal, audited.at);
-    out.put(what_and_remedy(audited.fault))
 }
 
 /// What is wrong and what to do, where no more than the fault is known.
