@@ -1,7 +1,7 @@
 //! A condition that a row of a script or a journal breaks, in words.
 
 use crate::fields::{bytes_at, place_of_no_text};
-use crate::words::Value::{self, Bytes, Number, Text};
+use crate::words::Value::{self, Bytes, Number, Own};
 use crate::words::Words;
 use csv::ByteRecord;
 
@@ -32,7 +32,7 @@ impl Condition {
         Some(Complaint {
             condition: self,
             value: value.as_bytes(),
-            end: Text(""),
+            end: Own(""),
         })
     }
 }
@@ -54,11 +54,11 @@ impl<'r> Complaint<'r> {
         out.fill(
             ", field {}: {}{}{}.\n{}\n",
             &[
-                Text(condition.field),
+                Own(condition.field),
                 Bytes(self.value),
-                Text(condition.broken),
+                Own(condition.broken),
                 self.end,
-                Text(remedy),
+                Own(remedy),
             ],
         )
     }

@@ -2,7 +2,7 @@
 
 use crate::survey::survey_of;
 use crate::text::Text;
-use crate::words::Value::{Name, Number, Text as Own};
+use crate::words::Value::{Name, Number, Own};
 use crate::words::Words;
 use pb_rounds::count_fault::CountFault;
 use pb_rounds::options::{CountOptions, LARGEST_STEP, MOST_RAISES};

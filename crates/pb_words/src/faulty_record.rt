@@ -5,7 +5,7 @@ use crate::mark::Mark;
 use crate::mark_words::put_subject;
 use crate::read_rules::words_of;
 use crate::section::{Names, Section, Stage};
-use crate::words::Value::{Bytes, Number, Quoted, Text};
+use crate::words::Value::{Bytes, Number, Own, Quoted};
 use crate::words::Words;
 use csv::ByteRecord;
 use pb_read::ReadKind;
@@ -67,7 +67,7 @@ impl<'r> FaultyRecord<'r> {
             | ReadKind::ZeroCost => {
                 self.put_value(out, self.names.value_column, self.id, self.value)
             }
-            kind => out.fill(": {}.\n", &[Text(words_of(kind).what)]),
+            kind => out.fill(": {}.\n", &[Own(words_of(kind).what)]),
         }
     }
 
@@ -75,7 +75,7 @@ impl<'r> FaultyRecord<'r> {
     pub(crate) fn put_repeated(&self, out: &mut Words, first: Option<u64>) {
         out.fill(
             ", column {}: {}",
-            &[Text(self.names.id_column), Quoted(self.id)],
+            &[Own(self.names.id_column), Quoted(self.id)],
         );
         match first {
             Some(line) => out.fill(" stood first on line {}.\n", &[Number(line)]),
@@ -107,7 +107,7 @@ impl<'r> FaultyRecord<'r> {
         };
         out.fill(
             ": the row of column names begins with {} and lacks the column `{}`.\n",
-            &[Quoted(text_at(self.record, 0)), Text(missing)],
+            &[Quoted(text_at(self.record, 0)), Own(missing)],
         )
     }
 
@@ -118,12 +118,12 @@ impl<'r> FaultyRecord<'r> {
         } else {
             self.names.id_column
         };
-        out.fill(": the row ends before the column `{}`.\n", &[Text(missing)])
+        out.fill(": the row ends before the column `{}`.\n", &[Own(missing)])
     }
 
     /// Puts a value of this column, in the row with this id, and the rule that it breaks.
     fn put_value(&self, out: &mut Words, column: &str, id: &str, value: &str) {
-        out.fill(", column {}", &[Text(column)]);
+        out.fill(", column {}", &[Own(column)]);
         put_subject(out, self.names.subject, id);
         out.fill(": {}", &[Quoted(value)]);
         out.put(words_of(self.kind).rule)

@@ -57,18 +57,17 @@ pub fn write_words(
     out.finish()
 }
 
-/// Puts why a file could not be read to its end, at the record with this number.
-pub(crate) fn put_reading_failed<R: Files>(
-    out: &mut Words,
-    text: &Text<'_, R>,
-    path: &str,
-    at: u64,
-) {
+/// Puts why a text could not be read to its end, at the record with this number, if it has a path; answers whether it has.
+pub(crate) fn put_reading_failed<R: Files>(out: &mut Words, text: &Text<'_, R>, at: u64) -> bool {
+    let Some(path) = text.path else {
+        return false;
+    };
     if is_folder(text.rt, path) {
-        return out.fill(
+        out.fill(
             "{}: this is a folder.\nName a file in it.\n",
             &[Name(Some(path))],
         );
+        return true;
     }
     put_record_number(out, text, at);
     if is_file(text.rt, path) {
@@ -76,7 +75,8 @@ pub(crate) fn put_reading_failed<R: Files>(
     } else {
         out.put(": the reader failed.\n");
     }
-    out.put("Check the disk or the connection, then run again.\n")
+    out.put("Check the disk or the connection, then run again.\n");
+    true
 }
 
 fn is_folder<R: Files>(rt: &R, path: &str) -> bool {

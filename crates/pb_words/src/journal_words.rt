@@ -9,7 +9,7 @@ use crate::mark::Mark;
 use crate::mark_words::{put_mark, put_quotes, put_record_number, put_subject};
 use crate::row_form::put_field_count;
 use crate::tally::Tally;
-use crate::words::Value::{Bytes, Number, Text};
+use crate::words::Value::{Bytes, Number, Own};
 use crate::words::Words;
 use csv::ByteRecord;
 use pb_desk::AuditFault;
@@ -31,16 +31,14 @@ pub fn journal_words<R: Files>(
 }
 
 fn put_words<R: Files>(out: &mut Words, audited: &Audited<'_, R>) {
-    if let Some(path) = audited.journal.path {
-        if matches!(audited.fault, AuditFault::ReadFailed(_)) {
-            return put_reading_failed(out, &audited.journal, path, audited.at);
-        }
-        if put_found(out, audited) {
-            return;
-        }
+    let is_put = match audited.fault {
+        AuditFault::ReadFailed(_) => put_reading_failed(out, &audited.journal, audited.at),
+        _ => put_found(out, audited),
+    };
+    if !is_put {
+        put_record_number(out, &audited.journal, audited.at);
+        out.put(what_and_remedy(audited.fault));
     }
-    put_record_number(out, &audited.journal, audited.at);
-    out.put(what_and_remedy(audited.fault))
 }
 
 /// What is wrong and what to do, where no more than the fault is known.
@@ -82,7 +80,7 @@ fn put_row<R: Files>(out: &mut Words, audited: &Audited<'_, R>, row: &ByteRecord
     match audited.fault {
         AuditFault::BadRow(0) => out.fill(
             ": the version {} is none that there is; `journal;2` is due.\n{}\n",
-            &[Bytes(bytes_at(row, 1)), Text(EDITED)],
+            &[Bytes(bytes_at(row, 1)), Own(EDITED)],
         ),
         AuditFault::BadRow(_) => {
             put_bad_row(out, row);
@@ -101,7 +99,7 @@ fn put_row<R: Files>(out: &mut Words, audited: &Audited<'_, R>, row: &ByteRecord
 fn put_bad_row(out: &mut Words, row: &ByteRecord) {
     if row.len() != 6 && place_of_no_text(row).is_none() {
         put_field_count(out, row, 6);
-        return out.fill("{}\n", &[Text(EDITED)]);
+        return out.fill("{}\n", &[Own(EDITED)]);
     }
     match complaint_of(row) {
         Some(complaint) => complaint.put(out, EDITED),

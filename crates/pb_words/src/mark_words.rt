@@ -3,7 +3,7 @@
 use crate::mark::Mark;
 use crate::quote::{Span, span_of};
 use crate::text::Text;
-use crate::words::Value::{Name, Number, Text as Own};
+use crate::words::Value::{Name, Number, Own};
 use crate::words::Words;
 use std::rt::Files;
 

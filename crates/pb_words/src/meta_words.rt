@@ -8,7 +8,7 @@ use crate::records::Records;
 use crate::section::Section;
 use crate::seen::Seen;
 use crate::text::Text;
-use crate::words::Value::{Number, Quoted, Text as Own};
+use crate::words::Value::{Number, Own, Quoted};
 use crate::words::Words;
 use pb_read::ReadKind;
 use std::io::Read;

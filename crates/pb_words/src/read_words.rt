@@ -13,7 +13,7 @@ use crate::section::{Section, Stage};
 use crate::seen::Seen;
 use crate::text::Text;
 use crate::walk::Walk;
-use crate::words::Value::{Name, Number, Quoted, Text as Own};
+use crate::words::Value::{Name, Number, Own, Quoted};
 use crate::words::Words;
 use pb_read::{ReadFault, ReadKind};
 use std::alloc::{AllocError, Global};
@@ -44,28 +44,27 @@ pub fn list_words<R: Files>(
 ) -> Result<String, AllocError> {
     let mut out = Words::new(alloc);
     let text = Text::new(rt, alloc, path, "record");
-    match text.records_from(Mark::start()) {
-        Some(records) => {
-            let mut walk = Walk::new(alloc, records, faults);
-            put_faults(&mut out, &text, &mut walk, faults);
-            drop(walk);
-        }
-        None => {
-            for fault in faults {
-                put_unread(&mut out, &text, *fault);
-            }
-        }
-    }
+    put_list(&mut out, alloc, &text, faults);
     out.finish()
+}
+
+fn put_list<R: Files>(out: &mut Words, alloc: Global, text: &Text<'_, R>, faults: &[ReadFault]) {
+    let Some(records) = text.records_from(Mark::start()) else {
+        for fault in faults {
+            put_unread(out, text, *fault);
+        }
+        return;
+    };
+    let mut walk = Walk::new(alloc, records, faults);
+    put_faults(out, text, &mut walk, faults);
+    drop(walk);
 }
 
 /// Puts what is said of a fault by itself.
 fn put_unread<R: Files>(out: &mut Words, text: &Text<'_, R>, fault: ReadFault) {
     let at = u64::from(fault.at);
-    if fault.kind == ReadKind::ReadFailed {
-        if let Some(path) = text.path {
-            return put_reading_failed(out, text, path, at);
-        }
+    if fault.kind == ReadKind::ReadFailed && put_reading_failed(out, text, at) {
+        return;
     }
     put_record_number(out, text, at);
     let words = words_of(fault.kind);

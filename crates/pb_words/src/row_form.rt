@@ -1,7 +1,7 @@
 //! The request in a row of a script or a journal, and which of its conditions a row breaks.
 
 use crate::complaint::{Complaint, Condition};
-use crate::words::Value::{Number, Text};
+use crate::words::Value::{Number, Own};
 use crate::words::Words;
 use csv::ByteRecord;
 use pb_rows::read_number;
@@ -54,7 +54,7 @@ pub(crate) fn put_field_count(out: &mut Words, row: &ByteRecord, due: u64) {
     let fields = if count == 1 { "field" } else { "fields" };
     out.fill(
         ": the row has {} {}, and {} are due.\n",
-        &[Number(count), Text(fields), Number(due)],
+        &[Number(count), Own(fields), Number(due)],
     )
 }
 

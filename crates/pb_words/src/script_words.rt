@@ -37,15 +37,15 @@ pub fn script_words<R: Files>(
 
 fn put_words<R: Files>(out: &mut Words, text: &Text<'_, R>, fault: ScriptFault, clerks: u32) {
     let at = u64::from(fault.at());
-    if let Some(path) = text.path {
-        match fault {
-            ScriptFault::ReadFailed(_) => return put_reading_failed(out, text, path, at),
-            ScriptFault::BadRow(_) if put_row(out, text, at, clerks) => return,
-            _ => {}
-        }
+    let is_put = match fault {
+        ScriptFault::ReadFailed(_) => put_reading_failed(out, text, at),
+        ScriptFault::BadRow(_) => put_row(out, text, at, clerks),
+        _ => false,
+    };
+    if !is_put {
+        put_record_number(out, text, at);
+        out.put(what_and_remedy(fault));
     }
-    put_record_number(out, text, at);
-    out.put(what_and_remedy(fault));
 }
 
 /// What is wrong and what to do, where no more than the fault is known.

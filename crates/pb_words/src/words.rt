@@ -15,7 +15,7 @@ const MOST_OF_NAME: usize = 4096;
 #[derive(Clone, Copy)]
 pub(crate) enum Value<'v> {
     /// A text that is the program's own.
-    Text(&'v str),
+    Own(&'v str),
     Number(u64),
     /// A text from outside, in quotes and cut after 60 characters; three dots after the quotes say that it goes on.
     Quoted(&'v str),
@@ -76,7 +76,7 @@ impl Words {
 
     fn put_value(&mut self, value: &Value<'_>) {
         match value {
-            Value::Text(text) => self.put(text),
+            Value::Own(text) => self.put(text),
             Value::Number(number) => self.put_number(*number),
             Value::Quoted(text) => self.put_quoted(text.as_bytes()),
             Value::Bytes(bytes) => self.put_quoted(bytes),
