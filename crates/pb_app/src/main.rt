@@ -4,24 +4,18 @@
 
 mod audit;
 mod counted;
-mod digested;
-mod given;
-mod output;
-mod paced;
 mod page;
 mod perform;
-mod progress;
 mod serve;
 mod words;
 
-use crate::output::Output;
 use crate::perform::{Notes, Refusal, perform};
-use crate::progress::Progress;
 use pb_command_line::parse::parse;
 use pb_command_line::{Asked, Parsed};
 use pb_commands::{AppFault, BAD_ARGUMENTS};
 use pb_read::ReadFault;
 use pb_serving::ServingFault;
+use pb_streams::{Output, Progress};
 use pb_words::Tally;
 use std::fs::File;
 use std::io::{IsTerminal, Write};
@@ -99,23 +93,25 @@ fn done<R>(rt: &R, asked: &Asked<'_>, shows: bool) -> ExitCode
 where
     R: Files<File = File> + Input + Print + Eprint + Clock + AllocGlobal + Threads + Sync,
 {
-    let mut output = Output::new(rt, asked.output, words::writes_entries(&asked.task));
+    let mut output = Output::new(rt, asked.output);
     let mut notes = Notes {
+        written: Tally::new(),
         audited: Tally::new(),
         faults: Vec::new(rt.alloc()),
     };
     let progress = Progress::new(rt, asked.shows.unwrap_or(shows));
     let result = perform(rt, asked, &mut output, &mut notes, &progress);
     progress.clear();
+    drop(progress);
     let code = match result {
         Ok(()) => {
-            words::say_tally(rt, &asked.task, &output.tally, &notes.audited);
+            words::say_tally(rt, &asked.task, &notes.written, &notes.audited);
             words::say_faults(rt, &asked.task, notes.faults.as_slice());
             status_of(notes.faults.as_slice())
         }
         Err(refusal) => {
             if let Refusal::BadRows(_) = refusal {
-                words::say_tally(rt, &asked.task, &output.tally, &notes.audited);
+                words::say_tally(rt, &asked.task, &notes.written, &notes.audited);
             }
             let status = write_line(rt, &refusal);
             words::say_refusal(rt, asked, &refusal, output.failure.as_ref(), &notes.audited);

@@ -5,17 +5,15 @@ ghost use Rattle.pb_rounds.specs.Counted.{IsCountFault};
 ghost use Rattle.pb_commands.specs.Ends.{HasWritten};
 ghost use Rattle.pb_page.specs.Page.{IsPage};
 
-use crate::digested::{Digested, hex_of};
-use crate::given::{open, open_both};
-use crate::progress::{Progress, Shown};
 use pb_command_line::{Ballots, Source as Given};
-use pb_commands::{AppFault, Counting, closed_ballots};
+use pb_commands::{AppFault, Counting, closed_ballots, write_out};
 use pb_core::election::Election;
 use pb_core::gate::Gate;
 use pb_page::{Facts, Source, page_of};
 use pb_read::read_pb;
 use pb_rounds::count::count_watched;
 use pb_rounds::count_fault::CountFault;
+use pb_streams::{Digested, Hex, Progress, open_both_shown, open_shown};
 use sha2::{Digest, Sha256};
 use std::alloc::Global;
 use std::io::{Read, Write};
@@ -26,13 +24,13 @@ use std::thread::Threads;
 /// What standard input is called.
 const INPUT: &str = "standard input";
 
-/// An election that was read, and the SHA-256 of the bytes that it was read from, in hexadecimal.
+/// An election that was read, and the SHA-256 of the bytes that it was read from.
 #[derive(Drop)]
 struct Contents {
     election: Election,
-    file: String,
+    file: Hex,
     /// That of the journal, if there is one.
-    journal: Option<String>,
+    journal: Option<Hex>,
 }
 
 /// Counts these ballots, and writes the page of the outcome. What refuses it, and when, is as for the tables.
@@ -43,15 +41,13 @@ pub(crate) fn page<'a, R, W: Write>(
     writer: &mut W,
 ) -> Result<(), AppFault>
 where
-    R: Files + Input + Print + Eprint + Clock + AllocGlobal + Threads + Sync,
+    R: Files + Input + Eprint + Clock + Threads + Sync,
 {
-    let (rt, alloc, progress) = (counting.rt, counting.alloc, counting.gate);
     let read = match &ballots.journal {
-        None => read_file(alloc, Shown::new(open(rt, &ballots.file, 1)?, progress)),
+        None => read_file(counting.alloc, open_shown(counting.gate, &ballots.file)?),
         Some(journal) => {
-            let (file, journal) = open_both(rt, &ballots.file, journal)?;
-            let file = Shown::new(file, progress);
-            read_both(alloc, file, Shown::new(journal, progress))
+            let (file, journal) = open_both_shown(counting.gate, &ballots.file, journal)?;
+            read_both(counting.alloc, file, journal)
         }
     }?;
     let written = write_page(counting, &read, ballots, title, writer);
@@ -61,11 +57,12 @@ where
 
 /// Reads the file's own ballots.
 fn read_file<P: Read + Drop>(alloc: Global, file: P) -> Result<Contents, AppFault> {
-    let mut hasher = Sha256::new();
-    let election = read_pb(alloc, Digested::new(file, &mut hasher))?;
+    let mut of_file = Sha256::new();
+    let election = read_pb(alloc, Digested::new(file, &mut of_file));
+    let file = Hex::of(of_file);
     Ok(Contents {
-        election,
-        file: hex_of(alloc, hasher)?,
+        election: election?,
+        file,
         journal: None,
     })
 }
@@ -80,13 +77,13 @@ fn read_both<P: Read + Drop, J: Read + Drop>(
     let mut of_journal = Sha256::new();
     let file = Digested::new(file, &mut of_file);
     let journal = Digested::new(journal, &mut of_journal);
-    let election = closed_ballots(alloc, file, journal)?;
-    let file = hex_of(alloc, of_file)?;
-    let journal = hex_of(alloc, of_journal)?;
+    let election = closed_ballots(alloc, file, journal);
+    let file = Hex::of(of_file);
+    let journal = Some(Hex::of(of_journal));
     Ok(Contents {
-        election,
+        election: election?,
         file,
-        journal: Some(journal),
+        journal,
     })
 }
 
@@ -99,24 +96,28 @@ fn write_page<'a, T: Threads + Sync, G: Gate, W: Write>(
     writer: &mut W,
 ) -> Result<(), AppFault> {
     let journal = match (&ballots.journal, &read.journal) {
-        (Some(given), Some(digest)) => Some(Source {
-            name: name_of(given),
-            digest: digest.as_str(),
-        }),
+        (Some(given), Some(digest)) => Some(source_of(given, digest)),
         _ => None,
     };
     let facts = Facts {
         title,
-        file: Source {
-            name: name_of(&ballots.file),
-            digest: read.file.as_str(),
-        },
+        file: source_of(&ballots.file, &read.file),
         journal,
         options: *counting.options,
     };
     let (rt, alloc) = (counting.rt, counting.alloc);
     let text = page_text(rt, alloc, counting.gate, &read.election, &facts)?;
     write_whole(writer, text.as_slice())
+}
+
+/// A text that was read, by its name without its folders.
+fn source_of<'a>(given: &Given<'a>, digest: &'a Hex) -> Source<'a> {
+    let name = match given.path() {
+        Some(path) => Path::new(path).file_name().unwrap_or(path),
+        None => INPUT,
+    };
+    let digest = digest.text();
+    Source { name, digest }
 }
 
 /// The page of an election, counted with the options of these facts: nothing in it is markup but the program's own
@@ -143,16 +144,5 @@ fn write_whole<W: Write>(writer: &mut W, text: &[u8]) -> Result<(), AppFault>
     ensures ok { OnOk result (HasWritten IsPage (W.contents writer.old) (W.contents writer.new)) }
     ensures fault { IfErr result (λ fault. fault ≡ AppFault.Write) }
 {
-    if writer.write_all(text).is_err() || writer.flush().is_err() {
-        return Err(AppFault::Write);
-    }
-    Ok(())
-}
-
-/// The name of a text that is read, without its folders.
-fn name_of<'a>(given: &Given<'a>) -> &'a str {
-    match given.path() {
-        Some(path) => Path::new(path).file_name().unwrap_or(path),
-        None => INPUT,
-    }
+    write_out(writer, text, AppFault::Write)
 }

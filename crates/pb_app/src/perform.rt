@@ -1,11 +1,9 @@
 //! What the command line asks for, done on real files.
 
 use crate::audit::audit;
-use crate::given::{open, open_both};
-use crate::output::Output;
+use crate::counted::CountedWriter;
 use crate::page::page;
-use crate::progress::{Progress, Shown};
-use crate::serve;
+use crate::serve::serve;
 use pb_command_line::{Asked, Ballots, DeskRun, Source, Task};
 use pb_commands::run_check::run_check;
 use pb_commands::run_count::run_count_watched;
@@ -15,7 +13,7 @@ use pb_commands::run_table::{run_closed_table, run_table};
 use pb_commands::{AppFault, Counting, Table};
 use pb_core::gate::NoGate;
 use pb_read::ReadFault;
-use pb_rounds::options::CountOptions;
+use pb_streams::{Output, Progress, Shown, open_both, open_both_shown, open_shown};
 use pb_words::Tally;
 use pb_words::warnings::Warnings;
 use std::fs::File;
@@ -54,6 +52,8 @@ impl From<AppFault> for Refusal {
 /// What a run tells of what it read, beside its result.
 #[derive(Drop)]
 pub(crate) struct Notes {
+    /// The entries of a journal that was written.
+    pub(crate) written: Tally,
     /// The entries of a journal that was audited.
     pub(crate) audited: Tally,
     /// The faults of a file that was checked.
@@ -72,70 +72,52 @@ pub(crate) fn perform<R>(
 where
     R: Files<File = File> + Input + Print + Eprint + Clock + AllocGlobal + Threads + Sync,
 {
-    match run(rt, &asked.task, output, notes, progress) {
-        Ok(()) => match output.finish() {
-            Ok(()) => Ok(()),
-            Err(error) => {
-                output.failure = Some(error);
-                Err(Refusal::Fault(AppFault::Write))
-            }
-        },
-        Err(refusal) => {
-            output.give_up();
-            Err(refusal)
-        }
-    }
-}
-
-fn run<R, W: Write>(
-    rt: &R,
-    task: &Task<'_>,
-    writer: &mut W,
-    notes: &mut Notes,
-    progress: &Progress<'_, R>,
-) -> Result<(), Refusal>
-where
-    R: Files<File = File> + Input + Print + Eprint + Clock + AllocGlobal + Threads + Sync,
-{
-    let done = match task {
-        Task::Count(source, options) => count(&counting(rt, options, progress), source, writer),
-        Task::Projects(ballots, options) => {
-            let counting = counting(rt, options, progress);
-            tell(&counting, ballots, Table::Projects, writer)
-        }
-        Task::Voters(ballots, options) => {
-            let counting = counting(rt, options, progress);
-            tell(&counting, ballots, Table::Voters, writer)
-        }
-        Task::Page(ballots, options, title) => {
-            page(&counting(rt, options, progress), ballots, title, writer)
-        }
-        Task::Export(ballots, options) => {
-            export(&counting(rt, options, progress), ballots, writer)
-        }
-        Task::Check(source) => check(rt, source, writer, &mut notes.faults, progress),
-        Task::Desk(asked) => desk(rt, asked, writer, progress),
-        Task::Audit(asked) => {
-            let counting = counting(rt, &asked.options, progress);
-            audit(&counting, asked, writer, &mut notes.audited)
-        }
-        Task::Serve(file, journal) => return serve::serve(rt, file, journal, writer),
-    };
-    Ok(done?)
-}
-
-/// How to count with these options: the raises are shown.
-fn counting<'a, R: AllocGlobal>(
-    rt: &'a R,
-    options: &'a CountOptions,
-    progress: &'a Progress<'a, R>,
-) -> Counting<'a, R, Progress<'a, R>> {
-    Counting {
+    let options = asked.task.options();
+    let counting = Counting {
         rt,
         alloc: rt.alloc(),
         gate: progress,
-        options,
+        options: &options,
+    };
+    let done = run(&counting, &asked.task, output, notes);
+    drop(counting);
+    if done.is_err() {
+        output.give_up();
+        return done;
     }
+    match output.finish() {
+        Ok(()) => Ok(()),
+        Err(error) => {
+            output.failure = Some(error);
+            Err(Refusal::Fault(AppFault::Write))
+        }
+    }
+}
+
+/// Does a task; how it counts is said beside it.
+fn run<R, W: Write>(
+    counting: &Counting<'_, R, Progress<'_, R>>,
+    task: &Task<'_>,
+    writer: &mut W,
+    notes: &mut Notes,
+) -> Result<(), Refusal>
+where
+    R: Files<File = File> + Input + Eprint + Clock + AllocGlobal + Threads + Sync,
+{
+    let done = match task {
+        Task::Count(source, _) => count(counting, source, writer),
+        Task::Projects(ballots, _) => tell(counting, ballots, Table::Projects, writer),
+        Task::Voters(ballots, _) => tell(counting, ballots, Table::Voters, writer),
+        Task::Page(ballots, _, title) => page(counting, ballots, title, writer),
+        Task::Export(ballots, _) => export(counting, ballots, writer),
+        Task::Check(source) => check(counting, source, writer, &mut notes.faults),
+        Task::Desk(asked) => desk(counting, asked, writer, &mut notes.written),
+        Task::Audit(asked) => audit(counting, asked, writer, &mut notes.audited),
+        Task::Serve(file, journal) => {
+            return serve(counting.rt, file, journal, writer, &mut notes.written);
+        }
+    };
+    Ok(done?)
 }
 
 /// Counts a .pb file.
@@ -145,9 +127,9 @@ fn count<R, W: Write>(
     writer: &mut W,
 ) -> Result<(), AppFault>
 where
-    R: Files + Input + Print + Eprint + Clock + AllocGlobal + Threads + Sync,
+    R: Files + Input + Eprint + Clock + Threads + Sync,
 {
-    let file = Shown::new(open(counting.rt, source, 1)?, counting.gate);
+    let file = open_shown(counting.gate, source)?;
     run_count_watched(counting, file, writer)
 }
 
@@ -159,15 +141,13 @@ fn tell<R, W: Write>(
     writer: &mut W,
 ) -> Result<(), AppFault>
 where
-    R: Files + Input + Print + Eprint + Clock + AllocGlobal + Threads + Sync,
+    R: Files + Input + Eprint + Clock + Threads + Sync,
 {
     let Some(journal) = &ballots.journal else {
-        let file = Shown::new(open(counting.rt, &ballots.file, 1)?, counting.gate);
+        let file = open_shown(counting.gate, &ballots.file)?;
         return run_table(counting, file, writer, table);
     };
-    let (file, journal) = open_both(counting.rt, &ballots.file, journal)?;
-    let file = Shown::new(file, counting.gate);
-    let journal = Shown::new(journal, counting.gate);
+    let (file, journal) = open_both_shown(counting.gate, &ballots.file, journal)?;
     run_closed_table(counting, file, journal, writer, table)
 }
 
@@ -178,10 +158,10 @@ fn export<R, W: Write>(
     writer: &mut W,
 ) -> Result<(), AppFault>
 where
-    R: Files + Input + Print + Eprint + Clock + AllocGlobal + Threads + Sync,
+    R: Files + Input + Eprint + Clock + Threads + Sync,
 {
     let Some(journal) = &ballots.journal else {
-        let file = Shown::new(open(counting.rt, &ballots.file, 1)?, counting.gate);
+        let file = open_shown(counting.gate, &ballots.file)?;
         return run_export(counting, file, writer);
     };
     let (file, journal) = open_both(counting.rt, &ballots.file, journal)?;
@@ -191,18 +171,17 @@ where
 
 /// Checks a .pb file, and keeps its faults.
 fn check<R, W: Write>(
-    rt: &R,
+    counting: &Counting<'_, R, Progress<'_, R>>,
     source: &Source<'_>,
     writer: &mut W,
     faults: &mut Vec<ReadFault>,
-    progress: &Progress<'_, R>,
 ) -> Result<(), AppFault>
 where
-    R: Files + Input + Print + Eprint + Clock + AllocGlobal + Threads + Sync,
+    R: Files + Input + Eprint + Clock,
 {
-    let file = Shown::new(open(rt, source, 1)?, progress);
-    let mut warnings = Warnings::new(rt.alloc());
-    let checked = run_check(rt.alloc(), file, writer, &mut warnings);
+    let file = open_shown(counting.gate, source)?;
+    let mut warnings = Warnings::new(counting.alloc);
+    let checked = run_check(counting.alloc, file, writer, &mut warnings);
     drop(warnings);
     drop(mem::replace(faults, checked?));
     Ok(())
@@ -210,16 +189,27 @@ where
 
 /// Lets clerks serve a script on the desk of a .pb file. What is typed at a terminal is not shown a second time.
 fn desk<R, W: Write>(
-    rt: &R,
+    counting: &Counting<'_, R, Progress<'_, R>>,
     asked: &DeskRun<'_>,
     writer: &mut W,
-    progress: &Progress<'_, R>,
+    tally: &mut Tally,
 ) -> Result<(), AppFault>
 where
-    R: Files + Input + Print + Eprint + Clock + AllocGlobal + Threads + Sync,
+    R: Files + Input + Eprint + Clock + Threads + Sync,
 {
+    let (rt, alloc) = (counting.rt, counting.alloc);
     let (file, script) = open_both(rt, &asked.file, &asked.script)?;
-    let file = Shown::new(file, progress);
+    let file = Shown::new(file, counting.gate);
     let (clerks, shuts) = (asked.clerks, asked.shuts);
-    run_desk(rt, rt.alloc(), file, script, clerks, shuts, &NoGate, writer)
+    let mut entries = CountedWriter::new(writer, tally);
+    run_desk(
+        rt,
+        alloc,
+        file,
+        script,
+        clerks,
+        shuts,
+        &NoGate,
+        &mut entries,
+    )
 }

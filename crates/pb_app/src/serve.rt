@@ -1,7 +1,6 @@
 //! The command `serve`: a desk that stands on a file.
 
-use crate::given::open_file;
-use crate::paced::{AtHand, Paced};
+use crate::counted::CountedWriter;
 use crate::perform::Refusal;
 use crate::words;
 use pb_commands::AppFault;
@@ -11,7 +10,9 @@ use pb_durable::{Beside, DeviceFault, DurableDesk, JournalFile, Opened};
 use pb_read::read_pb;
 use pb_script::ROOM;
 use pb_serving::run_serve::run_serve;
-use pb_serving::{Incoming, ServingFault};
+use pb_serving::{AtHand, Incoming, Paced, ServingFault};
+use pb_streams::open_file;
+use pb_words::Tally;
 use std::cell::Cell;
 use std::fs::File;
 use std::io::{Error, ErrorKind, Write};
@@ -56,7 +57,16 @@ pub(crate) fn serve<R, W: Write>(
     file: &str,
     journal: &str,
     writer: &mut W,
+    tally: &mut Tally,
 ) -> Result<(), Refusal>
+where
+    R: Files<File = File> + Input + Eprint + AllocGlobal,
+{
+    serve_file(rt, file, journal, &mut CountedWriter::new(writer, tally))
+}
+
+/// The same; what is written is counted.
+fn serve_file<R, W: Write>(rt: &R, file: &str, journal: &str, writer: &mut W) -> Result<(), Refusal>
 where
     R: Files<File = File> + Input + Eprint + AllocGlobal,
 {

@@ -6,7 +6,6 @@ use pb_commands::AppFault;
 use pb_desk::desk::MOST_CLERKS;
 use pb_export::ExportFault;
 use pb_read::ReadFault;
-use pb_rounds::options::CountOptions;
 use pb_words::count_words::count_words;
 use pb_words::journal_words::journal_words;
 use pb_words::read_words::{list_words, read_words};
@@ -107,7 +106,7 @@ fn words_of<R: Files + AllocGlobal>(
             };
             journal_words(rt, alloc, paths, *fault, audited)
         }
-        AppFault::Count(fault) => count_words(rt, alloc, first, *fault, &options_of(&asked.task)),
+        AppFault::Count(fault) => count_words(rt, alloc, first, *fault, &asked.task.options()),
         AppFault::Open(1) => open_words(rt, alloc, first.unwrap_or("-")),
         AppFault::Open(_) => open_words(rt, alloc, second.unwrap_or("-")),
         AppFault::Write => write_words(alloc, asked.output, failure),
@@ -130,18 +129,6 @@ fn clerks_of(task: &Task<'_>) -> u32 {
     }
 }
 
-fn options_of(task: &Task<'_>) -> CountOptions {
-    match task {
-        Task::Count(_, options)
-        | Task::Projects(_, options)
-        | Task::Voters(_, options)
-        | Task::Page(_, options, _)
-        | Task::Export(_, options) => *options,
-        Task::Audit(run) => run.options,
-        Task::Desk(..) | Task::Serve(..) | Task::Check(_) => CountOptions::standard(),
-    }
-}
-
 /// Says what is wrong with a file that was checked.
 pub(crate) fn say_faults<R: Files + Eprint + AllocGlobal>(
     rt: &R,
@@ -152,11 +139,6 @@ pub(crate) fn say_faults<R: Files + Eprint + AllocGlobal>(
         let (file, _) = task.paths();
         say_words(rt, list_words(rt, rt.alloc(), file, faults));
     }
-}
-
-/// Whether what is written are entries of a journal, of which it is said how many they are.
-pub(crate) fn writes_entries(task: &Task<'_>) -> bool {
-    matches!(task, Task::Desk(..) | Task::Serve(..))
 }
 
 /// Says how many requests were done and refused, where a journal was written or audited.

@@ -90,6 +90,19 @@ pub enum Task<'a> {
 }
 
 impl<'a> Task<'a> {
+    /// How the ballots are counted, where some are.
+    pub fn options(&self) -> CountOptions {
+        match self {
+            Task::Count(_, options)
+            | Task::Projects(_, options)
+            | Task::Voters(_, options)
+            | Task::Page(_, options, _)
+            | Task::Export(_, options) => *options,
+            Task::Audit(run) => run.options,
+            Task::Desk(..) | Task::Serve(..) | Task::Check(_) => CountOptions::standard(),
+        }
+    }
+
     /// The paths of the texts that are read; standard input has none.
     pub fn paths(&self) -> (Option<&'a str>, Option<&'a str>) {
         match *self {

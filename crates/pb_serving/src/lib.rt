@@ -8,9 +8,11 @@ mod batch;
 mod heading;
 mod incoming;
 pub mod pace;
+mod paced;
 pub mod run_serve;
 pub mod serving_fault;
 
 pub use incoming::Incoming;
 pub use pace::{Always, Pace};
+pub use paced::{AtHand, Paced};
 pub use serving_fault::ServingFault;

@@ -1,14 +1,14 @@
 //! The texts that the command line names: standard input, or files.
 
 use pb_command_line::Source;
-use pb_commands::AppFault;
+use pb_faults::AppFault;
 use std::io::{Read, Result};
 use std::rt::Files;
 use std::{fs, io};
 
 /// A reader of standard input, or of a file.
 #[derive(Drop)]
-pub(crate) enum Given<R: Files + Input> {
+pub enum Given<R: Files + Input> {
     Input(R::Reader),
     File(R::File),
 }
@@ -23,7 +23,7 @@ impl<R: Files + Input> Read for Given<R> {
 }
 
 /// Opens the text with this number on the command line, from 1.
-pub(crate) fn open<R: Files + Input>(
+pub fn open<R: Files + Input>(
     rt: &R,
     source: &Source<'_>,
     number: u32,
@@ -35,7 +35,7 @@ pub(crate) fn open<R: Files + Input>(
 }
 
 /// Opens two texts of the command line, in their order.
-pub(crate) fn open_both<R: Files + Input>(
+pub fn open_both<R: Files + Input>(
     rt: &R,
     first: &Source<'_>,
     second: &Source<'_>,
@@ -51,7 +51,7 @@ pub(crate) fn open_both<R: Files + Input>(
 }
 
 /// Opens the file with this number on the command line, from 1.
-pub(crate) fn open_file<R: Files>(
+pub fn open_file<R: Files>(
     rt: &R,
     path: &str,
     number: u32,

@@ -1,7 +1,6 @@
 //! A reader whose bytes are digested as they go by.
 
 use sha2::{Digest, Sha256};
-use std::alloc::{AllocError, Global};
 use std::io::{Read, Result};
 
 /// The digits of hexadecimal.
@@ -9,13 +8,13 @@ const DIGITS: &[u8; 16] = b"0123456789abcdef";
 
 /// A reader whose bytes a hasher takes: of a reader that is read to its end, all its bytes, as they were read.
 #[derive(Drop)]
-pub(crate) struct Digested<'a, P> {
+pub struct Digested<'a, P> {
     reader: P,
     hasher: &'a mut Sha256,
 }
 
 impl<'a, P> Digested<'a, P> {
-    pub(crate) fn new(reader: P, hasher: &'a mut Sha256) -> Digested<'a, P> {
+    pub fn new(reader: P, hasher: &'a mut Sha256) -> Digested<'a, P> {
         Digested { reader, hasher }
     }
 }
@@ -30,13 +29,25 @@ impl<P: Read> Read for Digested<'_, P> {
     }
 }
 
-/// The digest that a hasher has, in hexadecimal, by small letters.
-pub(crate) fn hex_of(alloc: Global, hasher: Sha256) -> std::result::Result<String, AllocError> {
-    let digest = hasher.finalize();
-    let mut text = String::new(alloc);
-    for byte in digest {
-        text.push(char::from(DIGITS[usize::from(byte >> 4)]))?;
-        text.push(char::from(DIGITS[usize::from(byte & 15)]))?;
+/// A digest in hexadecimal, by small letters.
+#[derive(Clone, Copy)]
+pub struct Hex([u8; 64]);
+
+impl Hex {
+    /// The digest that a hasher has.
+    pub fn of(hasher: Sha256) -> Hex {
+        let digest = hasher.finalize();
+        let mut digits = [0u8; 64];
+        for at in 0..32usize {
+            let byte = digest[at];
+            digits[2 * at] = DIGITS[usize::from(byte >> 4)];
+            digits[2 * at + 1] = DIGITS[usize::from(byte & 15)];
+        }
+        Hex(digits)
     }
-    Ok(text)
+
+    /// Its digits.
+    pub fn text(&self) -> &str {
+        str::from_utf8(&self.0).unwrap_or("")
+    }
 }

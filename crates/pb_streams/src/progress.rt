@@ -1,9 +1,12 @@
 //! How far reading and counting have come, shown in one line of standard error that is rewritten.
 
+use crate::given::{Given, open, open_both};
+use pb_command_line::Source;
 use pb_core::gate::Gate;
 use pb_core::money::Money;
+use pb_faults::AppFault;
 use std::io::{Read, Result};
-use std::rt::Clock;
+use std::rt::{Clock, Files};
 use std::sync::atomic::AtomicU64;
 use std::sync::atomic::Ordering::Relaxed;
 use std::time::Instant;
@@ -13,7 +16,7 @@ const PAUSE: u64 = 1_000;
 
 /// How far reading and counting have come. Nothing is shown of what takes less than a second.
 #[derive(Drop)]
-pub(crate) struct Progress<'a, R> {
+pub struct Progress<'a, R> {
     rt: &'a R,
     /// When the work began; none where nothing is shown.
     start: Option<Instant>,
@@ -24,7 +27,7 @@ pub(crate) struct Progress<'a, R> {
 
 impl<'a, R: Eprint + Clock> Progress<'a, R> {
     /// The work begins.
-    pub(crate) fn new(rt: &'a R, shows: bool) -> Progress<'a, R> {
+    pub fn new(rt: &'a R, shows: bool) -> Progress<'a, R> {
         Progress {
             rt,
             start: if shows { Instant::now(rt).ok() } else { None },
@@ -63,7 +66,7 @@ impl<'a, R: Eprint + Clock> Progress<'a, R> {
     }
 
     /// Takes the line away.
-    pub(crate) fn clear(&self) {
+    pub fn clear(&self) {
         if self.shown.load(Relaxed) > 0 {
             let _ = eprint!(self.rt; "\r{:40}\r", "");
         }
@@ -86,13 +89,13 @@ impl<R: Eprint + Clock + Sync> Gate for Progress<'_, R> {
 
 /// A reader of which it is shown how much has come.
 #[derive(Drop)]
-pub(crate) struct Shown<'a, R, P> {
+pub struct Shown<'a, R, P> {
     reader: P,
     progress: &'a Progress<'a, R>,
 }
 
 impl<'a, R, P> Shown<'a, R, P> {
-    pub(crate) fn new(reader: P, progress: &'a Progress<'a, R>) -> Shown<'a, R, P> {
+    pub fn new(reader: P, progress: &'a Progress<'a, R>) -> Shown<'a, R, P> {
         Shown { reader, progress }
     }
 }
@@ -105,4 +108,23 @@ impl<R: Eprint + Clock, P: Read> Read for Shown<'_, R, P> {
         }
         Ok(count)
     }
+}
+
+/// Opens the first text of the command line; it is shown how much of it has come.
+pub fn open_shown<'a, R: Files + Input>(
+    progress: &'a Progress<'a, R>,
+    source: &Source<'_>,
+) -> std::result::Result<Shown<'a, R, Given<R>>, AppFault> {
+    let file = open(progress.rt, source, 1)?;
+    Ok(Shown::new(file, progress))
+}
+
+/// Opens two texts of the command line, in their order; it is shown how much of both has come.
+pub fn open_both_shown<'a, R: Files + Input>(
+    progress: &'a Progress<'a, R>,
+    first: &Source<'_>,
+    second: &Source<'_>,
+) -> std::result::Result<(Shown<'a, R, Given<R>>, Shown<'a, R, Given<R>>), AppFault> {
+    let (first, second) = open_both(progress.rt, first, second)?;
+    Ok((Shown::new(first, progress), Shown::new(second, progress)))
 }

@@ -1,6 +1,5 @@
 //! Where a result goes: to standard output, or to a file that gets it whole or not at all.
 
-use pb_words::Tally;
 use std::alloc::Global;
 use std::fs::{Metadata, OpenFile, OpenOptions};
 use std::io::{Error, ErrorKind, Result, Write};
@@ -21,27 +20,22 @@ struct Opened<F> {
 
 /// A writer of a result. A file is opened at the first write: a run that is refused writes nothing, and leaves no file.
 #[derive(Drop)]
-pub(crate) struct Output<'a, R: Files + Print + AllocGlobal> {
+pub struct Output<'a, R: Files + Print + AllocGlobal> {
     rt: &'a R,
     /// The path of the file that gets the result; none is standard output.
     path: Option<&'a str>,
     opened: Option<Opened<R::File>>,
-    /// What went by, where it is counted.
-    pub(crate) tally: Tally,
-    is_counted: bool,
     /// Why a write failed.
-    pub(crate) failure: Option<Error>,
+    pub failure: Option<Error>,
 }
 
 impl<'a, R: Files + Print + AllocGlobal> Output<'a, R> {
-    /// A result that goes to the file with this path, or to standard output; the entries of a journal are counted.
-    pub(crate) fn new(rt: &'a R, path: Option<&'a str>, is_counted: bool) -> Output<'a, R> {
+    /// A result that goes to the file with this path, or to standard output.
+    pub fn new(rt: &'a R, path: Option<&'a str>) -> Output<'a, R> {
         Output {
             rt,
             path,
             opened: None,
-            tally: Tally::new(),
-            is_counted,
             failure: None,
         }
     }
@@ -61,7 +55,7 @@ impl<'a, R: Files + Print + AllocGlobal> Output<'a, R> {
     }
 
     /// Puts a whole result in the place of an older one.
-    pub(crate) fn finish(&mut self) -> Result<()> {
+    pub fn finish(&mut self) -> Result<()> {
         match self.opened.take() {
             Some(opened) => put_in_place(self.rt, opened),
             None => Ok(()),
@@ -69,7 +63,7 @@ impl<'a, R: Files + Print + AllocGlobal> Output<'a, R> {
     }
 
     /// Takes away what was written of a result that did not become whole.
-    pub(crate) fn give_up(&mut self) {
+    pub fn give_up(&mut self) {
         if let Some(opened) = self.opened.take() {
             if let Some((part, _)) = &opened.beside {
                 let _ = fs::remove_file(self.rt, part.as_str());
@@ -82,13 +76,7 @@ impl<'a, R: Files + Print + AllocGlobal> Output<'a, R> {
 impl<R: Files + Print + AllocGlobal> Write for Output<'_, R> {
     fn write(&mut self, buf: &[u8]) -> Result<usize> {
         match self.write_some(buf) {
-            Ok(count) => {
-                let count = count.min(buf.len());
-                if self.is_counted {
-                    self.tally.take(&buf[..count]);
-                }
-                Ok(count)
-            }
+            Ok(count) => Ok(count.min(buf.len())),
             Err(error) => {
                 let kind = error.kind();
                 self.failure = Some(error);

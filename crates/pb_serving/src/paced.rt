@@ -2,7 +2,7 @@
 
 ghost use Rattle.std.specs.Prelude.{◌≤◌, length};
 
-use pb_serving::Pace;
+use crate::pace::Pace;
 use std::alloc::{AllocError, Global};
 use std::cell::Cell;
 use std::io::{Read, Result};
@@ -12,10 +12,10 @@ const CHUNK: usize = 1 << 16;
 
 /// Whether a whole row is at hand.
 #[derive(Drop)]
-pub(crate) struct AtHand(Cell<bool>);
+pub struct AtHand(Cell<bool>);
 
 impl AtHand {
-    pub(crate) fn new() -> AtHand {
+    pub fn new() -> AtHand {
         AtHand(Cell::new(false))
     }
 }
@@ -75,7 +75,7 @@ fn row_length(place: Place, bytes: &[u8]) -> Option<usize> {
 /// A reader that hands out a row at a time, and tells whether the next one is at hand. What it reads is what the reader
 /// underneath reads at once, so it waits for no row while one is there.
 #[derive(Drop)]
-pub(crate) struct Paced<'a, P> {
+pub struct Paced<'a, P> {
     reader: P,
     at_hand: &'a AtHand,
     /// What was read and not yet handed out stands from `start` to `end`.
@@ -87,7 +87,7 @@ pub(crate) struct Paced<'a, P> {
 }
 
 impl<'a, P: Read + Drop> Paced<'a, P> {
-    pub(crate) fn new(
+    pub fn new(
         alloc: Global,
         reader: P,
         at_hand: &'a AtHand,
