@@ -1,5 +1,5 @@
 -- A file and a journal that have a text get it, unless a device fails or memory is refused; and they have one at most.
-use Rattle.std.proofs.Common.{◌≡◌, ◌<◌, ◌^◌, ℕ, ◌++◌, List, Option, Some, None, Bool, true, false, refl, sym, ◌∙◌, ap, subst, arith}
+use Rattle.std.proofs.Common.{◌≡◌, ◌<◌, ◌^◌, ℕ, ◌++◌, List, [], Option, Some, None, Bool, true, false, refl, sym, ◌∙◌, ap, subst, arith}
 use Rattle.std.specs.Prelude.{IfSome, IsErrAnd, MatchBool, Result}
 use Rattle.pb_core.specs.Election.{ElectionView}
 use Rattle.pb_core.specs.Request.{EntryView}
@@ -80,8 +80,8 @@ desk_from_outside : (d : DeskView) (options : CountOptions) (text : List ℕ) �
     → (fault : CountFault) → IsRefusedDesk d options fault → IsOutsideFault (merged (Count fault))
 desk_from_outside d options text written count.NoMemory refused = refl
 desk_from_outside d options text written fault refused =
-    let report = rw refused.0 at written in
-    count_from_outside (closed_election d) options report.0 report.1 fault refused.1
+    let report = rw refused.0 at written.2 in
+    count_from_outside (closed_election d) options written.0 report fault refused.1
 
 -- what is known of a desk that an audit answered
 pub record IsAudited (files journals : Option (List ℕ)) (e : ElectionView) (d : DeskView) : Type 0 where
@@ -110,16 +110,18 @@ audited_by_desk (Some bytes) (Some journal) options e d fault r is audited refus
     given_fault IsOutsideFault r (merged (Count fault)) is (desk_from_outside d options text written fault refused)
 
 -- a desk has one text
-one_desk_text : (shut : Bool) (e : ElectionView) (options : CountOptions) (row a b : List ℕ)
-    → MatchBool shut ((report : List ℕ) × IsReportOf e options report × (a ≡ row ++ report)) (a ≡ row)
-    → MatchBool shut ((report : List ℕ) × IsReportOf e options report × (b ≡ row ++ report)) (b ≡ row) → a ≡ b
-one_desk_text true e options row a b first second =
-    first.2 ∙ ap (λ (t : List ℕ). row ++ t) (one_report e options first.0 second.0 first.1 second.1) ∙ sym second.2
-one_desk_text false e options row a b first second = first ∙ sym second
+one_desk_text : (shut : Bool) (e : ElectionView) (options : CountOptions) (row a b first second : List ℕ)
+    → a ≡ row ++ first → b ≡ row ++ second → MatchBool shut (IsReportOf e options first) (first ≡ [])
+    → MatchBool shut (IsReportOf e options second) (second ≡ []) → a ≡ b
+one_desk_text true e options row a b first second is_a is_b one other =
+    is_a ∙ ap (λ (t : List ℕ). row ++ t) (one_report e options first second one other) ∙ sym is_b
+one_desk_text false e options row a b first second is_a is_b one other =
+    is_a ∙ ap (λ (t : List ℕ). row ++ t) (one ∙ sym other) ∙ sym is_b
 
 pub one_audit : (bytes journal : List ℕ) (options : CountOptions) (a b : List ℕ)
     → AuditWrites bytes journal options a → AuditWrites bytes journal options b → a ≡ b
 one_audit bytes journal options a b first second =
     let d = first.0 in
     let written = rw (one_desk bytes journal second.0 d second.1 first.1) at second.2 in
-    one_desk_text (standing_of d).is_shut (closed_election d) options (text_of_row (entries_row d)) a b first.2 written
+    one_desk_text (standing_of d).is_shut (closed_election d) options (text_of_row (entries_row d)) a b first.2.0 written.0
+    first.2.1 written.1 first.2.2 written.2

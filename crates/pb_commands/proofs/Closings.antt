@@ -1,5 +1,6 @@
 -- The count of a shut desk, as its report.
-use Rattle.std.proofs.Common.{◌≡◌, ◌∙◌, ◌++◌, List, ℕ, Bool, true, sym, subst, refl, ap, append_assoc}
+use Rattle.std.proofs.Common.{◌≡◌, ◌∙◌, ◌++◌, List, [], ℕ, Bool, false, true, sym, subst, refl, ap, append_assoc}
+use Rattle.std.proofs.lemmas.List.{append-nil}
 use Rattle.std.specs.Prelude.{IfErr, MatchBool, OnOk, Result, Ok, Err}
 use Rattle.pb_core.specs.Election.{ElectionView}
 use Rattle.pb_desk.specs.Desk.{DeskView, closed_election, standing_of}
@@ -21,7 +22,7 @@ when_true b A B is a = subst (λ (t : Bool). MatchBool t A B) (sym is) a
 -- the desk's row and the report of a count of its ballots are what is to be written of the desk
 pub report_of_count : (d : DeskView) (options : CountOptions) (o : OutcomeView) → (standing_of d).is_shut ≡ true → IsCountOf (closed_election d) options o
     → IsTextOf d options (text_of_row (entries_row d) ++ report_of (closed_election d) o)
-report_of_count d options o shut counted = when_true (standing_of d).is_shut _ _ shut (report_of (closed_election d) o, (o, counted, refl), refl)
+report_of_count d options o shut counted = (report_of (closed_election d) o, refl, when_true (standing_of d).is_shut _ _ shut (o, counted, refl))
 
 -- the report of a shut desk's ballots goes after the desk's row
 pub report_follows : (d : DeskView) (options : CountOptions) (e : ElectionView) (before middle after : List ℕ) (r : Result (Unit {0}) CountFault) → (standing_of d).is_shut ≡ true
@@ -32,9 +33,18 @@ report_follows d options e before middle after (Ok done) shut is row_is put =
     let row = text_of_row (entries_row d) in
     let of_closed = subst (λ (e : ElectionView). IsReportOf e options put.0) is put.1 in (
       row ++ put.0,
-      when_true (standing_of d).is_shut _ _ shut (put.0, of_closed, refl),
+      (put.0, refl, when_true (standing_of d).is_shut _ _ shut of_closed),
       put.2 ∙ ap (λ (t : List ℕ). t ++ put.0) row_is ∙ append_assoc before row put.0,
     )
+
+-- nothing goes after the row of an open desk
+pub row_alone : (d : DeskView) (options : CountOptions) (before after : List ℕ) → (standing_of d).is_shut ≡ false → after ≡ before ++ text_of_row (entries_row d)
+    → (text : List ℕ) × IsTextOf d options text × (after ≡ before ++ text)
+row_alone d options before after unshut is =
+    let row = text_of_row (entries_row d) in
+    let none : List ℕ = [] in
+    let P : Bool → Type 0 = λ t. MatchBool t (IsReportOf (closed_election d) options none) (none ≡ none) in
+    (row, (none, sym (append-nil row), subst P (sym unshut) refl), is)
 
 -- the report of an election that a desk leaves
 pub report_of_closed : (d : DeskView) (options : CountOptions) (e : ElectionView) (before after : List ℕ) (r : Result (Unit {0}) CountFault) → e ≡ closed_election d

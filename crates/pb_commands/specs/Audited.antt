@@ -1,5 +1,5 @@
 -- What a run of `audit` writes, and what it refuses.
-use Rattle.std.specs.Prelude.{◌≡◌, ℕ, ◌++◌, MatchBool, List, true}
+use Rattle.std.specs.Prelude.{◌≡◌, ℕ, ◌++◌, MatchBool, List, [], true}
 use Rattle.pb_core.specs.Election.{ElectionView}
 use Rattle.pb_desk.specs.Audit.{IsFaultOfJournal, IsSound}
 use Rattle.pb_desk.specs.Desk.{DeskView, closed_election, standing_of}
@@ -23,13 +23,10 @@ pub record IsDeskOf (bytes journal : List ℕ) (d : DeskView) : Type 0 where
   pub rows : records_of journal ≡ journal_rows d.opening.version d.journal
   pub sound : IsSound d.opening d.room d.journal
 
--- what is written of a desk: its row, and where it is shut the report of the ballots that its journal leaves
+-- what is written of a desk: its row, and then, where it is shut, the report of the ballots that its journal leaves
 abbrev pub IsTextOf : DeskView → CountOptions → List ℕ → Type 0
-IsTextOf d options text =
-    let row = text_of_row (entries_row d) in
-    MatchBool (standing_of d).is_shut
-    ((report : List ℕ) × IsReportOf (closed_election d) options report × (text ≡ row ++ report))
-    (text ≡ row)
+IsTextOf d options text = (report : List ℕ) × (text ≡ text_of_row (entries_row d) ++ report)
+    × MatchBool (standing_of d).is_shut (IsReportOf (closed_election d) options report) (report ≡ [])
 
 -- what these bytes make a run of `audit` write
 abbrev pub AuditWrites : List ℕ → List ℕ → CountOptions → List ℕ → Type 0
