@@ -19,7 +19,8 @@ use Rattle.pb_rounds.specs.declared.measure.Measure.TheVariants.{Votes, Cost}
 use Rattle.pb_rounds.specs.Inner.KeyOrder.{greater_from, key_cmp-total, less_from}
 use Rattle.pb_rounds.specs.Cheapest.{IsCheaper, IsRun, rests_after}
 use Rattle.pb_rounds.specs.Key.{KeyView, is_before}
-use Rattle.pb_rounds.specs.Run.{ElectedView, RunView, best_of, charged, elected_by, is_listed, key_of, run_from, run_of, then_run, without}
+use Rattle.pb_rounds.specs.Inner.Listed.{is_listed}
+use Rattle.pb_rounds.specs.Run.{ElectedView, RunView, best_of, charged, elected_by, key_of, run_from, run_of, then_run, without}
 use Rattle.pb_rounds.proofs.BestIs.{is_best, no_best}
 use Rattle.pb_rounds.proofs.CheapestRounds.{ArePositive, EachWasFirst, WasFirst, known_place, run_was_cheapest}
 use Rattle.pb_rounds.proofs.Explained.{run_has_price_system}

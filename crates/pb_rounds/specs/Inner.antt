@@ -6,6 +6,7 @@ pub mod Front
 pub mod Key
 pub mod KeyOrder
 pub mod KeyRecord
+pub mod Listed
 pub mod Progress
 pub mod Queue
 pub mod RaiseEnds
