@@ -161,7 +161,7 @@ module _ (m : Measure) (s : SupportView) (share : ℕ) where
   words_of_run h = record {
     cheapest = run_was_cheapest m s h share;
     rests_are = all_rests m s share;
-    none_left = λ place left. (run_has_price_system m s h share).explain.too_expensive place left.0 left.1;
+    none_left = λ place left. (run_has_price_system m s h share).1.too_expensive place left.0 left.1;
     is_support = h;
   }
 

@@ -7,6 +7,7 @@ pub mod Key
 pub mod KeyOrder
 pub mod KeyRecord
 pub mod Listed
+pub mod PriceSystem
 pub mod Progress
 pub mod Queue
 pub mod RaiseEnds
