@@ -15,7 +15,8 @@ use Rattle.pb_rounds.proofs.Listed.{RisesWithin-below, is_listed-without_same, l
 use Rattle.pb_rounds.specs.Count.{count_of, raises_of, share_after}
 use Rattle.pb_rounds.specs.Key.{KeyView}
 use Rattle.pb_rounds.specs.Outcome.{Settled, settled_by}
-use Rattle.pb_rounds.specs.Run.{ElectedView, best_of, charged, elected_by, is_listed, outcome_of, run_from, run_of, then_run, without}
+use Rattle.pb_rounds.specs.Inner.Listed.{is_listed}
+use Rattle.pb_rounds.specs.Run.{ElectedView, best_of, charged, elected_by, outcome_of, run_from, run_of, then_run, without}
 use Rattle.pb_rounds.specs.declared.measure.Measure.{Measure}
 use Rattle.pb_rounds.specs.declared.options.CountOptions.{CountOptions}
 use Rattle.pb_reasons.specs.Inner.Told.{AreApart}

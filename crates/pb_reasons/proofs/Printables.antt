@@ -9,7 +9,8 @@ use Rattle.pb_core.specs.Election.{ElectionView, IsElection}
 use Rattle.pb_price.specs.Supporters.{SupportView, cost_at, support_of, supporters_at, supporters_of}
 use Rattle.pb_rounds.specs.Count.{count_of, spent_on}
 use Rattle.pb_rounds.specs.Outcome.{OutcomeView, settled}
-use Rattle.pb_rounds.specs.PriceSystem.{HasPriceSystem, PaysFor}
+use Rattle.pb_rounds.specs.Inner.PriceSystem.{HasPriceSystem}
+use Rattle.pb_rounds.specs.PriceSystem.{PaysFor}
 use Rattle.pb_rounds.specs.Run.{ElectedView}
 use Rattle.pb_rounds.specs.declared.options.CountOptions.{CountOptions}
 use Rattle.pb_reasons.specs.Totals.{collected_for}
@@ -47,7 +48,7 @@ pub sums_are_amounts : (e : ElectionView) (options : CountOptions) (o : OutcomeV
     → (spent_on (support_of e) o.elected < 2 ^ 64) × (collected_for o.elected < 2 ^ 64)
 sums_are_amounts e options o is_election counted within prices =
     let places = count_elects_projects e options (settled o) counted in
-    let more = collected_is_little_more (support_of e) o.rests (length e.projects) (length e.voters) (few_supporters e) o.elected prices.payments places.known prices.explain.paid in
+    let more = collected_is_little_more (support_of e) o.rests (length e.projects) (length e.voters) (few_supporters e) o.elected prices.0 places.known prices.1.paid in
     let slack = sum_by-le (λ (w : ElectedView). length e.voters) (length e.voters) o.elected (λ k d below. omega arith) in
     let product = mul-le-mul places.few is_election.few_voters in (
       omega (arith, is_election.budget_bounded),

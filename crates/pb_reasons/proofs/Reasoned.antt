@@ -11,7 +11,8 @@ use Rattle.pb_price.proofs.SupporterLists.{support_form}
 use Rattle.pb_price.specs.Supporters.{IsSupport, cost_at, support_of, supporters_at}
 use Rattle.pb_price.specs.Price.{total_rest}
 use Rattle.pb_rounds.specs.Outcome.{OutcomeView}
-use Rattle.pb_rounds.specs.Run.{ElectedView, is_listed}
+use Rattle.pb_rounds.specs.Inner.Listed.{is_listed}
+use Rattle.pb_rounds.specs.Run.{ElectedView}
 use Rattle.pb_rounds.proofs.Listed.{listed_from_contains}
 use Rattle.pb_rounds.proofs.Collected.{length-rises}
 use Rattle.pb_rounds.proofs.Explained.{supporters_rise}

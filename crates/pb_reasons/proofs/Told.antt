@@ -7,7 +7,8 @@ use Rattle.std.proofs.lemmas.List.{get_or-replicate, get_or-set_same, get_or-set
 use Rattle.std.proofs.lemmas.List.Sums.{passes_at_first, prefix_len-drop_yes, prefix_len-drop_no, prefix_len-drop_all}
 use Rattle.pb_price.specs.Supporters.{SupportView, supporters_at}
 use Rattle.pb_rounds.specs.Payments.{paid_in_turn}
-use Rattle.pb_rounds.specs.Run.{ElectedView, charged, is_elected, is_listed}
+use Rattle.pb_rounds.specs.Inner.Listed.{is_listed}
+use Rattle.pb_rounds.specs.Run.{ElectedView, charged, is_elected}
 use Rattle.pb_rounds.proofs.Charged.{payment_at}
 use Rattle.pb_reasons.specs.Reasons.{round_of}
 use Rattle.pb_reasons.specs.Inner.Replay.{paid_by_supporters}

@@ -14,7 +14,8 @@ use Rattle.pb_rounds.proofs.Charged.{charged_at, payment_at}
 use Rattle.pb_rounds.proofs.Listed.{contains_from_listed, is_listed-range, listed_from_contains}
 use Rattle.pb_rounds.specs.Outcome.{OutcomeView}
 use Rattle.pb_rounds.specs.Payments.{paid_in_turn}
-use Rattle.pb_rounds.specs.Run.{ElectedView, charged, is_elected, is_listed}
+use Rattle.pb_rounds.specs.Inner.Listed.{is_listed}
+use Rattle.pb_rounds.specs.Run.{ElectedView, charged, is_elected}
 use Rattle.pb_reasons.specs.Reasons.{all_payments, paid_for, round_of, voter_payments, voter_reason}
 use Rattle.pb_reasons.specs.Inner.Kept.{AreRounds}
 use Rattle.pb_reasons.specs.Inner.Told.{CanBeTold}

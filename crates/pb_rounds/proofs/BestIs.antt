@@ -12,7 +12,8 @@ use Rattle.pb_price.specs.Price.{price_at}
 use Rattle.pb_rounds.specs.declared.measure.Measure.{Measure}
 use Rattle.pb_rounds.specs.Inner.KeyOrder.{key_cmp-total, tied_keys}
 use Rattle.pb_rounds.specs.Key.{KeyView, is_before, key_cmp}
-use Rattle.pb_rounds.specs.Run.{best_of, is_listed, key_of, keys_at}
+use Rattle.pb_rounds.specs.Inner.Listed.{is_listed}
+use Rattle.pb_rounds.specs.Run.{best_of, key_of, keys_at}
 use Rattle.pb_rounds.proofs.BestKey.{best_is_key, no_price_without_best}
 
 -- what `find` gives passes its test

@@ -9,7 +9,8 @@ use Rattle.pb_price.specs.Price.{price_at}
 use Rattle.pb_rounds.specs.declared.measure.Measure.{Measure}
 use Rattle.pb_rounds.specs.Inner.Queue.{IsIn}
 use Rattle.pb_rounds.specs.Key.{KeyView}
-use Rattle.pb_rounds.specs.Run.{best_of, is_listed, key_of, keys_at}
+use Rattle.pb_rounds.specs.Inner.Listed.{is_listed}
+use Rattle.pb_rounds.specs.Run.{best_of, key_of, keys_at}
 use Rattle.pb_rounds.proofs.Best.{no_key}
 
 -- a key is made for a project that is left, at its price

@@ -15,7 +15,8 @@ use Rattle.pb_rounds.specs.declared.measure.Measure.{Measure}
 use Rattle.pb_rounds.specs.Inner.Between.{KeepsElecting, KeepsUpTo, places_of_elected}
 use Rattle.pb_rounds.specs.Count.{could_be_added, is_exhausted, is_over, spent_on}
 use Rattle.pb_rounds.specs.Key.{KeyView, is_before}
-use Rattle.pb_rounds.specs.Run.{ElectedView, RunView, best_of, charged, is_elected, is_listed, key_of, run_from, run_of, without}
+use Rattle.pb_rounds.specs.Inner.Listed.{is_listed}
+use Rattle.pb_rounds.specs.Run.{ElectedView, RunView, best_of, charged, is_elected, key_of, run_from, run_of, without}
 use Rattle.pb_rounds.proofs.BestKey.{best_is_key}
 use Rattle.pb_rounds.proofs.BestIs.{is_best, no_best}
 use Rattle.pb_rounds.proofs.Charged.{charged_at}

@@ -21,7 +21,8 @@ use Rattle.pb_rounds.specs.declared.measure.Measure.{Measure}
 use Rattle.pb_rounds.specs.Inner.Bounds.{FindsBest, HasBounds, IsOpening}
 use Rattle.pb_rounds.specs.Inner.Queue.{IsDone, IsIn, Rises}
 use Rattle.pb_rounds.specs.Key.{KeyView, is_before, key_cmp}
-use Rattle.pb_rounds.specs.Run.{best_of, charged, is_listed, key_of, weight_of, without}
+use Rattle.pb_rounds.specs.Inner.Listed.{is_listed}
+use Rattle.pb_rounds.specs.Run.{best_of, charged, key_of, weight_of, without}
 use Rattle.pb_rounds.proofs.BestKey.{best_is_key}
 use Rattle.pb_rounds.proofs.BestIs.{is_best}
 use Rattle.pb_rounds.proofs.Charged.{charged_at}

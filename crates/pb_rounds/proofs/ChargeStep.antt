@@ -8,8 +8,8 @@ use Rattle.std.proofs.lemmas.List.Folds.{list_any-append, list_any_none}
 use Rattle.std.proofs.lemmas.List.Kept.{AllPairs-from_increasing}
 use Rattle.std.proofs.lemmas.List.Sums.{sum_by_push, sum_by_more_le}
 use Rattle.pb_price.specs.Price.{paid_at}
-use Rattle.pb_rounds.specs.Run.{is_listed, charged}
-use Rattle.pb_rounds.specs.Payments.{payment_of}
+use Rattle.pb_rounds.specs.Inner.Listed.{is_listed}
+use Rattle.pb_rounds.specs.Run.{charged, payment_of}
 use Rattle.pb_rounds.proofs.Charged.{charged_at, length-charged}
 
 -- nobody has paid yet

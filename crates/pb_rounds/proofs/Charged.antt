@@ -7,8 +7,9 @@ use Rattle.std.proofs.lemmas.List.{get_or_past}
 use Rattle.std.proofs.lemmas.List.FromFn.{length-map-range_with_len, get_or-map-range_with_len, fill_by_all}
 use Rattle.std.proofs.lemmas.List.Sums.{sum-map, sum_by-cons}
 use Rattle.pb_price.specs.Price.{paid_at}
-use Rattle.pb_rounds.specs.Payments.{payment_of, payments_of}
-use Rattle.pb_rounds.specs.Run.{is_listed, charged}
+use Rattle.pb_rounds.specs.Payments.{payments_of}
+use Rattle.pb_rounds.specs.Inner.Listed.{is_listed}
+use Rattle.pb_rounds.specs.Run.{charged, payment_of}
 use Rattle.pb_rounds.proofs.Listed.{RisesWithin, sum_by-listed}
 
 paid-within_price : (b : Bool) (rest price : ℕ) → cond b (min rest price) 0 ≤ price
@@ -18,10 +19,6 @@ paid-within_price false rest price = omega arith
 paid-within_rest : (b : Bool) (rest price : ℕ) → cond b (min rest price) 0 ≤ rest
 paid-within_rest true rest price = omega arith
 paid-within_rest false rest price = omega arith
-
-less_paid : (b : Bool) (rest price : ℕ) → rest - cond b price 0 ≡ rest - cond b (min rest price) 0
-less_paid true rest price = omega arith
-less_paid false rest price = refl
 
 module _ (supporters : List ℕ) (price : ℕ) (rests : List ℕ) where
   pub length-payments_of : length (payments_of supporters price rests) ≡ length rests
@@ -48,7 +45,7 @@ module _ (supporters : List ℕ) (price : ℕ) (rests : List ℕ) where
   pub charged_at : (v : ℕ) → slice_index (charged supporters price rests) v ≡ slice_index rests v - payment_of supporters price rests v
   unfolding charged
   charged_at v = elim (cases_lt v (length rests)) [
-    | inl within ↦ get_or-map-range_with_len _ 0 (length rests) v v 0 within (omega arith) ∙ less_paid (is_listed supporters v) (slice_index rests v) price
+    | inl within ↦ get_or-map-range_with_len _ 0 (length rests) v v 0 within (omega arith)
     | inr past ↦
         let gone : slice_index (charged supporters price rests) v ≡ 0 = get_or_past (charged supporters price rests) v 0 (rw length-charged past) in
         let none : slice_index rests v ≡ 0 = get_or_past rests v 0 past in

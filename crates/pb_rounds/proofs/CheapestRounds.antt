@@ -17,7 +17,8 @@ use Rattle.pb_rounds.specs.declared.measure.Measure.{Measure}
 use Rattle.pb_rounds.specs.declared.measure.Measure.TheVariants.{Votes, Cost}
 use Rattle.pb_rounds.specs.Cheapest.{IsCheaper, WasCheapest, rests_after}
 use Rattle.pb_rounds.specs.Key.{KeyView, is_before}
-use Rattle.pb_rounds.specs.Run.{ElectedView, RunView, best_of, charged, elected_by, is_listed, key_of, run_from, run_of, then_run, without}
+use Rattle.pb_rounds.specs.Inner.Listed.{is_listed}
+use Rattle.pb_rounds.specs.Run.{ElectedView, RunView, best_of, charged, elected_by, key_of, run_from, run_of, then_run, without}
 use Rattle.pb_rounds.proofs.BestKey.{best_is_key}
 use Rattle.pb_rounds.proofs.BestIs.{none_before_best}
 use Rattle.pb_rounds.proofs.Listed.{is_listed-range, is_listed-without, is_listed-without_same, listed-below, listed_from_without, range_rises, RisesWithin-below}

@@ -14,7 +14,7 @@ use Rattle.pb_rounds.specs.Count.{spent_on, is_over, is_over_after, is_exhausted
 use Rattle.pb_rounds.specs.Inner.Count.{IsCompletionFault}
 use Rattle.pb_rounds.specs.Outcome.{OutcomeView, Settled, settled}
 use Rattle.pb_rounds.specs.Run.{ElectedView}
-use Rattle.pb_rounds.specs.PriceSystem.{HasPriceSystem}
+use Rattle.pb_rounds.specs.Inner.PriceSystem.{HasPriceSystem}
 use Rattle.pb_rounds.specs.Inner.RaiseEnds.{IsCompletion, IsOutcomeAt}
 use Rattle.pb_rounds.proofs.Exhausted.{over_from_within}
 use Rattle.pb_rounds.proofs.Explained.{run_within_shares, run_has_price_system}

@@ -13,7 +13,7 @@ use Rattle.pb_rounds.specs.Inner.Count.{IsCompletionFault}
 use Rattle.pb_rounds.specs.Counted.{IsCountFault, IsCountOf}
 use Rattle.pb_rounds.specs.CountFault.{largest_step, most_raises, refusal_of}
 use Rattle.pb_rounds.specs.Outcome.{OutcomeView, Settled, settled, settled_by}
-use Rattle.pb_rounds.specs.PriceSystem.{HasPriceSystem}
+use Rattle.pb_rounds.specs.Inner.PriceSystem.{HasPriceSystem}
 use Rattle.pb_rounds.specs.PricingRecord.{HasPricing}
 use Rattle.pb_rounds.specs.Inner.RaiseEnds.{CanComplete, IsCompletion, IsOutcomeAt}
 use Rattle.pb_rounds.specs.Run.{outcome_of, run_of}

@@ -15,10 +15,12 @@ use Rattle.pb_price.proofs.Payments.{least_from_price, short_from_no_price, coll
 use Rattle.pb_price.proofs.SupporterLists.{support_form}
 use Rattle.pb_rounds.specs.declared.measure.Measure.{Measure}
 use Rattle.pb_rounds.specs.Key.{KeyView}
-use Rattle.pb_rounds.specs.Run.{run_of, ElectedView, RunView, best_of, charged, elected_by, then_run, run_from, without, is_listed}
+use Rattle.pb_rounds.specs.Inner.Listed.{is_listed}
+use Rattle.pb_rounds.specs.Run.{ElectedView, RunView, best_of, charged, elected_by, payment_of, run_from, run_of, then_run, without}
 use Rattle.pb_rounds.specs.Count.{spent_on}
-use Rattle.pb_rounds.specs.Payments.{paid_in_turn, payment_of, payments_of}
-use Rattle.pb_rounds.specs.PriceSystem.{PaysFor, IsPriceSystem, HasPriceSystem}
+use Rattle.pb_rounds.specs.Payments.{paid_in_turn, payments_of}
+use Rattle.pb_rounds.specs.Inner.PriceSystem.{HasPriceSystem}
+use Rattle.pb_rounds.specs.PriceSystem.{PaysFor, IsPriceSystem}
 use Rattle.pb_rounds.proofs.Charged.{payment_at, charged_at, length-payments_of, length-charged, payment-within_price, payment-within_rest, sum-payments_of, sum-charged}
 use Rattle.pb_rounds.proofs.Listed.{RisesWithin, rises_within, contains_from_listed, listed_from_contains, is_listed-without, length-without, listed_from_without, listed-below, RisesWithin-below, range_rises, is_listed-range}
 use Rattle.pb_rounds.proofs.BestKey.{IsKey, best_is_key, no_price_without_best}
@@ -191,10 +193,8 @@ run_is_paid_in_turn m s h share =
 
 -- every run has a price system
 pub run_has_price_system : (m : Measure) (s : SupportView) → IsSupport s → (share : ℕ) → HasPriceSystem s share (run_of m s share).elected (run_of m s share).rests
-run_has_price_system m s h share = record {
-  payments = paid_in_turn s (replicate s.voters share) (run_of m s share).elected;
-  explain = run_is_paid_in_turn m s h share;
-}
+run_has_price_system m s h share =
+    (paid_in_turn s (replicate s.voters share) (run_of m s share).elected, run_is_paid_in_turn m s h share)
 
 -- no run spends more than everybody's share
 pub run_within_shares : (m : Measure) (s : SupportView) → IsSupport s → (share : ℕ) → spent_on s (run_of m s share).elected ≤ s.voters * share

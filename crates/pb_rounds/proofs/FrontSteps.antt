@@ -20,7 +20,8 @@ use Rattle.pb_rounds.specs.Inner.Bounds.{HasBounds}
 use Rattle.pb_rounds.specs.Inner.Front.{IsCopyUpTo}
 use Rattle.pb_rounds.specs.Inner.Queue.{IsIn, Rises}
 use Rattle.pb_rounds.specs.Key.{KeyView, key_cmp}
-use Rattle.pb_rounds.specs.Run.{charged, is_listed}
+use Rattle.pb_rounds.specs.Inner.Listed.{is_listed}
+use Rattle.pb_rounds.specs.Run.{charged}
 use Rattle.pb_rounds.proofs.Charged.{charged_at, length-charged}
 use Rattle.pb_rounds.proofs.Listed.{contains_from_listed}
 use Rattle.pb_rounds.proofs.QueueLists.{put_from, put_is_in, put_keeps, rises_from_sorted}

@@ -17,7 +17,8 @@ use Rattle.pb_rounds.specs.Key.{KeyView}
 use Rattle.pb_rounds.specs.Outcome.{OutcomeView}
 use Rattle.pb_rounds.specs.Inner.RaiseEnds.{IsTried}
 use Rattle.pb_rounds.specs.declared.raise_end.RaiseEnd.TheVariants.{Over}
-use Rattle.pb_rounds.specs.Run.{ElectedView, RunView, best_of, charged, elected_by, is_listed, run_from, run_of, without}
+use Rattle.pb_rounds.specs.Inner.Listed.{is_listed}
+use Rattle.pb_rounds.specs.Run.{ElectedView, RunView, best_of, charged, elected_by, run_from, run_of, without}
 use Rattle.pb_rounds.proofs.BoundQueue.{bounds_fall, charged_falls, head_is_best, head_taken, opening_bounds}
 use Rattle.pb_rounds.proofs.Progress.{progress_more, progress_open}
 use Rattle.pb_rounds.proofs.Exhausted.{over_from_more}

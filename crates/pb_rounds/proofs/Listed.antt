@@ -10,7 +10,8 @@ use Rattle.std.proofs.lemmas.List.FromFn.{map-range_with_len_more}
 use Rattle.std.proofs.lemmas.List.Folds.{list_any_at, Any-from_list_any}
 use Rattle.std.proofs.lemmas.List.Sums.{sum_by-cons, length-filter, count_by-le-length}
 pub use Rattle.pb_rounds.specs.Inner.Progress.{RisesWithin}
-use Rattle.pb_rounds.specs.Run.{is_listed, without}
+use Rattle.pb_rounds.specs.Inner.Listed.{is_listed}
+use Rattle.pb_rounds.specs.Run.{without}
 
 -- what the list contains is listed, and the other way round
 pub listed_from_contains : (xs : List ℕ) (n : ℕ) → Contains xs n → is_listed xs n ≡ true

@@ -15,7 +15,8 @@ use Rattle.pb_rounds.specs.Cheapest.{IsCheaper, IsLeft}
 use Rattle.pb_rounds.specs.Inner.KeyRecord.{AreSomeOf, HasKeyRecord, IsKeyEnd, IsKeyRound, KeyRecord, known_after}
 use Rattle.pb_rounds.specs.Key.{KeyView, is_before}
 use Rattle.pb_rounds.specs.PricingRecord.{ArePriced, HasPricing, IsPricedRound, PricingRecord}
-use Rattle.pb_rounds.specs.Run.{ElectedView, RunView, best_of, charged, elected_by, is_listed, key_of, run_from, run_of, without}
+use Rattle.pb_rounds.specs.Inner.Listed.{is_listed}
+use Rattle.pb_rounds.specs.Run.{ElectedView, RunView, best_of, charged, elected_by, key_of, run_from, run_of, without}
 use Rattle.pb_rounds.proofs.BestKey.{best_is_key}
 use Rattle.pb_rounds.proofs.CheapestRounds.{known_place}
 use Rattle.pb_rounds.proofs.Listed.{contains_from_listed, is_listed-range, is_listed-without, is_listed-without_same, length-without, listed_from_contains, listed_from_without}

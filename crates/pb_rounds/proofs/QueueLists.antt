@@ -13,7 +13,8 @@ use Rattle.std.proofs.lemmas.List.Sums.{sum_by-cons}
 use Rattle.pb_rounds.specs.Inner.KeyOrder.{key_cmp-total, tied_keys}
 use Rattle.pb_rounds.specs.Inner.Queue.{IsIn, Rises, places_of}
 use Rattle.pb_rounds.specs.Key.{KeyView, is_before, key_cmp}
-use Rattle.pb_rounds.specs.Run.{is_listed, without}
+use Rattle.pb_rounds.specs.Inner.Listed.{is_listed}
+use Rattle.pb_rounds.specs.Run.{without}
 use Rattle.pb_rounds.proofs.Listed.{is_listed-without}
 
 pub in_left : {X : Type 0} (x : X) (xs ys : List X) → IsIn x xs → IsIn x (xs ++ ys)

@@ -20,7 +20,8 @@ use Rattle.pb_rounds.specs.Inner.KeyOrder.{greater_from, key_cmp-total}
 use Rattle.pb_rounds.specs.Inner.KeyRecord.{AreInTime, AreSomeOf, IsKeyEnd, IsKeyRound, is_in_time, known_after}
 use Rattle.pb_rounds.specs.Inner.Queue.{IsDone, IsIn, IsTaken, PricesHeads, PutsBack, Rises, places_of}
 use Rattle.pb_rounds.specs.Key.{KeyView, first_least, is_before, key_cmp}
-use Rattle.pb_rounds.specs.Run.{best_of, charged, is_listed, key_of, keys_at, weight_of, without}
+use Rattle.pb_rounds.specs.Inner.Listed.{is_listed}
+use Rattle.pb_rounds.specs.Run.{best_of, charged, key_of, keys_at, weight_of, without}
 use Rattle.pb_rounds.proofs.BestKey.{IsKey, best_is_key, key_from, key_in, no_price_without_best}
 use Rattle.pb_rounds.proofs.BestIs.{is_best, no_best, none_before_best}
 use Rattle.pb_rounds.proofs.Charged.{charged_at}

@@ -18,7 +18,8 @@ use Rattle.pb_rounds.specs.Completed.{IsExhausted, IsOver}
 use Rattle.pb_rounds.specs.Count.{elected_after, is_decisive, opening_share, share_after, spent_on}
 use Rattle.pb_rounds.specs.Inner.Reach.{LeavesRoom, is_within_reach}
 use Rattle.pb_rounds.specs.Key.{KeyView}
-use Rattle.pb_rounds.specs.Run.{ElectedView, best_of, charged, elected_by, is_listed, outcome_of, run_from, run_of, then_run, without}
+use Rattle.pb_rounds.specs.Inner.Listed.{is_listed}
+use Rattle.pb_rounds.specs.Run.{ElectedView, best_of, charged, elected_by, outcome_of, run_from, run_of, then_run, without}
 use Rattle.pb_rounds.proofs.BestKey.{best_is_key}
 use Rattle.pb_rounds.proofs.Charged.{charged_at}
 use Rattle.pb_rounds.proofs.Exhausted.{over_from_within}

@@ -19,7 +19,8 @@ use Rattle.pb_rounds.specs.declared.measure.Measure.TheVariants.{Votes, Cost}
 use Rattle.pb_rounds.specs.Inner.KeyOrder.{greater_from, key_cmp-total, less_from}
 use Rattle.pb_rounds.specs.Cheapest.{IsCheaper, IsRun, rests_after}
 use Rattle.pb_rounds.specs.Key.{KeyView, is_before}
-use Rattle.pb_rounds.specs.Run.{ElectedView, RunView, best_of, charged, elected_by, is_listed, key_of, run_from, run_of, then_run, without}
+use Rattle.pb_rounds.specs.Inner.Listed.{is_listed}
+use Rattle.pb_rounds.specs.Run.{ElectedView, RunView, best_of, charged, elected_by, key_of, run_from, run_of, then_run, without}
 use Rattle.pb_rounds.proofs.BestIs.{is_best, no_best}
 use Rattle.pb_rounds.proofs.CheapestRounds.{ArePositive, EachWasFirst, WasFirst, known_place, run_was_cheapest}
 use Rattle.pb_rounds.proofs.Explained.{run_has_price_system}
@@ -160,7 +161,7 @@ module _ (m : Measure) (s : SupportView) (share : ℕ) where
   words_of_run h = record {
     cheapest = run_was_cheapest m s h share;
     rests_are = all_rests m s share;
-    none_left = λ place left. (run_has_price_system m s h share).explain.too_expensive place left.0 left.1;
+    none_left = λ place left. (run_has_price_system m s h share).1.too_expensive place left.0 left.1;
     is_support = h;
   }
 

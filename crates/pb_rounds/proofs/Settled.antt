@@ -6,7 +6,8 @@ use Rattle.pb_price.specs.Supporters.{SupportView, IsSupport, support_of}
 use Rattle.pb_rounds.specs.declared.measure.Measure.{Measure}
 use Rattle.pb_rounds.specs.Outcome.{OutcomeView, Settled, settled, settled_by}
 use Rattle.pb_rounds.specs.Payments.{paid_in_turn}
-use Rattle.pb_rounds.specs.PriceSystem.{HasPriceSystem, IsPriceSystem}
+use Rattle.pb_rounds.specs.Inner.PriceSystem.{HasPriceSystem}
+use Rattle.pb_rounds.specs.PriceSystem.{IsPriceSystem}
 use Rattle.pb_rounds.specs.Run.{outcome_of, run_of}
 use Rattle.pb_rounds.proofs.Explained.{run_has_price_system, run_has_rests, run_is_paid_in_turn}
 

@@ -19,7 +19,8 @@ use Rattle.pb_rounds.specs.Key.{KeyView, is_before}
 use Rattle.pb_rounds.specs.Outcome.{OutcomeView, Settled}
 use Rattle.pb_rounds.specs.Inner.Queue.{AreMarked}
 use Rattle.pb_rounds.specs.Inner.RaiseEnds.{IsTried}
-use Rattle.pb_rounds.specs.Run.{ElectedView, RunView, best_of, charged, elected_by, is_elected, is_listed, key_of, run_from, run_of, without}
+use Rattle.pb_rounds.specs.Inner.Listed.{is_listed}
+use Rattle.pb_rounds.specs.Run.{ElectedView, RunView, best_of, charged, elected_by, is_elected, key_of, run_from, run_of, without}
 use Rattle.pb_rounds.proofs.BestKey.{best_is_key}
 use Rattle.pb_rounds.proofs.BestIs.{no_best}
 use Rattle.pb_rounds.proofs.BoundQueue.{bounds_fall, charged_falls, nothing_found, opening_bounds}

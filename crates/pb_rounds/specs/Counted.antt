@@ -1,5 +1,5 @@
 -- What a count promises: of its outcome, and of each refusal.
-use Rattle.std.specs.Prelude.{◌≡◌, ◌+◌, ◌*◌, ◌≤◌, None, Some}
+use Rattle.std.specs.Prelude.{◌≡◌, ℕ, ◌+◌, ◌*◌, ◌≤◌, List, None, Some}
 use Rattle.pb_core.specs.Election.{ElectionView}
 use Rattle.pb_price.specs.Supporters.{support_of}
 use Rattle.pb_rounds.specs.Cheapest.{IsRun}
@@ -7,7 +7,7 @@ use Rattle.pb_rounds.specs.Completed.{AreSpent, IsCompleted}
 use Rattle.pb_rounds.specs.Count.{opening_share, spent_on}
 use Rattle.pb_rounds.specs.CountFault.{refusal_of}
 use Rattle.pb_rounds.specs.Outcome.{OutcomeView}
-use Rattle.pb_rounds.specs.PriceSystem.{HasPriceSystem}
+use Rattle.pb_rounds.specs.PriceSystem.{IsPriceSystem}
 use Rattle.pb_rounds.specs.PricingRecord.{HasPricing}
 use Rattle.pb_rounds.specs.declared.count_fault.CountFault.{CountFault}
 use Rattle.pb_rounds.specs.declared.count_fault.CountFault.TheVariants.{NoMemory, RaisesSpent}
@@ -25,7 +25,8 @@ pub record IsCountOf (e : ElectionView) (options : CountOptions) (o : OutcomeVie
   pub completed : options.completion ≡ Add1
       → IsCompleted options.measure e options.step options.max_raises o.raised
   pub within_budget : spent_on (support_of e) o.elected ≤ e.budget
-  pub price_system : HasPriceSystem (support_of e) o.share o.elected o.rests
+  pub price_system : (payments : List (List ℕ))
+      × IsPriceSystem (support_of e) o.share o.elected o.rests payments
   pub priced : HasPricing options.measure (support_of e) options.workers o.share o.elected o.priced
 
 -- When each fault of a count comes: options that are out of their ranges, and raises of which none up to the limit ends the

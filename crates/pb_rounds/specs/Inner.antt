@@ -6,6 +6,8 @@ pub mod Front
 pub mod Key
 pub mod KeyOrder
 pub mod KeyRecord
+pub mod Listed
+pub mod PriceSystem
 pub mod Progress
 pub mod Queue
 pub mod RaiseEnds

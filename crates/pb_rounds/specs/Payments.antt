@@ -1,12 +1,8 @@
 -- What each voter pays for the elected of a run.
-use Rattle.std.specs.Prelude.{ℕ, List, [], ◌∷◌, length, map, min, slice_index, if◌then◌else◌}
+use Rattle.std.specs.Prelude.{ℕ, List, [], ◌∷◌, length, map}
 use Rattle.std.specs.List.{range_with_len}
 use Rattle.pb_price.specs.Supporters.{SupportView, supporters_at}
-use Rattle.pb_rounds.specs.Run.{ElectedView, charged, is_listed}
-
--- what a voter pays: a supporter the price, or all that is left where that is less; nobody else anything
-abbrev pub payment_of : List ℕ → ℕ → List ℕ → ℕ → ℕ
-payment_of supporters price rests v = if is_listed supporters v then min (slice_index rests v) price else 0
+use Rattle.pb_rounds.specs.Run.{ElectedView, charged, payment_of}
 
 -- what each voter pays
 unfoldable pub payments_of : List ℕ → ℕ → List ℕ → List ℕ

@@ -30,9 +30,3 @@ pub record IsPriceSystem (s : SupportView) (share : ℕ) (elected : List Elected
   -- a project that is not elected costs more than its supporters have left together
   pub too_expensive : (place : ℕ) → place < length s.costs → All (λ w. w.place ≢ place) elected
       → total_rest (supporters_at s place) rests < cost_at s place
-
--- there are payments that are a price system of it
-pub record HasPriceSystem (s : SupportView) (share : ℕ) (elected : List ElectedView) (rests : List ℕ)
-    : Type 0 where
-  pub payments : List (List ℕ)
-  pub explain : IsPriceSystem s share elected rests payments

@@ -1,5 +1,5 @@
 -- A run of the Method of Equal Shares at one share.
-use Rattle.std.specs.Prelude.{ℕ, zero, suc, Bool, Option, List, [], ◌∷◌, ◌-◌, ◌==◌, not, map, filter, filter_map, length, option_map, slice_index, replicate, if◌then◌else◌}
+use Rattle.std.specs.Prelude.{ℕ, zero, suc, Bool, Option, List, [], ◌∷◌, ◌-◌, ◌==◌, not, map, filter, filter_map, length, min, option_map, slice_index, replicate, if◌then◌else◌}
 use Rattle.std.specs.List.{list_any, range_with_len}
 use Rattle.std.specs.Option.{option_map_or}
 use Rattle.pb_core.specs.Election.{ElectionView}
@@ -41,14 +41,14 @@ keys_at m s rests left = filter_map (key_at m s rests) left
 unfoldable pub best_of : Measure → SupportView → List ℕ → List ℕ → Option KeyView
 best_of m s rests left = first_least is_before (keys_at m s rests left)
 
--- whether the number is in the list
-abbrev pub is_listed : List ℕ → ℕ → Bool
-is_listed numbers n = list_any (λ m. m == n) numbers
+-- what a voter pays: a supporter the price, or all that is left where that is less; nobody else anything
+abbrev pub payment_of : List ℕ → ℕ → List ℕ → ℕ → ℕ
+payment_of supporters p rests v = if list_any (λ m. m == v) supporters then min (slice_index rests v) p else 0
 
--- the rests once each supporter paid the price, or the whole rest where that is less: a difference of numbers stops at 0
+-- the rests once each voter paid
 unfoldable pub charged : List ℕ → ℕ → List ℕ → List ℕ
 charged supporters price rests =
-    map (λ v. slice_index rests v - (if is_listed supporters v then price else 0)) (range_with_len 0 (length rests))
+    map (λ v. slice_index rests v - payment_of supporters price rests v) (range_with_len 0 (length rests))
 
 -- the project elected by this key
 abbrev pub elected_by : SupportView → List ℕ → KeyView → ElectedView

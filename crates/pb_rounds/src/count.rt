@@ -1,6 +1,6 @@
 //! Counts of elections, plain or completed by raises.
 
-ghost use Rattle.std.specs.Prelude.{◌≡◌, ◌+◌, ◌≤◌, None, IfOk, IfErr, MatchBool, MatchOption, IsOkUnless, length, ⊤};
+ghost use Rattle.std.specs.Prelude.{◌≡◌, ◌+◌, ◌≤◌, ℕ, List, None, IfOk, IfErr, MatchBool, MatchOption, IsOkUnless, length, ⊤};
 ghost use Rattle.pb_core.specs.Election.{IsElection};
 ghost use Rattle.pb_core.specs.Money.{largest_money};
 ghost use Rattle.pb_price.specs.Price.{largest_share};
@@ -11,7 +11,7 @@ ghost use Rattle.pb_rounds.specs.Count.{opening_share, share_after};
 ghost use Rattle.pb_rounds.specs.Inner.Count.{IsCompletionFault};
 ghost use Rattle.pb_rounds.specs.CountFault.{refusal_of};
 ghost use Rattle.pb_rounds.specs.Counted.{IsCountFault, IsCountOf};
-ghost use Rattle.pb_rounds.specs.PriceSystem.{HasPriceSystem};
+ghost use Rattle.pb_rounds.specs.PriceSystem.{IsPriceSystem};
 ghost use Rattle.pb_rounds.specs.PricingRecord.{HasPricing};
 ghost use Rattle.pb_rounds.specs.Inner.RaiseEnds.{CanComplete, IsCompletion, IsOutcomeAt};
 
@@ -92,8 +92,8 @@ where
     ensures priced { IfOk result (λ o.
         HasPricing measure (support_of election.now) workers share o.elected o.priced) }
     ensures one_more { IfOk result (λ o. length o.priced ≡ length o.elected + 1) }
-    ensures price_system { IfOk result (λ o.
-        HasPriceSystem (support_of election.now) share o.elected o.rests) }
+    ensures price_system { IfOk result (λ o. (payments : List (List ℕ))
+        × IsPriceSystem (support_of election.now) share o.elected o.rests payments) }
 {
     if !is_worker_count(workers) {
         return Err(CountFault::WorkerCount);

@@ -2,7 +2,8 @@
 use Rattle.std.specs.Prelude.{◌≡◌, ℕ, ◌-◌, ◌<◌, Bool, List, [], ◌∷◌, All, length, min, nat_lt, slice_index, slice_index_or, true, if◌then◌else◌}
 use Rattle.std.specs.List.Sorted.{IsStrictlyIncreasing}
 use Rattle.pb_core.specs.Ballot.{approves}
-use Rattle.pb_rounds.specs.Run.{ElectedView, is_listed}
+use Rattle.pb_rounds.specs.Inner.Listed.{is_listed}
+use Rattle.pb_rounds.specs.Run.{ElectedView}
 use Rattle.pb_reasons.specs.Reasons.{round_of}
 
 -- what a voter pays in a round, out of what is left: who approves the project the price, or all that is left if that is less

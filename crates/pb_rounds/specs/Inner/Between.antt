@@ -4,7 +4,8 @@ use Rattle.std.specs.List.{range_with_len}
 use Rattle.pb_price.specs.Price.{price_at}
 use Rattle.pb_price.specs.Supporters.{SupportView, supporters_at}
 use Rattle.pb_rounds.specs.Key.{is_before}
-use Rattle.pb_rounds.specs.Run.{ElectedView, charged, is_listed, key_of, run_of, without}
+use Rattle.pb_rounds.specs.Inner.Listed.{is_listed}
+use Rattle.pb_rounds.specs.Run.{ElectedView, charged, key_of, run_of, without}
 use Rattle.pb_rounds.specs.declared.measure.Measure.{Measure}
 
 -- the places of the elected, in order of election

@@ -6,7 +6,8 @@ use Rattle.pb_price.specs.Supporters.{SupportView, supporters_at}
 use Rattle.pb_rounds.specs.Key.{KeyView, is_before}
 use Rattle.pb_rounds.specs.Outcome.{OutcomeView}
 use Rattle.pb_rounds.specs.Inner.Queue.{IsIn, Rises}
-use Rattle.pb_rounds.specs.Run.{ElectedView, best_of, charged, elected_by, is_listed, key_of, without}
+use Rattle.pb_rounds.specs.Inner.Listed.{is_listed}
+use Rattle.pb_rounds.specs.Run.{ElectedView, best_of, charged, elected_by, key_of, without}
 use Rattle.pb_rounds.specs.declared.measure.Measure.{Measure}
 
 -- the queue has a key for each project left that has a price at these rests, and none at a higher price

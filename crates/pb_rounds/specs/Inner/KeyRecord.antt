@@ -5,7 +5,8 @@ use Rattle.std.specs.Option.{option_map_or}
 use Rattle.pb_price.specs.Price.{price_at}
 use Rattle.pb_price.specs.Supporters.{SupportView, supporters_at}
 use Rattle.pb_rounds.specs.Key.{KeyView, is_before}
-use Rattle.pb_rounds.specs.Run.{best_of, charged, is_listed, key_of, without}
+use Rattle.pb_rounds.specs.Inner.Listed.{is_listed}
+use Rattle.pb_rounds.specs.Run.{best_of, charged, key_of, without}
 use Rattle.pb_rounds.specs.declared.measure.Measure.{Measure}
 
 -- the last known price of each project, once these are priced at these rests: none where it is known to have none
