@@ -1,4 +1,4 @@
-use Rattle.std.proofs.Common.{◌∙◌, ap, length}
+use Rattle.std.proofs.Common.{◌∙◌, ap, length, rules}
 use Rattle.std.proofs.lemmas.List.FromFn.{length-map-range_with_len}
 use Rattle.pb_commands.proofs.export_text.export_text.Goals as goal
 
@@ -12,3 +12,12 @@ write_pb-requires-clause-votes g c =
 pub write_pb-requires-clause-selected : goal.write_pb-requires-clause-selected
 write_pb-requires-clause-selected g c =
     ap length (c.as_slice-2.ensures.value ∙ c.in_ok-selected.ensures) ∙ length-map-range_with_len _ 0 (length c.args.election.now.projects)
+
+pub returns-clause-ok : goal.returns-clause-ok
+returns-clause-ok g c = record {
+  outcome = _;
+  counted = c.in_ok-outcome.ensures.counted;
+  can = c.in_ok-text.ensures.ok;
+  text_is = rw (c.as_str.ensures.value, c.in_ok-rule.ensures, c.as_slice.ensures.value, c.in_ok-votes.ensures, c.as_slice-2.ensures.value, c.in_ok-selected.ensures, c.in_ok-teller.ensures) at c.in_ok-text.ensures.text;
+  reads_back = c.in_ok-text.ensures.reads_back;
+}
