@@ -1,6 +1,6 @@
 -- How a run ends on a fault of a library's; and a file that has a report gets it, unless a device fails or memory is
 -- refused.
-use Rattle.std.proofs.Common.{◌≡◌, ℕ, List, Option, Some, None, Ok, Err, refl, sym, ◌∙◌, ap, subst}
+use Rattle.std.proofs.Common.{◌≡◌, ℕ, List, Option, Some, None, Ok, Err, refl, sym, ◌∙◌, ap, subst, inl, inr}
 use Rattle.std.specs.Prelude.{IfErr, IfSome, IsErrAnd, Result}
 use Rattle.std.proofs.lemmas.Option.{none-some}
 use Rattle.pb_core.specs.Election.{ElectionView}
@@ -13,7 +13,7 @@ use Rattle.pb_export.specs.declared.export_fault.ExportFault.{ExportFault}
 use Rattle.pb_export.specs.declared.export_fault.ExportFault.TheVariants as export
 use Rattle.pb_read.specs.declared.fault.ReadFault.{ReadFault}
 use Rattle.pb_read.specs.declared.fault.ReadKind.{ReadKind}
-use Rattle.pb_read.specs.declared.fault.ReadKind.TheVariants.{ReadFailed, NoMemory}
+use Rattle.pb_read.specs.declared.fault.ReadKind.TheVariants.{NoMemory}
 use Rattle.pb_rounds.proofs.Counted.{is_computed, one_outcome, spent_is_none}
 use Rattle.pb_rounds.specs.Counted.{IsCountFault}
 use Rattle.pb_rounds.specs.Outcome.{OutcomeView}
@@ -31,9 +31,8 @@ use Rattle.pb_faults.specs.declared.fault.AppFault.{AppFault}
 use Rattle.pb_faults.specs.declared.fault.AppFault.TheVariants.{Read, Script, ClerkCount, Audit, OpenDesk, Count, Export, Open, Write, Memory}
 
 pub read_from_outside : (kind : ReadKind) (at : ℕ) → IsFromOutside kind → IsOutsideFault (merged (Read (record { kind = kind; at = at })))
-read_from_outside ReadFailed at outside = refl
-read_from_outside NoMemory at outside = refl
-read_from_outside kind at outside = absurd outside
+read_from_outside kind at (inl is) = rw is refl
+read_from_outside kind at (inr is) = rw is refl
 
 -- an error that is a given fault
 pub given_fault : {T : Type 0} (P : AppFault → Type 0) (r : Result T AppFault) (fault : AppFault) → IsErrAnd r (λ app. app ≡ fault) → P fault → IfErr r P

@@ -1,5 +1,5 @@
 -- A check of a whole file: what each verdict means for the faults that are listed.
-use Rattle.std.proofs.Common.{◌≡◌, ◌≢◌, ◌<◌, ◌≤◌, ◌+◌, ◌-◌, ◌==◌, ◌⊎◌, ℕ, true, false, cond, not, List, [], ◌∷◌, ◌++◌, length, take, drop, Option, Some, None, refl, ap, sym, ◌∙◌, subst, arith, inl, inr, ⊎_elim, length-append}
+use Rattle.std.proofs.Common.{◌≡◌, ◌≢◌, ◌<◌, ◌≤◌, ◌+◌, ◌-◌, ◌==◌, ◌⊎◌, ℕ, suc, true, false, cond, not, List, [], ◌∷◌, ◌++◌, length, take, drop, Option, Some, None, refl, ap, sym, ◌∙◌, subst, arith, inl, inr, ⊎_elim, length-append}
 use Rattle.std.specs.Prelude.{IfSome}
 use Rattle.std.specs.List.{list_all}
 use Rattle.std.specs.Str.{is_utf8}
@@ -11,10 +11,10 @@ use Rattle.pb_rows.specs.Reading.{Fields, IsNext}
 use Rattle.pb_read.proofs.DraftFacts.{explains}
 use Rattle.pb_read.proofs.GoesOn.{AllText-from_test, test-from_AllText}
 use Rattle.pb_read.proofs.Tracking.{ended, explained, fault_at, tracks_more, tracks_start}
-use Rattle.pb_read.specs.Inner.Checking.{EndsAt, IsGoing, IsRefusal, IsVerdict, Judges, JudgesEnd, JudgesRow, LeadsTo, LeftHas, text_fault}
+use Rattle.pb_read.specs.Inner.Checking.{EndsAt, IsGoing, IsRefusal, IsVerdict, Judges, JudgesEnd, JudgesRow, LeadsTo, LeftHas, text_fault, without}
 use Rattle.pb_read.proofs.Uniqueness.{refused_from_outside}
 use Rattle.pb_read.specs.FirstFault.{IsFaultAt, IsFromOutside}
-use Rattle.pb_read.specs.Listed.{AreListed, is_of_row, may_be_of_row, without}
+use Rattle.pb_read.specs.Listed.{AreListed, is_of_row, may_be_of_row}
 use Rattle.pb_read.specs.Inner.Machine.{Explains, Position, lowest_kind, row_fault, start}
 use Rattle.pb_read.specs.Inner.Fields.{trimmed}
 use Rattle.pb_read.specs.Stages.{next_row, the_end}
@@ -30,7 +30,9 @@ use Rattle.pb_read.specs.declared.fault.ReadKind.TheVariants as kinds
 without-here : (done : List Fields) (next : Fields) (rest : List Fields) → without (length done + 1) (done ++ next ∷ rest) ≡ done ++ rest
 without-here done next rest =
     let back : length done + 1 - 1 ≡ length done = omega arith in
-    ap (λ n. take n (done ++ next ∷ rest) ++ drop (length done + 1) (done ++ next ∷ rest)) back
+    let here : suc (length done + 1 - 1) ≡ length done + 1 = omega arith in
+    ap (λ n. take n (done ++ next ∷ rest) ++ drop (suc (length done + 1 - 1)) (done ++ next ∷ rest)) back
+    ∙ ap (λ n. take (length done) (done ++ next ∷ rest) ++ drop n (done ++ next ∷ rest)) here
     ∙ ap (λ (t : List Fields). t ++ drop (length done + 1) (done ++ next ∷ rest)) (take-append_seam done (next ∷ rest))
     ∙ ap (λ (t : List Fields). done ++ t) (drop-append-add done (next ∷ rest) 1)
 
@@ -48,8 +50,8 @@ fault_here now left kept p kind come few lowest =
     explained now left kept p come few (kept + 1) refl kind (lowest_kind kept p left) (explains kind _ lowest) (λ k found. found)
 
 fault_left : (now left : List Fields) (kept : ℕ) (p : Position) (kind : ReadKind) → HasCome now left kept p → kept ≤ most_records → LeftHas kept (Some left) p kind → IsFaultAt now kind (kept + 1)
-fault_left now left kept p kinds.ReadFailed come few has = fault_at now left kept p come few (kept + 1) refl kinds.ReadFailed (inr tt)
-fault_left now left kept p kinds.NoMemory come few has = fault_at now left kept p come few (kept + 1) refl kinds.NoMemory (inr tt)
+fault_left now left kept p kinds.ReadFailed come few has = fault_at now left kept p come few (kept + 1) refl kinds.ReadFailed (inr (inl refl))
+fault_left now left kept p kinds.NoMemory come few has = fault_at now left kept p come few (kept + 1) refl kinds.NoMemory (inr (inr refl))
 fault_left now left kept p kind come few has = fault_here now left kept p _ come few has
 
 -- one more record is taken out

@@ -51,8 +51,8 @@ first_at all left count p come few at is kind lowest =
 -- a kind that the checks found
 pub explained : (all left : List Fields) (count : ℕ) (p : Position) → HasCome all left count p → count ≤ most_records → (at : ℕ) → at ≡ count + 1 → (kind : ReadKind) (found : Option ReadKind) → Explains kind found →
     ((k : ReadKind) → found ≡ Some k → lowest_kind count p left ≡ Some k) → IsFaultAt all kind at
-explained all left count p come few at is kinds.ReadFailed found said lowest = fault_at all left count p come few at is kinds.ReadFailed (inr tt)
-explained all left count p come few at is kinds.NoMemory found said lowest = fault_at all left count p come few at is kinds.NoMemory (inr tt)
+explained all left count p come few at is kinds.ReadFailed found said lowest = fault_at all left count p come few at is kinds.ReadFailed (inr (inl refl))
+explained all left count p come few at is kinds.NoMemory found said lowest = fault_at all left count p come few at is kinds.NoMemory (inr (inr refl))
 explained all left count p come few at is kind found said lowest = first_at all left count p come few at is _ (lowest _ said)
 
 -- the next record could not be read
@@ -68,8 +68,8 @@ stopped (Some all) (Some left) count p kind at tracks few is stops = go kind sto
         first_at all (r ∷ rest) count p come few at is kinds.NotText (ap (λ t. cond (not t) (Some kinds.NotText) (cond (count == most_records) (Some kinds.TooManyRecords) (row_fault p (next_row (trimmed r))))) test)
 
     go : (k : ReadKind) → StopsReading k (Some left) → IsFaultAt all k at
-    go kinds.ReadFailed s = fault_at all left count p tracks few at is kinds.ReadFailed (inr tt)
-    go kinds.NoMemory s = fault_at all left count p tracks few at is kinds.NoMemory (inr tt)
+    go kinds.ReadFailed s = fault_at all left count p tracks few at is kinds.ReadFailed (inr (inl refl))
+    go kinds.NoMemory s = fault_at all left count p tracks few at is kinds.NoMemory (inr (inr refl))
     go kinds.NotText s = no_text left tracks s
     go _ s = absurd s
 

@@ -27,9 +27,7 @@ pub record IsFirstFault (done left : List Fields) (kind : ReadKind) : Type 0 whe
 
 -- a refusal that no file can rule out
 abbrev pub IsFromOutside : ReadKind → Type 0
-IsFromOutside ReadFailed = Unit {0}
-IsFromOutside NoMemory = Unit {0}
-IsFromOutside kind = ⊥
+IsFromOutside kind = (kind ≡ ReadFailed) ⊎ (kind ≡ NoMemory)
 
 -- a fault of records, which are numbered from 1, as is the end of the file: those before that number have no fault,
 -- and it is the first one; of one from outside no clause can say at which record it came

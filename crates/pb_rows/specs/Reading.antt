@@ -1,5 +1,5 @@
 -- The records of a text.
-use Rattle.std.specs.Prelude.{◌≡◌, ◌+◌, ℕ, Bool, true, false, List, [], ◌∷◌, length, Option, Some, None, option_map, ⊤}
+use Rattle.std.specs.Prelude.{◌≡◌, ◌+◌, ℕ, Bool, true, false, List, [], ◌∷◌, length, Option, Some, None, IfSome, IsSomeAnd, option_map, slice_get, ⊤}
 use Rattle.csv.specs.Reading.{default_config, reader_state, records, records_from, source_of, strip_bom}
 use Rattle.csv.specs.Records.{AllText}
 use Rattle.csv.specs.declared.parser.Config.{Config}
@@ -32,11 +32,9 @@ IsNext None after found fields = ⊤
 IsNext (Some []) after found fields = found ≡ false
 IsNext (Some (first ∷ rest)) after found fields = (found ≡ true) × (fields ≡ first) × (after ≡ Some rest)
 
--- the next record has a field that is no text
+-- where it is known what is left, there is a next record, and it has a field that is no text
 abbrev pub NextIsNoText : Option (List Fields) → Type 0
-NextIsNoText None = ⊤
-NextIsNoText (Some []) = ⊥
-NextIsNoText (Some (first ∷ rest)) = ¬ AllText first
+NextIsNoText left = IfSome left (λ records. IsSomeAnd (slice_get records 0) (λ next. ¬ AllText next))
 
 -- the records that are left: unknown after a fault, none after the end, and else those that a reader of csv still gives
 abbrev pub left_of : {R : Type 0} → (R → Option (List ℕ)) → Reader R → Option RecordsFault → Bool → Option (List Fields)

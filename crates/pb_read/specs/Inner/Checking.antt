@@ -1,10 +1,10 @@
 -- How far a check of a whole file has come; private contracts speak of it.
-use Rattle.std.specs.Prelude.{◌≡◌, ◌≢◌, ◌≤◌, ◌<◌, ◌+◌, ◌-◌, ◌==◌, ℕ, true, false, List, [], ◌∷◌, length, Option, Some, None, IfSome, if◌then◌else◌}
+use Rattle.std.specs.Prelude.{◌≡◌, ◌≢◌, ◌≤◌, ◌<◌, ◌+◌, ◌-◌, ◌==◌, ℕ, true, false, List, [], ◌∷◌, length, remove, Option, Some, None, IfSome, if◌then◌else◌}
 use Rattle.csv.specs.Records.{AllText}
 use Rattle.pb_core.specs.Election.{ElectionView}
 use Rattle.pb_rows.specs.Reading.{Fields, IsNext}
 use Rattle.pb_read.specs.FirstFault.{IsFaultAt}
-use Rattle.pb_read.specs.Listed.{is_of_row, may_be_of_row, without}
+use Rattle.pb_read.specs.Listed.{is_of_row, may_be_of_row}
 use Rattle.pb_read.specs.Inner.Machine.{Position, advance, lowest_kind, row_fault}
 use Rattle.pb_read.specs.Inner.Progresses.{EndsWith}
 use Rattle.pb_read.specs.Stages.{next_row, the_end}
@@ -86,6 +86,10 @@ abbrev pub GoesOn : Verdict → Type 0
 GoesOn (Ends kind) = ⊥
 GoesOn Done = ⊥
 GoesOn verdict = Unit {0}
+
+-- the records without the one of this number, from 1
+abbrev pub without : ℕ → List Fields → List Fields
+without at records = remove records (at - 1)
 
 -- taking out the records of these faults, of which each is the first of those that are left, leads to these
 abbrev pub LeadsTo : ℕ → List Fields → List ReadFault → List Fields → Type 0
