@@ -2,16 +2,16 @@
 use Rattle.std.proofs.Common.{◌≡◌, ℕ, ◌+◌, ◌<◌, List, [], ◌∷◌, ◌++◌, length, get_or, take, sym, ◌∙◌, ap, map}
 use Rattle.std.specs.Prelude.{codes}
 use Rattle.std.proofs.lemmas.List.{get_or-map, map_more}
-use Rattle.pb_core.specs.Election.{ElectionView, ProjectView}
+use Rattle.pb_core.specs.Election.{ElectionView, ProjectView, project_ids}
 use Rattle.pb_core.specs.MoneyText.{money_text}
 use Rattle.pb_reasons.proofs.WinnerSums.{IsWinner, cost_at-known}
 use Rattle.pb_rounds.specs.Run.{ElectedView}
 use Rattle.pb_rows.specs.Writing.{text_of_row, text_of_rows}
-use Rattle.pb_commands.specs.Report.{elected_row, id_at}
+use Rattle.pb_commands.specs.Report.{elected_row}
 use Rattle.pb_commands.proofs.RowsGrown.{row_grown}
 
 pub id_at-known : (e : ElectionView) (place : ℕ) (p : ProjectView)
-    → place < length e.projects → p ≡ get_or e.projects place p → id_at e place ≡ p.id
+    → place < length e.projects → p ≡ get_or e.projects place p → get_or (project_ids e) place [] ≡ p.id
 id_at-known e place p known is = get_or-map (λ (q : ProjectView). q.id) e.projects place p [] known ∙ ap (λ (q : ProjectView). q.id) (sym is)
 
 -- the rows of the elected so far with one more

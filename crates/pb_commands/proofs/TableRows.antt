@@ -4,7 +4,7 @@ use Rattle.std.specs.Prelude.{OnOk, Result, slice_index_or}
 use Rattle.std.specs.List.{range_with_len}
 use Rattle.std.proofs.lemmas.List.FromFn.{map-range_with_len_more}
 use Rattle.std.proofs.lemmas.List.{get_or-map}
-use Rattle.pb_core.specs.Election.{ElectionView, ProjectView, VoterView, voter_ids}
+use Rattle.pb_core.specs.Election.{ElectionView, ProjectView, VoterView, project_ids, voter_ids}
 use Rattle.pb_core.specs.MoneyText.{money_text}
 use Rattle.pb_reasons.specs.Reasons.{project_reason, voter_payments, voter_reason}
 use Rattle.pb_reasons.specs.declared.payment.Payment.{Payment}
@@ -16,7 +16,6 @@ use Rattle.pb_rows.specs.Writing.{text_of_row, text_of_rows}
 use Rattle.pb_commands.proofs.ReportSums.{id_at-known}
 use Rattle.pb_reasons.proofs.WinnerSums.{cost_at-known}
 use Rattle.pb_commands.proofs.RowsGrown.{none_grown, row_grown}
-use Rattle.pb_commands.specs.Report.{id_at}
 use Rattle.pb_commands.specs.Tables.{ending_fields, name_at, payments_text, project_table_row, voter_table_row}
 
 -- the columns, and this many rows
@@ -42,8 +41,8 @@ pub project_row_read : (e : ElectionView) (o : OutcomeView) (place : ℕ) (p : P
 project_row_read e o place p known is reason reason_is =
     ap (λ (r : ProjectReason). decimal place ∷ p.id ∷ p.name ∷ money_text p.cost ∷ decimal r.votes ∷ ending_fields r.ending) reason_is
     ∙ ap (λ id. decimal place ∷ id ∷ p.name ∷ money_text p.cost ∷ decimal (project_reason e o place).votes ∷ ending_fields (project_reason e o place).ending) (sym (id_at-known e place p known is))
-    ∙ ap (λ name. decimal place ∷ id_at e place ∷ name ∷ money_text p.cost ∷ decimal (project_reason e o place).votes ∷ ending_fields (project_reason e o place).ending) (sym (name_at-known e place p known is))
-    ∙ ap (λ cost. decimal place ∷ id_at e place ∷ name_at e place ∷ money_text cost ∷ decimal (project_reason e o place).votes ∷ ending_fields (project_reason e o place).ending) (sym (cost_at-known e place p known is))
+    ∙ ap (λ name. decimal place ∷ get_or (project_ids e) place [] ∷ name ∷ money_text p.cost ∷ decimal (project_reason e o place).votes ∷ ending_fields (project_reason e o place).ending) (sym (name_at-known e place p known is))
+    ∙ ap (λ cost. decimal place ∷ get_or (project_ids e) place [] ∷ name_at e place ∷ money_text cost ∷ decimal (project_reason e o place).votes ∷ ending_fields (project_reason e o place).ending) (sym (cost_at-known e place p known is))
 
 -- the row of a voter, as it is written
 pub voter_row_read : (e : ElectionView) (o : OutcomeView) (voter : ℕ) (v : VoterView) → voter < length e.voters → v ≡ get_or e.voters voter v

@@ -16,14 +16,10 @@ opening_rows e o =
     (codes "budget" ∷ money_text e.budget ∷ []) ∷ (codes "voters" ∷ decimal (length e.voters) ∷ [])
     ∷ (codes "share" ∷ money_text o.share ∷ []) ∷ (codes "raises" ∷ decimal o.raised ∷ []) ∷ []
 
--- the id of the project at this place
-abbrev pub id_at : ElectionView → ℕ → List ℕ
-id_at e place = slice_index_or (project_ids e) place []
-
 -- the row of an elected project: its id, its cost, and what each supporter paid at most
 abbrev pub elected_row : ElectionView → ElectedView → Fields
 elected_row e w =
-    codes "elected" ∷ id_at e w.place ∷ money_text (cost_at (support_of e) w.place) ∷ money_text w.price ∷ []
+    codes "elected" ∷ slice_index_or (project_ids e) w.place [] ∷ money_text (cost_at (support_of e) w.place) ∷ money_text w.price ∷ []
 
 -- the rows below: what the elected cost together, and what was paid beyond that
 abbrev pub closing_rows : Totals → List Fields

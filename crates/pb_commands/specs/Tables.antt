@@ -1,7 +1,7 @@
 -- The tables of an outcome: project by project, and voter by voter.
 use Rattle.std.specs.Prelude.{ℕ, List, [], ◌∷◌, ◌++◌, codes, decimal, length, map, slice_index_or}
 use Rattle.std.specs.List.{join_with_byte, range_with_len}
-use Rattle.pb_core.specs.Election.{ElectionView, voter_ids}
+use Rattle.pb_core.specs.Election.{ElectionView, project_ids, voter_ids}
 use Rattle.pb_core.specs.MoneyText.{money_text}
 use Rattle.pb_price.specs.Supporters.{cost_at, support_of}
 use Rattle.pb_reasons.specs.Reasons.{project_reason, voter_payments, voter_reason}
@@ -11,7 +11,6 @@ use Rattle.pb_reasons.specs.declared.project_reason.Ending.TheVariants.{Won, Los
 use Rattle.pb_rounds.specs.Outcome.{OutcomeView}
 use Rattle.pb_rows.specs.Reading.{Fields}
 use Rattle.pb_rows.specs.Writing.{text_of_rows}
-use Rattle.pb_commands.specs.Report.{id_at}
 use Rattle.pb_commands.specs.declared.table.Table.{Table}
 use Rattle.pb_commands.specs.declared.table.Table.TheVariants.{Projects, Voters}
 
@@ -28,7 +27,7 @@ ending_fields (Lost l) = [] ∷ [] ∷ [] ∷ [] ∷ money_text l.left ∷ money
 -- the row of the project at this place
 abbrev pub project_table_row : ElectionView → OutcomeView → ℕ → Fields
 project_table_row e o place =
-    decimal place ∷ id_at e place ∷ name_at e place ∷ money_text (cost_at (support_of e) place)
+    decimal place ∷ slice_index_or (project_ids e) place [] ∷ name_at e place ∷ money_text (cost_at (support_of e) place)
     ∷ decimal (project_reason e o place).votes ∷ ending_fields (project_reason e o place).ending
 
 -- payments as text: each a place, `:` and an amount, with `,` between two

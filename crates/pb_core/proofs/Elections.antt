@@ -4,7 +4,8 @@ use Rattle.std.specs.List.{slice_index_or}
 use Rattle.std.proofs.lemmas.List.{map_push, length-map, get_or-map, get_or_default}
 use Rattle.std.proofs.lemmas.List.Elements.{All-push, Contains-get_or}
 use Rattle.std.proofs.lemmas.List.Quantifiers.{all_pairs_push}
-use Rattle.pb_core.specs.Election.{ProjectView, VoterView, ElectionView, IsProject, IsVoter, IsElection, AreDistinct, project_ids, voter_ids, most_projects, most_voters}
+use Rattle.pb_core.specs.Inner.Ids.{AreDistinct}
+use Rattle.pb_core.specs.Election.{ProjectView, VoterView, ElectionView, IsProject, IsVoter, IsElection, project_ids, voter_ids, most_projects, most_voters}
 
 -- an id that is not among distinct ids may join them
 pub AreDistinct-push : (ids : List (List ℕ)) (id : List ℕ) → AreDistinct ids → ¬ Contains ids id → AreDistinct (ids ++ id ∷ [])

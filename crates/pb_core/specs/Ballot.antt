@@ -1,17 +1,12 @@
--- Voters' ids and ballots.
+-- Voters' ids, and the places of a ballot.
 use Rattle.std.specs.Prelude.{◌≡◌, ◌≢◌, ◌↔◌, ◌==◌, ℕ, Bool, List, [], Contains}
 use Rattle.std.specs.List.{list_any}
-use Rattle.std.specs.List.Sorted.{IsStrictlyIncreasing}
 use Rattle.std.specs.Str.{trim}
 
 -- a voter's id is not empty, and trimming leaves it as it is
 pub record IsVoterId (id : List ℕ) : Type 0 where
   pub not_empty : id ≢ []
   pub is_trimmed : trim id ≡ id
-
--- a ballot is a list of places that rises, so that none stands twice
-abbrev pub IsBallot : List ℕ → Type 0
-IsBallot places = IsStrictlyIncreasing places
 
 -- the ballot approves the project at this place
 abbrev pub approves : List ℕ → ℕ → Bool

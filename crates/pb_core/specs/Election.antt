@@ -1,7 +1,8 @@
 -- Elections: their projects, their voters and their limits.
 use Rattle.std.specs.Prelude.{◌≢◌, ℕ, ◌<◌, ◌≤◌, List, [], length, All, Option, map}
 use Rattle.std.specs.List.{AllPairs}
-use Rattle.pb_core.specs.Ballot.{IsVoterId, IsBallot}
+use Rattle.std.specs.List.Sorted.{IsStrictlyIncreasing}
+use Rattle.pb_core.specs.Ballot.{IsVoterId}
 use Rattle.pb_core.specs.Money.{largest_money}
 
 -- what contracts see of a project; the cost is in hundredths
@@ -29,15 +30,11 @@ pub record IsProject (p : ProjectView) : Type 0 where
   pub costs : 0 < p.cost
   pub affordable : p.cost ≤ largest_money
 
--- a voter approves some of this many projects
+-- a voter approves some of this many projects; a ballot is a list of places that rises, so that none stands twice
 pub record IsVoter (projects : ℕ) (v : VoterView) : Type 0 where
   pub has_id : IsVoterId v.id
-  pub ballot_rises : IsBallot v.ballot
+  pub ballot_rises : IsStrictlyIncreasing v.ballot
   pub ballot_known : All (λ place. place < projects) v.ballot
-
--- no two of the ids are the same
-abbrev pub AreDistinct : List (List ℕ) → Type 0
-AreDistinct ids = AllPairs (λ a b. a ≢ b) ids
 
 abbrev pub project_ids : ElectionView → List (List ℕ)
 project_ids e = map (λ p. p.id) e.projects
@@ -52,12 +49,12 @@ most_projects = 10000
 abbrev pub most_voters : ℕ
 most_voters = 1000000
 
--- what is true of every election
+-- what is true of every election; no two of the ids are the same
 pub record IsElection (e : ElectionView) : Type 0 where
   pub budget_bounded : e.budget ≤ largest_money
   pub few_projects : length e.projects ≤ most_projects
   pub few_voters : length e.voters ≤ most_voters
   pub are_projects : All IsProject e.projects
   pub are_voters : All (IsVoter (length e.projects)) e.voters
-  pub projects_differ : AreDistinct (project_ids e)
-  pub voters_differ : AreDistinct (voter_ids e)
+  pub projects_differ : AllPairs (λ a b. a ≢ b) (project_ids e)
+  pub voters_differ : AllPairs (λ a b. a ≢ b) (voter_ids e)

@@ -6,3 +6,4 @@ pub mod MoneyFault
 pub mod MoneyText
 pub mod Numbered
 pub mod Request
+pub mod Inner

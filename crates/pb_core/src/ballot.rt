@@ -1,7 +1,8 @@
 //! The places of the projects that a voter approves.
 
 ghost use Rattle.std.specs.Prelude.{◌≡◌, ◌↔◌, ℕ, List, IsTrue, IfOk, MatchOption};
-ghost use Rattle.pb_core.specs.Ballot.{IsBallot, approves, HasSameMembers};
+ghost use Rattle.std.specs.List.Sorted.{IsStrictlyIncreasing};
+ghost use Rattle.pb_core.specs.Ballot.{approves, HasSameMembers};
 
 use crate::no_memory::NoMemory;
 use std::alloc::{Allocator, Global};
@@ -18,14 +19,14 @@ impl<A: Allocator> Model for Ballot<A> {
 
     ghost view = { λ b. b.places.items };
 
-    ghost invariant = { λ b. IsBallot b.places.items };
+    ghost invariant = { λ b. IsStrictlyIncreasing b.places.items };
 }
 
 impl<A: Allocator> Ballot<A> {
     /// A ballot that approves these places, in whatever order and however often they stand.
     pub fn of(alloc: A, places: &[u32]) -> Result<Ballot<A>, NoMemory>
         ensures members { IfOk result (HasSameMembers places.now) }
-        ensures in_order { IsBallot places.now → IfOk result (λ ballot. ballot ≡ places.now) }
+        ensures in_order { IsStrictlyIncreasing places.now → IfOk result (λ ballot. ballot ≡ places.now) }
     {
         let mut own = Vec::from_slice(alloc, places)?;
         if is_rising(places) {
@@ -38,7 +39,7 @@ impl<A: Allocator> Ballot<A> {
     /// A ballot that approves these places where they rise, none twice; `None` where they don't.
     pub fn rising(alloc: A, places: &[u32]) -> Result<Option<Ballot<A>>, NoMemory>
         ensures { IfOk result (λ found.
-            MatchOption found (¬ IsBallot places.now) (λ ballot. ballot ≡ places.now)) }
+            MatchOption found (¬ IsStrictlyIncreasing places.now) (λ ballot. ballot ≡ places.now)) }
     {
         if !is_rising(places) {
             return Ok(None);
@@ -58,7 +59,7 @@ impl<A: Allocator> Ballot<A> {
     /// The approved places, from 0, rising.
     pub fn places(&self) -> &[u32]
         ensures places { result.now ≡ self.now }
-        ensures is_ballot { IsBallot self.now }
+        ensures is_ballot { IsStrictlyIncreasing self.now }
     {
         self.places.as_slice()
     }
@@ -73,7 +74,7 @@ impl<A: Allocator> Ballot<A> {
 
 /// Whether each place is above the one before it.
 fn is_rising(places: &[u32]) -> bool
-    ensures { IsTrue result ↔ IsBallot places.now }
+    ensures { IsTrue result ↔ IsStrictlyIncreasing places.now }
 {
     for i in 1..places.len() {
         if places[i] <= places[i - 1] {
@@ -85,7 +86,7 @@ fn is_rising(places: &[u32]) -> bool
 
 /// Puts the places in rising order, each once.
 fn make_rising<A: Allocator>(places: &mut Vec<u32, A>)
-    ensures rising { IsBallot places.new.items }
+    ensures rising { IsStrictlyIncreasing places.new.items }
     ensures members { HasSameMembers places.old.items places.new.items }
 {
     places.sort_unstable();

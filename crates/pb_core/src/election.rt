@@ -1,6 +1,6 @@
 //! An election: its budget, its projects, and its voters with their ballots.
 
-ghost use Rattle.std.specs.Prelude.{◌≡◌, ◌<◌, ◌≤◌, ◌↔◌, ◌++◌, ◌∷◌, [], length, map, All, IsTrue, Contains};
+ghost use Rattle.std.specs.Prelude.{◌≡◌, ◌≢◌, ◌<◌, ◌≤◌, ◌↔◌, ◌++◌, ◌∷◌, [], length, map, All, IsTrue, Contains};
 ghost use Rattle.std.specs.Prelude.{OnOk, OnErr, None};
 ghost use Rattle.pb_core.specs.Money.{largest_money};
 
@@ -52,7 +52,8 @@ impl<A: Allocator> Model for Election<A> {
 }
 
 impl<A: Allocator> Election<A> {
-    ghost use Rattle.pb_core.specs.Election.{AreDistinct, IsElection, IsVoter, project_ids, voter_ids, most_projects, most_voters};
+    ghost use Rattle.std.specs.List.{AllPairs};
+    ghost use Rattle.pb_core.specs.Election.{IsElection, IsVoter, project_ids, voter_ids, most_projects, most_voters};
 
     /// An election with this budget, without a limit, and with neither projects nor voters yet.
     pub fn start(alloc: A, budget: Money) -> Election<A>
@@ -178,7 +179,7 @@ impl<A: Allocator> Election<A> {
     pub fn replace_voters(&mut self, voters: Vec<Voter<A>, A>) -> Vec<Voter<A>, A>
         requires few { length voters.items ≤ most_voters }
         requires are_voters { All (IsVoter (length self.old.projects)) voters.items }
-        requires differ { AreDistinct (map (λ v. v.id) voters.items) }
+        requires differ { AllPairs (λ a b. a ≢ b) (map (λ v. v.id) voters.items) }
         ensures handed_out { result.items ≡ self.old.voters }
         ensures replaced { self.new ≡ record self.old { voters = voters.items } }
     {

@@ -10,7 +10,8 @@ use Rattle.std.proofs.lemmas.Map.{NonePasses}
 use Rattle.std.proofs.lemmas.Option.{none-some, get_or_from_slice_get, same_Some, slice_get-get_or, slice_get_within}
 use Rattle.std.proofs.lemmas.Bool.{false≢true}
 use Rattle.std.proofs.lemmas.Slice.Eq.{bytes_eq-Decides}
-use Rattle.pb_core.specs.Election.{ElectionView, VoterView, AreDistinct, IsVoter}
+use Rattle.pb_core.specs.Inner.Ids.{AreDistinct}
+use Rattle.pb_core.specs.Election.{ElectionView, VoterView, IsVoter}
 use Rattle.pb_core.specs.Request.{EntryView}
 use Rattle.pb_desk.specs.Inner.Desk.{AreKnown}
 use Rattle.pb_desk.specs.Inner.Legal.{voters_of}

@@ -8,7 +8,8 @@ use Rattle.std.proofs.lemmas.List.{get_or-map, get_or-take, length-map, length-t
 use Rattle.std.proofs.lemmas.List.Elements.{All-head, All-map, All-tail, All-weaker}
 use Rattle.std.proofs.lemmas.Map.{NonePasses, lookup-none}
 use Rattle.std.proofs.lemmas.Slice.Eq.{bytes_eq-Decides}
-use Rattle.pb_core.specs.Election.{ElectionView, VoterView, AreDistinct, IsElection, IsVoter}
+use Rattle.pb_core.specs.Inner.Ids.{AreDistinct}
+use Rattle.pb_core.specs.Election.{ElectionView, VoterView, IsElection, IsVoter}
 use Rattle.pb_core.specs.Request.{EntryView}
 use Rattle.pb_desk.specs.Inner.Desk.{AreKnown, IsStanding}
 use Rattle.pb_desk.specs.Replay.{opened}

@@ -4,7 +4,8 @@ ghost use Rattle.std.specs.Prelude.{◌≡◌, ◌≤◌, None, [], ◌∷◌, �
 ghost use Rattle.std.specs.Option.{option_map};
 ghost use Rattle.std.specs.Map.{lookup, remove_entry, set_value};
 ghost use Rattle.std.specs.Str.{bytes_eq};
-ghost use Rattle.pb_core.specs.Election.{most_voters, AreDistinct};
+ghost use Rattle.pb_core.specs.Inner.Ids.{AreDistinct};
+ghost use Rattle.pb_core.specs.Election.{most_voters};
 ghost use Rattle.pb_core.specs.Request.{asked};
 ghost use Rattle.pb_desk.specs.Inner.Slots.{filed};
 ghost use Rattle.pb_desk.specs.Inner.Sources.{filed_under, opened_from, HasNewVoter};

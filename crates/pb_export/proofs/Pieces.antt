@@ -8,8 +8,8 @@ use Rattle.std.proofs.lemmas.List.Splits.{slice_split_at, slice_split_none}
 use Rattle.std.proofs.lemmas.List.Sums.{position_or_len_is}
 use Rattle.std.proofs.lemmas.Slice.Eq.{bytes_eq-Decides}
 use Rattle.std.proofs.lemmas.Str.{chars-append, encodes-chars, IsUtf8-append}
-use Rattle.pb_core.specs.Ballot.{IsBallot}
-use Rattle.pb_core.specs.Election.{AreDistinct}
+use Rattle.std.specs.List.Sorted.{IsStrictlyIncreasing}
+use Rattle.pb_core.specs.Inner.Ids.{AreDistinct}
 use Rattle.pb_read.proofs.Ballots.{ballot_is}
 use Rattle.pb_read.proofs.ListFacts.{is_among-Contains}
 use Rattle.pb_read.specs.Inner.Machine.{places_in}
@@ -122,7 +122,7 @@ module _ (ids : List (List ℕ)) (distinct : AreDistinct ids) where
   pub names_back : (vote ballot : List ℕ) → All (λ place. place < length ids) ballot → pieces_of vote ≡ map (λ place. slice_index_or ids place []) ballot → names_only ids vote ≡ true
   names_back vote ballot known pieces = ap (list_all (is_among ids)) pieces ∙ all_known ballot known
 
-  pub ballot_back : (vote ballot : List ℕ) → All (λ place. place < length ids) ballot → pieces_of vote ≡ map (λ place. slice_index_or ids place []) ballot → IsBallot ballot → ballot ≡ ballot_of ids vote
+  pub ballot_back : (vote ballot : List ℕ) → All (λ place. place < length ids) ballot → pieces_of vote ≡ map (λ place. slice_index_or ids place []) ballot → IsStrictlyIncreasing ballot → ballot ≡ ballot_of ids vote
   ballot_back vote ballot known pieces rising =
       let places : places_in ids (pieces_of vote) ≡ ballot = ap (places_in ids) pieces ∙ places_back ballot known in
       ballot_is ids vote ballot distinct (names_back vote ballot known pieces)

@@ -4,8 +4,9 @@ use Rattle.std.specs.Prelude.{slice_index_or}
 use Rattle.std.specs.List.{AllByRecursion, AllZip}
 use Rattle.std.specs.Str.{trim, trim_start, trim_end, chars}
 use Rattle.std.proofs.Math.Utf8.{encode}
-use Rattle.pb_core.specs.Ballot.{IsBallot}
-use Rattle.pb_core.specs.Election.{AreDistinct, ElectionView, VoterView, project_ids}
+use Rattle.std.specs.List.Sorted.{IsStrictlyIncreasing}
+use Rattle.pb_core.specs.Inner.Ids.{AreDistinct}
+use Rattle.pb_core.specs.Election.{ElectionView, VoterView, project_ids}
 use Rattle.pb_rows.specs.Reading.{Fields}
 use Rattle.pb_read.specs.Inner.Fields.{trimmed}
 use Rattle.pb_read.specs.Rows.{head_of, rows_of}
@@ -20,7 +21,7 @@ pub record IsWritable (ids : List (List ℕ)) (v : VoterView) : Type 0 where
   pub has_id : v.id ≢ []
   pub tidy_id : trim v.id ≡ v.id
   pub no_head : is_section_word v.id ≡ false
-  pub rises : IsBallot v.ballot
+  pub rises : IsStrictlyIncreasing v.ballot
   pub known : All (λ place. place < length ids) v.ballot
   pub pieces : AllByRecursion IsPiece (map (λ place. slice_index_or ids place []) v.ballot)
 

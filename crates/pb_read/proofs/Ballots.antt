@@ -9,8 +9,9 @@ use Rattle.std.proofs.lemmas.List.FromFn.{length-range_with_len, get_or-range_wi
 use Rattle.std.proofs.lemmas.List.Kept.{AllPairs-from_increasing}
 use Rattle.std.proofs.lemmas.List.Sums.{position_or_len_is}
 use Rattle.std.proofs.lemmas.Slice.Eq.{bytes_eq-Decides}
-use Rattle.pb_core.specs.Ballot.{HasSameMembers, IsBallot}
-use Rattle.pb_core.specs.Election.{AreDistinct}
+use Rattle.std.specs.List.Sorted.{IsStrictlyIncreasing}
+use Rattle.pb_core.specs.Inner.Ids.{AreDistinct}
+use Rattle.pb_core.specs.Ballot.{HasSameMembers}
 use Rattle.pb_read.proofs.Keeps.{ballot_of-below, ballot_of-rises}
 use Rattle.pb_read.proofs.ListFacts.{Contains-cons, Contains-is_among, is_among-Contains}
 use Rattle.pb_read.specs.Inner.Machine.{places_in}
@@ -120,13 +121,13 @@ members ids vote distinct known x = (there, back)
         subst (Contains (places_in ids (pieces_of vote))) (first_place ids x distinct below) (Contains-map (λ text. position_or_len (bytes_eq text) ids) (pieces_of vote) (get_or ids x []) (Contains-is_among (pieces_of vote) (get_or ids x []) named))
 
 -- a ballot of those places is the vote's
-pub ballot_is : (ids : List (List ℕ)) (vote : List ℕ) (ballot : List ℕ) → AreDistinct ids → names_only ids vote ≡ true → HasSameMembers (places_in ids (pieces_of vote)) ballot → IsBallot ballot → ballot ≡ ballot_of ids vote
+pub ballot_is : (ids : List (List ℕ)) (vote : List ℕ) (ballot : List ℕ) → AreDistinct ids → names_only ids vote ≡ true → HasSameMembers (places_in ids (pieces_of vote)) ballot → IsStrictlyIncreasing ballot → ballot ≡ ballot_of ids vote
 ballot_is ids vote ballot distinct known same rising =
     same_pairs ballot (ballot_of ids vote) (AllPairs-from_increasing ballot rising) (AllPairs-from_increasing (ballot_of ids vote) (ballot_of-rises ids vote)) (λ x.
     (λ c. (members ids vote distinct known x).0 ((same x).1 c), λ c. (same x).0 ((members ids vote distinct known x).1 c)))
 
 -- the same, where the ids and the vote go by other names too
-pub ballot_from : (ids known : List (List ℕ)) (text vote places ballot : List ℕ) → ids ≡ known → text ≡ vote → AreDistinct known → names_only known vote ≡ true → places ≡ places_in ids (pieces_of text) → HasSameMembers places ballot → IsBallot ballot →
+pub ballot_from : (ids known : List (List ℕ)) (text vote places ballot : List ℕ) → ids ≡ known → text ≡ vote → AreDistinct known → names_only known vote ≡ true → places ≡ places_in ids (pieces_of text) → HasSameMembers places ballot → IsStrictlyIncreasing ballot →
     ballot ≡ ballot_of known vote
 ballot_from ids known text vote places ballot same_ids same_text distinct names from same rising =
     ballot_is known vote ballot distinct names (subst (λ xs. HasSameMembers xs ballot) (from ∙ (λ i. places_in (same_ids i) (pieces_of (same_text i)))) same) rising

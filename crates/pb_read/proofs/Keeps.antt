@@ -12,7 +12,6 @@ use Rattle.std.proofs.lemmas.List.Elements.{All-filter}
 use Rattle.std.proofs.lemmas.List.FromFn.{length-range_with_len, get_or-range_with_len}
 use Rattle.std.proofs.lemmas.List.Kept.{IsStrictlyIncreasing-filter}
 use Rattle.csv.specs.Records.{AllText}
-use Rattle.pb_core.specs.Ballot.{IsBallot}
 use Rattle.pb_core.specs.Election.{ElectionView, ProjectView, IsElection, project_ids}
 use Rattle.pb_core.specs.Money.{money_of, largest_money}
 use Rattle.pb_core.specs.MoneyText.{hundredths, has_money_form, is_in_hundredths}
@@ -114,7 +113,7 @@ range_below n k d below =
     let here : get_or (range_with_len 0 n) k d ≡ 0 + k = get_or-range_with_len 0 n k d (omega (arith, below, size)) in
     omega (arith, here, below, size)
 
-pub ballot_of-rises : (ids : List (List ℕ)) (vote : List ℕ) → IsBallot (ballot_of ids vote)
+pub ballot_of-rises : (ids : List (List ℕ)) (vote : List ℕ) → IsStrictlyIncreasing (ballot_of ids vote)
 ballot_of-rises ids vote = IsStrictlyIncreasing-filter _ (range_with_len 0 (length ids)) (range_rises (length ids))
 
 pub ballot_of-below : (ids : List (List ℕ)) (vote : List ℕ) → All (λ place. place < length ids) (ballot_of ids vote)

@@ -10,7 +10,7 @@ use Rattle.pb_core.specs.Election.{ElectionView}
 use Rattle.pb_price.proofs.FirstInRange.{IsFirstInRange, NoneInRange, find-range_with_len}
 use Rattle.pb_price.specs.Supporters.{SupportView, IsSupport, support_of, supporters_at, cost_at}
 use Rattle.pb_rounds.specs.declared.measure.Measure.{Measure}
-use Rattle.pb_rounds.specs.Completed.{After, IsOver, IsExhausted, IsCompleted, GoesOn, AreSpent}
+use Rattle.pb_rounds.specs.Completed.{After, IsExhausted, IsCompleted, GoesOn, AreSpent}
 use Rattle.pb_rounds.specs.Count.{spent_on, is_over, is_exhausted, could_be_added, is_over_after, is_exhausted_after, is_decisive, first_decisive, add1_of, elected_after, share_after}
 use Rattle.pb_rounds.specs.Run.{ElectedView, RunView, is_elected, outcome_of}
 use Rattle.pb_rounds.proofs.Completing.{decided_before, decided_here, opening_not_over, raises_spent, within_from_not_over}
@@ -82,12 +82,12 @@ no_end : (m : Measure) (e : ElectionView) → IsSupport (support_of e) → (step
     → GoesOn m e step raises
 no_end m e support step raises h =
     let parts = or_parts _ _ h in
-    from_computed m e support step raises (λ elected. (¬ IsOver (support_of e) e.budget elected) × (¬ IsExhausted (support_of e) e.budget elected)) (
+    from_computed m e support step raises (λ elected. (¬ (e.budget < spent_on (support_of e) elected)) × (¬ IsExhausted (support_of e) e.budget elected)) (
       (λ over. true≢false (sym (over_from_more (support_of e) e.budget (elected_after m e step raises) over) ∙ parts.0)),
       (λ exhausted. true≢false (sym (test_from_exhausted (support_of e) e.budget (elected_after m e step raises) exhausted) ∙ parts.1)),
     )
 
-more_from_over : (s : SupportView) (budget : ℕ) (elected : List ElectedView) → is_over s budget elected ≡ true → IsOver s budget elected
+more_from_over : (s : SupportView) (budget : ℕ) (elected : List ElectedView) → is_over s budget elected ≡ true → budget < spent_on s elected
 unfolding is_over
 more_from_over s budget elected e = ltb-true budget (spent_on s elected) e
 
@@ -109,7 +109,7 @@ decided_completed m e h step limit (Some n) found raises is = elim (cases_Bool (
               ends = inr (
                 no_end m e h step raises (found.first raises (omega arith) (omega arith)),
                 omega arith,
-                from_computed m e h step (raises + 1) (IsOver (support_of e) e.budget)
+                from_computed m e h step (raises + 1) (λ elected. e.budget < spent_on (support_of e) elected)
                     (more_from_over (support_of e) e.budget (elected_after m e step (raises + 1)) (ap (is_over_after m e step) next ∙ over)),
               );
             }
@@ -140,7 +140,7 @@ add1_completed m e h step limit raises is =
 -- raises that go on do not decide
 goes_on_test : (m : Measure) (e : ElectionView) (step raises : ℕ) → GoesOn m e step raises → is_decisive m e step raises ≡ false
 goes_on_test m e step raises goes_on =
-    let h = computed_from m e step raises (λ elected. (¬ IsOver (support_of e) e.budget elected) × (¬ IsExhausted (support_of e) e.budget elected)) goes_on in
+    let h = computed_from m e step raises (λ elected. (¬ (e.budget < spent_on (support_of e) elected)) × (¬ IsExhausted (support_of e) e.budget elected)) goes_on in
     or_from _ _ (false_from_ne_true _ (λ over. h.0 (more_from_over (support_of e) e.budget (elected_after m e step raises) over)))
     (false_from_ne_true _ (λ exhausted. h.1 (exhausted_from_test (support_of e) e.budget (elected_after m e step raises) exhausted)))
 
@@ -161,7 +161,7 @@ module _ (m : Measure) (e : ElectionView) (step limit : ℕ) where
           | inr other ↦ goes_on_test m e step j (h.fewer_go_on j (omega arith))
         ] in
         let back : raises + 1 - 1 ≡ raises = omega arith in
-        decided_before m e step limit (raises + 1) (omega arith) more (over_from_more (support_of e) e.budget (elected_after m e step (raises + 1)) (computed_from m e step (raises + 1) (IsOver (support_of e) e.budget) over.2))
+        decided_before m e step limit (raises + 1) (omega arith) more (over_from_more (support_of e) e.budget (elected_after m e step (raises + 1)) (computed_from m e step (raises + 1) (λ elected. e.budget < spent_on (support_of e) elected) over.2))
         ∙ ap (λ n. Some n) back
   ]
 

@@ -14,7 +14,7 @@ use Rattle.pb_price.specs.Price.{price_at, total_rest}
 use Rattle.pb_price.specs.Supporters.{SupportView, cost_at, supporters_at, support_of}
 use Rattle.pb_price.proofs.Payments.{least_from_price, total_rest_covers}
 use Rattle.pb_rounds.specs.declared.measure.Measure.{Measure}
-use Rattle.pb_rounds.specs.Completed.{IsExhausted, IsOver}
+use Rattle.pb_rounds.specs.Completed.{IsExhausted}
 use Rattle.pb_rounds.specs.Count.{elected_after, is_decisive, opening_share, share_after, spent_on}
 use Rattle.pb_rounds.specs.Inner.Reach.{LeavesRoom, is_within_reach}
 use Rattle.pb_rounds.specs.Key.{KeyView}
@@ -129,7 +129,7 @@ module _ (m : Measure) (s : SupportView) (budget share : ℕ) (h : LeavesRoom s 
 
 -- the law
 pub room_decides_nothing : (m : Measure) (e : ElectionView) (share : ℕ) → LeavesRoom (support_of e) e.budget share
-    → (¬ IsOver (support_of e) e.budget (outcome_of m e share).elected) × (¬ IsExhausted (support_of e) e.budget (outcome_of m e share).elected)
+    → (¬ (e.budget < spent_on (support_of e) (outcome_of m e share).elected)) × (¬ IsExhausted (support_of e) e.budget (outcome_of m e share).elected)
 room_decides_nothing m e share h = (
   (λ over. let within = room_not_over m (support_of e) e.budget share h in omega (arith, over, within)),
   room_not_exhausted m (support_of e) e.budget share h,

@@ -12,29 +12,25 @@ abbrev pub After : Measure → ElectionView → (step raises : ℕ) → (List El
 After m e step raises IsSuch = (elected : List ElectedView) × (rests : List ℕ)
     × IsRun m (support_of e) (opening_share e + raises * step) elected rests × IsSuch elected
 
--- the elected cost more than the budget
-abbrev pub IsOver : SupportView → ℕ → List ElectedView → Type 0
-IsOver s budget elected = budget < spent_on s elected
-
 -- the elected are within the budget, and with any other project that somebody supports they would be over it
 pub record IsExhausted (s : SupportView) (budget : ℕ) (elected : List ElectedView) : Type 0 where
   pub within : spent_on s elected ≤ budget
   pub no_room : (place : ℕ) → IsLeft s elected place → 0 < length (supporters_at s place)
       → budget < spent_on s elected + cost_at s place
 
--- the outcome after this many raises is neither over nor exhausted
+-- the outcome after this many raises is neither over the budget nor exhausted
 abbrev pub GoesOn : Measure → ElectionView → (step raises : ℕ) → Type 0
 GoesOn m e step raises = After m e step raises (λ elected.
-    (¬ IsOver (support_of e) e.budget elected) × (¬ IsExhausted (support_of e) e.budget elected))
+    (¬ (e.budget < spent_on (support_of e) elected)) × (¬ IsExhausted (support_of e) e.budget elected))
 
 -- Completion by raises, up to a limit of them: fewer raises go on, and after these the outcome is exhausted, or it goes on
--- and one raise more, which the limit allows, makes it over.
+-- and one raise more, which the limit allows, makes it over the budget.
 pub record IsCompleted (m : Measure) (e : ElectionView) (step limit raises : ℕ) : Type 0 where
   pub within_limit : raises ≤ limit
   pub fewer_go_on : (fewer : ℕ) → fewer < raises → GoesOn m e step fewer
   pub ends : After m e step raises (IsExhausted (support_of e) e.budget)
       ⊎ (GoesOn m e step raises × (raises < limit)
-      × After m e step (raises + 1) (IsOver (support_of e) e.budget))
+      × After m e step (raises + 1) (λ elected. e.budget < spent_on (support_of e) elected))
 
 -- the raises are spent: after none, one, two and so on up to the limit the outcome goes on
 abbrev pub AreSpent : Measure → ElectionView → (step limit : ℕ) → Type 0

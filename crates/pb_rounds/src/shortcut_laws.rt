@@ -1,10 +1,11 @@
 //! Why the shortcuts of a completion pass over no raise that decides, each as the contract of a function that does nothing.
 //! Nobody has to believe them: what a count promises says nothing of shortcuts.
 
-ghost use Rattle.std.specs.Prelude.{◌≡◌, ◌≤◌, ℕ};
+ghost use Rattle.std.specs.Prelude.{◌≡◌, ◌<◌, ◌≤◌, ℕ};
 ghost use Rattle.pb_core.specs.Election.{ElectionView};
 ghost use Rattle.pb_price.specs.Supporters.{support_of};
-ghost use Rattle.pb_rounds.specs.Completed.{IsExhausted, IsOver};
+ghost use Rattle.pb_rounds.specs.Completed.{IsExhausted};
+ghost use Rattle.pb_rounds.specs.Count.{spent_on};
 ghost use Rattle.pb_rounds.specs.Inner.Between.{KeepsUpTo, places_of_elected};
 ghost use Rattle.pb_rounds.specs.Inner.Reach.{LeavesRoom};
 ghost use Rattle.pb_rounds.specs.Run.{outcome_of};
@@ -14,7 +15,7 @@ ghost use Rattle.pb_rounds.specs.declared.measure.Measure.{Measure};
 /// outcome at that share is neither over the budget nor exhausted.
 pub fn room_decides_nothing()
     ensures { (m : Measure) (e : ElectionView) (share : ℕ) → LeavesRoom (support_of e) e.budget share
-        → (¬ IsOver (support_of e) e.budget (outcome_of m e share).elected)
+        → (¬ (e.budget < spent_on (support_of e) (outcome_of m e share).elected))
         × (¬ IsExhausted (support_of e) e.budget (outcome_of m e share).elected) }
 {}
 

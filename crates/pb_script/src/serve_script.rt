@@ -1,11 +1,12 @@
 //! The clerks of a script at work: each serves its own requests, side by side with the others.
 
 ghost use Rattle.std.specs.Prelude.{◌≡◌, ◌+◌, ◌<◌, ◌≤◌, [], All, length, map, IfErr, IfOk, IfSome, OnOk};
+ghost use Rattle.pb_shared.specs.Inner.Desk.{desk_with};
 ghost use Rattle.pb_core.specs.Request.{asked};
 ghost use Rattle.pb_desk.specs.Replay.{IsLegal, most_clerks};
 ghost use Rattle.pb_desk.specs.Rows.{journal_text};
 ghost use Rattle.pb_rows.specs.Reading.{records_of};
-ghost use Rattle.pb_shared.specs.Clerk.{AreClerks, AreNewcomers, desk_with};
+ghost use Rattle.pb_shared.specs.Clerk.{AreClerks, AreNewcomers};
 ghost use Rattle.pb_script.specs.Script.{most_rows};
 ghost use Rattle.pb_script.specs.Served.{IsServeFault, IsServed};
 ghost use Rattle.pb_script.specs.Serving.{program_room};

@@ -5,11 +5,12 @@ use Rattle.std.specs.Prelude.{IsErrAnd}
 use Rattle.std.proofs.lemmas.Option.{none-some}
 use Rattle.std.proofs.lemmas.List.Elements.{All-append, All-cons, All-nil}
 use Rattle.atomic_table.specs.Seated.{TableId}
+use Rattle.pb_shared.specs.Inner.Desk.{desk_with}
 use Rattle.pb_core.specs.Request.{EntryView, RequestView}
 use Rattle.pb_core.specs.declared.answer.Answer.{Answer}
 use Rattle.pb_desk.specs.Desk.{DeskView}
 use Rattle.pb_desk.specs.Replay.{IsLegal}
-use Rattle.pb_shared.specs.Clerk.{CanHave, ClerkView, GrowsByOthers, IsAnothers, Reads, Sees, Serves, SharedView, Tries, desk_with}
+use Rattle.pb_shared.specs.Clerk.{CanHave, ClerkView, GrowsByOthers, IsAnothers, Reads, Sees, Serves, SharedView, Tries}
 use Rattle.pb_shared.specs.Refusal.{Refuses}
 use Rattle.pb_shared.specs.Inner.Rule.{Sitter}
 use Rattle.pb_shared.specs.Inner.Plays.{CanSee, won, freed, published, has_read, reads}

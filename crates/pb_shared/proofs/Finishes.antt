@@ -5,9 +5,10 @@ use lib.ListN.{get_elem?}
 use Rattle.std.proofs.Math.ListN.{get_or-map}
 use Rattle.atomic_table.specs.Seated.{TableId}
 use Rattle.atomic_table.specs.Table.{State, Final, Seen}
+use Rattle.pb_shared.specs.Inner.Desk.{desk_with}
 use Rattle.pb_core.specs.Request.{EntryView}
 use Rattle.pb_desk.specs.Desk.{DeskView}
-use Rattle.pb_shared.specs.Clerk.{SharedView, ClerkView, AreAll, Begins, IsAnothers, IsMergeOf, desk_with, entries_by}
+use Rattle.pb_shared.specs.Clerk.{SharedView, ClerkView, AreAll, Begins, IsAnothers, IsMergeOf, entries_by}
 use Rattle.pb_shared.specs.Rule.{RoleFits, Runs, DeskRule}
 use Rattle.pb_shared.specs.Inner.Rule.{history}
 use Rattle.pb_shared.specs.Seats.{shared_view}

@@ -8,10 +8,11 @@ use Rattle.std.proofs.Math.Seq.{drop-append_seam}
 use Rattle.std.proofs.lemmas.List.Elements.{All-append, All-cons, All-nil, filter-append}
 use Rattle.atomic_table.specs.Table.{State, Act, keeps, takes, gives, stepped, Valid, carried_after, Allows}
 use Rattle.atomic_table.proofs.Lists.{exchanged, set_here}
+use Rattle.pb_shared.specs.Inner.Desk.{desk_with}
 use Rattle.pb_core.specs.Request.{EntryView}
 use Rattle.pb_desk.specs.Desk.{DeskView}
 use Rattle.pb_desk.specs.Replay.{IsLegal}
-use Rattle.pb_shared.specs.Clerk.{Begins, CanHave, GrowsByOthers, desk_with, entries_by}
+use Rattle.pb_shared.specs.Clerk.{Begins, CanHave, GrowsByOthers, entries_by}
 use Rattle.pb_shared.specs.Rule.{ClerkFits, RoleFits, Runs, DeskRule}
 use Rattle.pb_shared.specs.Inner.Rule.{history, Sitter}
 use Rattle.pb_shared.specs.Inner.Plays.{CanSee, won, lost, published, freed, has_read, tries_lock, publishes, frees, reads}

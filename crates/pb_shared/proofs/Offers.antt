@@ -6,10 +6,11 @@ use prog.Atomic.{either}
 use Rattle.atomic_table.specs.Seated.{TableId}
 use mathlib.Core.Option.{none}
 use Rattle.atomic_table.specs.Table.{Allows, Splits, rest, opening, step}
+use Rattle.pb_shared.specs.Inner.Desk.{desk_with}
 use Rattle.pb_core.specs.Request.{EntryView}
 use Rattle.pb_desk.specs.Desk.{DeskView}
 use Rattle.pb_desk.specs.Replay.{IsLegal, most_clerks}
-use Rattle.pb_shared.specs.Clerk.{SharedView, ClerkView, new_sheet, desk_with}
+use Rattle.pb_shared.specs.Clerk.{SharedView, ClerkView, new_sheet}
 use Rattle.pb_shared.specs.Rule.{DeskRule}
 use Rattle.pb_shared.specs.Inner.Rule.{seated, stock, Sitter}
 use Rattle.pb_shared.specs.Steps.{StepRule, knowing}

@@ -8,9 +8,10 @@ use lib.ListN.{get_elem?}
 use Rattle.std.proofs.lemmas.List.Elements.{All-cons, All-nil}
 use Rattle.atomic_table.specs.Table.{opening, step, Enters, Splits, Joins}
 use Rattle.atomic_table.proofs.Lists.{set_again, set_else, at_longer}
+use Rattle.pb_shared.specs.Inner.Desk.{desk_with}
 use Rattle.pb_core.specs.Request.{EntryView}
 use Rattle.pb_desk.specs.Replay.{IsLegal}
-use Rattle.pb_shared.specs.Clerk.{CanHave, desk_with, new_sheet}
+use Rattle.pb_shared.specs.Clerk.{CanHave, new_sheet}
 use Rattle.pb_shared.specs.Rule.{SheetFits, RoleFits, Runs, DeskRule}
 use Rattle.pb_shared.specs.Inner.Rule.{history, seated, stock}
 use Rattle.pb_shared.specs.Steps.{StepRule}

@@ -31,10 +31,6 @@ abbrev pub GrowsByOthers : ℕ → List EntryView → List EntryView → Type 0
 GrowsByOthers number seen journal =
     (rest : List EntryView) × (journal ≡ seen ++ rest) × (entries_by number rest ≡ [])
 
--- the same desk with this journal
-abbrev pub desk_with : DeskView → List EntryView → DeskView
-desk_with start journal = record start { journal = journal }
-
 -- the desk can have this journal: it is legal, and fits the room
 abbrev pub CanHave : DeskView → List EntryView → Type 0
 CanHave d journal = IsLegal d.opening journal × (length journal ≤ d.room)
@@ -61,14 +57,12 @@ abbrev pub Tries : ℕ → SharedView → Sheet → ℕ → Sheet → Type 0
 Tries tries d x word x' = (lost : List ℕ) × All (IsAnothers d (x ∷ [])) lost × (length lost < tries)
     × (x'.found ≡ x.found ++ (lost ++ word ∷ []))
 
--- the desk can have this journal now, as far as the clerk knows
-abbrev pub IsLater : SharedView → Sheet → List EntryView → Type 0
-IsLater d x journal = CanHave d.start journal × GrowsByOthers x.number x.seen journal
-
--- one of the tries won the lock, and the clerk has seen the journal; nothing else of it has changed
+-- one of the tries won the lock, and the clerk has seen the journal, which the desk can have, and which grew by other clerks'
+-- entries alone; nothing else of the clerk has changed
 abbrev pub Sees : ℕ → SharedView → Sheet → Sheet → Type 0
 Sees tries d x x' =
-    Tries tries d x 0 x' × IsLater d x x'.seen × (x' ≡ record x { seen = x'.seen; found = x'.found })
+    Tries tries d x 0 x' × (CanHave d.start x'.seen × GrowsByOthers x.number x.seen x'.seen)
+    × (x' ≡ record x { seen = x'.seen; found = x'.found })
 
 -- one of the tries won the lock, and the request was answered: past other clerks' entries that came in
 -- between, its entry stands last in what the clerk has now seen, and is the only one that its own grew by
@@ -79,9 +73,9 @@ Serves tries d x request answer x' =
     × Tries tries d x 0 x'
     × (x' ≡ record x { seen = before ++ last ∷ []; mine = x.mine ++ last ∷ []; found = x'.found })
 
--- the clerk's load found this front word: the length of what it has now seen
+-- the clerk's load found this front word: the length of what it has now seen, which the desk can have
 abbrev pub Reads : SharedView → Sheet → ℕ → Sheet → Type 0
-Reads d x front x' = IsLater d x x'.seen × (front ≡ length x'.seen)
+Reads d x front x' = (CanHave d.start x'.seen × GrowsByOthers x.number x.seen x'.seen) × (front ≡ length x'.seen)
     × (x' ≡ record x { seen = x'.seen; read = x.read ++ front ∷ [] })
 
 -- all clerks of the desk are among these

@@ -5,7 +5,7 @@ use lib.ListN.{get_elem?}
 use Rattle.atomic_table.specs.Table.{State}
 use Rattle.pb_core.specs.Request.{EntryView}
 use Rattle.pb_desk.specs.Desk.{DeskView}
-use Rattle.pb_shared.specs.Clerk.{Begins, CanHave, GrowsByOthers, desk_with, entries_by, new_sheet}
+use Rattle.pb_shared.specs.Clerk.{Begins, CanHave, GrowsByOthers, entries_by, new_sheet}
 use Rattle.pb_shared.specs.declared.seat_view.About.{About}
 use Rattle.pb_shared.specs.declared.seat_view.Role.{Role}
 use Rattle.pb_shared.specs.declared.seat_view.Role.TheVariants.{Stock, Clerk, Guest, Spent}
@@ -34,7 +34,7 @@ module _ (a : About) (lock : ℕ) (home : slot.Option (Option DeskView)) (journa
     pub about : v.about ≡ a
     pub sheet : SheetFits seat v.holds v.sheet
     pub told : Begins v.told journal
-    pub brought : v.home ≡ true → (v.holds ≡ true) × (home ≡ slot.some (Some (desk_with a.desk.value journal)))
+    pub brought : v.home ≡ true → (v.holds ≡ true) × (home ≡ slot.some (Some (record a.desk.value { journal = journal })))
 
   -- what a seat knows is true: the clerks in stock have made no call; what a note has seen begins the
   -- history; the sheets of clerks who were handed back are true
@@ -52,8 +52,8 @@ module _ (a : About) (lock : ℕ) (home : slot.Option (Option DeskView)) (journa
     pub by_clerks : All (λ x. x.clerk < a.clerks) later
     pub holder : (number : ℕ) → lock ≡ number + 1 → (v : SeatView)
         × (get_elem? views (seat_of number) ≡ slot.some v) × ((v.role ≡ Clerk) × (v.holds ≡ true))
-    pub free : lock ≡ 0 → home ≡ slot.some (Some (desk_with a.desk.value journal))
-    pub in_slot : (x : Option DeskView) → home ≡ slot.some x → x ≡ Some (desk_with a.desk.value journal)
+    pub free : lock ≡ 0 → home ≡ slot.some (Some (record a.desk.value { journal = journal }))
+    pub in_slot : (x : Option DeskView) → home ≡ slot.some x → x ≡ Some (record a.desk.value { journal = journal })
     pub each : (seat : ℕ) (v : SeatView) → get_elem? views seat ≡ slot.some v → RoleFits v.role seat v
 
 -- There is one history: the journal at the start, and what was served since. The words are the lock and the history's length

@@ -1,9 +1,10 @@
 -- What each step on the table tells the seat that makes it, within the rule of the steps. Proofs alone need it.
 use Rattle.std.specs.Prelude.{◌≡◌, ◌≢◌, ℕ, suc, ◌+◌, ◌≤◌, true, false, List, [], ◌∷◌, ◌++◌, length, drop, Option, Some, None}
+use Rattle.pb_shared.specs.Inner.Desk.{desk_with}
 use Rattle.pb_core.specs.Request.{EntryView}
 use Rattle.pb_desk.specs.Desk.{DeskView}
 use Rattle.pb_desk.specs.declared.version.Version.TheVariants.{Two}
-use Rattle.pb_shared.specs.Clerk.{Begins, CanHave, GrowsByOthers, desk_with, new_sheet}
+use Rattle.pb_shared.specs.Clerk.{Begins, CanHave, GrowsByOthers, new_sheet}
 use Rattle.pb_shared.specs.Inner.Rule.{seated, Sitter}
 use Rattle.pb_shared.specs.declared.seat_view.About.{About}
 use Rattle.pb_shared.specs.declared.seat_view.Role.TheVariants.{Clerk, Guest, Spent}

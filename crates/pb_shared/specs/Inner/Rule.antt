@@ -1,9 +1,10 @@
 -- What a seat knows, the history, and the seats with which a table begins.
 use Rattle.std.specs.Prelude.{false, List, [], ◌++◌, Option}
 use Rattle.atomic_table.specs.Table.{Me}
+use Rattle.pb_shared.specs.Inner.Desk.{desk_with}
 use Rattle.pb_core.specs.Request.{EntryView}
 use Rattle.pb_desk.specs.Desk.{DeskView}
-use Rattle.pb_shared.specs.Clerk.{desk_with, new_sheet}
+use Rattle.pb_shared.specs.Clerk.{new_sheet}
 use Rattle.pb_shared.specs.declared.seat_view.About.{About}
 use Rattle.pb_shared.specs.declared.seat_view.Role.{Role}
 use Rattle.pb_shared.specs.declared.seat_view.Role.TheVariants.{Stock}

@@ -1,10 +1,11 @@
 -- The table of a shared desk, and a clerk's seat between two calls, while it holds the lock, and after it has served.
 use Rattle.std.specs.Prelude.{◌≡◌, ◌≢◌, ℕ, ◌+◌, ◌<◌, ◌≤◌, ◌^◌, List, [], ◌∷◌, ◌++◌, false, true, None}
 use Rattle.atomic_table.specs.Seated.{TableId}
+use Rattle.pb_shared.specs.Inner.Desk.{desk_with}
 use Rattle.pb_core.specs.Request.{EntryView}
 use Rattle.pb_desk.specs.Desk.{DeskView}
 use Rattle.pb_desk.specs.Replay.{most_clerks}
-use Rattle.pb_shared.specs.Clerk.{SharedView, ClerkView, new_sheet, desk_with}
+use Rattle.pb_shared.specs.Clerk.{SharedView, ClerkView, new_sheet}
 use Rattle.pb_shared.specs.Inner.Rule.{stock, Sitter}
 use Rattle.pb_shared.specs.Inner.Plays.{CanSee, won, lost}
 use Rattle.pb_shared.specs.declared.seat_view.About.{About}

@@ -1,7 +1,7 @@
 //! The end of a shared desk: clerks come back, and the desk does.
 
 ghost use Rattle.std.specs.Prelude.{◌≡◌, map, All, IfOk, IfErr, IsOk};
-ghost use Rattle.pb_shared.specs.Clerk.{AreAll, desk_with, IsAnothers, IsMergeOf};
+ghost use Rattle.pb_shared.specs.Clerk.{AreAll, IsAnothers, IsMergeOf};
 
 use super::SharedDesk;
 use crate::clerk::Clerk;
@@ -18,7 +18,7 @@ impl SharedDesk {
     pub fn finish(self, mut clerks: Vec<Clerk>) -> Result<Desk, Unfinished>
         requires own { All (λ clerk. clerk.desk ≡ self) clerks.items }
         ensures ok { IfOk result (λ desk.
-            (desk ≡ desk_with self.start desk.journal) × IsMergeOf self clerks.items desk.journal) }
+            (desk ≡ record self.start { journal = desk.journal }) × IsMergeOf self clerks.items desk.journal) }
         ensures err { IfErr result (λ fault. IsAnothers self (map (λ c. c.sheet) clerks.items) fault.0) }
         ensures all { AreAll self clerks.items → IsOk result }
     {

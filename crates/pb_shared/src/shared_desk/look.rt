@@ -2,7 +2,7 @@
 
 ghost use Rattle.std.specs.Prelude.{◌≡◌, IfOk, IfErr, OnOk};
 ghost use Rattle.std.specs.Fn.{FnOnceReturnsAt};
-ghost use Rattle.pb_shared.specs.Clerk.{desk_with, Reads, Sees};
+ghost use Rattle.pb_shared.specs.Clerk.{Reads, Sees};
 ghost use Rattle.pb_shared.specs.Refusal.{Refuses};
 ghost use Rattle.pb_shared.specs.declared.shared_fault.SharedFault.TheVariants as fault;
 
@@ -21,7 +21,7 @@ impl SharedDesk {
         ensures same { clerk.new.desk ≡ clerk.old.desk }
         ensures seen { OnOk result (Sees 1 self.now clerk.old.sheet clerk.new.sheet) }
         ensures answer { IfOk result (λ answer.
-            FnOnceReturnsAt F.FnOnce f (desk_with self.now.start clerk.new.sheet.seen) answer) }
+            FnOnceReturnsAt F.FnOnce f (record self.now.start { journal = clerk.new.sheet.seen }) answer) }
         ensures err { IfErr result (λ busy. Refuses 1 self.now clerk.old.sheet (fault.Busy busy.0) clerk.new.sheet) }
     {
         let desk = self.take_desk(&mut clerk.seat, clerk.number)?;

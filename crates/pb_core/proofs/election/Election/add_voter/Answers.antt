@@ -1,6 +1,7 @@
 use Rattle.std.proofs.Common.{◌<◌, length, Contains, subst, sym}
+use Rattle.std.specs.List.Sorted.{IsStrictlyIncreasing}
 use Rattle.pb_core.specs.Election.{ElectionView, VoterView, IsVoter, voter_ids, most_voters}
-use Rattle.pb_core.specs.Ballot.{IsVoterId, IsBallot}
+use Rattle.pb_core.specs.Ballot.{IsVoterId}
 use Rattle.pb_core.proofs.Elections.{IsElection-push_voter}
 use Rattle.pb_core.proofs.election.Election.add_voter.Goals as goal
 
@@ -13,7 +14,7 @@ invariant_of-self-2 g c =
     (subst (λ (e : ElectionView). IsVoter (length e.projects) c.args.voter) is_same
     (record {
       has_id = subst (λ (v : VoterView). IsVoterId v.id) same_voter c.text.ensures.is_id;
-      ballot_rises = subst (λ (v : VoterView). IsBallot v.ballot) same_voter c.places.ensures.is_ballot;
+      ballot_rises = subst (λ (v : VoterView). IsStrictlyIncreasing v.ballot) same_voter c.places.ensures.is_ballot;
       ballot_known = c.requires.known;
     }))
     (subst (λ (e : ElectionView). length e.voters < most_voters) is_same c.requires.room)

@@ -1,0 +1,2 @@
+-- Words that only private contracts and the invariants of private fields speak of: nobody has to believe them.
+pub mod Ids
