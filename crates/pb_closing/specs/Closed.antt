@@ -9,7 +9,6 @@ use Rattle.pb_closing.specs.declared.close_fault.CloseFault.{CloseFault}
 use Rattle.pb_closing.specs.declared.close_fault.CloseFault.TheVariants.{Unfinished, NoMemory, NotCounted}
 use Rattle.pb_closing.specs.declared.closing.Closing.{Closing}
 use Rattle.pb_closing.specs.declared.closing.Closing.TheVariants.{Open, Counted}
-use Rattle.pb_closing.specs.declared.closing.DeskCount.{DeskCount}
 
 -- What a desk comes to. Where it is open it is handed on. Where it is shut the ballots that its journal leaves are counted;
 -- or it is handed back where memory is refused; or its election is, where its count is refused.
