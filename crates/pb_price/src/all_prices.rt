@@ -1,6 +1,6 @@
 //! The prices of a list of projects, by several workers.
 
-ghost use Rattle.std.specs.Prelude.{◌≡◌, ◌+◌, ◌<◌, ◌≤◌, [], All, length, map, max, min, Err, IfOk, OnOk, OnErr, MatchBool, IsOkUnless};
+ghost use Rattle.std.specs.Prelude.{◌≡◌, ◌+◌, ◌<◌, ◌≤◌, [], All, length, map, max, min, true, Err, IfOk, OnOk, OnErr, MatchBool, IsOkUnless};
 ghost use Rattle.std.specs.List.{AllZip};
 ghost use Rattle.pb_core.specs.Election.{most_projects};
 ghost use Rattle.pb_price.specs.Inner.Claims.{drawn};
@@ -77,11 +77,41 @@ pub fn price_all<
         supporters,
         rests,
     };
-    let workers = workers_for(workers, projects.len());
+    let prices = price_pieces(rt, alloc, workers, &pieces, tally)?;
+    Ok(prices)
+}
+
+/// The same, where the number of workers has been looked at: the prices of the projects of these pieces, in their order.
+/// Only memory can be refused.
+pub fn price_pieces<
+    R: Threads + Sync,
+    A: Allocator + Copy + Send + Sync,
+    B: Allocator + Sync,
+    G: Gate,
+>(
+    rt: &R,
+    alloc: A,
+    workers: u32,
+    pieces: &Pieces<G, B>,
+    tally: &mut Tally,
+) -> Result<Vec<Option<Money>, A>, NoMemory>
+    requires workers { is_worker_count workers ≡ true }
+    requires rests { AreRests pieces.now.supporters.now.voters pieces.now.rests.now }
+    requires known { All (λ place. place < length pieces.now.supporters.now.costs) pieces.now.projects.now }
+    requires few { length pieces.now.projects.now ≤ most_projects }
+    ensures prices { IfOk result (λ answers. AllZip (IsPrice pieces.now.supporters.now pieces.now.rests.now)
+        pieces.now.projects.now answers.items) }
+    ensures counted { OnOk result (tally.new ≡ record {
+      prices = min (tally.old.prices + length pieces.now.projects.now) largest_count;
+      workers = min (tally.old.workers + max 1 (min workers (length pieces.now.projects.now))) largest_count;
+    }) }
+    ensures refused { OnErr result (tally.new ≡ tally.old) }
+{
+    let workers = workers_for(workers, pieces.projects.len());
     let gathered = if workers == 1 {
-        Gathered::in_turn(alloc, &pieces)?
+        Gathered::in_turn(alloc, pieces)?
     } else {
-        price_side_by_side(rt, alloc, workers, &pieces)?
+        price_side_by_side(rt, alloc, workers, pieces)?
     };
     Ok(gathered.into_prices(tally))
 }

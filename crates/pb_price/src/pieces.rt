@@ -7,9 +7,9 @@ use std::alloc::Allocator;
 
 /// The pieces of work that workers share: piece i is pricing `projects[i]` at what is left to each voter.
 #[derive(Drop)]
-pub(crate) struct Pieces<'a, G: Gate, B: Allocator> {
-    pub(crate) gate: &'a G,
-    pub(crate) projects: &'a [u32],
-    pub(crate) supporters: &'a Supporters<B>,
-    pub(crate) rests: &'a [Money],
+pub struct Pieces<'a, G: Gate, B: Allocator> {
+    pub gate: &'a G,
+    pub projects: &'a [u32],
+    pub supporters: &'a Supporters<B>,
+    pub rests: &'a [Money],
 }

@@ -20,9 +20,9 @@ use crate::run::Run;
 use pb_core::gate::Gate;
 use pb_core::money::Money;
 use pb_core::no_memory::NoMemory;
-use pb_price::price_all;
 use pb_price::supporters::Supporters;
 use pb_price::tally::Tally;
+use pb_price::{Pieces, price_pieces};
 use std::alloc::Allocator;
 use std::thread::Threads;
 
@@ -83,19 +83,13 @@ fn price_heads<R: Threads + Sync, G: Gate, A: Allocator + Copy + Send + Sync>(
         (workers_for pricing.now.workers pricing.now.supporters.now heads.now))) largest_count) }
 {
     let workers = workers_for(pricing.workers, pricing.supporters, heads);
-    let priced = price_all(
-        pricing.rt,
-        pricing.alloc,
-        workers,
-        pricing.gate,
-        heads,
-        pricing.supporters,
+    let pieces = Pieces {
+        gate: pricing.gate,
+        projects: heads,
+        supporters: pricing.supporters,
         rests,
-        tally,
-    );
-    let Ok(answers) = priced else {
-        return Err(NoMemory);
     };
+    let answers = price_pieces(pricing.rt, pricing.alloc, workers, &pieces, tally)?;
     for (i, place) in heads.iter().enumerate() {
         if let Some(price) = answers[i] {
             let weight = pricing.measure.weight(pricing.supporters, *place);
