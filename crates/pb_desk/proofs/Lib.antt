@@ -12,6 +12,7 @@ pub mod Pushes
 pub mod RowLists
 pub mod RowFields
 pub mod RowForms
+pub mod Asking
 pub mod RowTexts
 pub mod Audits
 pub mod Closings

@@ -1,5 +1,4 @@
 -- Words that only private contracts and the invariants of private fields speak of: nobody has to believe them.
-pub mod Asking
 pub mod Script
 pub mod ScriptReading
 pub mod Serving

@@ -1,5 +1,5 @@
 -- What each clerk of a script asks, as lists.
-use Rattle.std.specs.Prelude.{◌≡◌, ℕ, ◌<◌, ◌==◌, List, [], filter, length, map, min, slice_index_or}
+use Rattle.std.specs.Prelude.{◌≡◌, ℕ, ◌<◌, ◌==◌, List, [], ◌∷◌, ◌++◌, filter, length, map, min, slice_index_or, slice_set}
 use Rattle.pb_core.specs.Request.{RequestView}
 use Rattle.pb_desk.specs.Replay.{most_clerks}
 use Rattle.pb_script.specs.Script.{ScriptRowView}
@@ -18,3 +18,7 @@ pub record AreAsked (clerks : ℕ) (script : List ScriptRowView) (lists : List (
   pub one_each : length lists ≡ clerks_within clerks
   pub asked : (clerk : ℕ) → clerk < clerks_within clerks
       → slice_index_or lists clerk [] ≡ asked_by clerk script
+
+-- the lists of what each clerk asks, with what this row says
+abbrev pub with_row : List (List RequestView) → ScriptRowView → List (List RequestView)
+with_row lists x = slice_set lists x.clerk (slice_index_or lists x.clerk [] ++ x.request ∷ [])
