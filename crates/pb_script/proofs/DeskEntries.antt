@@ -69,7 +69,7 @@ requests_can_be clerks [] [] rows = All-nil (λ (x : ScriptRowView). IsRequest x
 requests_can_be clerks [] (x ∷ xs) rows = absurd rows
 requests_can_be clerks (r ∷ rs) [] rows = absurd rows
 requests_can_be clerks (r ∷ rs) (x ∷ xs) rows =
-    All-cons (λ (y : ScriptRowView). IsRequest y.request) x xs rows.0.asks.can_be (requests_can_be clerks rs xs rows.1)
+    All-cons (λ (y : ScriptRowView). IsRequest y.request) x xs rows.0.row_asks.2.can_be (requests_can_be clerks rs xs rows.1)
 
 -- what is true of all that each clerk asked is true of all entries of the clerks
 entries_by_clerk : (P : RequestView → Type 0) (clerks : ℕ) (journal : List EntryView) → All (λ x. x.clerk < clerks) journal →

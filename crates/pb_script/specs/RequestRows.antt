@@ -1,8 +1,7 @@
 -- What the reader of request rows answers about the next of its records.
-use Rattle.std.specs.Prelude.{List, Option, true}
 use Rattle.pb_core.specs.Request.{asked}
 use Rattle.pb_desk.specs.Replay.{most_clerks}
-use Rattle.pb_rows.specs.Reading.{Fields, IsNext}
+use Rattle.pb_rows.specs.Reading.{Fields}
 use Rattle.pb_script.specs.Script.{HasScriptForm, IsScriptRow}
 use Rattle.pb_script.specs.declared.request_rows.RequestRow.{RequestRow}
 use Rattle.pb_script.specs.declared.request_rows.RequestRow.TheVariants.{Asks, Bad}
@@ -11,7 +10,3 @@ use Rattle.pb_script.specs.declared.request_rows.RequestRow.TheVariants.{Asks, B
 abbrev pub IsRequestRow : Fields → RequestRow → Type 0
 IsRequestRow fields (Asks clerk request) = IsScriptRow most_clerks fields (record { clerk = clerk; request = asked request })
 IsRequestRow fields Bad = ¬ HasScriptForm most_clerks fields
-
--- the next record is that of this row
-abbrev pub TakesRequestRow : Option (List Fields) → Option (List Fields) → RequestRow → Type 0
-TakesRequestRow left after row = (fields : Fields) × IsNext left after true fields × IsRequestRow fields row

@@ -18,9 +18,7 @@ pub record ScriptRowView : Type 0 where
 pub record IsScriptRow (clerks : ℕ) (row : Fields) (x : ScriptRowView) : Type 0 where
   pub is_text : AllText row
   pub by_clerk : (x.clerk < clerks) × (x.clerk < most_clerks)
-  pub fields : Fields
-  pub row_is : row ≡ decimal x.clerk ∷ fields
-  pub asks : Asks Lenient fields x.request
+  pub row_asks : (fields : Fields) × (row ≡ decimal x.clerk ∷ fields) × Asks Lenient fields x.request
 
 -- a row has the form of a script's row: it says something
 abbrev pub HasScriptForm : ℕ → Fields → Type 0

@@ -1,8 +1,8 @@
 //! The rows of requests, read one at a time while they come in.
 
-ghost use Rattle.std.specs.Prelude.{◌≡◌, [], option_map, IfOk, IfSome, IsErrOf, IsSome, MatchOption};
-ghost use Rattle.pb_rows.specs.Reading.{records_of};
-ghost use Rattle.pb_script.specs.RequestRows.{TakesRequestRow};
+ghost use Rattle.std.specs.Prelude.{◌≡◌, [], option_map, true, IfOk, IfSome, IsErrOf, IsSome, MatchOption};
+ghost use Rattle.pb_rows.specs.Reading.{records_of, Fields, IsNext};
+ghost use Rattle.pb_script.specs.RequestRows.{IsRequestRow};
 
 use crate::script::read_row;
 use csv::{ByteRecord, StringRecord};
@@ -76,7 +76,7 @@ impl<R: Read> RequestRows<R> {
     /// The next row, if there is one. Stop at the first fault.
     pub fn next(&mut self, alloc: Global) -> Result<Option<RequestRow>, RowsFault>
         ensures next { IfOk result (λ next. MatchOption next (IfSome self.old.left (λ left. left ≡ []))
-            (TakesRequestRow self.old.left self.new.left)) }
+            (λ row. (fields : Fields) × IsNext self.old.left self.new.left true fields × IsRequestRow fields row)) }
         ensures blame { IsErrOf result RowsFault.ReadFailed → IsSome self.new.fault }
     {
         let mut row = ByteRecord::new(alloc);

@@ -4,7 +4,7 @@ use Rattle.std.specs.List.{All, AllZip}
 use Rattle.std.specs.Prelude.{MatchOption}
 use Rattle.pb_desk.specs.Replay.{most_clerks}
 use Rattle.pb_rows.specs.Reading.{Fields, IsNext}
-use Rattle.pb_script.specs.RequestRows.{TakesRequestRow}
+use Rattle.pb_script.specs.RequestRows.{IsRequestRow}
 use Rattle.pb_script.specs.Inner.ScriptReading.{HaveGone, NoneLeft}
 use Rattle.pb_script.specs.declared.request_rows.RequestRow.{RequestRow}
 use Rattle.pb_script.specs.declared.request_rows.RequestRow.TheVariants as row
@@ -42,11 +42,15 @@ row_more left mid after asks a fields h next asked = record {
   gone = gone-more left mid after h.rows fields h.gone next;
 }
 
+-- the next record is that of this row
+abbrev Takes : Option (List Fields) → Option (List Fields) → RequestRow → Type 0
+Takes left after row = (fields : Fields) × IsNext left after true fields × IsRequestRow fields row
+
 -- the next row asks this
 pub asks_more : (left mid after : Option (List Fields)) (asks : List Asked) (next : Option RequestRow) (a : Asked) → next ≡ Some (row.Asks a.clerk a.request)
-    → MatchOption next (NoneLeft mid) (TakesRequestRow mid after) → HasRows left mid asks → HasRows left after (asks ++ a ∷ [])
+    → MatchOption next (NoneLeft mid) (Takes mid after) → HasRows left mid asks → HasRows left after (asks ++ a ∷ [])
 asks_more left mid after asks next a is takes h =
-    let t : TakesRequestRow mid after (row.Asks a.clerk a.request) = subst (λ (n : Option RequestRow). MatchOption n (NoneLeft mid) (TakesRequestRow mid after)) is takes in
+    let t : Takes mid after (row.Asks a.clerk a.request) = subst (λ (n : Option RequestRow). MatchOption n (NoneLeft mid) (Takes mid after)) is takes in
     row_more left mid after asks a t.0 h t.1 t.2
 
 -- the clerks of a batch are of this run
