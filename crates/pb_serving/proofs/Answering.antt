@@ -21,7 +21,7 @@ use Rattle.pb_script.specs.declared.script_fault.ScriptFault.TheVariants.{BadRow
 use Rattle.pb_faults.specs.Fault.{line, told}
 use Rattle.pb_faults.specs.declared.fault.AppFault.TheVariants.{Script}
 use Rattle.pb_serving.specs.Answered.{answers_from, Answers, Becomes}
-use Rattle.pb_serving.specs.Inner.Batch.{Asks}
+use Rattle.pb_serving.specs.Inner.Batch.{IsRowAsking}
 
 abbrev pub added : List (Option EntryView) → List EntryView
 added became = filter_map (λ x. x) became
@@ -83,7 +83,7 @@ zip-length R (x ∷ xs) [] f = absurd f
 zip-length R (x ∷ xs) (y ∷ ys) f = ap suc (zip-length R xs ys f.1)
 
 -- rows that ask this become its entries
-pub asks_become : (rows : List Fields) (asks : List Asked) (answers : List Answer) → AllZip Asks rows asks → length answers ≡ length asks → AllZip Becomes rows (map Some (entries_of asks answers))
+pub asks_become : (rows : List Fields) (asks : List Asked) (answers : List Answer) → AllZip IsRowAsking rows asks → length answers ≡ length asks → AllZip Becomes rows (map Some (entries_of asks answers))
 asks_become [] [] answers each same = tt
 asks_become [] (a ∷ asks) answers each same = absurd each
 asks_become (row ∷ rows) [] answers each same = absurd each
@@ -138,7 +138,7 @@ started all old before = record {
 
 -- a batch more
 module _ (all left mid : Option (List Fields)) (old journal now : List EntryView) (before after later : Option (List ℕ)) (row bad : ℕ) where
-  pub batch_more : (rows : List Fields) (asks : List Asked) (answers : List Answer) → Progress all left old journal before after row bad → HaveGone left rows mid → AllZip Asks rows asks
+  pub batch_more : (rows : List Fields) (asks : List Asked) (answers : List Answer) → Progress all left old journal before after row bad → HaveGone left rows mid → AllZip IsRowAsking rows asks
       → length answers ≡ length asks → now ≡ journal ++ entries_of asks answers → Appends after later (text_of_rows (rows_from (length journal + 1) (entries_of asks answers)))
       → Progress all mid old now before later (row + length asks) bad
   batch_more rows asks answers p goes each same grown said =

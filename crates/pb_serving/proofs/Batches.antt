@@ -9,12 +9,12 @@ use Rattle.pb_script.specs.Inner.ScriptReading.{HaveGone, NoneLeft}
 use Rattle.pb_script.specs.declared.request_rows.RequestRow.{RequestRow}
 use Rattle.pb_script.specs.declared.request_rows.RequestRow.TheVariants as row
 use Rattle.pb_durable.specs.declared.asked.Asked.{Asked}
-use Rattle.pb_serving.specs.Inner.Batch.{Asks}
+use Rattle.pb_serving.specs.Inner.Batch.{IsRowAsking}
 
 -- these records were read, and ask this
 pub record HasRows (left after : Option (List Fields)) (asks : List Asked) : Type 0 where
   pub rows : List Fields
-  pub each : AllZip Asks rows asks
+  pub each : AllZip IsRowAsking rows asks
   pub gone : HaveGone left rows after
 
 pub no_rows : (left : Option (List Fields)) → HasRows left left []
@@ -28,13 +28,13 @@ gone-more (Some all) (Some []) after rows fields gone next = cc next
 gone-more (Some all) (Some (row ∷ rest)) after rows fields gone next =
     rw next.2 (gone ∙ ap (λ r. rows ++ r ∷ rest) (sym next.1) ∙ sym (append_assoc rows (fields ∷ []) rest))
 
-zip-push : (rows : List Fields) (asks : List Asked) (row : Fields) (a : Asked) → AllZip Asks rows asks → Asks row a → AllZip Asks (rows ++ row ∷ []) (asks ++ a ∷ [])
+zip-push : (rows : List Fields) (asks : List Asked) (row : Fields) (a : Asked) → AllZip IsRowAsking rows asks → IsRowAsking row a → AllZip IsRowAsking (rows ++ row ∷ []) (asks ++ a ∷ [])
 zip-push [] [] row a f r = (r, tt)
 zip-push [] (b ∷ asks) row a f r = absurd f
 zip-push (x ∷ rows) [] row a f r = absurd f
 zip-push (x ∷ rows) (b ∷ asks) row a f r = (f.0, zip-push rows asks row a f.1 r)
 
-pub row_more : (left mid after : Option (List Fields)) (asks : List Asked) (a : Asked) (fields : Fields) → HasRows left mid asks → IsNext mid after true fields → Asks fields a
+pub row_more : (left mid after : Option (List Fields)) (asks : List Asked) (a : Asked) (fields : Fields) → HasRows left mid asks → IsNext mid after true fields → IsRowAsking fields a
     → HasRows left after (asks ++ a ∷ [])
 row_more left mid after asks a fields h next asked = record {
   rows = h.rows ++ fields ∷ [];
@@ -54,7 +54,7 @@ asks_more left mid after asks next a is takes h =
     row_more left mid after asks a t.0 h t.1 t.2
 
 -- the clerks of a batch are of this run
-pub asks_clerks : (rows : List Fields) (asks : List Asked) → AllZip Asks rows asks → All (λ (a : Asked). a.clerk < most_clerks) asks
+pub asks_clerks : (rows : List Fields) (asks : List Asked) → AllZip IsRowAsking rows asks → All (λ (a : Asked). a.clerk < most_clerks) asks
 asks_clerks [] [] each k d below = absurd (omega (arith, below))
 asks_clerks [] (a ∷ asks) each k d below = absurd each
 asks_clerks (row ∷ rows) [] each k d below = absurd (omega (arith, below))

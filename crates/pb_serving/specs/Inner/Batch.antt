@@ -11,8 +11,8 @@ use Rattle.pb_serving.specs.declared.batch.BatchEnd.{BatchEnd}
 use Rattle.pb_serving.specs.declared.batch.BatchEnd.TheVariants.{More, Bad, Over, ReadFailed}
 
 -- the row asks this
-abbrev pub Asks : Fields → Asked → Type 0
-Asks row a = IsScriptRow most_clerks row (record { clerk = a.clerk; request = asked a.request })
+abbrev pub IsRowAsking : Fields → Asked → Type 0
+IsRowAsking row a = IsScriptRow most_clerks row (record { clerk = a.clerk; request = asked a.request })
 
 -- how the records go on behind these rows, of which it was known what was left before and is now
 abbrev pub EndsBy : BatchEnd → Option (List Fields) → List Fields → Option (List Fields) → Type 0
@@ -24,5 +24,5 @@ EndsBy ReadFailed left rows after = (mid : Option (List Fields)) × HaveGone lef
 -- the next records ask this, and so they go on
 pub record IsBatch (left after : Option (List Fields)) (asks : List Asked) (end : BatchEnd) : Type 0 where
   pub rows : List Fields
-  pub each : AllZip Asks rows asks
+  pub each : AllZip IsRowAsking rows asks
   pub goes_on : EndsBy end left rows after
