@@ -21,6 +21,7 @@ Some definitions compute what others say in the words of a rule, and a law prove
 a law alone, or by a word each of whose values a law pins, computes, and is proved the same: it is printed behind the
 others, is listed by the page in rows that say so, and is not among the lines to believe.
 """
+import os
 import re
 import sys
 
@@ -250,4 +251,9 @@ def main():
 
 
 if __name__ == "__main__":
-    main()
+    try:
+        main()
+        sys.stdout.flush()
+    except BrokenPipeError:
+        # The reader has what it wanted, as `head` does. What is left in the buffer goes nowhere.
+        os.dup2(os.open(os.devnull, os.O_WRONLY), sys.stdout.fileno())
