@@ -143,6 +143,10 @@ fn write_line<R: Print>(rt: &R, refusal: &Refusal) -> u8 {
             let _ = ServingFault::Spelling.write_line(&mut io::writer(rt));
             ServingFault::Spelling.status()
         }
+        Refusal::Moved(_) => {
+            let _ = ServingFault::Moved.write_line(&mut io::writer(rt));
+            ServingFault::Moved.status()
+        }
         Refusal::Locked => {
             let _ = io::writer(rt).write_all(LOCKED);
             NOT_READY

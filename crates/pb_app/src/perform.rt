@@ -37,6 +37,8 @@ pub(crate) enum Refusal {
     Journal(Error),
     /// What is cut off the journal could not be kept beside it, for this reason.
     Beside(Error),
+    /// The journal's name leads elsewhere. Its text is kept in the file of this number beside it, or could not be kept.
+    Moved(Result<u32, Error>),
     /// An answer could not be written; what it answers stands.
     Unanswered,
     /// All rows were answered; so many were not of the form.

@@ -5,7 +5,7 @@ use crate::perform::Refusal;
 use crate::words;
 use pb_commands::AppFault;
 use pb_core::election::Election;
-use pb_durable::file_device::{FileDevice, FileFault, fault_of, keep_beside};
+use pb_durable::file_device::{FileDevice, FileFailure, FileFault, fault_of, keep_beside};
 use pb_durable::{Beside, DeviceFault, DurableDesk, JournalFile, Opened};
 use pb_read::read_pb;
 use pb_script::ROOM;
@@ -95,13 +95,16 @@ where
 }
 
 /// Opens the desk of an election on a device, and serves it. Answers how many rows were not of the form.
-fn serve_on<R: Input + AllocGlobal, B: Beside, W: Write>(
+fn serve_on<R, B: Beside, W: Write>(
     rt: &R,
     election: Election,
-    device: FileDevice<'_>,
+    device: FileDevice<'_, R>,
     beside: &mut B,
     writer: &mut W,
-) -> Result<u64, ServingFault> {
+) -> Result<u64, ServingFault>
+where
+    R: Files<File = File> + Input + AllocGlobal,
+{
     let alloc = rt.alloc();
     let mut file = JournalFile::on(alloc, device);
     match pb_durable::open(alloc, &mut file, election, ROOM, beside) {
@@ -114,12 +117,15 @@ fn serve_on<R: Input + AllocGlobal, B: Beside, W: Write>(
 }
 
 /// Serves the requests of standard input on a desk that was opened.
-fn serve_desk<R: Input + AllocGlobal, W: Write>(
+fn serve_desk<R, W: Write>(
     rt: &R,
-    mut desk: DurableDesk<FileDevice<'_>>,
+    mut desk: DurableDesk<FileDevice<'_, R>>,
     torn: usize,
     writer: &mut W,
-) -> Result<u64, ServingFault> {
+) -> Result<u64, ServingFault>
+where
+    R: Files<File = File> + Input + AllocGlobal,
+{
     let at_hand = AtHand::new();
     let served = match Paced::new(rt.alloc(), rt.reader(), &at_hand) {
         Ok(input) => {
@@ -146,12 +152,22 @@ fn unopened(fault: FileFault) -> Refusal {
 }
 
 /// Why a run has ended early, where the journal or what is beside it may have failed.
-fn refusal_of(fault: ServingFault, journal: Option<Error>, beside: Option<Error>) -> Refusal {
+fn refusal_of(
+    fault: ServingFault,
+    journal: Option<FileFailure>,
+    beside: Option<Error>,
+) -> Refusal {
     match (fault, journal, beside) {
         (ServingFault::Spelling, ..) => Refusal::Spelling,
         (ServingFault::Output, ..) => Refusal::Unanswered,
         (ServingFault::App(AppFault::Write), _, Some(error)) => Refusal::Beside(error),
-        (ServingFault::App(AppFault::Write), Some(error), None) => Refusal::Journal(error),
+        (ServingFault::App(AppFault::Write), Some(FileFailure::Failed(error)), None) => {
+            Refusal::Journal(error)
+        }
+        (ServingFault::App(AppFault::Write), Some(FileFailure::Moved(kept)), None) => {
+            Refusal::Moved(kept)
+        }
+        (ServingFault::Moved, ..) => Refusal::Fault(AppFault::Write),
         (ServingFault::App(fault), ..) => Refusal::Fault(fault),
     }
 }

@@ -4,6 +4,7 @@ use crate::perform::Refusal;
 use pb_command_line::{Asked, Source, Task};
 use pb_commands::AppFault;
 use pb_desk::desk::MOST_CLERKS;
+use pb_durable::moved::kept_path;
 use pb_export::ExportFault;
 use pb_read::ReadFault;
 use pb_words::count_words::count_words;
@@ -11,8 +12,8 @@ use pb_words::journal_words::journal_words;
 use pb_words::read_words::{list_words, read_words};
 use pb_words::script_words::script_words;
 use pb_words::serve_words::{
-    bad_rows_words, locked_words, spelling_words, torn_words, unanswered_words, unkept_words,
-    unopened_words,
+    bad_rows_words, locked_words, lost_words, moved_words, spelling_words, torn_words,
+    unanswered_words, unkept_words, unopened_words,
 };
 use pb_words::{AuditPaths, Tally, mistaken_words, open_words, write_words};
 use std::alloc::{AllocError, Global};
@@ -75,6 +76,13 @@ fn words_of_serve(alloc: Global, task: &Task<'_>, refusal: &Refusal) -> Result<S
             drop(torn);
             words
         }
+        Refusal::Moved(Ok(number)) => {
+            let kept = kept_path(alloc, path, *number)?;
+            let words = moved_words(alloc, path, kept.as_str());
+            drop(kept);
+            words
+        }
+        Refusal::Moved(Err(reason)) => lost_words(alloc, path, reason),
         Refusal::BadRows(rows) => bad_rows_words(alloc, *rows),
         Refusal::Unanswered | Refusal::Fault(_) => Err(AllocError),
     }

@@ -10,12 +10,13 @@ use Rattle.pb_durable.specs.declared.durable_fault.DurableFault.TheVariants as d
 use Rattle.pb_durable.specs.declared.open_fault.OpenFault.{OpenFault}
 use Rattle.pb_durable.specs.declared.open_fault.OpenFault.TheVariants as opening
 use Rattle.pb_serving.specs.declared.serving_fault.ServingFault.{ServingFault}
-use Rattle.pb_serving.specs.declared.serving_fault.ServingFault.TheVariants.{App, Spelling, Output}
+use Rattle.pb_serving.specs.declared.serving_fault.ServingFault.TheVariants.{App, Spelling, Moved, Output}
 
 -- the status that the program ends with, and the fields of its line
 abbrev pub told : ServingFault → ℕ × List (List ℕ)
 told (App fault) = of_app (merged fault)
 told Spelling = (1, codes "spelling" ∷ [])
+told Moved = (3, codes "moved" ∷ codes "2" ∷ [])
 told Output = of_app app.Write
 
 -- the fault of a journal that was not read or written

@@ -16,7 +16,12 @@ use thiserror::Error;
 /// The line of a journal that is spelled otherwise.
 const SPELLING: &[u8] = b"fault;spelling\n";
 
+/// The line of a journal whose name leads elsewhere.
+const MOVED: &[u8] = b"fault;moved;2\n";
+
 const REFUSED: u8 = 1;
+
+const NOT_READY: u8 = 3;
 
 /// Why a run of `serve` ends early.
 #[derive(Clone, Copy, PartialEq, Eq, Debug, Error)]
@@ -27,6 +32,9 @@ pub enum ServingFault {
     /// The journal is legal, and spelled otherwise than a desk spells it. The file is as it was.
     #[error("the journal is not spelled as a desk spells it")]
     Spelling,
+    /// The journal's name leads to another file than the one that is written, or nowhere.
+    #[error("the journal was moved")]
+    Moved,
     /// The answers could not be written. What was served stands.
     #[error("the writer failed")]
     Output,
@@ -40,6 +48,7 @@ impl ServingFault {
         match self {
             ServingFault::App(fault) => fault.write_line(writer),
             ServingFault::Spelling => writer.write_all(SPELLING),
+            ServingFault::Moved => writer.write_all(MOVED),
             ServingFault::Output => AppFault::Write.write_line(writer),
         }
     }
@@ -51,6 +60,7 @@ impl ServingFault {
         match self {
             ServingFault::App(fault) => fault.status(),
             ServingFault::Spelling => REFUSED,
+            ServingFault::Moved => NOT_READY,
             ServingFault::Output => AppFault::Write.status(),
         }
     }

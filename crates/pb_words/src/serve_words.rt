@@ -34,6 +34,26 @@ pub fn unkept_words(alloc: Global, path: &str, reason: &Error) -> Result<String,
     )
 }
 
+/// Words for a journal whose name leads elsewhere, and whose text is kept in this file.
+pub fn moved_words(alloc: Global, path: &str, kept: &str) -> Result<String, AllocError> {
+    let mut out = Words::new(alloc);
+    out.fill(
+        "{} was moved, replaced or deleted while this run wrote it.\nThe whole journal now stands in {}: each answered row is in it.\nCompare the two, keep the journal that has all rows under the old name, run `serve` again, and send the rows that have no answer.\n",
+        &[Name(Some(path)), Name(Some(kept))],
+    );
+    out.finish()
+}
+
+/// Words for a journal whose name leads elsewhere, and whose text could not be kept beside it, for this reason.
+pub fn lost_words(alloc: Global, path: &str, reason: &Error) -> Result<String, AllocError> {
+    failure_words(
+        alloc,
+        path,
+        Some(reason),
+        "The journal was moved, replaced or deleted while this run wrote it, and its text could not be kept beside it.\nLook for the file under its new name: each answered row is in it.\n",
+    )
+}
+
 /// Words for an answer that could not be written, for this reason.
 pub fn unanswered_words(alloc: Global, reason: Option<&Error>) -> Result<String, AllocError> {
     failure_words(
