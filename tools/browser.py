@@ -122,6 +122,13 @@ class Browser:
             raise SystemExit(f"looking failed: {found['exceptionDetails']['exception'].get('description')}")
         return found['result']['value']
 
+    def run(self, expression):
+        """The value of an expression in the page's own world; of a promise, what it promises."""
+        found = self.call('Runtime.evaluate', expression=expression, awaitPromise=True, returnByValue=True)
+        if 'exceptionDetails' in found:
+            raise SystemExit(f"running failed: {found['exceptionDetails']['exception'].get('description')}")
+        return found['result'].get('value')
+
     def roles(self):
         """How often each role stands in what a screen reader gets."""
         nodes = self.call('Accessibility.getFullAXTree')['nodes']
