@@ -122,6 +122,25 @@ class Browser:
             raise SystemExit(f"looking failed: {found['exceptionDetails']['exception'].get('description')}")
         return found['result']['value']
 
+    def run(self, expression):
+        """The value of an expression in the page's own world; of a promise, what it promises."""
+        found = self.call('Runtime.evaluate', expression=expression, awaitPromise=True, returnByValue=True)
+        if 'exceptionDetails' in found:
+            raise SystemExit(f"running failed: {found['exceptionDetails']['exception'].get('description')}")
+        return found['result'].get('value')
+
+    def choose(self, selector, path):
+        """Chooses a file in an input of the page."""
+        root = self.call('DOM.getDocument')['root']['nodeId']
+        node = self.call('DOM.querySelector', nodeId=root, selector=selector)['nodeId']
+        self.call('DOM.setFileInputFiles', nodeId=node, files=[str(path)])
+
+    def press(self, key, text=''):
+        """Presses a key, and lets it go."""
+        code = {'Tab': 9, 'Enter': 13, ' ': 32}[key]
+        self.call('Input.dispatchKeyEvent', type='keyDown', key=key, windowsVirtualKeyCode=code, text=text)
+        self.call('Input.dispatchKeyEvent', type='keyUp', key=key, windowsVirtualKeyCode=code)
+
     def roles(self):
         """How often each role stands in what a screen reader gets."""
         nodes = self.call('Accessibility.getFullAXTree')['nodes']
