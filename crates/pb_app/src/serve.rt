@@ -152,11 +152,7 @@ fn unopened(fault: FileFault) -> Refusal {
 }
 
 /// Why a run has ended early, where the journal or what is beside it may have failed.
-fn refusal_of(
-    fault: ServingFault,
-    journal: Option<FileFailure>,
-    beside: Option<Error>,
-) -> Refusal {
+fn refusal_of(fault: ServingFault, journal: Option<FileFailure>, beside: Option<Error>) -> Refusal {
     match (fault, journal, beside) {
         (ServingFault::Spelling, ..) => Refusal::Spelling,
         (ServingFault::Output, ..) => Refusal::Unanswered,

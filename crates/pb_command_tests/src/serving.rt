@@ -4,10 +4,13 @@
 ghost use Rattle.std.specs.Prelude.{[]};
 
 use crate::checks::{THREE_VOTERS, same};
+use pb_commands::AppFault;
+use pb_core::devices::FailsAfter;
 use pb_durable::{Device, DeviceFault, DurableDesk, JournalFile, MemoryDevice, Opened, open};
 use pb_read::read_pb;
+use pb_script::ScriptFault;
 use pb_serving::run_serve::run_serve;
-use pb_serving::{Always, Incoming, Pace};
+use pb_serving::{Always, Incoming, Pace, ServingFault};
 use std::alloc::Global;
 use std::cell::Cell;
 use std::io::{Read, Result, Write};
@@ -227,6 +230,24 @@ fn rows_at_hand_share_their_syncs(rt: HostRuntime) {
     drop(desk);
     same(&rt, bad_rows, Ok(0), "rows not of the form");
     same(&rt, seen.syncs.get(), 3, "syncs");
+    same(&rt, text.as_slice() == ANSWERS.as_bytes(), true, "answers");
+    drop(text);
+}
+
+/// Where the input fails, all rows before are answered, and the fault has the number of the next.
+#[test]
+fn rows_before_a_failed_read_are_answered(rt: HostRuntime) {
+    let seen = Seen::new();
+    let (mut desk, torn) = opened(&rt, rt.alloc(), &seen, "journal;2\n\ngarbage");
+    let mut text = Vec::new(rt.alloc());
+    let incoming = Incoming {
+        input: FailsAfter::new(AT_HAND.as_bytes()),
+        pace: &Always,
+    };
+    let ended = run_serve(rt.alloc(), &mut desk, torn, incoming, &mut text);
+    drop(desk);
+    let fault = ServingFault::App(AppFault::Script(ScriptFault::ReadFailed(4)));
+    same(&rt, ended, Err(fault), "the fault");
     same(&rt, text.as_slice() == ANSWERS.as_bytes(), true, "answers");
     drop(text);
 }

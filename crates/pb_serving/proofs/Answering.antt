@@ -215,12 +215,12 @@ done (Some records) (Some []) old now before after row bad p none =
     )
 
 -- the first rows were answered
-pub halted : (X : List EntryView → Type 0) (all left : Option (List Fields)) (old now : List EntryView) (before after : Option (List ℕ)) (row bad : ℕ)
-    → Progress all left old now before after row bad → X now
-    → IfSome all (λ records. (first rest : List Fields) × (text : List ℕ) × (kept : List EntryView) × (records ≡ first ++ rest) × Answers first old kept text × Appends before after text × X kept)
-halted X None left old now before after row bad p here = tt
-halted X (Some records) None old now before after row bad p here = absurd p.have_gone
-halted X (Some records) (Some rest) old now before after row bad p here = (
+pub halted : (B : List Fields → Type 0) (X : List EntryView → Type 0) (all left : Option (List Fields)) (old now : List EntryView) (before after : Option (List ℕ)) (row bad : ℕ)
+    → Progress all left old now before after row bad → ((gone : List Fields) → length gone ≡ row → B gone) → X now
+    → IfSome all (λ records. (first rest : List Fields) × (text : List ℕ) × (kept : List EntryView) × (records ≡ first ++ rest) × Answers first old kept text × Appends before after text × B first × X kept)
+halted B X None left old now before after row bad p behind here = tt
+halted B X (Some records) None old now before after row bad p behind here = absurd p.have_gone
+halted B X (Some records) (Some rest) old now before after row bad p behind here = (
   p.gone,
   rest,
   answers_from (length old + 1) 1 p.became,
@@ -228,6 +228,7 @@ halted X (Some records) (Some rest) old now before after row bad p here = (
   p.have_gone,
   record { became = p.became; each = p.each; journal = p.journal; text_is = refl },
   p.said,
+  behind p.gone (zip-length Becomes p.gone p.became p.each ∙ p.row_is),
   here,
 )
 

@@ -1,5 +1,7 @@
 -- The lemmas that the proofs of this crate share.
 mod Answering
 mod Batches
+mod Causes
+mod Handing
 mod Saying
 mod Standings

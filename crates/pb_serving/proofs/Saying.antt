@@ -13,18 +13,18 @@ HasAnswered old now before after head bad records =
     (text : List ℕ) × Answers records old now text × Appends before after (head ++ text) × (bad + length now ≡ length records + length old)
 
 -- some first rows have their answers, and some first part of the text was said
-abbrev pub HasStopped : (List EntryView → Type 0) → List EntryView → Option (List ℕ) → Option (List ℕ) → List ℕ → List Fields → Type 0
-HasStopped X old before after head records =
+abbrev pub HasStopped : (List Fields → Type 0) → (List EntryView → Type 0) → List EntryView → Option (List ℕ) → Option (List ℕ) → List ℕ → List Fields → Type 0
+HasStopped B X old before after head records =
     (rows rest : List Fields) × (text said left : List ℕ) × (kept : List EntryView) × (records ≡ rows ++ rest) × Answers rows old kept text
-    × Appends before after said × (said ++ left ≡ head ++ text) × X kept
+    × Appends before after said × (said ++ left ≡ head ++ text) × B rows × X kept
 
 no_answers : (old : List EntryView) → Answers [] old old []
 no_answers old = record { became = []; each = tt; journal = sym (append-nil old); text_is = refl }
 
-pub unsaid : (X : List EntryView → Type 0) (known : Option (List ℕ)) (old : List EntryView) (before : Option (List ℕ)) (head : List ℕ) → X old
-    → IfSome known (λ bytes. HasStopped X old before before head (records_of bytes))
-unsaid X None old before head here = tt
-unsaid X (Some bytes) old before head here = ([], records_of bytes, [], [], head ++ [], old, refl, no_answers old, Appends-nil before, refl, here)
+pub unsaid : (B : List Fields → Type 0) (X : List EntryView → Type 0) (known : Option (List ℕ)) (old : List EntryView) (before : Option (List ℕ)) (head : List ℕ) → B [] → X old
+    → IfSome known (λ bytes. HasStopped B X old before before head (records_of bytes))
+unsaid B X None old before head behind here = tt
+unsaid B X (Some bytes) old before head behind here = ([], records_of bytes, [], [], head ++ [], old, refl, no_answers old, Appends-nil before, refl, behind, here)
 
 -- behind the heading, what is known of the rows of the input
 module _ (known : Option (List ℕ)) (left : Option (List Fields)) (is : left ≡ option_map records_of known) (old : List EntryView) (before mid after : Option (List ℕ)) (head : List ℕ)
@@ -46,13 +46,13 @@ module _ (known : Option (List ℕ)) (left : Option (List Fields)) (is : left �
       each None has = tt
       each (Some bytes) has = (has.0, has.1, Appends-trans before mid after head has.0 opened has.2, has.3)
 
-  pub all_said : (X : List EntryView → Type 0) (now : List EntryView) (bad : ℕ) → X now
+  pub all_said : (B : List Fields → Type 0) (X : List EntryView → Type 0) (now : List EntryView) (bad : ℕ) → ((rows : List Fields) → B rows) → X now
       → IfSome left (λ records. (text : List ℕ) × Answers records old now text × Appends mid after text × (bad + length now ≡ length records + length old))
-      → IfSome known (λ bytes. HasStopped X old before after head (records_of bytes))
-  all_said X now bad here has = each known (of_rows (λ records. (text : List ℕ) × Answers records old now text × Appends mid after text × (bad + length now ≡ length records + length old)) has)
+      → IfSome known (λ bytes. HasStopped B X old before after head (records_of bytes))
+  all_said B X now bad behind here has = each known (of_rows (λ records. (text : List ℕ) × Answers records old now text × Appends mid after text × (bad + length now ≡ length records + length old)) has)
     where
       each : (k : Option (List ℕ)) → IfSome k (λ bytes. (text : List ℕ) × Answers (records_of bytes) old now text × Appends mid after text × (bad + length now ≡ length (records_of bytes) + length old))
-          → IfSome k (λ bytes. HasStopped X old before after head (records_of bytes))
+          → IfSome k (λ bytes. HasStopped B X old before after head (records_of bytes))
       each None has = tt
       each (Some bytes) has = (
         records_of bytes,
@@ -65,17 +65,18 @@ module _ (known : Option (List ℕ)) (left : Option (List Fields)) (is : left �
         has.1,
         Appends-trans before mid after head has.0 opened has.2,
         append-nil (head ++ has.0),
+        behind (records_of bytes),
         here,
       )
 
-  pub stopped : (X : List EntryView → Type 0)
-      → IfSome left (λ records. (first rest : List Fields) × (text : List ℕ) × (kept : List EntryView) × (records ≡ first ++ rest) × Answers first old kept text × Appends mid after text × X kept)
-      → IfSome known (λ bytes. HasStopped X old before after head (records_of bytes))
-  stopped X has = each known (of_rows (λ records. (first rest : List Fields) × (text : List ℕ) × (kept : List EntryView) × (records ≡ first ++ rest) × Answers first old kept text × Appends mid after text × X kept) has)
+  pub stopped : (B : List Fields → Type 0) (X : List EntryView → Type 0)
+      → IfSome left (λ records. (first rest : List Fields) × (text : List ℕ) × (kept : List EntryView) × (records ≡ first ++ rest) × Answers first old kept text × Appends mid after text × B first × X kept)
+      → IfSome known (λ bytes. HasStopped B X old before after head (records_of bytes))
+  stopped B X has = each known (of_rows (λ records. (first rest : List Fields) × (text : List ℕ) × (kept : List EntryView) × (records ≡ first ++ rest) × Answers first old kept text × Appends mid after text × B first × X kept) has)
     where
       each : (k : Option (List ℕ))
-          → IfSome k (λ bytes. (first rest : List Fields) × (text : List ℕ) × (kept : List EntryView) × (records_of bytes ≡ first ++ rest) × Answers first old kept text × Appends mid after text × X kept)
-          → IfSome k (λ bytes. HasStopped X old before after head (records_of bytes))
+          → IfSome k (λ bytes. (first rest : List Fields) × (text : List ℕ) × (kept : List EntryView) × (records_of bytes ≡ first ++ rest) × Answers first old kept text × Appends mid after text × B first × X kept)
+          → IfSome k (λ bytes. HasStopped B X old before after head (records_of bytes))
       each None has = tt
       each (Some bytes) has = (
         has.0,
@@ -89,4 +90,5 @@ module _ (known : Option (List ℕ)) (left : Option (List Fields)) (is : left �
         Appends-trans before mid after head has.2 opened has.6,
         append-nil (head ++ has.2),
         has.7,
+        has.8,
       )

@@ -1,5 +1,5 @@
 -- What a run of `serve` says.
-use Rattle.std.specs.Prelude.{◌≡◌, ℕ, suc, ◌+◌, ◌++◌, ◌==◌, List, [], ◌∷◌, Option, Some, None, codes, decimal, filter_map, length, if◌then◌else◌}
+use Rattle.std.specs.Prelude.{◌≡◌, ◌⊎◌, ◌<◌, ◌≤◌, ℕ, ⊤, suc, ◌+◌, ◌-◌, ◌^◌, ◌++◌, ◌==◌, min, List, [], ◌∷◌, Option, Some, None, codes, decimal, filter_map, length, if◌then◌else◌}
 use Rattle.std.specs.List.{AllZip}
 use Rattle.pb_core.specs.Request.{EntryView}
 use Rattle.pb_desk.specs.Desk.{DeskView}
@@ -10,10 +10,12 @@ use Rattle.pb_durable.specs.JournalFile.{StandsForText}
 use Rattle.pb_rows.specs.Reading.{Fields}
 use Rattle.pb_rows.specs.Writing.{text_of_row}
 use Rattle.pb_script.specs.Script.{HasScriptForm, IsScriptRow}
-use Rattle.pb_script.specs.declared.script_fault.ScriptFault.TheVariants.{BadRow}
+use Rattle.pb_script.specs.declared.script_fault.ScriptFault.TheVariants.{BadRow, ReadFailed}
 use Rattle.pb_faults.specs.DeskRow.{entries_row}
 use Rattle.pb_faults.specs.Fault.{line, told}
 use Rattle.pb_faults.specs.declared.fault.AppFault.TheVariants.{Script}
+use Rattle.pb_serving.specs.declared.serving_fault.ServingFault.{ServingFault}
+use Rattle.pb_serving.specs.declared.serving_fault.ServingFault.TheVariants.{App}
 
 -- what is said first: how many bytes were cut off the journal, where there were any, and the row of its desk
 abbrev pub heading : ℕ → DeskView → List ℕ
@@ -44,3 +46,13 @@ pub record StandsWithin (version : Version) (first last : List EntryView) (file 
   pub rest : List EntryView
   pub stands : StandsForText (journal_text version (first ++ more)) file
   pub last_is : last ≡ (first ++ more) ++ rest
+
+-- a reader that failed is told with the number of the row behind these
+abbrev pub IsBehind : ServingFault → List Fields → Type 0
+IsBehind (App (Script (ReadFailed i))) rows = i ≡ min (length rows + 1) (2 ^ 32 - 1)
+IsBehind fault rows = ⊤
+
+-- at some entry the journal, or its file, had no room for a batch more
+abbrev pub HasNoRoom : DeskView → Type 0
+HasNoRoom d = (early more : List EntryView) × (d.journal ≡ early ++ more)
+    × ((d.room < length early + 4096) ⊎ (2 ^ 60 ≤ length (journal_text d.opening.version early)))

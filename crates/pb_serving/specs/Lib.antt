@@ -1,4 +1,5 @@
 -- The words that public contracts reach, a notion a file.
 pub mod Answered
 pub mod Fault
+pub mod Paced
 pub mod Inner

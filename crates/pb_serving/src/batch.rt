@@ -1,10 +1,9 @@
 //! The rows of the input that are served together.
 
-ghost use Rattle.std.specs.Prelude.{◌≡◌, ◌≤◌, ◌+◌, ◌++◌, [], length, IfOk};
+ghost use Rattle.std.specs.Prelude.{◌≡◌, ◌≤◌, ◌+◌, [], length, IsSome};
 ghost use Rattle.pb_serving.specs.Inner.Batch.{IsBatch};
 
 use crate::pace::Pace;
-use pb_core::no_memory::NoMemory;
 use pb_durable::Asked;
 use pb_script::{RequestRow, RequestRows, RowsFault};
 use std::alloc::Global;
@@ -24,30 +23,39 @@ pub(crate) enum BatchEnd {
     Over,
     /// The reader failed at the row behind it.
     ReadFailed,
+    /// Memory was refused at the row behind it.
+    NoMemory,
 }
 
-/// Reads the next rows that are served together into `asks`, and says why there are no more of them.
+/// Reads the next rows that are served together into `asks`, and says why there are no more of them. Also where it ends
+/// by a fault, what was read before is to be served.
 pub(crate) fn next_batch<R: Read, P: Pace>(
     alloc: Global,
     rows: &mut RequestRows<R>,
     pace: &P,
     asks: &mut Vec<Asked>,
-) -> Result<BatchEnd, NoMemory>
+) -> BatchEnd
     requires { asks.old.items ≡ [] }
     ensures few { length asks.new.items ≤ 4096 }
-    ensures batch { IfOk result (IsBatch rows.old.left rows.new.left asks.new.items) }
+    ensures batch { IsBatch rows.old.left rows.new.left asks.new.items result }
+    ensures blame { result ≡ BatchEnd.ReadFailed → IsSome rows.new.fault }
 {
     for _ in 0..MOST_ROWS {
         match rows.next(alloc) {
-            Ok(Some(RequestRow::Asks(clerk, request))) => asks.push(Asked { clerk, request })?,
-            Ok(Some(RequestRow::Bad)) => return Ok(BatchEnd::Bad),
-            Ok(None) => return Ok(BatchEnd::Over),
-            Err(RowsFault::ReadFailed) => return Ok(BatchEnd::ReadFailed),
-            Err(RowsFault::NoMemory) => return Err(NoMemory),
+            Ok(Some(RequestRow::Asks(clerk, request))) => {
+                match asks.push(Asked { clerk, request }) {
+                    Ok(()) => {}
+                    Err(_) => return BatchEnd::NoMemory,
+                }
+            }
+            Ok(Some(RequestRow::Bad)) => return BatchEnd::Bad,
+            Ok(None) => return BatchEnd::Over,
+            Err(RowsFault::ReadFailed) => return BatchEnd::ReadFailed,
+            Err(RowsFault::NoMemory) => return BatchEnd::NoMemory,
         }
         if !pace.has_row() {
             break;
         }
     }
-    Ok(BatchEnd::More)
+    BatchEnd::More
 }

@@ -1,6 +1,6 @@
 //! The command `serve`, once its journal is open.
 
-ghost use Rattle.std.specs.Prelude.{◌≡◌, ◌≢◌, ◌+◌, ◌<◌, ◌++◌, ℕ, List, [], All, Option, length, IfErr, IfOk, IfSome, IsErrOf, OnOk, option_map};
+ghost use Rattle.std.specs.Prelude.{◌≡◌, ◌≢◌, ◌⊎◌, ◌+◌, ◌-◌, ◌^◌, ◌<◌, ◌≤◌, ◌++◌, ℕ, List, [], All, Option, length, min, IfErr, IfOk, IfSome, IsErrOf, IsSome, OnOk, option_map};
 ghost use Rattle.std.specs.Io.KnownBytes.{Appends};
 ghost use Rattle.pb_core.specs.Request.{EntryView};
 ghost use Rattle.pb_core.specs.declared.answer.Answer.{Answer};
@@ -11,9 +11,9 @@ ghost use Rattle.pb_durable.specs.DurableDesk.{entries_of, IsDurable};
 ghost use Rattle.pb_durable.specs.Inner.Either.{StandsForEither};
 ghost use Rattle.pb_rows.specs.Reading.{records_of, Fields};
 ghost use Rattle.pb_rows.specs.Writing.{text_of_rows};
-ghost use Rattle.pb_script.specs.declared.script_fault.ScriptFault.TheVariants.{BadRow};
+ghost use Rattle.pb_script.specs.declared.script_fault.ScriptFault.TheVariants.{BadRow, ReadFailed};
 ghost use Rattle.pb_faults.specs.Fault.{line, told};
-ghost use Rattle.pb_serving.specs.Answered.{heading, Answers, StandsWithin};
+ghost use Rattle.pb_serving.specs.Answered.{heading, Answers, HasNoRoom, IsBehind, StandsWithin};
 
 use crate::batch::{BatchEnd, next_batch};
 use crate::heading::heading;
@@ -63,9 +63,15 @@ pub fn run_serve<D: Device, R: Read + Drop, P: Pace, W: Write>(
         (rows rest : List Fields) × (text said left : List ℕ) × (kept : List EntryView)
         × (records_of bytes ≡ rows ++ rest) × Answers rows desk.old.desk.journal kept text
         × Appends (W.contents writer.old) (W.contents writer.new) said
-        × (said ++ left ≡ heading torn desk.old.desk ++ text)
+        × (said ++ left ≡ heading torn desk.old.desk ++ text) × IsBehind fault rows
         × (D.tells → (c : List ℕ) → D.may_leave desk.new.file.device c
         → StandsWithin desk.new.desk.opening.version kept desk.new.desk.journal c))) }
+
+    // A failure of the device is told, and only there, or where there is no room.
+    ensures told { D.tells → D.failures desk.old.file.device < D.failures desk.new.file.device
+        → IsErrOf result (ServingFault.App AppFault.Write) }
+    ensures write { D.tells → IsErrOf result (ServingFault.App AppFault.Write)
+        → (D.failures desk.old.file.device < D.failures desk.new.file.device) ⊎ HasNoRoom desk.new.desk }
 
     // Where the writer fails, all that was served stands.
     ensures output { D.tells → IsErrOf result ServingFault.Output → IsDurable D.seen D.may_leave desk.new }
@@ -103,9 +109,13 @@ fn run<D: Device, R: Read + Drop, P: Pace, W: Write>(
         (rows rest : List Fields) × (text said left : List ℕ) × (kept : List EntryView)
         × (records_of bytes ≡ rows ++ rest) × Answers rows desk.old.desk.journal kept text
         × Appends (W.contents writer.old) (W.contents writer.new) said
-        × (said ++ left ≡ heading torn desk.old.desk ++ text)
+        × (said ++ left ≡ heading torn desk.old.desk ++ text) × IsBehind fault rows
         × (D.tells → (c : List ℕ) → D.may_leave desk.new.file.device c
         → StandsWithin desk.new.desk.opening.version kept desk.new.desk.journal c))) }
+    ensures told { D.tells → D.failures desk.old.file.device < D.failures desk.new.file.device
+        → IsErrOf result (ServingFault.App AppFault.Write) }
+    ensures write { D.tells → IsErrOf result (ServingFault.App AppFault.Write)
+        → (D.failures desk.old.file.device < D.failures desk.new.file.device) ⊎ HasNoRoom desk.new.desk }
     ensures output { D.tells → IsErrOf result ServingFault.Output → IsDurable D.seen D.may_leave desk.new }
     ensures any_moment { D.tells → LeavesOnly D.moment D.left_since desk.old.file.device desk.new.file.device
         (StandsWithin desk.old.desk.opening.version desk.old.desk.journal desk.new.desk.journal) }
@@ -136,14 +146,21 @@ fn serve_rows<D: Device, R: Read, P: Pace, W: Write>(
         × (bad + length desk.new.desk.journal ≡ length records + length desk.old.desk.journal))) }
     ensures durable { D.tells → OnOk result (IsDurable D.seen D.may_leave desk.new) }
     ensures opening { desk.new.desk.opening ≡ desk.old.desk.opening }
+    ensures blame { (i : ℕ) → IsErrOf result (ServingFault.App (AppFault.Script (ReadFailed i)))
+        → IsSome rows.new.fault }
     ensures grown { OnOk result ((more : List EntryView)
         × (desk.new.desk.journal ≡ desk.old.desk.journal ++ more)) }
     ensures stopped { IfErr result (λ fault. fault ≢ ServingFault.Output → IfSome rows.old.left (λ records.
         (first rest : List Fields) × (text : List ℕ) × (kept : List EntryView)
         × (records ≡ first ++ rest) × Answers first desk.old.desk.journal kept text
-        × Appends (W.contents writer.old) (W.contents writer.new) text
+        × Appends (W.contents writer.old) (W.contents writer.new) text × IsBehind fault first
         × (D.tells → (c : List ℕ) → D.may_leave desk.new.file.device c
         → StandsWithin desk.new.desk.opening.version kept desk.new.desk.journal c))) }
+    ensures steady { D.tells → D.failures desk.old.file.device ≤ D.failures desk.new.file.device }
+    ensures told { D.tells → D.failures desk.old.file.device < D.failures desk.new.file.device
+        → IsErrOf result (ServingFault.App AppFault.Write) }
+    ensures write { D.tells → IsErrOf result (ServingFault.App AppFault.Write)
+        → (D.failures desk.old.file.device < D.failures desk.new.file.device) ⊎ HasNoRoom desk.new.desk }
     ensures output { D.tells → IsErrOf result ServingFault.Output → IsDurable D.seen D.may_leave desk.new }
     ensures any_moment { D.tells → LeavesOnly D.moment D.left_since desk.old.file.device desk.new.file.device
         (StandsWithin desk.old.desk.opening.version desk.old.desk.journal desk.new.desk.journal) }
@@ -152,13 +169,14 @@ fn serve_rows<D: Device, R: Read, P: Pace, W: Write>(
     let mut bad_rows = 0u64;
     for _ in 0..MOST_BATCHES {
         let mut asks = Vec::new(alloc);
-        let end = next_batch(alloc, rows, pace, &mut asks)?;
+        let end = next_batch(alloc, rows, pace, &mut asks);
         answer(alloc, desk, asks.as_slice(), writer)?;
         row += asks.len() as u64;
         match end {
             BatchEnd::More => {}
             BatchEnd::Over => return Ok(bad_rows),
             BatchEnd::ReadFailed => return Err(read_failed(row + 1)),
+            BatchEnd::NoMemory => return Err(ServingFault::App(AppFault::Memory)),
             BatchEnd::Bad => {
                 row += 1;
                 bad_rows += 1;
@@ -166,12 +184,12 @@ fn serve_rows<D: Device, R: Read, P: Pace, W: Write>(
             }
         }
     }
-    Err(read_failed(row + 1))
+    Err(ServingFault::App(AppFault::Script(ScriptFault::TooManyRows)))
 }
 
 /// The fault of an input that was not read at this row, from 1.
 fn read_failed(row: u64) -> ServingFault
-    ensures { result ≢ ServingFault.Output }
+    ensures { result ≡ ServingFault.App (AppFault.Script (ReadFailed (min row (2 ^ 32 - 1)))) }
 {
     let row = u32::try_from(row).unwrap_or(u32::MAX);
     ServingFault::App(AppFault::Script(ScriptFault::ReadFailed(row)))
@@ -192,6 +210,16 @@ fn answer<D: Device, W: Write>(
         (text_of_rows (rows_from (length desk.old.desk.journal + 1) (entries_of asks.now answers)))) }
     ensures durable { D.tells → OnOk result (IsDurable D.seen D.may_leave desk.new) }
     ensures output { D.tells → IsErrOf result ServingFault.Output → IsDurable D.seen D.may_leave desk.new }
+    ensures other { IfErr result (λ fault. (rows : List Fields) → IsBehind fault rows) }
+    ensures not_read { (i : ℕ) → IsErrOf result (ServingFault.App (AppFault.Script (ReadFailed i))) → ⊥ }
+    ensures steady { D.tells → D.failures desk.old.file.device ≤ D.failures desk.new.file.device }
+    ensures told { D.tells → D.failures desk.old.file.device < D.failures desk.new.file.device
+        → IsErrOf result (ServingFault.App AppFault.Write) }
+    ensures write { D.tells → IsErrOf result (ServingFault.App AppFault.Write)
+        → (D.failures desk.old.file.device < D.failures desk.new.file.device)
+        ⊎ (desk.old.desk.room < length desk.old.desk.journal + length asks.now)
+        ⊎ (2 ^ 60 ≤ length (journal_text desk.old.desk.opening.version desk.old.desk.journal)) }
+    ensures room { desk.new.desk.room ≡ desk.old.desk.room }
     ensures unsaid { IfErr result (λ fault. fault ≢ ServingFault.Output
         → W.contents writer.new ≡ W.contents writer.old) }
     ensures asked { (answers : List Answer)

@@ -8,7 +8,7 @@ use Rattle.pb_script.specs.Script.{HasScriptForm, IsScriptRow}
 use Rattle.pb_script.specs.Inner.ScriptReading.{HaveGone, NoneLeft}
 use Rattle.pb_durable.specs.declared.asked.Asked.{Asked}
 use Rattle.pb_serving.specs.declared.batch.BatchEnd.{BatchEnd}
-use Rattle.pb_serving.specs.declared.batch.BatchEnd.TheVariants.{More, Bad, Over, ReadFailed}
+use Rattle.pb_serving.specs.declared.batch.BatchEnd.TheVariants.{More, Bad, Over, ReadFailed, NoMemory}
 
 -- the row asks this
 abbrev pub IsRowAsking : Fields → Asked → Type 0
@@ -20,6 +20,7 @@ EndsBy More left rows after = HaveGone left rows after
 EndsBy Bad left rows after = (row : Fields) × ¬ HasScriptForm most_clerks row × HaveGone left (rows ++ row ∷ []) after
 EndsBy Over left rows after = (mid : Option (List Fields)) × HaveGone left rows mid × NoneLeft mid
 EndsBy ReadFailed left rows after = (mid : Option (List Fields)) × HaveGone left rows mid
+EndsBy NoMemory left rows after = (mid : Option (List Fields)) × HaveGone left rows mid
 
 -- the next records ask this, and so they go on
 pub record IsBatch (left after : Option (List Fields)) (asks : List Asked) (end : BatchEnd) : Type 0 where

@@ -1,4 +1,13 @@
-use Rattle.std.proofs.Common.{◌≡◌, ◌∙◌, ◌++◌, length, ap, subst}
+use Rattle.std.proofs.Common.{◌≡◌, ◌∙◌, ◌++◌, length, List, Err, IsErrAnd, ap, sym, subst}
+use Rattle.pb_durable.proofs.Openings.{if_err}
+use Rattle.pb_durable.specs.declared.durable_fault.DurableFault.{DurableFault}
+use Rattle.pb_faults.specs.declared.fault.AppFault.TheVariants.{Write}
+use Rattle.pb_rows.specs.Reading.{Fields}
+use Rattle.pb_serving.specs.Answered.{IsBehind}
+use Rattle.pb_serving.specs.Fault.{of_durable}
+use Rattle.pb_serving.specs.declared.serving_fault.ServingFault.{ServingFault}
+use Rattle.pb_serving.specs.declared.serving_fault.ServingFault.TheVariants.{App}
+use Rattle.pb_serving.proofs.Causes.{behind_durable, cause_of, err_is, not_durable}
 use Rattle.std.specs.Io.KnownBytes.{Appends}
 use Rattle.pb_desk.specs.Desk.{DeskView}
 use Rattle.pb_desk.specs.declared.version.Version.TheVariants.{One}
@@ -22,3 +31,26 @@ returns-clause-said g c =
       answered.1,
       subst (Appends (g.W.Write.contents c.args.writer.now) (g.W.Write.contents c.write_out.new.writer)) (c.as_slice.ensures.value ∙ rows) appends,
     ))
+
+pub returns-in_err-answers-clause-other : goal.returns-in_err-answers-clause-other
+returns-in_err-answers-clause-other g c =
+    let why = c.in_err-answers.field-0.0 in
+    if_err c.from_residual.result (of_durable why) (λ (fault : ServingFault). (rows : List Fields) → IsBehind fault rows) c.from_residual.ensures.1 (behind_durable why)
+
+pub returns-in_err-answers-clause-not_read : goal.returns-in_err-answers-clause-not_read
+returns-in_err-answers-clause-not_read g c = λ i said.
+    let why = c.in_err-answers.field-0.0 in
+    not_durable why i (subst (λ r. IsErrAnd r (λ x. x ≡ of_durable why)) said c.from_residual.ensures.1)
+
+pub returns-in_err-answers-clause-told : goal.returns-in_err-answers-clause-told
+returns-in_err-answers-clause-told g c = λ tells failed.
+    let why = c.in_err-answers.field-0.0 in
+    let said = sym c.in_err-answers.was ∙ c.serve_all.ensures.told tells failed in
+    err_is c.from_residual.result (of_durable why) (App Write) c.from_residual.ensures.1 (cc said)
+
+pub returns-in_err-answers-clause-write : goal.returns-in_err-answers-clause-write
+returns-in_err-answers-clause-write g c = λ tells said.
+    let why = c.in_err-answers.field-0.0 in
+    let is : App Write ≡ of_durable why = subst (λ r. IsErrAnd r (λ x. x ≡ of_durable why)) said c.from_residual.ensures.1 in
+    cause_of why _ _ _ is (λ at. c.serve_all.ensures.failed tells (c.in_err-answers.was ∙ ap (λ (f : DurableFault). Err f) at)) (λ at. c.serve_all.ensures.journal_full (c.in_err-answers.was ∙ ap (λ (f : DurableFault). Err f) at))
+    (λ at. c.serve_all.ensures.full tells (c.in_err-answers.was ∙ ap (λ (f : DurableFault). Err f) at))

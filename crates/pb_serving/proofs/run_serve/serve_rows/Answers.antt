@@ -1,4 +1,4 @@
-use Rattle.std.proofs.Common.{◌≡◌, ◌∙◌, ◌≤◌, ◌<◌, ◌+◌, ℕ, List, [], ◌++◌, length, Option, refl, sym, ap, subst, arith, append_assoc}
+use Rattle.std.proofs.Common.{◌≡◌, ◌∙◌, ◌≤◌, ◌<◌, ◌+◌, ℕ, List, [], ◌++◌, length, Option, Err, IsErrAnd, refl, sym, ap, subst, arith, append_assoc}
 use Rattle.std.proofs.lemmas.List.{append-nil}
 use Rattle.std.specs.List.{All}
 use Rattle.std.specs.Io.KnownBytes.{Appends}
@@ -9,16 +9,19 @@ use Rattle.pb_durable.proofs.Openings.{if_err}
 use Rattle.pb_durable.specs.DurableDesk.{entries_of}
 use Rattle.pb_durable.specs.declared.asked.Asked.{Asked}
 use Rattle.pb_rows.specs.Writing.{text_of_rows}
-use Rattle.pb_serving.specs.Answered.{StandsWithin}
+use Rattle.pb_serving.specs.Answered.{IsBehind, StandsWithin}
+use Rattle.pb_serving.specs.declared.serving_fault.ServingFault.{ServingFault}
+use Rattle.pb_serving.specs.declared.serving_fault.ServingFault.TheVariants.{App}
 use Rattle.pb_serving.specs.Inner.Batch.{EndsBy}
 use Rattle.pb_serving.specs.declared.batch.BatchEnd.{BatchEnd}
 use Rattle.pb_serving.specs.declared.batch.BatchEnd.TheVariants as end
-use Rattle.pb_serving.proofs.Answering.{any_err, bad_more, batch_more, done, gone_mid, halted, moved, started, Progress}
+use Rattle.pb_serving.proofs.Answering.{bad_more, batch_more, done, gone_mid, halted, moved, started, Progress}
 use Rattle.pb_serving.proofs.Batches.{asks_clerks}
+use Rattle.pb_serving.proofs.Causes.{err_is, has_cause, not_failed}
 use Rattle.pb_serving.proofs.Standings.{begins, goes_on, kept_all, kept_first}
-use Rattle.pb_script.specs.declared.script_fault.ScriptFault.TheVariants.{BadRow}
+use Rattle.pb_script.specs.declared.script_fault.ScriptFault.TheVariants.{BadRow, TooManyRows}
 use Rattle.pb_faults.specs.Fault.{line, told}
-use Rattle.pb_faults.specs.declared.fault.AppFault.TheVariants.{Script}
+use Rattle.pb_faults.specs.declared.fault.AppFault.TheVariants.{Memory, Script, Write}
 use Rattle.pb_serving.proofs.run_serve.serve_rows.Goals.{in-More, in-Bad+in_ok-say_bad_row-in-Bad}
 use Rattle.pb_serving.proofs.run_serve.serve_rows.Goals as goal
 
@@ -26,6 +29,7 @@ pub loop-init : goal.loop-init
 loop-init g c = record {
   few = omega arith;
   fewer = omega arith;
+  failures = λ tells. refl;
   opening = refl;
   durable = c.requires;
   grown = ([], sym (append-nil c.args.desk.now.desk.journal));
@@ -35,17 +39,8 @@ loop-init g c = record {
 
 pub answer-requires-clause-clerks : goal.answer-requires-clause-clerks
 answer-requires-clause-clerks g c =
-    let batch = c.in_ok-end.ensures.batch in
+    let batch = c.next_batch-end.ensures.batch in
     subst (λ (asks : List Asked). All (λ (a : Asked). a.clerk < most_clerks) asks) (sym c.as_slice.ensures.value) (asks_clerks batch.rows _ batch.each)
-
-pub returns-in_err-end-clause-stopped : goal.returns-in_err-end-clause-stopped
-returns-in_err-end-clause-stopped g c =
-    let inv = c.loop.invariant in
-    let old = c.args.desk.now in
-    let mid = c.loop.desk in
-    any_err c.from_residual.result _ (λ fault other. halted (λ kept. g.D.Device.tells → (f : List ℕ) → g.D.Device.may_leave mid.file.device f → StandsWithin mid.desk.opening.version kept mid.desk.journal f)
-    c.args.rows.now.left c.loop.rows.left old.desk.journal mid.desk.journal (g.W.Write.contents c.args.writer.now) (g.W.Write.contents c.loop.writer) c.loop.row c.loop.bad_rows inv.progress
-    (λ tells f left. kept_all g.D.Device.moment g.D.Device.left_since g.D.Device.seen g.D.Device.may_leave mid (inv.durable tells) f left))
 
 pub returns-in_err-answer-clause-stopped : goal.returns-in_err-answer-clause-stopped
 returns-in_err-answer-clause-stopped g c =
@@ -54,12 +49,12 @@ returns-in_err-answer-clause-stopped g c =
     let mid = c.loop.desk in
     let new = c.answer.new.desk in
     let asked = c.answer.ensures.asked in
-    if_err c.from_residual-in_err-answer.result c.in_err-answer.field-0.0 _ c.from_residual-in_err-answer.ensures.1 (λ other.
+    if_err c.from_residual.result c.in_err-answer.field-0.0 _ c.from_residual.ensures.1 (λ other.
     let same : g.W.Write.contents c.answer.new.writer ≡ g.W.Write.contents c.loop.writer = c.in_err-answer.ensures.unsaid other in
     let so_far = subst (λ (w : Option (List ℕ)). Progress c.args.rows.now.left c.loop.rows.left old.desk.journal mid.desk.journal (g.W.Write.contents c.args.writer.now) w c.loop.row c.loop.bad_rows) (sym same) inv.progress in
-    halted (λ kept. g.D.Device.tells → (f : List ℕ) → g.D.Device.may_leave new.file.device f → StandsWithin new.desk.opening.version kept new.desk.journal f)
+    halted (λ gone. IsBehind c.in_err-answer.field-0.0 gone) (λ kept. g.D.Device.tells → (f : List ℕ) → g.D.Device.may_leave new.file.device f → StandsWithin new.desk.opening.version kept new.desk.journal f)
     c.args.rows.now.left c.loop.rows.left old.desk.journal mid.desk.journal (g.W.Write.contents c.args.writer.now) (g.W.Write.contents c.answer.new.writer) c.loop.row c.loop.bad_rows so_far
-    (λ tells f left. kept_first g.D.Device.moment g.D.Device.left_since g.D.Device.seen g.D.Device.may_leave g.met.D.Device.counts_now mid new (entries_of c.as_slice.result.now asked.0) c.answer.ensures.opening asked.1 (c.answer.ensures.any_moment tells) f left))
+    (λ gone count. c.in_err-answer.ensures.other gone) (λ tells f left. kept_first g.D.Device.moment g.D.Device.left_since g.D.Device.seen g.D.Device.may_leave g.met.D.Device.counts_now mid new (entries_of c.as_slice.result.now asked.0) c.answer.ensures.opening asked.1 (c.answer.ensures.any_moment tells) f left))
 
 pub returns-in_err-answer-clause-any_moment : goal.returns-in_err-answer-clause-any_moment
 returns-in_err-answer-clause-any_moment g c = λ tells.
@@ -85,6 +80,14 @@ returns-in-ReadFailed-clause-any_moment g c = λ tells.
     let asked = c.answer.ensures.asked in
     goes_on g.D.Device.moment g.D.Device.left_since g.D.Device.seen g.D.Device.may_leave old mid c.answer.new.desk inv.grown.0 (entries_of c.as_slice.result.now asked.0) inv.opening inv.grown.1 asked.1 (inv.any_moment tells) (c.answer.ensures.any_moment tells)
 
+pub returns-in-NoMemory-clause-any_moment : goal.returns-in-NoMemory-clause-any_moment
+returns-in-NoMemory-clause-any_moment g c = λ tells.
+    let inv = c.loop.invariant in
+    let old = c.args.desk.now in
+    let mid = c.loop.desk in
+    let asked = c.answer.ensures.asked in
+    goes_on g.D.Device.moment g.D.Device.left_since g.D.Device.seen g.D.Device.may_leave old mid c.answer.new.desk inv.grown.0 (entries_of c.as_slice.result.now asked.0) inv.opening inv.grown.1 asked.1 (inv.any_moment tells) (c.answer.ensures.any_moment tells)
+
 pub returns-in_err-say_bad_row-in-Bad-clause-any_moment : goal.returns-in_err-say_bad_row-in-Bad-clause-any_moment
 returns-in_err-say_bad_row-in-Bad-clause-any_moment g c = λ tells.
     let inv = c.loop.invariant in
@@ -98,14 +101,14 @@ returns-in-Over-clause-answered g c =
     let inv = c.loop.invariant in
     let old = c.args.desk.now in
     let mid = c.loop.desk in
-    let batch = c.in_ok-end.ensures.batch in
+    let batch = c.next_batch-end.ensures.batch in
     let said = c.in_ok-answer.ensures.said in
-    let asks = c.next_batch.new.asks.items in
+    let asks = c.next_batch-end.new.asks.items in
     let value = c.as_slice.ensures.value in
     let grown : c.answer.new.desk.desk.journal ≡ mid.desk.journal ++ entries_of asks said.0 = said.2 ∙ ap (λ (a : List Asked). mid.desk.journal ++ entries_of a said.0) value in
     let count : length said.0 ≡ length asks = said.1 ∙ ap length value in
     let text = subst (λ (a : List Asked). Appends (g.W.Write.contents c.loop.writer) (g.W.Write.contents c.answer.new.writer) (text_of_rows (rows_from (length mid.desk.journal + 1) (entries_of a said.0)))) value said.3 in
-    let ends = subst (λ (e : BatchEnd). EndsBy e c.loop.rows.left batch.rows c.next_batch.new.rows.left) c.in-Over.is batch.goes_on in
+    let ends = subst (λ (e : BatchEnd). EndsBy e c.loop.rows.left batch.rows c.next_batch-end.new.rows.left) c.in-Over.is batch.goes_on in
     done c.args.rows.now.left ends.0 old.desk.journal c.answer.new.desk.desk.journal (g.W.Write.contents c.args.writer.now) (g.W.Write.contents c.answer.new.writer) (c.loop.row + length asks) c.loop.bad_rows
     (batch_more c.args.rows.now.left c.loop.rows.left ends.0 old.desk.journal mid.desk.journal c.answer.new.desk.desk.journal
     (g.W.Write.contents c.args.writer.now) (g.W.Write.contents c.loop.writer) (g.W.Write.contents c.answer.new.writer) c.loop.row c.loop.bad_rows
@@ -116,47 +119,72 @@ returns-in-ReadFailed-clause-stopped g c = λ other.
     let inv = c.loop.invariant in
     let old = c.args.desk.now in
     let mid = c.loop.desk in
-    let batch = c.in_ok-end.ensures.batch in
+    let batch = c.next_batch-end.ensures.batch in
     let said = c.in_ok-answer.ensures.said in
-    let asks = c.next_batch.new.asks.items in
+    let asks = c.next_batch-end.new.asks.items in
+    let value = c.as_slice.ensures.value in
+    let grown : c.answer.new.desk.desk.journal ≡ mid.desk.journal ++ entries_of asks said.0 = said.2 ∙ ap (λ (a : List Asked). mid.desk.journal ++ entries_of a said.0) value in
+    let count : length said.0 ≡ length asks = said.1 ∙ ap length value in
+    let text = subst (λ (a : List Asked). Appends (g.W.Write.contents c.loop.writer) (g.W.Write.contents c.answer.new.writer) (text_of_rows (rows_from (length mid.desk.journal + 1) (entries_of a said.0)))) value said.3 in
+    let size : c.len.result ≡ length asks = c.len.ensures ∙ c.next_batch-end.new.asks.ok.0 in
+    let new = c.answer.new.desk in
+    let ends = subst (λ (e : BatchEnd). EndsBy e c.loop.rows.left batch.rows c.next_batch-end.new.rows.left) c.in-ReadFailed.is batch.goes_on in
+    let so_far = batch_more c.args.rows.now.left c.loop.rows.left ends.0 old.desk.journal mid.desk.journal c.answer.new.desk.desk.journal
+    (g.W.Write.contents c.args.writer.now) (g.W.Write.contents c.loop.writer) (g.W.Write.contents c.answer.new.writer) c.loop.row c.loop.bad_rows
+    batch.rows asks said.0 inv.progress ends.1 batch.each count grown text in
+    halted (λ gone. IsBehind c.read_failed.result gone) (λ kept. g.D.Device.tells → (f : List ℕ) → g.D.Device.may_leave new.file.device f → StandsWithin new.desk.opening.version kept new.desk.journal f)
+    c.args.rows.now.left ends.0 old.desk.journal new.desk.journal (g.W.Write.contents c.args.writer.now) (g.W.Write.contents c.answer.new.writer) (c.loop.row + length asks) c.loop.bad_rows so_far
+    (λ gone count. subst (λ (fault : ServingFault). IsBehind fault gone) (sym c.read_failed.ensures) (omega (arith, size, count)))
+    (λ tells f left. kept_all g.D.Device.moment g.D.Device.left_since g.D.Device.seen g.D.Device.may_leave new (c.in_ok-answer.ensures.durable tells) f left)
+
+pub returns-in-NoMemory-clause-stopped : goal.returns-in-NoMemory-clause-stopped
+returns-in-NoMemory-clause-stopped g c = λ other.
+    let inv = c.loop.invariant in
+    let old = c.args.desk.now in
+    let mid = c.loop.desk in
+    let batch = c.next_batch-end.ensures.batch in
+    let said = c.in_ok-answer.ensures.said in
+    let asks = c.next_batch-end.new.asks.items in
     let value = c.as_slice.ensures.value in
     let grown : c.answer.new.desk.desk.journal ≡ mid.desk.journal ++ entries_of asks said.0 = said.2 ∙ ap (λ (a : List Asked). mid.desk.journal ++ entries_of a said.0) value in
     let count : length said.0 ≡ length asks = said.1 ∙ ap length value in
     let text = subst (λ (a : List Asked). Appends (g.W.Write.contents c.loop.writer) (g.W.Write.contents c.answer.new.writer) (text_of_rows (rows_from (length mid.desk.journal + 1) (entries_of a said.0)))) value said.3 in
     let new = c.answer.new.desk in
-    let ends = subst (λ (e : BatchEnd). EndsBy e c.loop.rows.left batch.rows c.next_batch.new.rows.left) c.in-ReadFailed.is batch.goes_on in
+    let ends = subst (λ (e : BatchEnd). EndsBy e c.loop.rows.left batch.rows c.next_batch-end.new.rows.left) c.in-NoMemory.is batch.goes_on in
     let so_far = batch_more c.args.rows.now.left c.loop.rows.left ends.0 old.desk.journal mid.desk.journal c.answer.new.desk.desk.journal
     (g.W.Write.contents c.args.writer.now) (g.W.Write.contents c.loop.writer) (g.W.Write.contents c.answer.new.writer) c.loop.row c.loop.bad_rows
     batch.rows asks said.0 inv.progress ends.1 batch.each count grown text in
-    halted (λ kept. g.D.Device.tells → (f : List ℕ) → g.D.Device.may_leave new.file.device f → StandsWithin new.desk.opening.version kept new.desk.journal f)
+    halted (λ gone. IsBehind (App Memory) gone) (λ kept. g.D.Device.tells → (f : List ℕ) → g.D.Device.may_leave new.file.device f → StandsWithin new.desk.opening.version kept new.desk.journal f)
     c.args.rows.now.left ends.0 old.desk.journal new.desk.journal (g.W.Write.contents c.args.writer.now) (g.W.Write.contents c.answer.new.writer) (c.loop.row + length asks) c.loop.bad_rows so_far
-    (λ tells f left. kept_all g.D.Device.moment g.D.Device.left_since g.D.Device.seen g.D.Device.may_leave new (c.in_ok-answer.ensures.durable tells) f left)
+    (λ gone count. tt) (λ tells f left. kept_all g.D.Device.moment g.D.Device.left_since g.D.Device.seen g.D.Device.may_leave new (c.in_ok-answer.ensures.durable tells) f left)
 
 pub loop-preserved : goal.loop-preserved
 loop-preserved g c =
     let inv = c.loop.invariant in
     let old = c.args.desk.now in
     let mid = c.loop.desk in
-    let batch = c.in_ok-end.ensures.batch in
+    let batch = c.next_batch-end.ensures.batch in
     let said = c.in_ok-answer.ensures.said in
-    let asks = c.next_batch.new.asks.items in
+    let asks = c.next_batch-end.new.asks.items in
     let value = c.as_slice.ensures.value in
     let grown : c.answer.new.desk.desk.journal ≡ mid.desk.journal ++ entries_of asks said.0 = said.2 ∙ ap (λ (a : List Asked). mid.desk.journal ++ entries_of a said.0) value in
     let count : length said.0 ≡ length asks = said.1 ∙ ap length value in
     let text = subst (λ (a : List Asked). Appends (g.W.Write.contents c.loop.writer) (g.W.Write.contents c.answer.new.writer) (text_of_rows (rows_from (length mid.desk.journal + 1) (entries_of a said.0)))) value said.3 in
     let new = c.answer.new.desk in
     let asked = c.answer.ensures.asked in
-    let size : c.len.result ≡ length asks = c.len.ensures ∙ c.next_batch.new.asks.ok.0 in
-    let few : length asks ≤ 4096 = c.next_batch.ensures.few in
+    let size : c.len.result ≡ length asks = c.len.ensures ∙ c.next_batch-end.new.asks.ok.0 in
+    let few : length asks ≤ 4096 = c.next_batch-end.ensures.few in
     let before = inv.few in
     let fewer = inv.fewer in
     let contents = g.W.Write.contents in
     let all = c.args.rows.now.left in
     let left = c.loop.rows.left in
-    let after = c.next_batch.new.rows.left in
+    let after = c.next_batch-end.new.rows.left in
     let start = contents c.args.writer.now in
-    let ends : (e : BatchEnd) → c.in_ok-end.end ≡ e → EndsBy e left batch.rows after = λ e is. subst (λ (x : BatchEnd). EndsBy x left batch.rows after) is batch.goes_on in
+    let ends : (e : BatchEnd) → c.next_batch-end.result ≡ e → EndsBy e left batch.rows after = λ e is. subst (λ (x : BatchEnd). EndsBy x left batch.rows after) is batch.goes_on in
     let opening = c.answer.ensures.opening ∙ inv.opening in
+    let failures : g.D.Device.tells → g.D.Device.failures new.file.device ≡ g.D.Device.failures old.file.device = λ tells.
+    not_failed (g.D.Device.failures mid.file.device) (g.D.Device.failures new.file.device) (c.answer.ensures.steady tells) (λ rise. cc (c.in_ok-answer.ensures.told tells rise)) ∙ inv.failures tells in
     let entries : (x : List EntryView) × (new.desk.journal ≡ old.desk.journal ++ x) = (
       inv.grown.0 ++ entries_of asks said.0,
       grown ∙ ap (λ (j : List EntryView). j ++ entries_of asks said.0) inv.grown.1 ∙ append_assoc old.desk.journal inv.grown.0 (entries_of asks said.0),
@@ -168,6 +196,7 @@ loop-preserved g c =
           record {
             few = omega (arith, row, size, few, before);
             fewer = omega (arith, row, bad, size, fewer);
+            failures = failures;
             opening = opening;
             durable = λ tells. c.in_ok-answer.ensures.durable tells;
             grown = entries;
@@ -187,6 +216,7 @@ loop-preserved g c =
           record {
             few = omega (arith, row, size, few, before);
             fewer = omega (arith, row, bad, size, fewer);
+            failures = failures;
             opening = opening;
             durable = λ tells. c.in_ok-answer.ensures.durable tells;
             grown = entries;
@@ -206,9 +236,9 @@ returns-clause-stopped g c = λ other.
     let inv = c.loop.invariant in
     let old = c.args.desk.now in
     let mid = c.loop.desk in
-    halted (λ kept. g.D.Device.tells → (f : List ℕ) → g.D.Device.may_leave mid.file.device f → StandsWithin mid.desk.opening.version kept mid.desk.journal f)
+    halted (λ gone. IsBehind (App (Script TooManyRows)) gone) (λ kept. g.D.Device.tells → (f : List ℕ) → g.D.Device.may_leave mid.file.device f → StandsWithin mid.desk.opening.version kept mid.desk.journal f)
     c.args.rows.now.left c.loop.rows.left old.desk.journal mid.desk.journal (g.W.Write.contents c.args.writer.now) (g.W.Write.contents c.loop.writer) c.loop.row c.loop.bad_rows inv.progress
-    (λ tells f left. kept_all g.D.Device.moment g.D.Device.left_since g.D.Device.seen g.D.Device.may_leave mid (inv.durable tells) f left)
+    (λ gone count. tt) (λ tells f left. kept_all g.D.Device.moment g.D.Device.left_since g.D.Device.seen g.D.Device.may_leave mid (inv.durable tells) f left)
 
 pub returns-in-Over-clause-grown : goal.returns-in-Over-clause-grown
 returns-in-Over-clause-grown g c =
@@ -217,3 +247,25 @@ returns-in-Over-clause-grown g c =
     let asked = c.answer.ensures.asked in
     let entries = entries_of c.as_slice.result.now asked.0 in
     (inv.grown.0 ++ entries, asked.1 ∙ ap (λ (j : List EntryView). j ++ entries) inv.grown.1 ∙ append_assoc old.desk.journal inv.grown.0 entries)
+
+pub returns-in_err-answer-clause-write : goal.returns-in_err-answer-clause-write
+returns-in_err-answer-clause-write g c = λ tells said.
+    let inv = c.loop.invariant in
+    let old = c.args.desk.now in
+    let mid = c.loop.desk in
+    let new = c.answer.new.desk in
+    let asked = c.answer.ensures.asked in
+    let why = c.in_err-answer.field-0.0 in
+    let same : App Write ≡ why = subst (λ r. IsErrAnd r (λ x. x ≡ why)) said c.from_residual.ensures.1 in
+    let value = c.as_slice.ensures.value in
+    let size : length c.as_slice.result.now ≤ 4096 = omega (arith, ap length value, c.next_batch-end.ensures.few) in
+    has_cause (g.D.Device.failures old.file.device) (g.D.Device.failures mid.file.device) (g.D.Device.failures new.file.device) mid.desk new.desk (length c.as_slice.result.now) (entries_of c.as_slice.result.now asked.0)
+    (inv.failures tells) size c.answer.ensures.room c.answer.ensures.opening asked.1 (c.answer.ensures.write tells (c.in_err-answer.was ∙ ap (λ (f : ServingFault). Err f) (sym same)))
+
+pub returns-in_err-answer-clause-told : goal.returns-in_err-answer-clause-told
+returns-in_err-answer-clause-told g c = λ tells failed.
+    let inv = c.loop.invariant in
+    let before = inv.failures tells in
+    let said = c.answer.ensures.told tells (omega (arith, before, failed)) in
+    let same : App Write ≡ c.in_err-answer.field-0.0 = cc (said, c.in_err-answer.was) in
+    err_is c.from_residual.result c.in_err-answer.field-0.0 (App Write) c.from_residual.ensures.1 (sym same)

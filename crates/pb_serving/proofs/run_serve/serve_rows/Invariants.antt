@@ -10,6 +10,7 @@ abbrev pub invariant-loop : goal.invariant-loop
 invariant-loop g l = record {
   few : l.row ≤ 4097 * l.counter;
   fewer : l.bad_rows ≤ l.row;
+  failures : g.D.Device.tells → g.D.Device.failures l.desk.file.device ≡ g.D.Device.failures l.initial.desk.file.device;
   opening : l.desk.desk.opening ≡ l.initial.desk.desk.opening;
   durable : g.D.Device.tells → IsDurable g.D.Device.seen g.D.Device.may_leave l.desk;
   grown : (more : List EntryView) × (l.desk.desk.journal ≡ l.initial.desk.desk.journal ++ more);

@@ -1,0 +1,66 @@
+-- What the faults of a run tell of their causes.
+use Rattle.std.proofs.Common.{◌≡◌, ◌∙◌, ◌⊎◌, inl, inr, ℕ, ◌+◌, ◌^◌, ◌<◌, ◌≤◌, ◌++◌, length, List, Result, Ok, Err, IsErrAnd, refl, sym, ap, subst, arith}
+use Rattle.std.proofs.lemmas.Bool.{cases_lt}
+use Rattle.pb_core.specs.Request.{EntryView}
+use Rattle.pb_rows.specs.Reading.{Fields}
+use Rattle.pb_desk.specs.Desk.{DeskView}
+use Rattle.pb_desk.specs.Opening.{OpeningView}
+use Rattle.pb_desk.specs.Rows.{journal_text}
+use Rattle.pb_desk.specs.declared.desk_fault.DeskFault.TheVariants as desk
+use Rattle.pb_durable.specs.declared.device_fault.DeviceFault.{DeviceFault}
+use Rattle.pb_durable.specs.declared.device_fault.DeviceFault.TheVariants as device
+use Rattle.pb_durable.specs.declared.durable_fault.DurableFault.{DurableFault}
+use Rattle.pb_durable.specs.declared.durable_fault.DurableFault.TheVariants as durable
+use Rattle.pb_serving.specs.Answered.{HasNoRoom, IsBehind}
+use Rattle.pb_faults.specs.declared.fault.AppFault.TheVariants.{Script, Write}
+use Rattle.pb_script.specs.declared.script_fault.ScriptFault.TheVariants.{ReadFailed}
+use Rattle.pb_serving.specs.declared.serving_fault.ServingFault.TheVariants.{App}
+use Rattle.pb_serving.specs.Fault.{of_device, of_durable}
+
+pub behind_device : (why : DeviceFault) (rows : List Fields) → IsBehind (of_device why) rows
+behind_device device.NoMemory rows = tt
+behind_device device.Failed rows = tt
+behind_device device.Full rows = tt
+
+pub behind_durable : (why : DurableFault) (rows : List Fields) → IsBehind (of_durable why) rows
+behind_durable (durable.Desk desk.NoMemory) rows = tt
+behind_durable (durable.Desk desk.JournalFull) rows = tt
+behind_durable (durable.Device why) rows = behind_device why rows
+
+pub not_failed : (before now : ℕ) → before ≤ now → (before < now → ⊥) → now ≡ before
+not_failed before now later none = elim (cases_lt before now) [
+  | inl more ↦ absurd (none more)
+  | inr same ↦ omega (arith, later, same)
+]
+
+pub err_is : {T E : Type 0} (r : Result T E) (why e : E) → IsErrAnd r (λ x. x ≡ why) → why ≡ e → r ≡ Err e
+err_is (Ok x) why e is same = absurd is
+err_is (Err x) why e is same = ap Err (is ∙ same)
+
+-- a batch was not answered: the device failed, or there was no room for it
+pub has_cause : (first before now : ℕ) (d new : DeskView) (count : ℕ) (more : List EntryView) → before ≡ first → count ≤ 4096 → new.room ≡ d.room → new.opening ≡ d.opening
+    → new.journal ≡ d.journal ++ more → (before < now) ⊎ (d.room < length d.journal + count) ⊎ (2 ^ 60 ≤ length (journal_text d.opening.version d.journal)) → (first < now) ⊎ HasNoRoom new
+has_cause first before now d new count more same few room opening grown (inl failed) = inl (omega (arith, failed, same))
+has_cause first before now d new count more same few room opening grown (inr (inl full)) = inr (d.journal, more, grown, inl (omega (arith, full, few, room)))
+has_cause first before now d new count more same few room opening grown (inr (inr full)) =
+    inr (d.journal, more, grown, inr (subst (λ (o : OpeningView). 2 ^ 60 ≤ length (journal_text o.version d.journal)) (sym opening) full))
+
+-- the same of a desk that had a cause before
+pub later_cause : (first before now : ℕ) (d new : DeskView) → first ≤ before → before ≤ now → new ≡ d → (first < before) ⊎ HasNoRoom d → (first < now) ⊎ HasNoRoom new
+later_cause first before now d new early late same (inl failed) = inl (omega (arith, failed, late))
+later_cause first before now d new early late same (inr full) = inr (subst HasNoRoom (sym same) full)
+
+pub not_durable : (why : DurableFault) (i : ℕ) → App (Script (ReadFailed i)) ≡ of_durable why → ⊥
+not_durable (durable.Desk desk.NoMemory) i is = cc is
+not_durable (durable.Desk desk.JournalFull) i is = cc is
+not_durable (durable.Device device.NoMemory) i is = cc is
+not_durable (durable.Device device.Failed) i is = cc is
+not_durable (durable.Device device.Full) i is = cc is
+
+pub cause_of : (why : DurableFault) (X Y Z : Type 0) → App Write ≡ of_durable why → (why ≡ durable.Device device.Failed → X) → (why ≡ durable.Desk desk.JournalFull → Y)
+    → (why ≡ durable.Device device.Full → Z) → X ⊎ Y ⊎ Z
+cause_of (durable.Desk desk.NoMemory) X Y Z is failed full large = absurd (cc is)
+cause_of (durable.Desk desk.JournalFull) X Y Z is failed full large = inr (inl (full refl))
+cause_of (durable.Device device.NoMemory) X Y Z is failed full large = absurd (cc is)
+cause_of (durable.Device device.Failed) X Y Z is failed full large = inl (failed refl)
+cause_of (durable.Device device.Full) X Y Z is failed full large = inr (inr (large refl))
