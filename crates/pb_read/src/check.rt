@@ -3,7 +3,7 @@
 ghost use Rattle.std.specs.Prelude.{◌≡◌, [], None, IfOk, IfSome, OnOk};
 ghost use Rattle.pb_rows.specs.Reading.{records_of};
 ghost use Rattle.pb_read.specs.Inner.Checking.{GoesOn, IsGoing, IsRefusal, Judges, JudgesEnd, JudgesRow};
-ghost use Rattle.pb_read.specs.Listed.{AreListed, is_of_row, may_be_of_row};
+ghost use Rattle.pb_read.specs.Listed.{AreListed, is_of_row};
 ghost use Rattle.pb_read.specs.Inner.Progresses.{IsReady, place_of};
 ghost use Rattle.pb_read.specs.Inner.Opening.{opening};
 ghost use Rattle.pb_read.specs.declared.progress.Stage.TheVariants.{Start};
@@ -221,30 +221,20 @@ impl Check {
 
     /// What comes of a fault of this kind.
     fn refused_by(&self, kind: ReadKind) -> Verdict
-        ensures { IsRefusal kind result }
+        ensures { IsRefusal self.now.progress.stage kind result }
     {
         match kind {
             ReadKind::NoMemory => Verdict::Ends(kind),
-            _ if is_of_row(kind) || (self.progress.is_in_rows() && may_be_of_row(kind)) => {
-                Verdict::LeavesOut(kind)
-            }
+            _ if is_of_row(kind) && self.progress.is_in_rows() => Verdict::LeavesOut(kind),
             _ => Verdict::Ends(kind),
         }
     }
 }
 
-/// Whether only rows of PROJECTS and VOTES have a fault of this kind.
+/// Whether rows of PROJECTS and VOTES have a fault of this kind by themselves.
 fn is_of_row(kind: ReadKind) -> bool
     ensures { result ≡ is_of_row kind }
 {
     let number = kind.number();
-    number == 8 || (14 <= number && number <= 20)
-}
-
-/// Whether rows of PROJECTS and VOTES have a fault of this kind, besides others or alone.
-fn may_be_of_row(kind: ReadKind) -> bool
-    ensures { result ≡ may_be_of_row kind }
-{
-    let number = kind.number();
-    is_of_row(kind) || number == 2 || (11 <= number && number <= 13)
+    number == 2 || number == 8 || (11 <= number && number <= 20)
 }

@@ -1,7 +1,7 @@
 //! How far a file was read.
 
 ghost use Rattle.std.specs.Prelude.{◌≡◌, ◌≢◌, None, false, Some, IfErr, OnOk, MatchResult};
-ghost use Rattle.pb_read.specs.Listed.{is_of_row};
+ghost use Rattle.pb_read.specs.Listed.{is_in_rows, leaves_out};
 ghost use Rattle.pb_read.specs.Stages.{head, next_row, plain, the_end};
 ghost use Rattle.pb_read.specs.Inner.Machine.{budget_of, head_checks, limit_of};
 ghost use Rattle.pb_read.specs.Inner.Progresses.{Advances, EndsWith, IsRead, IsReady, Refuses, Stays, place_of};
@@ -139,7 +139,9 @@ impl Progress {
     }
 
     /// Whether rows of PROJECTS or of VOTES are read.
-    pub(crate) fn is_in_rows(&self) -> bool {
+    pub(crate) fn is_in_rows(&self) -> bool
+        ensures { result ≡ is_in_rows self.now.stage }
+    {
         matches!(self.stage, Stage::InProjects(_) | Stage::InVotes(_))
     }
 
@@ -147,7 +149,7 @@ impl Progress {
     #[tactic(auto, unfolding(crate::specs::Inner::Machine::row_fault))]
     pub(crate) fn finish(&mut self) -> Result<Election, ReadKind>
         ensures end { MatchResult result (EndsWith (place_of self.old)) (Refuses self.old the_end) }
-        ensures no_row { IfErr result (λ kind. is_of_row kind ≡ false) }
+        ensures no_row { IfErr result (λ kind. leaves_out self.old.stage kind ≡ false) }
     {
         match self.stage {
             Stage::InVotes(_) => Ok(self.draft.take_election()),
