@@ -22,7 +22,7 @@ use std::io::Read;
 /// The most faults that are listed.
 pub const MOST_FAULTS: usize = 1_000;
 
-/// The most records that are read while faults are listed.
+/// No file of so many records has fewer than 1,000 that are left out, beside those that are kept.
 const MOST_CHECKED: u32 = 2_001_000;
 
 /// Lists what is wrong with a .pb file: a fault for each row of PROJECTS and VOTES that is refused, up to 1,000.
@@ -142,7 +142,10 @@ impl Check {
                     faults.push(ReadFault { kind, at })?;
                     return Ok(());
                 }
-                Verdict::Done => return Ok(()),
+                Verdict::Done => {
+                    watch.end();
+                    return Ok(());
+                }
             }
         }
         Ok(())
@@ -152,10 +155,11 @@ impl Check {
     fn read_on<R: Read, W: Watch>(&mut self, records: &mut Records<R>, watch: &mut W, done: u32)
         requires { IsReady self.old.progress }
     {
-        for before in done..MOST_RECORDS {
+        for before in done..MOST_CHECKED {
             match self.next(records, watch, 0, before + 1) {
                 Verdict::Passes | Verdict::LeavesOut(_) => {}
-                Verdict::Ends(_) | Verdict::Done => return,
+                Verdict::Ends(_) => return,
+                Verdict::Done => return watch.end(),
             }
         }
     }
@@ -175,13 +179,15 @@ impl Check {
     {
         match self.row.read_any(self.alloc, &mut self.raw, records) {
             Ok(Found::Text) => {
+                let part = self.progress.part_of(&self.row);
                 let verdict = self.judge(kept);
-                watch.see(self.row.bytes(), at, verdict.fault());
+                watch.see(self.row.bytes(), at, part, verdict.fault());
                 verdict
             }
             Ok(Found::NoText) => {
+                let part = self.progress.stage.part();
                 let verdict = self.refused_by(ReadKind::NotText);
-                watch.see(&self.raw, at, verdict.fault());
+                watch.see(&self.raw, at, part, verdict.fault());
                 verdict
             }
             Ok(Found::End) => self.judge_end(),

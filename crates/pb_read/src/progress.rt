@@ -15,6 +15,7 @@ use crate::fault::ReadKind;
 use crate::meta::Meta;
 use crate::row::Row;
 use crate::section::Section;
+use crate::watch::Part;
 use pb_core::election::Election;
 use pb_core::money::Money;
 use std::alloc::Global;
@@ -33,6 +34,19 @@ pub(crate) enum Stage {
     InProjects(ProjectColumns),
     /// A row of VOTES, or the end of the file.
     InVotes(VoteColumns),
+}
+
+impl Stage {
+    /// What a record is that comes at this stage, and is neither blank nor a section's head.
+    pub(crate) fn part(&self) -> Part {
+        match *self {
+            Stage::Start => Part::Other,
+            Stage::Header(_) => Part::Names,
+            Stage::InMeta(_) => Part::Key,
+            Stage::InProjects(columns) => Part::Project(columns),
+            Stage::InVotes(columns) => Part::Vote(columns),
+        }
+    }
 }
 
 /// How far a file was read, and what it gave so far.
@@ -136,6 +150,15 @@ impl Progress {
             Stage::InVotes(columns) => return self.draft.add_voter(columns, row),
         }
         Ok(())
+    }
+
+    /// What a record is that comes next.
+    pub(crate) fn part_of(&self, row: &Row) -> Part {
+        if row.is_blank() || Section::headed_by(row).is_some() {
+            Part::Other
+        } else {
+            self.stage.part()
+        }
     }
 
     /// Whether rows of PROJECTS or of VOTES are read.
