@@ -5,7 +5,7 @@ pub returns-in-Err-clause-fault : goal.returns-in-Err-clause-fault
 returns-in-Err-clause-fault g c = refused_early c.args.counting.now.options.now _ _ c.in-Err.fault c.in-Err.ensures.fault
 
 pub returns-in-Err-clause-accepts : goal.returns-in-Err-clause-accepts
-returns-in-Err-clause-accepts g c = λ none. barred_early c.args.counting.now.options.now _ _ c.in-Err.fault c.in-Err.ensures.accepts
+returns-in-Err-clause-accepts g c = λ none. barred_early c.args.counting.now.options.now _ _ c.in-Err.fault (c.in-Err.ensures.accepts none)
 
 pub returns-in-Ok-made-clause-ok : goal.returns-in-Ok-made-clause-ok
 returns-in-Ok-made-clause-ok g c =

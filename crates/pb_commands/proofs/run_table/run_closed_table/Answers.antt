@@ -11,7 +11,7 @@ returns-in_err-election-clause-fault g c =
 
 pub returns-in_err-election-clause-accepts : goal.returns-in_err-election-clause-accepts
 returns-in_err-election-clause-accepts g c = λ none.
-    barred_as c.args.table c.args.counting.now.options.now _ _ c.in_err-election.field-0.0 _ c.from_residual.ensures.1 c.in_err-election.ensures.accepts
+    barred_as c.args.table c.args.counting.now.options.now _ _ c.in_err-election.field-0.0 _ c.from_residual.ensures.1 (c.in_err-election.ensures.accepts none)
 
 pub returns-in_err-election-clause-file : goal.returns-in_err-election-clause-file
 returns-in_err-election-clause-file g c = judged_as _ c.in_err-election.field-0.0 _ c.from_residual.ensures.1 c.in_err-election.ensures.file
