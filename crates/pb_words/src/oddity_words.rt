@@ -126,10 +126,7 @@ pub(crate) fn put_oddities<R: Files>(
         }
         let more = oddities.more(oddity);
         if more > 0 {
-            out.fill(
-                "{}: {} more.\n",
-                &[Own(oddity.name()), Number(more)],
-            );
+            out.fill("{}: {} more.\n", &[Own(oddity.name()), Number(more)]);
         }
     }
 }
