@@ -1,11 +1,11 @@
 //! The command `audit`: the report of a journal, alone, of a shut desk, or with the digests of what was read.
 
 use crate::counted::CountedReader;
+use crate::perform::Notes;
 use pb_command_line::AuditRun;
 use pb_commands::run_audit::run_audit_watched;
 use pb_commands::{AppFault, Counting, write_out};
 use pb_streams::{Digested, Hex, Progress, open_both_shown};
-use pb_words::Tally;
 use sha2::{Digest, Sha256};
 use std::alloc::Global;
 use std::io::Write;
@@ -25,19 +25,19 @@ pub(crate) fn audit<R, W: Write>(
     counting: &Counting<'_, R, Progress<'_, R>>,
     asked: &AuditRun<'_>,
     writer: &mut W,
-    tally: &mut Tally,
+    notes: &mut Notes,
 ) -> Result<(), AppFault>
 where
     R: Files + Input + Eprint + Clock + Threads + Sync,
 {
     if !asked.requires_shut && !asked.digests {
-        return audit_plain(counting, asked, writer, tally);
+        return audit_plain(counting, asked, writer, notes);
     }
     let mut report = Vec::new(counting.alloc);
     let audited = if asked.digests {
-        audit_digested(counting, asked, &mut report, tally)
+        audit_digested(counting, asked, &mut report, notes)
     } else {
-        match audit_plain(counting, asked, &mut report, tally) {
+        match audit_plain(counting, asked, &mut report, notes) {
             Ok(()) => Ok(None),
             Err(fault) => Err(fault),
         }
@@ -59,14 +59,14 @@ fn audit_plain<R, W: Write>(
     counting: &Counting<'_, R, Progress<'_, R>>,
     asked: &AuditRun<'_>,
     writer: &mut W,
-    tally: &mut Tally,
+    notes: &mut Notes,
 ) -> Result<(), AppFault>
 where
     R: Files + Input + Eprint + Clock + Threads + Sync,
 {
     let (file, journal) = open_both_shown(counting.gate, &asked.file, &asked.journal)?;
-    let journal = CountedReader::new(journal, tally);
-    run_audit_watched(counting, file, journal, writer)
+    let journal = CountedReader::new(journal, &mut notes.audited);
+    run_audit_watched(counting, file, journal, &mut notes.seen, writer)
 }
 
 /// Audits a journal on a .pb file; answers the digests of both.
@@ -74,7 +74,7 @@ fn audit_digested<R>(
     counting: &Counting<'_, R, Progress<'_, R>>,
     asked: &AuditRun<'_>,
     report: &mut Vec<u8>,
-    tally: &mut Tally,
+    notes: &mut Notes,
 ) -> Result<Option<Digests>, AppFault>
 where
     R: Files + Input + Eprint + Clock + Threads + Sync,
@@ -83,8 +83,11 @@ where
     let mut of_file = Sha256::new();
     let mut of_journal = Sha256::new();
     let file = Digested::new(file, &mut of_file);
-    let journal = Digested::new(CountedReader::new(journal, tally), &mut of_journal);
-    let audited = run_audit_watched(counting, file, journal, report);
+    let journal = Digested::new(
+        CountedReader::new(journal, &mut notes.audited),
+        &mut of_journal,
+    );
+    let audited = run_audit_watched(counting, file, journal, &mut notes.seen, report);
     let digests = Digests {
         file: Hex::of(of_file),
         journal: Hex::of(of_journal),

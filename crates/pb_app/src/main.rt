@@ -17,6 +17,7 @@ use pb_read::ReadFault;
 use pb_serving::ServingFault;
 use pb_streams::{Output, Progress};
 use pb_words::Tally;
+use pb_words::warnings::{ResultWarnings, Warnings};
 use std::fs::File;
 use std::io::{IsTerminal, Write};
 use std::process::ExitCode;
@@ -98,6 +99,8 @@ where
         written: Tally::new(),
         audited: Tally::new(),
         faults: Vec::new(rt.alloc()),
+        checked: Warnings::new(rt.alloc()),
+        seen: ResultWarnings::new(rt.alloc(), asked.is_strict),
     };
     let progress = Progress::new(rt, asked.shows.unwrap_or(shows));
     let result = perform(rt, asked, &mut output, &mut notes, &progress);
@@ -107,6 +110,7 @@ where
         Ok(()) => {
             words::say_tally(rt, &asked.task, &notes.written, &notes.audited);
             words::say_faults(rt, &asked.task, notes.faults.as_slice());
+            words::say_warnings(rt, &asked.task, &notes.checked, &notes.seen);
             status_of(notes.faults.as_slice())
         }
         Err(refusal) => {
@@ -115,6 +119,7 @@ where
             }
             let status = write_line(rt, &refusal);
             words::say_refusal(rt, asked, &refusal, output.failure.as_ref(), &notes.audited);
+            words::say_warnings(rt, &asked.task, &notes.checked, &notes.seen);
             status
         }
     };

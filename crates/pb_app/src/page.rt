@@ -6,14 +6,14 @@ ghost use Rattle.pb_commands.specs.Ends.{HasWritten};
 ghost use Rattle.pb_page.specs.Page.{IsPage};
 
 use pb_command_line::{Ballots, Source as Given};
-use pb_commands::{AppFault, Counting, closed_ballots, write_out};
+use pb_commands::{AppFault, Counting, closed_ballots, own_ballots, write_out};
 use pb_core::election::Election;
 use pb_core::gate::Gate;
 use pb_page::{Facts, Source, page_of};
-use pb_read::read_pb;
 use pb_rounds::count::count_watched;
 use pb_rounds::count_fault::CountFault;
 use pb_streams::{Digested, Hex, Progress, open_both_shown, open_shown};
+use pb_words::warnings::ResultWarnings;
 use sha2::{Digest, Sha256};
 use std::alloc::Global;
 use std::io::{Read, Write};
@@ -39,15 +39,20 @@ pub(crate) fn page<'a, R, W: Write>(
     ballots: &Ballots<'a>,
     title: &'a str,
     writer: &mut W,
+    seen: &mut ResultWarnings,
 ) -> Result<(), AppFault>
 where
     R: Files + Input + Eprint + Clock + Threads + Sync,
 {
     let read = match &ballots.journal {
-        None => read_file(counting.alloc, open_shown(counting.gate, &ballots.file)?),
+        None => read_file(
+            counting.alloc,
+            open_shown(counting.gate, &ballots.file)?,
+            seen,
+        ),
         Some(journal) => {
             let (file, journal) = open_both_shown(counting.gate, &ballots.file, journal)?;
-            read_both(counting.alloc, file, journal)
+            read_both(counting.alloc, file, journal, seen)
         }
     }?;
     let written = write_page(counting, &read, ballots, title, writer);
@@ -56,9 +61,13 @@ where
 }
 
 /// Reads the file's own ballots.
-fn read_file<P: Read + Drop>(alloc: Global, file: P) -> Result<Contents, AppFault> {
+fn read_file<P: Read + Drop>(
+    alloc: Global,
+    file: P,
+    seen: &mut ResultWarnings,
+) -> Result<Contents, AppFault> {
     let mut of_file = Sha256::new();
-    let election = read_pb(alloc, Digested::new(file, &mut of_file));
+    let election = own_ballots(alloc, Digested::new(file, &mut of_file), seen);
     let file = Hex::of(of_file);
     Ok(Contents {
         election: election?,
@@ -72,12 +81,13 @@ fn read_both<P: Read + Drop, J: Read + Drop>(
     alloc: Global,
     file: P,
     journal: J,
+    seen: &mut ResultWarnings,
 ) -> Result<Contents, AppFault> {
     let mut of_file = Sha256::new();
     let mut of_journal = Sha256::new();
     let file = Digested::new(file, &mut of_file);
     let journal = Digested::new(journal, &mut of_journal);
-    let election = closed_ballots(alloc, file, journal);
+    let election = closed_ballots(alloc, file, journal, seen);
     let file = Hex::of(of_file);
     let journal = Some(Hex::of(of_journal));
     Ok(Contents {

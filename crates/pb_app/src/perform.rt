@@ -15,7 +15,7 @@ use pb_core::gate::NoGate;
 use pb_read::ReadFault;
 use pb_streams::{Output, Progress, Shown, open_both, open_both_shown, open_shown};
 use pb_words::Tally;
-use pb_words::warnings::Warnings;
+use pb_words::warnings::{ResultWarnings, Warnings};
 use std::fs::File;
 use std::io::{Error, Write};
 use std::mem;
@@ -60,6 +60,10 @@ pub(crate) struct Notes {
     pub(crate) audited: Tally,
     /// The faults of a file that was checked.
     pub(crate) faults: Vec<ReadFault>,
+    /// The warnings of that file.
+    pub(crate) checked: Warnings,
+    /// What can change the result of a file that is counted.
+    pub(crate) seen: ResultWarnings,
 }
 
 /// Does what the arguments ask for, and writes the result to its place. Files are opened, in their order, before any
@@ -107,14 +111,18 @@ where
     R: Files<File = File> + Input + Eprint + Clock + AllocGlobal + Threads + Sync,
 {
     let done = match task {
-        Task::Count(source, _) => count(counting, source, writer),
-        Task::Projects(ballots, _) => tell(counting, ballots, Table::Projects, writer),
-        Task::Voters(ballots, _) => tell(counting, ballots, Table::Voters, writer),
-        Task::Page(ballots, _, title) => page(counting, ballots, title, writer),
-        Task::Export(ballots, _) => export(counting, ballots, writer),
-        Task::Check(source) => check(counting, source, writer, &mut notes.faults),
+        Task::Count(source, _) => count(counting, source, writer, &mut notes.seen),
+        Task::Projects(ballots, _) => {
+            tell(counting, ballots, Table::Projects, writer, &mut notes.seen)
+        }
+        Task::Voters(ballots, _) => {
+            tell(counting, ballots, Table::Voters, writer, &mut notes.seen)
+        }
+        Task::Page(ballots, _, title) => page(counting, ballots, title, writer, &mut notes.seen),
+        Task::Export(ballots, _) => export(counting, ballots, writer, &mut notes.seen),
+        Task::Check(source) => check(counting, source, writer, notes),
         Task::Desk(asked) => desk(counting, asked, writer, &mut notes.written),
-        Task::Audit(asked) => audit(counting, asked, writer, &mut notes.audited),
+        Task::Audit(asked) => audit(counting, asked, writer, notes),
         Task::Serve(file, journal) => {
             return serve(counting.rt, file, journal, writer, &mut notes.written);
         }
@@ -127,12 +135,13 @@ fn count<R, W: Write>(
     counting: &Counting<'_, R, Progress<'_, R>>,
     source: &Source<'_>,
     writer: &mut W,
+    seen: &mut ResultWarnings,
 ) -> Result<(), AppFault>
 where
     R: Files + Input + Eprint + Clock + Threads + Sync,
 {
     let file = open_shown(counting.gate, source)?;
-    run_count_watched(counting, file, writer)
+    run_count_watched(counting, file, seen, writer)
 }
 
 /// Counts these ballots, and writes this table of the outcome.
@@ -141,16 +150,17 @@ fn tell<R, W: Write>(
     ballots: &Ballots<'_>,
     table: Table,
     writer: &mut W,
+    seen: &mut ResultWarnings,
 ) -> Result<(), AppFault>
 where
     R: Files + Input + Eprint + Clock + Threads + Sync,
 {
     let Some(journal) = &ballots.journal else {
         let file = open_shown(counting.gate, &ballots.file)?;
-        return run_table(counting, file, writer, table);
+        return run_table(counting, file, seen, writer, table);
     };
     let (file, journal) = open_both_shown(counting.gate, &ballots.file, journal)?;
-    run_closed_table(counting, file, journal, writer, table)
+    run_closed_table(counting, file, journal, seen, writer, table)
 }
 
 /// Counts these ballots, and writes their .pb file with what the count came to.
@@ -158,34 +168,33 @@ fn export<R, W: Write>(
     counting: &Counting<'_, R, Progress<'_, R>>,
     ballots: &Ballots<'_>,
     writer: &mut W,
+    seen: &mut ResultWarnings,
 ) -> Result<(), AppFault>
 where
     R: Files + Input + Eprint + Clock + Threads + Sync,
 {
     let Some(journal) = &ballots.journal else {
         let file = open_shown(counting.gate, &ballots.file)?;
-        return run_export(counting, file, writer);
+        return run_export(counting, file, seen, writer);
     };
     let (file, journal) = open_both(counting.rt, &ballots.file, journal)?;
     let file = Shown::new(file, counting.gate);
-    run_closed_export(counting, file, journal, writer)
+    run_closed_export(counting, file, journal, seen, writer)
 }
 
-/// Checks a .pb file, and keeps its faults.
+/// Checks a .pb file, and keeps its faults and warnings.
 fn check<R, W: Write>(
     counting: &Counting<'_, R, Progress<'_, R>>,
     source: &Source<'_>,
     writer: &mut W,
-    faults: &mut Vec<ReadFault>,
+    notes: &mut Notes,
 ) -> Result<(), AppFault>
 where
     R: Files + Input + Eprint + Clock,
 {
     let file = open_shown(counting.gate, source)?;
-    let mut warnings = Warnings::new(counting.alloc);
-    let checked = run_check(counting.alloc, file, writer, &mut warnings);
-    drop(warnings);
-    drop(mem::replace(faults, checked?));
+    let faults = run_check(counting.alloc, file, writer, &mut notes.checked)?;
+    drop(mem::replace(&mut notes.faults, faults));
     Ok(())
 }
 

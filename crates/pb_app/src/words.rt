@@ -15,6 +15,7 @@ use pb_words::serve_words::{
     bad_rows_words, locked_words, lost_words, moved_words, spelling_words, torn_words,
     unanswered_words, unkept_words, unopened_words,
 };
+use pb_words::warnings::{ResultWarnings, Warnings};
 use pb_words::{AuditPaths, Tally, mistaken_words, open_words, write_words};
 use std::alloc::{AllocError, Global};
 use std::fs;
@@ -36,6 +37,9 @@ const SECTION_WORD: &str =
 const COMMA_IN_ID: &str =
     "A ballot approves a project whose id has a comma, and a file's vote has commas between ids.\nGive that project another id.\n";
 
+/// What is said of a file that a warning refuses.
+const STRICT: &str = "The file is accepted, and `--strict` refuses it for its first warning:\n";
+
 /// How the program is used.
 const USAGE: &str = "pb_app counts a participatory budgeting election: pb_app count FILE
 Without a command it counts standard input, which is a terminal here.
@@ -55,6 +59,7 @@ pub(crate) fn say_refusal<R: Files + Eprint + AllocGlobal>(
         Refusal::Fault(AppFault::Export(ExportFault::SectionWord)) => say(rt, SECTION_WORD),
         Refusal::Fault(AppFault::Export(_)) => say(rt, COMMA_IN_ID),
         Refusal::Fault(AppFault::Memory) => say(rt, NO_MEMORY),
+        Refusal::Fault(AppFault::Warned(_)) => say(rt, STRICT),
         Refusal::Fault(fault) => say_words(rt, words_of(rt, asked, fault, failure, audited)),
         Refusal::Unanswered => say_words(rt, unanswered_words(rt.alloc(), failure)),
         _ => say_words(rt, words_of_serve(rt.alloc(), &asked.task, refusal)),
@@ -118,7 +123,9 @@ fn words_of<R: Files + AllocGlobal>(
         AppFault::Open(1) => open_words(rt, alloc, first.unwrap_or("-")),
         AppFault::Open(_) => open_words(rt, alloc, second.unwrap_or("-")),
         AppFault::Write => write_words(alloc, asked.output, failure),
-        AppFault::OpenDesk | AppFault::Export(_) | AppFault::Memory => Err(AllocError),
+        AppFault::OpenDesk | AppFault::Export(_) | AppFault::Memory | AppFault::Warned(_) => {
+            Err(AllocError)
+        }
     }
 }
 
@@ -146,6 +153,21 @@ pub(crate) fn say_faults<R: Files + Eprint + AllocGlobal>(
     if !faults.is_empty() {
         let (file, _) = task.paths();
         say_words(rt, list_words(rt, rt.alloc(), file, faults));
+    }
+}
+
+/// Says what in a file that was read is probably not meant.
+pub(crate) fn say_warnings<R: Files + Eprint + AllocGlobal>(
+    rt: &R,
+    task: &Task<'_>,
+    checked: &Warnings,
+    seen: &ResultWarnings,
+) {
+    let (file, _) = task.paths();
+    match task {
+        Task::Check(_) => say_words(rt, checked.words(rt, file)),
+        Task::Desk(..) | Task::Serve(..) => {}
+        _ => say_words(rt, seen.words(rt, file)),
     }
 }
 

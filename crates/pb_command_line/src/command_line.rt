@@ -191,6 +191,13 @@ const REQUIRE_SHUT: Argument = Argument {
     help: "Refuses a desk that is still open",
 };
 
+/// Whether a warning refuses the file.
+const STRICT: Argument = Argument {
+    name: "strict",
+    takes: Takes::Nothing,
+    help: "Refuses a file with a warning that can change the result, as check lists them",
+};
+
 /// Whether it is not shown how far the work has come.
 const QUIET: Argument = Argument {
     name: "quiet",
@@ -228,28 +235,30 @@ const COMMANDS: &[CommandForm] = &[
         name: "count",
         about: "Counts a .pb file, and prints the report",
         arguments: &[
-            ELECTION, WORKERS, STEP, RAISES, PLAIN, MEASURE, OUTPUT, QUIET, PROGRESS,
+            ELECTION, WORKERS, STEP, RAISES, PLAIN, MEASURE, STRICT, OUTPUT, QUIET, PROGRESS,
         ],
     },
     CommandForm {
         name: "projects",
         about: "Counts a .pb file, and prints who won and why, and who lost and by how much",
         arguments: &[
-            ELECTION, LEFT_BY, WORKERS, STEP, RAISES, PLAIN, MEASURE, OUTPUT, QUIET, PROGRESS,
+            ELECTION, LEFT_BY, WORKERS, STEP, RAISES, PLAIN, MEASURE, STRICT, OUTPUT, QUIET,
+            PROGRESS,
         ],
     },
     CommandForm {
         name: "voters",
         about: "Counts a .pb file, and prints what each voter paid, and for what",
         arguments: &[
-            ELECTION, LEFT_BY, WORKERS, STEP, RAISES, PLAIN, MEASURE, OUTPUT, QUIET, PROGRESS,
+            ELECTION, LEFT_BY, WORKERS, STEP, RAISES, PLAIN, MEASURE, STRICT, OUTPUT, QUIET,
+            PROGRESS,
         ],
     },
     CommandForm {
         name: "page",
         about: "Counts a .pb file, and prints the result as a web page that people look at",
         arguments: &[
-            ELECTION, LEFT_BY, TITLE, WORKERS, STEP, RAISES, PLAIN, MEASURE, OUTPUT, QUIET,
+            ELECTION, LEFT_BY, TITLE, WORKERS, STEP, RAISES, PLAIN, MEASURE, STRICT, OUTPUT, QUIET,
             PROGRESS,
         ],
     },
@@ -257,7 +266,8 @@ const COMMANDS: &[CommandForm] = &[
         name: "export",
         about: "Counts a .pb file, and prints the ballots with the result as a .pb file, which counts the same",
         arguments: &[
-            ELECTION, LEFT_BY, WORKERS, STEP, RAISES, PLAIN, MEASURE, OUTPUT, QUIET, PROGRESS,
+            ELECTION, LEFT_BY, WORKERS, STEP, RAISES, PLAIN, MEASURE, STRICT, OUTPUT, QUIET,
+            PROGRESS,
         ],
     },
     CommandForm {
@@ -283,6 +293,7 @@ const COMMANDS: &[CommandForm] = &[
             MEASURE,
             REQUIRE_SHUT,
             DIGESTS,
+            STRICT,
             OUTPUT,
             QUIET,
             PROGRESS,
@@ -395,11 +406,13 @@ pub(crate) fn asked_by<'a>(matches: &ArgMatches<'a>) -> Asked<'a> {
             task: task_of(name, given),
             output: given.get_str("output"),
             shows: shows_by(given),
+            is_strict: given.get_flag("strict"),
         },
         None => Asked {
             task: Task::Count(Source::Input, CountOptions::standard()),
             output: None,
             shows: None,
+            is_strict: false,
         },
     }
 }

@@ -126,4 +126,6 @@ pub struct Asked<'a> {
     pub output: Option<&'a str>,
     /// Whether it is shown how far the work has come; none is where standard error is a terminal.
     pub shows: Option<bool>,
+    /// A warning refuses the .pb file of a count.
+    pub is_strict: bool,
 }

@@ -28,7 +28,7 @@ use Rattle.pb_commands.specs.Report.{report_of}
 use Rattle.pb_script.specs.declared.script_fault.ScriptFault.{ScriptFault}
 use Rattle.pb_script.specs.declared.script_fault.ScriptFault.TheVariants as script
 use Rattle.pb_faults.specs.declared.fault.AppFault.{AppFault}
-use Rattle.pb_faults.specs.declared.fault.AppFault.TheVariants.{Read, Script, ClerkCount, Audit, OpenDesk, Count, Export, Open, Write, Memory}
+use Rattle.pb_faults.specs.declared.fault.AppFault.TheVariants.{Read, Script, ClerkCount, Audit, OpenDesk, Count, Export, Open, Write, Memory, Warned}
 
 pub read_from_outside : (kind : ReadKind) (at : ℕ) → IsFromOutside kind → IsOutsideFault (merged (Read (record { kind = kind; at = at })))
 read_from_outside kind at (inl is) = rw is refl
@@ -71,6 +71,7 @@ merged_again OpenDesk = refl
 merged_again (Open number) = refl
 merged_again Write = refl
 merged_again Memory = refl
+merged_again (Warned warning) = refl
 
 pub stays_merged : {T : Type 0} (fault : AppFault) (r : Result T AppFault) → IsErrAnd r (λ app. app ≡ merged fault) → IfErr r (λ app. merged app ≡ app)
 stays_merged fault r is = given_fault (λ app. merged app ≡ app) r (merged fault) is (merged_again fault)

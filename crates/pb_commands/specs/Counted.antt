@@ -1,5 +1,5 @@
 -- What a run of `count` writes, and what refuses it.
-use Rattle.std.specs.Prelude.{◌≡◌, ℕ, List}
+use Rattle.std.specs.Prelude.{◌≡◌, ℕ, ⊤, List}
 use Rattle.pb_core.specs.Election.{ElectionView}
 use Rattle.pb_read.specs.StandsFor.{StandsFor}
 use Rattle.pb_rounds.specs.Counted.{IsCountFault, IsCountOf}
@@ -8,7 +8,7 @@ use Rattle.pb_rounds.specs.declared.options.CountOptions.{CountOptions}
 use Rattle.pb_rows.specs.Reading.{records_of}
 use Rattle.pb_commands.specs.Report.{report_of}
 use Rattle.pb_faults.specs.declared.fault.AppFault.{AppFault}
-use Rattle.pb_faults.specs.declared.fault.AppFault.TheVariants.{Count}
+use Rattle.pb_faults.specs.declared.fault.AppFault.TheVariants.{Count, Warned}
 
 -- the text is the report of the election, counted with these options
 abbrev pub IsReportOf : ElectionView → CountOptions → List ℕ → Type 0
@@ -19,7 +19,8 @@ abbrev pub CountWrites : List ℕ → CountOptions → List ℕ → Type 0
 CountWrites bytes options text =
     (e : ElectionView) × StandsFor (records_of bytes) e × IsReportOf e options text
 
--- what refuses an election in a run of `count`
+-- what refuses an election in a run of `count`: its count does, or a warning, of which `Heeds` says when
 abbrev pub CountRefuses : CountOptions → ElectionView → AppFault → Type 0
 CountRefuses options e (Count fault) = IsCountFault e options fault
+CountRefuses options e (Warned warning) = ⊤
 CountRefuses options e fault = ⊥

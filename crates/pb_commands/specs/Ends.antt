@@ -1,13 +1,14 @@
 -- How a run of a command ends.
-use Rattle.std.specs.Prelude.{◌≡◌, ℕ, ⊤, List, IfErr, IfSome, Option, Result, Err}
+use Rattle.std.specs.Prelude.{◌≡◌, ℕ, ⊤, List, IfErr, IfSome, Option, Some, None, Result, Err}
 use Rattle.std.specs.Io.KnownBytes.{Appends}
 use Rattle.pb_core.specs.Election.{ElectionView}
 use Rattle.pb_read.specs.FirstFault.{IsFaultAt}
 use Rattle.pb_read.specs.StandsFor.{StandsFor}
+use Rattle.pb_read.specs.declared.warning.Warning.{Warning}
 use Rattle.pb_rows.specs.Reading.{records_of}
 use Rattle.pb_faults.specs.Fault.{told}
 use Rattle.pb_faults.specs.declared.fault.AppFault.{AppFault}
-use Rattle.pb_faults.specs.declared.fault.AppFault.TheVariants.{Read, Open, Write, Memory}
+use Rattle.pb_faults.specs.declared.fault.AppFault.TheVariants.{Read, Open, Write, Memory, Warned}
 
 -- where the bytes of both readers are known, they are so
 abbrev pub IfBothKnown : Option (List ℕ) → Option (List ℕ) → (List ℕ → List ℕ → Type 0) → Type 0
@@ -40,3 +41,11 @@ JudgesFile bytes (Err (Read fault)) = IsFaultAt (records_of bytes) fault.kind fa
 JudgesFile bytes (Err (Open number)) = ⊥
 JudgesFile bytes (Err Memory) = ⊤
 JudgesFile bytes result = (e : ElectionView) × StandsFor (records_of bytes) e
+
+-- the warning for which who looked on refuses the file, if there is one: it is the answer once the file has no fault, and
+-- any other end, out of memory aside, says that there is none
+abbrev pub Heeds : {T : Type 0} → Option Warning → Result T AppFault → Type 0
+Heeds warning (Err (Warned other)) = warning ≡ Some other
+Heeds warning (Err (Read fault)) = ⊤
+Heeds warning (Err Memory) = ⊤
+Heeds warning result = warning ≡ None

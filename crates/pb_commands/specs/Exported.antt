@@ -1,5 +1,5 @@
 -- What a run of `export` writes, and what refuses it.
-use Rattle.std.specs.Prelude.{◌≡◌, ◌++◌, ℕ, Bool, List, codes, decimal, length, map}
+use Rattle.std.specs.Prelude.{◌≡◌, ◌++◌, ℕ, ⊤, Bool, List, codes, decimal, length, map}
 use Rattle.std.specs.List.{range_with_len}
 use Rattle.pb_core.specs.Election.{ElectionView}
 use Rattle.pb_core.specs.MoneyText.{money_text}
@@ -19,7 +19,7 @@ use Rattle.pb_rows.specs.Reading.{records_of}
 use Rattle.pb_rows.specs.Writing.{text_of_rows}
 use Rattle.pb_commands.specs.Closed.{ClosedRefuses, Leaves}
 use Rattle.pb_faults.specs.declared.fault.AppFault.{AppFault}
-use Rattle.pb_faults.specs.declared.fault.AppFault.TheVariants.{Count, Export}
+use Rattle.pb_faults.specs.declared.fault.AppFault.TheVariants.{Count, Export, Warned}
 
 -- the measure and the completion of a count, in words
 abbrev pub measure_text : Measure → List ℕ
@@ -60,6 +60,7 @@ ExportWrites options IsSuch text = (e : ElectionView) × IsSuch e × IsExportOf 
 abbrev pub ExportRefuses : CountOptions → ElectionView → AppFault → Type 0
 ExportRefuses options e (Count fault) = IsCountFault e options fault
 ExportRefuses options e (Export fault) = ((o : OutcomeView) × IsCountOf e options o) × IsExportFault e fault
+ExportRefuses options e (Warned warning) = ⊤
 ExportRefuses options e fault = ⊥
 
 -- the same where the ballots are those of a journal

@@ -20,7 +20,7 @@ pub mod table;
 pub mod table_laws;
 mod voters_table;
 
-pub use closed_desk::closed_ballots;
+pub use closed_desk::{closed_ballots, own_ballots};
 pub use counting::Counting;
 pub use pb_faults::{AppFault, BAD_ARGUMENTS, write_out};
 pub use table::Table;

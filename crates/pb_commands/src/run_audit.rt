@@ -1,11 +1,11 @@
 //! The command `audit`: what a journal says of a file.
 
-ghost use Rattle.std.specs.Prelude.{◌≡◌, ◌≢◌, ◌++◌, ℕ, List, IfErr, IfOk, IfSome, OnOk, true};
+ghost use Rattle.std.specs.Prelude.{◌≡◌, ◌≢◌, ◌++◌, ℕ, List, IfErr, IfOk, IfSome, OnOk, None, true};
 ghost use Rattle.pb_desk.specs.Desk.{closed_election, standing_of};
 ghost use Rattle.pb_commands.specs.Audited.{AuditRefuses, AuditWrites, IsTextOf};
 ghost use Rattle.pb_commands.specs.Inner.Audited.{IsRefusedDesk};
 ghost use Rattle.pb_commands.specs.Counted.{IsReportOf};
-ghost use Rattle.pb_commands.specs.Ends.{Accepts, FailsBy, HasWritten, IfBothKnown, JudgesFile};
+ghost use Rattle.pb_commands.specs.Ends.{Accepts, FailsBy, HasWritten, Heeds, IfBothKnown, JudgesFile};
 ghost use Rattle.pb_faults.specs.Fault.{merged};
 
 use crate::counting::Counting;
@@ -13,7 +13,7 @@ use crate::run_count::{finished, put_count};
 use pb_core::gate::{Gate, NoGate};
 use pb_desk::{Desk, audit};
 use pb_faults::{AppFault, put_entries, write_out};
-use pb_read::read_pb;
+use pb_read::{Heed, NoWatch, read_pb_watched};
 use pb_rounds::count_fault::CountFault;
 use pb_rounds::options::CountOptions;
 use pb_rows::RowsWriter;
@@ -57,6 +57,9 @@ pub fn run_audit<T: Threads + Sync, P: Read + Drop, J: Read + Drop, W: Write>(
 
     // Out of memory is one fault.
     ensures merged { IfErr result (λ fault. merged fault ≡ fault) }
+
+    // No warning refuses the file.
+    ensures heeds { Heeds None result }
 {
     let counting = Counting {
         rt,
@@ -64,14 +67,23 @@ pub fn run_audit<T: Threads + Sync, P: Read + Drop, J: Read + Drop, W: Write>(
         gate: &NoGate,
         options,
     };
-    run_audit_watched(&counting, file, journal, writer)
+    run_audit_watched(&counting, file, journal, &mut NoWatch, writer)
 }
 
-/// The same, and the gate is told of raises before they are tried.
-pub fn run_audit_watched<T: Threads + Sync, P: Read + Drop, J: Read + Drop, G: Gate, W: Write>(
+/// The same, and the gate is told of raises before they are tried. Who looks on while the file is read may refuse it for a
+/// warning, before the journal is judged.
+pub fn run_audit_watched<
+    T: Threads + Sync,
+    P: Read + Drop,
+    J: Read + Drop,
+    G: Gate,
+    H: Heed,
+    W: Write,
+>(
     counting: &Counting<T, G>,
     file: P,
     journal: J,
+    watch: &mut H,
     writer: &mut W,
 ) -> Result<(), AppFault>
     // Where the bytes of both readers are known, they alone and the options decide what is written,
@@ -84,8 +96,9 @@ pub fn run_audit_watched<T: Threads + Sync, P: Read + Drop, J: Read + Drop, G: G
         FailsBy (AuditRefuses bytes rows counting.now.options.now)
         (AuditWrites bytes rows counting.now.options.now) bytes fault)) }
 
-    // A file and a journal that have a text get it, unless a device fails or memory is refused.
-    ensures accepts { IfBothKnown (P.remaining file) (J.remaining journal) (λ bytes rows.
+    // A file and a journal that have a text get it, unless a device fails or memory is refused, or a warning refuses the file.
+    ensures accepts { H.refused_for watch.new ≡ None →
+        IfBothKnown (P.remaining file) (J.remaining journal) (λ bytes rows.
         Accepts (AuditWrites bytes rows counting.now.options.now) result) }
 
     // The file is judged first, whatever is known of the journal.
@@ -96,8 +109,15 @@ pub fn run_audit_watched<T: Threads + Sync, P: Read + Drop, J: Read + Drop, G: G
 
     // Out of memory is one fault.
     ensures merged { IfErr result (λ fault. merged fault ≡ fault) }
+
+    // The warning for which the file is refused; it comes before each fault of the journal.
+    ensures heeds { Heeds (H.refused_for watch.new) result }
 {
-    let election = read_pb(counting.alloc, file)?;
+    let election = read_pb_watched(counting.alloc, file, watch)?;
+    if let Some(warning) = watch.refusal() {
+        drop(election);
+        return Err(AppFault::Warned(warning));
+    }
     let desk = audit(counting.alloc, election, ROOM, journal)?;
     let text = desk_text(counting, desk)?;
     write_out(writer, text.as_slice(), AppFault::Write)

@@ -11,7 +11,7 @@ ghost use Rattle.pb_commands.specs.Ends.{HasWritten, IsOutsideFault};
 use itoa::Buffer;
 use pb_core::no_memory::NoMemory;
 use pb_faults::{AppFault, write_out};
-use pb_read::{ReadFault, Warning, Watch, list_faults};
+use pb_read::{ReadFault, Warn, WarningRow, list_faults};
 use pb_rows::RowsWriter;
 use std::alloc::Global;
 use std::io::{Read, Write};
@@ -21,7 +21,7 @@ use std::io::{Read, Write};
 /// The rows of faults are `fault;read;NUMBER;NAME;RECORD`, as `list_faults` lists them: the first is that of
 /// `read_pb`, and there is none where `read_pb` accepts the file. They are answered too. All other rows begin
 /// with `warning`. It fails only where memory is refused or the writer fails.
-pub fn run_check<R: Read + Drop, W: Write, N: Watch>(
+pub fn run_check<R: Read + Drop, W: Write, N: Warn>(
     alloc: Global,
     reader: R,
     writer: &mut W,
@@ -48,7 +48,7 @@ pub fn run_check<R: Read + Drop, W: Write, N: Watch>(
 }
 
 /// Writes the rows of these faults, and of the warnings.
-fn put_out<W: Write, N: Watch>(
+fn put_out<W: Write, N: Warn>(
     alloc: Global,
     writer: &mut W,
     faults: &[ReadFault],
@@ -63,7 +63,7 @@ fn put_out<W: Write, N: Watch>(
 }
 
 /// The text of the rows of these faults, and of the warnings.
-fn check_text<N: Watch>(
+fn check_text<N: Warn>(
     alloc: Global,
     faults: &[ReadFault],
     notes: &mut N,
@@ -91,7 +91,7 @@ fn whole(rows: RowsWriter) -> Result<Vec<u8>, NoMemory>
 }
 
 /// Puts the rows of faults and of warnings after those that stand there.
-fn put_check<N: Watch>(
+fn put_check<N: Warn>(
     rows: &mut RowsWriter,
     faults: &[ReadFault],
     notes: &mut N,
@@ -100,7 +100,7 @@ fn put_check<N: Watch>(
         × IsTextOfCheck faults.now text × (rows.new.text ≡ rows.old.text ++ text)) }
 {
     put_faults(rows, faults)?;
-    let warnings = notes.warnings(faults)?;
+    let warnings = notes.warnings()?;
     let put = put_warnings(rows, warnings.as_slice());
     drop(warnings);
     put
@@ -134,7 +134,7 @@ fn put_fault(rows: &mut RowsWriter, fault: &ReadFault) -> Result<(), NoMemory>
 }
 
 /// Puts a row for each warning.
-fn put_warnings(rows: &mut RowsWriter, warnings: &[Warning]) -> Result<(), NoMemory>
+fn put_warnings(rows: &mut RowsWriter, warnings: &[WarningRow]) -> Result<(), NoMemory>
     ensures { OnOk result (rows.new.text ≡ rows.old.text ++ text_of_rows (map warning_row warnings.now)) }
 {
     for warning in warnings {
@@ -144,15 +144,19 @@ fn put_warnings(rows: &mut RowsWriter, warnings: &[Warning]) -> Result<(), NoMem
 }
 
 /// Puts the row of a warning.
-fn put_warning(rows: &mut RowsWriter, warning: &Warning) -> Result<(), NoMemory>
+fn put_warning(rows: &mut RowsWriter, warning: &WarningRow) -> Result<(), NoMemory>
     ensures { OnOk result (rows.new.text ≡ rows.old.text ++ text_of_row (warning_row warning.now)) }
 {
     let mut digits = Buffer::new();
-    let number = digits.format(warning.number);
-    if warning.is_more {
-        rows.put_row(&["warning", "MoreOf", warning.name, number])?;
-    } else {
-        rows.put_row(&["warning", warning.name, number])?;
+    match warning {
+        WarningRow::Of(warning) => {
+            let number = digits.format(warning.at);
+            rows.put_row(&["warning", warning.oddity.name(), number])?;
+        }
+        WarningRow::MoreOf(oddity, more) => {
+            let number = digits.format(*more);
+            rows.put_row(&["warning", "MoreOf", oddity.name(), number])?;
+        }
     }
     Ok(())
 }

@@ -1,10 +1,10 @@
 //! The command `count`: a file's report.
 
-ghost use Rattle.std.specs.Prelude.{◌≡◌, ◌≢◌, ◌++◌, ℕ, List, IfErr, IfOk, IfSome, OnOk};
+ghost use Rattle.std.specs.Prelude.{◌≡◌, ◌≢◌, ◌++◌, ℕ, List, IfErr, IfOk, IfSome, OnOk, None};
 ghost use Rattle.pb_rounds.specs.Counted.{IsCountFault};
 ghost use Rattle.pb_rounds.specs.declared.count_fault.CountFault.TheVariants as count;
 ghost use Rattle.pb_commands.specs.Counted.{CountRefuses, CountWrites, IsReportOf};
-ghost use Rattle.pb_commands.specs.Ends.{Accepts, FailsBy, HasWritten};
+ghost use Rattle.pb_commands.specs.Ends.{Accepts, FailsBy, HasWritten, Heeds};
 ghost use Rattle.pb_faults.specs.Fault.{merged};
 
 use crate::counting::Counting;
@@ -12,7 +12,7 @@ use crate::report::put_report;
 use pb_core::election::Election;
 use pb_core::gate::{Gate, NoGate};
 use pb_faults::{AppFault, write_out};
-use pb_read::read_pb;
+use pb_read::{Heed, NoWatch, read_pb_watched};
 use pb_rounds::count::count_watched;
 use pb_rounds::count_fault::CountFault;
 use pb_rounds::options::CountOptions;
@@ -49,6 +49,9 @@ pub fn run_count<T: Threads + Sync, R: Read + Drop, W: Write>(
 
     // Out of memory is one fault.
     ensures merged { IfErr result (λ fault. merged fault ≡ fault) }
+
+    // No warning refuses the file.
+    ensures heeds { Heeds None result }
 {
     let counting = Counting {
         rt,
@@ -56,13 +59,15 @@ pub fn run_count<T: Threads + Sync, R: Read + Drop, W: Write>(
         gate: &NoGate,
         options,
     };
-    run_count_watched(&counting, reader, writer)
+    run_count_watched(&counting, reader, &mut NoWatch, writer)
 }
 
-/// The same, and the gate is told of raises before they are tried.
-pub fn run_count_watched<T: Threads + Sync, R: Read + Drop, G: Gate, W: Write>(
+/// The same, and the gate is told of raises before they are tried. Who looks on while the file is read may refuse it for a
+/// warning.
+pub fn run_count_watched<T: Threads + Sync, R: Read + Drop, G: Gate, H: Heed, W: Write>(
     counting: &Counting<T, G>,
     reader: R,
+    watch: &mut H,
     writer: &mut W,
 ) -> Result<(), AppFault>
     // Where the reader's bytes are known, they alone and the options decide what is written,
@@ -73,8 +78,8 @@ pub fn run_count_watched<T: Threads + Sync, R: Read + Drop, G: Gate, W: Write>(
     ensures fault { IfErr result (λ fault. IfSome (R.remaining reader) (λ bytes.
         FailsBy (CountRefuses counting.now.options.now) (CountWrites bytes counting.now.options.now) bytes fault)) }
 
-    // A file that has a report gets it, unless a device fails or memory is refused.
-    ensures accepts { IfSome (R.remaining reader) (λ bytes.
+    // A file that has a report gets it, unless a device fails or memory is refused, or a warning refuses it.
+    ensures accepts { H.refused_for watch.new ≡ None → IfSome (R.remaining reader) (λ bytes.
         Accepts (CountWrites bytes counting.now.options.now) result) }
 
     // A fault writes nothing, unless it is the writer's.
@@ -82,8 +87,15 @@ pub fn run_count_watched<T: Threads + Sync, R: Read + Drop, G: Gate, W: Write>(
 
     // Out of memory is one fault.
     ensures merged { IfErr result (λ fault. merged fault ≡ fault) }
+
+    // The warning for which the file is refused.
+    ensures heeds { Heeds (H.refused_for watch.new) result }
 {
-    let election = read_pb(counting.alloc, reader)?;
+    let election = read_pb_watched(counting.alloc, reader, watch)?;
+    if let Some(warning) = watch.refusal() {
+        drop(election);
+        return Err(AppFault::Warned(warning));
+    }
     let report = report_text(counting, &election);
     drop(election);
     let text = report?;

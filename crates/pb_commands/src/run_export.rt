@@ -1,10 +1,10 @@
 //! Runs that write the file of a counted election.
 
-ghost use Rattle.std.specs.Prelude.{◌≡◌, ◌≢◌, IfErr, IfSome, OnOk};
+ghost use Rattle.std.specs.Prelude.{◌≡◌, ◌≢◌, IfErr, IfSome, OnOk, None};
 ghost use Rattle.pb_read.specs.StandsFor.{StandsFor};
 ghost use Rattle.pb_rows.specs.Reading.{records_of};
 ghost use Rattle.pb_commands.specs.Closed.{Leaves};
-ghost use Rattle.pb_commands.specs.Ends.{Accepts, FailsBy, HasWritten, IfBothKnown, JudgesFile};
+ghost use Rattle.pb_commands.specs.Ends.{Accepts, FailsBy, HasWritten, Heeds, IfBothKnown, JudgesFile};
 ghost use Rattle.pb_commands.specs.Exported.{ClosedExportRefuses, ExportRefuses, ExportWrites};
 ghost use Rattle.pb_faults.specs.Fault.{merged};
 
@@ -13,7 +13,7 @@ use crate::counting::Counting;
 use crate::export_text::export_text;
 use pb_core::gate::Gate;
 use pb_faults::{AppFault, write_out};
-use pb_read::read_pb;
+use pb_read::{Heed, read_pb_watched};
 use std::io::{Read, Write};
 use std::thread::Threads;
 
@@ -23,9 +23,10 @@ use std::thread::Threads;
 ///
 /// The file is refused before the options are looked at, and nothing is written but the whole file.
 /// Where the fault is `Write` some of the file may have gone out; on any other fault the writer is as it was.
-pub fn run_export<T: Threads + Sync, R: Read + Drop, G: Gate, W: Write>(
+pub fn run_export<T: Threads + Sync, R: Read + Drop, G: Gate, H: Heed, W: Write>(
     counting: &Counting<T, G>,
     reader: R,
+    watch: &mut H,
     writer: &mut W,
 ) -> Result<(), AppFault>
     // Where the reader's bytes are known, they alone and the options decide what is written,
@@ -38,8 +39,8 @@ pub fn run_export<T: Threads + Sync, R: Read + Drop, G: Gate, W: Write>(
         FailsBy (ExportRefuses counting.now.options.now)
         (ExportWrites counting.now.options.now (StandsFor (records_of bytes))) bytes fault)) }
 
-    // A file that can be exported is, unless a device fails or memory is refused.
-    ensures accepts { IfSome (R.remaining reader) (λ bytes.
+    // A file that can be exported is, unless a device fails or memory is refused, or a warning refuses it.
+    ensures accepts { H.refused_for watch.new ≡ None → IfSome (R.remaining reader) (λ bytes.
         Accepts (ExportWrites counting.now.options.now (StandsFor (records_of bytes))) result) }
 
     // A fault writes nothing, unless it is the writer's.
@@ -47,8 +48,15 @@ pub fn run_export<T: Threads + Sync, R: Read + Drop, G: Gate, W: Write>(
 
     // Out of memory is one fault.
     ensures merged { IfErr result (λ fault. merged fault ≡ fault) }
+
+    // The warning for which the file is refused.
+    ensures heeds { Heeds (H.refused_for watch.new) result }
 {
-    let election = read_pb(counting.alloc, reader)?;
+    let election = read_pb_watched(counting.alloc, reader, watch)?;
+    if let Some(warning) = watch.refusal() {
+        drop(election);
+        return Err(AppFault::Warned(warning));
+    }
     let made = export_text(counting, &election);
     drop(election);
     match made {
@@ -64,10 +72,18 @@ pub fn run_export<T: Threads + Sync, R: Read + Drop, G: Gate, W: Write>(
 /// The file is refused before the journal, the journal before an open desk, and that before the options. Nothing is
 /// written but the whole file. Where the fault is `Write` some of the file may have gone out; on any other fault the
 /// writer is as it was.
-pub fn run_closed_export<T: Threads + Sync, P: Read + Drop, J: Read + Drop, G: Gate, W: Write>(
+pub fn run_closed_export<
+    T: Threads + Sync,
+    P: Read + Drop,
+    J: Read + Drop,
+    G: Gate,
+    H: Heed,
+    W: Write,
+>(
     counting: &Counting<T, G>,
     file: P,
     journal: J,
+    watch: &mut H,
     writer: &mut W,
 ) -> Result<(), AppFault>
     // Where the bytes of both readers are known, they alone and the options decide what is written,
@@ -80,8 +96,9 @@ pub fn run_closed_export<T: Threads + Sync, P: Read + Drop, J: Read + Drop, G: G
         FailsBy (ClosedExportRefuses bytes rows counting.now.options.now)
         (ExportWrites counting.now.options.now (Leaves bytes rows)) bytes fault)) }
 
-    // A file and a journal that can be exported are, unless a device fails or memory is refused.
-    ensures accepts { IfBothKnown (P.remaining file) (J.remaining journal) (λ bytes rows.
+    // A file and a journal that can be exported are, unless a device fails or memory is refused, or a warning refuses the file.
+    ensures accepts { H.refused_for watch.new ≡ None →
+        IfBothKnown (P.remaining file) (J.remaining journal) (λ bytes rows.
         Accepts (ExportWrites counting.now.options.now (Leaves bytes rows)) result) }
 
     // The file is judged first, whatever is known of the journal.
@@ -92,8 +109,11 @@ pub fn run_closed_export<T: Threads + Sync, P: Read + Drop, J: Read + Drop, G: G
 
     // Out of memory is one fault.
     ensures merged { IfErr result (λ fault. merged fault ≡ fault) }
+
+    // The warning for which the file is refused; it comes before each fault of the journal.
+    ensures heeds { Heeds (H.refused_for watch.new) result }
 {
-    let election = match closed_ballots(counting.alloc, file, journal) {
+    let election = match closed_ballots(counting.alloc, file, journal, watch) {
         Ok(election) => election,
         Err(fault) => return Err(fault),
     };

@@ -1,13 +1,13 @@
 //! Runs that write a table: who won and why, who lost and by how much, who paid.
 
-ghost use Rattle.std.specs.Prelude.{◌≡◌, ◌≢◌, ◌++◌, ℕ, List, IfErr, IfOk, IfSome, OnOk};
+ghost use Rattle.std.specs.Prelude.{◌≡◌, ◌≢◌, ◌++◌, ℕ, List, IfErr, IfOk, IfSome, OnOk, None};
 ghost use Rattle.pb_read.specs.StandsFor.{StandsFor};
 ghost use Rattle.pb_reasons.specs.Reasons.{IsCounted};
 ghost use Rattle.pb_rounds.specs.Counted.{IsCountFault};
 ghost use Rattle.pb_rows.specs.Reading.{records_of};
 ghost use Rattle.pb_commands.specs.Closed.{ClosedRefuses, Leaves};
 ghost use Rattle.pb_commands.specs.Counted.{CountRefuses};
-ghost use Rattle.pb_commands.specs.Ends.{Accepts, FailsBy, HasWritten, IfBothKnown, JudgesFile};
+ghost use Rattle.pb_commands.specs.Ends.{Accepts, FailsBy, HasWritten, Heeds, IfBothKnown, JudgesFile};
 ghost use Rattle.pb_faults.specs.Fault.{merged};
 ghost use Rattle.pb_commands.specs.Tabled.{IsTableOf, TableWrites};
 ghost use Rattle.pb_commands.specs.Tables.{table_of};
@@ -22,7 +22,7 @@ use pb_core::election::Election;
 use pb_core::gate::Gate;
 use pb_core::no_memory::NoMemory;
 use pb_faults::{AppFault, write_out};
-use pb_read::read_pb;
+use pb_read::{Heed, read_pb_watched};
 use pb_rounds::count::count_watched;
 use pb_rounds::count_fault::CountFault;
 use pb_rounds::outcome::Outcome;
@@ -37,9 +37,10 @@ use std::thread::Threads;
 /// The file is refused before the options are looked at, and nothing is written but the whole table.
 /// Where the fault is `Write` some of the table may have gone out; on any other fault the writer is as it
 /// was.
-pub fn run_table<T: Threads + Sync, R: Read + Drop, G: Gate, W: Write>(
+pub fn run_table<T: Threads + Sync, R: Read + Drop, G: Gate, H: Heed, W: Write>(
     counting: &Counting<T, G>,
     reader: R,
+    watch: &mut H,
     writer: &mut W,
     table: Table,
 ) -> Result<(), AppFault>
@@ -53,8 +54,8 @@ pub fn run_table<T: Threads + Sync, R: Read + Drop, G: Gate, W: Write>(
         FailsBy (CountRefuses counting.now.options.now)
         (TableWrites table counting.now.options.now (StandsFor (records_of bytes))) bytes fault)) }
 
-    // A file that has a table gets it, unless a device fails or memory is refused.
-    ensures accepts { IfSome (R.remaining reader) (λ bytes.
+    // A file that has a table gets it, unless a device fails or memory is refused, or a warning refuses it.
+    ensures accepts { H.refused_for watch.new ≡ None → IfSome (R.remaining reader) (λ bytes.
         Accepts (TableWrites table counting.now.options.now (StandsFor (records_of bytes))) result) }
 
     // A fault writes nothing, unless it is the writer's.
@@ -62,8 +63,15 @@ pub fn run_table<T: Threads + Sync, R: Read + Drop, G: Gate, W: Write>(
 
     // Out of memory is one fault.
     ensures merged { IfErr result (λ fault. merged fault ≡ fault) }
+
+    // The warning for which the file is refused.
+    ensures heeds { Heeds (H.refused_for watch.new) result }
 {
-    let election = read_pb(counting.alloc, reader)?;
+    let election = read_pb_watched(counting.alloc, reader, watch)?;
+    if let Some(warning) = watch.refusal() {
+        drop(election);
+        return Err(AppFault::Warned(warning));
+    }
     let made = table_text(counting, &election, table);
     drop(election);
     let text = made?;
@@ -76,10 +84,18 @@ pub fn run_table<T: Threads + Sync, R: Read + Drop, G: Gate, W: Write>(
 /// The file is refused before the journal, the journal before an open desk, and that before the options. Nothing is
 /// written but the whole table. Where the fault is `Write` some of the table may have gone out; on any other fault the
 /// writer is as it was.
-pub fn run_closed_table<T: Threads + Sync, P: Read + Drop, J: Read + Drop, G: Gate, W: Write>(
+pub fn run_closed_table<
+    T: Threads + Sync,
+    P: Read + Drop,
+    J: Read + Drop,
+    G: Gate,
+    H: Heed,
+    W: Write,
+>(
     counting: &Counting<T, G>,
     file: P,
     journal: J,
+    watch: &mut H,
     writer: &mut W,
     table: Table,
 ) -> Result<(), AppFault>
@@ -93,8 +109,9 @@ pub fn run_closed_table<T: Threads + Sync, P: Read + Drop, J: Read + Drop, G: Ga
         FailsBy (ClosedRefuses bytes rows counting.now.options.now)
         (TableWrites table counting.now.options.now (Leaves bytes rows)) bytes fault)) }
 
-    // A file and a journal that have a table get it, unless a device fails or memory is refused.
-    ensures accepts { IfBothKnown (P.remaining file) (J.remaining journal) (λ bytes rows.
+    // A file and a journal that have a table get it, unless a device fails or memory is refused, or a warning refuses the file.
+    ensures accepts { H.refused_for watch.new ≡ None →
+        IfBothKnown (P.remaining file) (J.remaining journal) (λ bytes rows.
         Accepts (TableWrites table counting.now.options.now (Leaves bytes rows)) result) }
 
     // The file is judged first, whatever is known of the journal.
@@ -105,8 +122,11 @@ pub fn run_closed_table<T: Threads + Sync, P: Read + Drop, J: Read + Drop, G: Ga
 
     // Out of memory is one fault.
     ensures merged { IfErr result (λ fault. merged fault ≡ fault) }
+
+    // The warning for which the file is refused; it comes before each fault of the journal.
+    ensures heeds { Heeds (H.refused_for watch.new) result }
 {
-    let election = closed_ballots(counting.alloc, file, journal)?;
+    let election = closed_ballots(counting.alloc, file, journal, watch)?;
     let made = table_text(counting, &election, table);
     drop(election);
     let text = made?;

@@ -5,6 +5,7 @@ use Rattle.pb_desk.specs.declared.audit_fault.AuditFault.TheVariants as audit
 use Rattle.pb_export.specs.ExportFault.{numbered_name as of_export}
 use Rattle.pb_export.specs.declared.export_fault.ExportFault.TheVariants as export
 use Rattle.pb_read.specs.Kinds.{numbered_name as of_read}
+use Rattle.pb_read.specs.Oddities.{name_of}
 use Rattle.pb_read.specs.declared.fault.ReadKind.{ReadKind}
 use Rattle.pb_read.specs.declared.fault.ReadKind.TheVariants as read
 use Rattle.pb_rounds.specs.CountFault.{numbered_name as of_count}
@@ -12,7 +13,7 @@ use Rattle.pb_rounds.specs.declared.count_fault.CountFault.TheVariants as count
 use Rattle.pb_script.specs.ScriptFault.{numbered_name as of_script}
 use Rattle.pb_script.specs.declared.script_fault.ScriptFault.TheVariants as script
 use Rattle.pb_faults.specs.declared.fault.AppFault.{AppFault}
-use Rattle.pb_faults.specs.declared.fault.AppFault.TheVariants.{Read, Script, ClerkCount, Audit, OpenDesk, Count, Export, Open, Write, Memory}
+use Rattle.pb_faults.specs.declared.fault.AppFault.TheVariants.{Read, Script, ClerkCount, Audit, OpenDesk, Count, Export, Open, Write, Memory, Warned}
 
 -- the same fault, in which out of memory is one case, whichever crate met it
 abbrev pub merged : AppFault → AppFault
@@ -48,6 +49,7 @@ told (Export fault) = (1, codes "export" ∷ decimal (of_export fault).0 ∷ (of
 told (Open number) = (3, codes "open" ∷ decimal number ∷ [])
 told Write = (3, codes "write" ∷ [])
 told Memory = (3, codes "memory" ∷ [])
+told (Warned warning) = (1, codes "warning" ∷ name_of warning.oddity ∷ decimal warning.at ∷ [])
 
 -- the line of these fields: a `;` stands before each
 abbrev pub line : List (List ℕ) → List ℕ

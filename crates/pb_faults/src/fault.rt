@@ -3,7 +3,7 @@
 use pb_core::no_memory::NoMemory;
 use pb_desk::AuditFault;
 use pb_export::ExportFault;
-use pb_read::{ReadFault, ReadKind};
+use pb_read::{ReadFault, ReadKind, Warning};
 use pb_rounds::count_fault::CountFault;
 use pb_script::ScriptFault;
 use std::alloc::AllocError;
@@ -42,6 +42,9 @@ pub enum AppFault {
     /// Out of memory.
     #[error("out of memory")]
     Memory,
+    /// The file is accepted, and refused for a warning.
+    #[error("a warning of the file")]
+    Warned(Warning),
 }
 
 impl AppFault {

@@ -49,6 +49,9 @@ impl AppFault {
             AppFault::Open(number) => write_open(writer, number),
             AppFault::Write => write_fields(writer, &["write"]),
             AppFault::Memory => write_fields(writer, &["memory"]),
+            AppFault::Warned(warning) => {
+                write_named(writer, "warning", warning.oddity.name(), warning.at)
+            }
         }
     }
 
@@ -62,8 +65,10 @@ impl AppFault {
             AppFault::Script(fault) => read_status(fault.number()),
             AppFault::ClerkCount => BAD_ARGUMENTS,
             AppFault::Audit(fault) => read_status(fault.number()),
-            AppFault::OpenDesk | AppFault::Count(CountFault::RaisesSpent) | AppFault::Export(_) =>
-                REFUSED,
+            AppFault::OpenDesk
+            | AppFault::Count(CountFault::RaisesSpent)
+            | AppFault::Export(_)
+            | AppFault::Warned(_) => REFUSED,
             AppFault::Count(_) => BAD_ARGUMENTS,
             AppFault::Open(_) | AppFault::Write | AppFault::Memory => NO_DEVICE,
         }
@@ -118,6 +123,15 @@ fn write_open<W: Write>(writer: &mut W, number: u32) -> io::Result<()>
 {
     let mut digits = Buffer::new();
     write_fields(writer, &["open", digits.format(number)])
+}
+
+/// Writes the line of what has this name, in this record.
+fn write_named<W: Write>(writer: &mut W, what: &str, name: &str, at: u64) -> io::Result<()>
+    ensures { OnOk result (Appends (W.contents writer.old) (W.contents writer.new)
+        (line (what.now ∷ name.now ∷ decimal at ∷ []))) }
+{
+    let mut digits = Buffer::new();
+    write_fields(writer, &[what, name, digits.format(at)])
 }
 
 /// Writes the line of these fields.

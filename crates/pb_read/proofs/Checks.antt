@@ -1,5 +1,5 @@
 -- A check of a whole file: what each verdict means for the faults that are listed.
-use Rattle.std.proofs.Common.{◌≡◌, ◌≢◌, ◌<◌, ◌≤◌, ◌+◌, ◌-◌, ◌==◌, ◌⊎◌, ℕ, suc, true, false, cond, not, List, [], ◌∷◌, ◌++◌, length, take, drop, Option, Some, None, refl, ap, sym, ◌∙◌, subst, arith, inl, inr, ⊎_elim, length-append}
+use Rattle.std.proofs.Common.{◌≡◌, ◌≢◌, ◌<◌, ◌≤◌, ◌+◌, ◌-◌, ◌==◌, ◌⊎◌, ℕ, suc, Bool, true, false, cond, not, List, [], ◌∷◌, ◌++◌, length, take, drop, Option, Some, None, refl, ap, sym, ◌∙◌, subst, arith, inl, inr, ⊎_elim, length-append}
 use Rattle.std.specs.Prelude.{IfSome}
 use Rattle.std.specs.List.{list_all}
 use Rattle.std.specs.Str.{is_utf8}
@@ -14,10 +14,12 @@ use Rattle.pb_read.proofs.Tracking.{ended, explained, fault_at, tracks_more, tra
 use Rattle.pb_read.specs.Inner.Checking.{EndsAt, IsGoing, IsRefusal, IsVerdict, Judges, JudgesEnd, JudgesRow, LeadsTo, LeftHas, text_fault, without}
 use Rattle.pb_read.proofs.Uniqueness.{refused_from_outside}
 use Rattle.pb_read.specs.FirstFault.{IsFaultAt, IsFromOutside}
-use Rattle.pb_read.specs.Listed.{AreListed, is_of_row, may_be_of_row}
+use Rattle.pb_read.specs.Listed.{AreListed, IsLeftOut, leaves_out}
+use Rattle.pb_read.specs.Rows.{rows_of}
+use Rattle.pb_read.proofs.Alike.{at_just}
 use Rattle.pb_read.specs.Inner.Machine.{Explains, Position, lowest_kind, row_fault, start}
 use Rattle.pb_read.specs.Inner.Fields.{trimmed}
-use Rattle.pb_read.specs.Stages.{next_row, the_end}
+use Rattle.pb_read.specs.Stages.{IsAt, next_row, the_end}
 use Rattle.pb_read.specs.StandsFor.{StandsFor, most_records}
 use Rattle.pb_read.specs.Inner.Tracking.{HasCome, HasEnded, IsNextRow, Tracks}
 use Rattle.pb_read.specs.declared.check.Verdict.{Verdict}
@@ -54,36 +56,49 @@ fault_left now left kept p kinds.ReadFailed come few has = fault_at now left kep
 fault_left now left kept p kinds.NoMemory come few has = fault_at now left kept p come few (kept + 1) refl kinds.NoMemory (inr (inr refl))
 fault_left now left kept p kind come few has = fault_here now left kept p _ come few has
 
+-- whether the next record is left out, by where the file has come to
+so_here : (goes : Bool) (now left : List Fields) (kept : ℕ) (p : Position) (kind : ReadKind) → HasCome now left kept p → leaves_out p.0 kind ≡ goes → IsLeftOut goes now kind (kept + 1)
+so_here goes now left kept p kind come said =
+    let back : kept + 1 - 1 ≡ length come.done = omega (arith, come.count_is) in
+    let front : take (kept + 1 - 1) now ≡ come.done =
+    ap (λ n. take n now) back ∙ ap (λ (t : List Fields). take (length come.done) t) come.cut ∙ take-append_seam come.done left in
+    (p, subst (λ (rows : List Fields). IsAt (rows_of rows) p) (sym front) (at_just (rows_of come.done) p come.reached.at), said)
+
 -- one more record is taken out
-leads_push : (out : ℕ) (records : List Fields) (faults : List ReadFault) (fault : ReadFault) (now : List Fields) (n : ℕ) → LeadsTo out records faults now → n ≡ out + length faults → n < fault.at → IsFaultAt now fault.kind (fault.at - n) → may_be_of_row fault.kind ≡ true →
+leads_push : (out : ℕ) (records : List Fields) (faults : List ReadFault) (fault : ReadFault) (now : List Fields) (n : ℕ) → LeadsTo out records faults now → n ≡ out + length faults → n < fault.at → IsFaultAt now fault.kind (fault.at - n) → n < 999 → IsLeftOut true now fault.kind (fault.at - n) →
     LeadsTo out records (faults ++ fault ∷ []) (without (fault.at - n) now)
-leads_push out records [] fault now n leads same after is of_row =
+leads_push out records [] fault now n leads same after is few so =
     let at_start : n ≡ out = omega (arith, same) in (
       omega (arith, after, at_start),
       subst (λ (x : List Fields). IsFaultAt x fault.kind (fault.at - out)) (sym leads) (subst (λ m. IsFaultAt now fault.kind (fault.at - m)) at_start is),
-      of_row,
+      omega (arith, few, at_start),
+      subst (λ (x : List Fields). IsLeftOut true x fault.kind (fault.at - out)) (sym leads) (subst (λ m. IsLeftOut true now fault.kind (fault.at - m)) at_start so),
       λ i. without (fault.at - sym at_start i) (leads i),
     )
-leads_push out records (first ∷ more) fault now n leads same after is of_row =
-    (leads.0, leads.1, leads.2, leads_push (out + 1) (without (first.at - out) records) more fault now n leads.3 (omega (arith, same)) after is of_row)
+leads_push out records (first ∷ more) fault now n leads same after is few so =
+    (leads.0, leads.1, leads.2, leads.3, leads_push (out + 1) (without (first.at - out) records) more fault now n leads.4 (omega (arith, same)) after is few so)
 
 -- no fault is left
 listed_all : (out : ℕ) (records : List Fields) (faults : List ReadFault) (now : List Fields) (e : ElectionView) → LeadsTo out records faults now → StandsFor now e → AreListed out records faults
 listed_all out records [] now e leads stands = (e, subst (λ x. StandsFor x e) (sym leads) stands)
 listed_all out records (first ∷ more) now e leads stands =
-    (leads.0, leads.1, inr (leads.2, listed_all (out + 1) (without (first.at - out) records) more now e leads.3 stands))
+    (leads.0, leads.1, inr (leads.2, leads.3, listed_all (out + 1) (without (first.at - out) records) more now e leads.4 stands))
 
 -- the last fault that is listed
 listed_end : (out : ℕ) (records : List Fields) (faults : List ReadFault) (fault : ReadFault) (now : List Fields) (n : ℕ) → LeadsTo out records faults now → n ≡ out + length faults → n < fault.at → IsFaultAt now fault.kind (fault.at - n) →
-    (is_of_row fault.kind ≡ false) ⊎ (n ≡ 999) → AreListed out records (faults ++ fault ∷ [])
+    (n ≡ 999) ⊎ IsLeftOut false now fault.kind (fault.at - n) → AreListed out records (faults ++ fault ∷ [])
 listed_end out records [] fault now n leads same after is may =
     let at_start : n ≡ out = omega (arith, same) in (
       omega (arith, after, at_start),
       subst (λ (x : List Fields). IsFaultAt x fault.kind (fault.at - out)) (sym leads) (subst (λ m. IsFaultAt now fault.kind (fault.at - m)) at_start is),
-      inl (refl, ⊎_elim (λ kind. inl kind) (λ last. inr (sym at_start ∙ last)) may),
+      inl (
+        refl,
+        ⊎_elim (λ last. inl (sym at_start ∙ last))
+            (λ so. inr (subst (λ (x : List Fields). IsLeftOut false x fault.kind (fault.at - out)) (sym leads) (subst (λ m. IsLeftOut false now fault.kind (fault.at - m)) at_start so))) may,
+      ),
     )
 listed_end out records (first ∷ more) fault now n leads same after is may =
-    (leads.0, leads.1, inr (leads.2, listed_end (out + 1) (without (first.at - out) records) more fault now n leads.3 (omega (arith, same)) after is may))
+    (leads.0, leads.1, inr (leads.2, leads.3, listed_end (out + 1) (without (first.at - out) records) more fault now n leads.4 (omega (arith, same)) after is may))
 
 pub going_start : (all : Option (List Fields)) → IsGoing all all 0 [] start
 going_start None = tt
@@ -105,12 +120,12 @@ going_passes (Some all) left after done kept faults p q going same judged =
     }
 
 -- a record is left out
-pub going_leaves : (all left after : Option (List Fields)) (done kept : ℕ) (faults : List ReadFault) (p q : Position) (kind : ReadKind) → IsGoing all left done faults p → done ≡ kept + length faults → Judges kept left after p q (LeavesOut kind) →
+pub going_leaves : (all left after : Option (List Fields)) (done kept : ℕ) (faults : List ReadFault) (p q : Position) (kind : ReadKind) → IsGoing all left done faults p → done ≡ kept + length faults → length faults < 999 → Judges kept left after p q (LeavesOut kind) →
     IsGoing all after (done + 1) (faults ++ record { kind = kind; at = done + 1 } ∷ []) q
-going_leaves None left after done kept faults p q kind going same judged = tt
-going_leaves (Some all) None after done kept faults p q kind going same judged = absurd going.tracks
-going_leaves (Some all) (Some []) after done kept faults p q kind going same judged = absurd judged.0
-going_leaves (Some all) (Some (next ∷ rest)) after done kept faults p q kind going same judged =
+going_leaves None left after done kept faults p q kind going same few judged = tt
+going_leaves (Some all) None after done kept faults p q kind going same few judged = absurd going.tracks
+going_leaves (Some all) (Some []) after done kept faults p q kind going same few judged = absurd judged.0
+going_leaves (Some all) (Some (next ∷ rest)) after done kept faults p q kind going same few judged =
     let is : going.kept ≡ kept = omega (arith, same, going.done_is) in
     let fault : ReadFault = record { kind = kind; at = done + 1 } in
     let number : done + 1 - length faults ≡ going.kept + 1 = omega (arith, going.done_is) in
@@ -118,11 +133,13 @@ going_leaves (Some all) (Some (next ∷ rest)) after done kept faults p q kind g
     subst (λ n. IsFaultAt going.now kind n) (sym number) (fault_here going.now (next ∷ rest) going.kept p kind going.tracks going.few (ap (λ n. lowest_kind n p (next ∷ rest)) is ∙ judged.0.1)) in
     let come : HasCome (without (done + 1 - length faults) going.now) rest going.kept q =
     subst (λ n. HasCome (without n going.now) rest going.kept q) (sym number) (subst (HasCome (without (going.kept + 1) going.now) rest going.kept) (sym judged.1) (come_without going.now next rest going.kept p going.tracks)) in
+    let so : IsLeftOut true going.now kind (done + 1 - length faults) =
+    subst (λ n. IsLeftOut true going.now kind n) (sym number) (so_here true going.now (next ∷ rest) going.kept p kind going.tracks judged.2) in
     let one : List ReadFault = fault ∷ [] in
     record {
       now = without (done + 1 - length faults) going.now;
       kept = going.kept;
-      leads = leads_push 0 all faults fault going.now (length faults) going.leads (omega arith) (omega (arith, going.done_is)) here judged.2;
+      leads = leads_push 0 all faults fault going.now (length faults) going.leads (omega arith) (omega (arith, going.done_is)) here few so;
       done_is = omega (arith, going.done_is, length-append faults one);
       few = going.few;
       tracks = subst (λ l. Tracks (Some (without (done + 1 - length faults) going.now)) l going.kept q) (sym judged.0.0) come;
@@ -139,7 +156,7 @@ listed_full (Some all) (Some (next ∷ rest)) after done kept faults p q kind go
     let number : done + 1 - length faults ≡ going.kept + 1 = omega (arith, going.done_is) in
     let here : IsFaultAt going.now kind (done + 1 - length faults) =
     subst (λ n. IsFaultAt going.now kind n) (sym number) (fault_here going.now (next ∷ rest) going.kept p kind going.tracks going.few (ap (λ n. lowest_kind n p (next ∷ rest)) is ∙ judged.0.1)) in
-    listed_end 0 all faults (record { kind = kind; at = done + 1 }) going.now (length faults) going.leads (omega arith) (omega (arith, going.done_is)) here (inr last)
+    listed_end 0 all faults (record { kind = kind; at = done + 1 }) going.now (length faults) going.leads (omega arith) (omega (arith, going.done_is)) here (inl last)
 
 -- reading ends at a fault
 pub listed_last : (all left after : Option (List Fields)) (done kept : ℕ) (faults : List ReadFault) (p q : Position) (kind : ReadKind) → IsGoing all left done faults p → done ≡ kept + length faults → Judges kept left after p q (Ends kind) →
@@ -151,7 +168,9 @@ listed_last (Some all) (Some left) after done kept faults p q kind going same ju
     let number : done + 1 - length faults ≡ going.kept + 1 = omega (arith, going.done_is) in
     let here : IsFaultAt going.now kind (done + 1 - length faults) =
     subst (λ n. IsFaultAt going.now kind n) (sym number) (fault_left going.now left going.kept p kind going.tracks going.few (subst (λ n. LeftHas n (Some left) p kind) is judged.0)) in
-    listed_end 0 all faults (record { kind = kind; at = done + 1 }) going.now (length faults) going.leads (omega arith) (omega (arith, going.done_is)) here (inl judged.1)
+    let so : IsLeftOut false going.now kind (done + 1 - length faults) =
+    subst (λ n. IsLeftOut false going.now kind n) (sym number) (so_here false going.now left going.kept p kind going.tracks judged.1) in
+    listed_end 0 all faults (record { kind = kind; at = done + 1 }) going.now (length faults) going.leads (omega arith) (omega (arith, going.done_is)) here (inr so)
 
 -- the file has ended
 pub listed_done : (all left after : Option (List Fields)) (done kept : ℕ) (faults : List ReadFault) (p q : Position) → IsGoing all left done faults p → Judges kept left after p q Done → IfSome all (λ records. AreListed 0 records faults)
@@ -177,13 +196,21 @@ explained_unless : (kind : ReadKind) (found : Option ReadKind) → Explains kind
 explained_unless kinds.NoMemory found said other = absurd (other refl)
 explained_unless kind found said other = said
 
-pub refusal_judged : (q p : Position) (found : Option ReadKind) (kind : ReadKind) (verdict : Verdict) → Explains kind found → (kind ≢ kinds.NoMemory → q ≡ p) → IsRefusal kind verdict → IsVerdict found p q verdict
+-- a kind that is not left out at a stage is not at another one, which is the same unless memory was refused
+ends_both : (q p : Position) (kind : ReadKind) → (kind ≢ kinds.NoMemory → q ≡ p) → leaves_out q.0 kind ≡ false → leaves_out p.0 kind ≡ false
+ends_both q p kinds.NoMemory stays ends = refl
+ends_both q p kind stays ends = subst (λ (x : Position). leaves_out x.0 kind ≡ false) (stays (λ e. cc)) ends
+
+pub refusal_judged : (q p : Position) (found : Option ReadKind) (kind : ReadKind) (verdict : Verdict) → Explains kind found → (kind ≢ kinds.NoMemory → q ≡ p) → IsRefusal q.0 kind verdict → IsVerdict found p q verdict
 refusal_judged q p found kind Passes said stays refusal = absurd refusal
 refusal_judged q p found kind Done said stays refusal = absurd refusal
-refusal_judged q p found kind (LeavesOut other) said stays refusal =
-    (explained_unless kind found said refusal.1 ∙ ap (λ k. Some k) (sym refusal.0), stays refusal.1, ap may_be_of_row refusal.0 ∙ refusal.2)
+refusal_judged q p found kind (LeavesOut other) said stays refusal = (
+  explained_unless kind found said refusal.1 ∙ ap (λ k. Some k) (sym refusal.0),
+  stays refusal.1,
+  subst (λ k. leaves_out p.0 k ≡ true) (sym refusal.0) (subst (λ (x : Position). leaves_out x.0 kind ≡ true) (stays refusal.1) refusal.2),
+)
 refusal_judged q p found kind (Ends other) said stays refusal =
-    (subst (λ k. EndsAt k found) (sym refusal.0) (ends_at kind found said), ap is_of_row refusal.0 ∙ refusal.1)
+    (subst (λ k. EndsAt k found) (sym refusal.0) (ends_at kind found said), subst (λ k. leaves_out p.0 k ≡ false) (sym refusal.0) (ends_both q p kind stays refusal.1))
 
 -- the kind that applies to a record that is text
 text_lowest : (kept : ℕ) (p : Position) (next : Fields) (rest : List Fields) → AllText next → lowest_kind kept p (next ∷ rest) ≡ text_fault kept p (trimmed next)
@@ -238,7 +265,7 @@ text_judged kept left after p q row (LeavesOut kind) next judged = text_refused 
 text_judged kept left after p q row (Ends kind) next judged = text_refused kept left after p q row (Ends kind) next judged
 
 -- a record that is no text
-pub no_text_judged : (kept : ℕ) (left after : Option (List Fields)) (p q : Position) (verdict : Verdict) → (fields : Fields) × IsNext left after true fields × ¬ AllText fields → q ≡ p → IsRefusal kinds.NotText verdict → Judges kept left after p q verdict
+pub no_text_judged : (kept : ℕ) (left after : Option (List Fields)) (p q : Position) (verdict : Verdict) → (fields : Fields) × IsNext left after true fields × ¬ AllText fields → q ≡ p → IsRefusal q.0 kinds.NotText verdict → Judges kept left after p q verdict
 no_text_judged kept left after p q verdict found stays refusal =
     refused_judged kept left after p q found.0 (Some kinds.NotText) verdict found.1 (λ rest. no_text_lowest kept p found.0 rest found.2) (refusal_judged q p (Some kinds.NotText) kinds.NotText verdict refl (λ other. stays) refusal)
 

@@ -6,6 +6,7 @@ pub mod Kinds
 pub mod Lengths
 pub mod Listed
 pub mod MetaRows
+pub mod Oddities
 pub mod Stages
 pub mod Rows
 pub mod StandsFor

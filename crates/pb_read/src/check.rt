@@ -3,7 +3,7 @@
 ghost use Rattle.std.specs.Prelude.{◌≡◌, [], None, IfOk, IfSome, OnOk};
 ghost use Rattle.pb_rows.specs.Reading.{records_of};
 ghost use Rattle.pb_read.specs.Inner.Checking.{GoesOn, IsGoing, IsRefusal, Judges, JudgesEnd, JudgesRow};
-ghost use Rattle.pb_read.specs.Listed.{AreListed, is_of_row, may_be_of_row};
+ghost use Rattle.pb_read.specs.Listed.{AreListed, is_of_row};
 ghost use Rattle.pb_read.specs.Inner.Progresses.{IsReady, place_of};
 ghost use Rattle.pb_read.specs.Inner.Opening.{opening};
 ghost use Rattle.pb_read.specs.declared.progress.Stage.TheVariants.{Start};
@@ -22,7 +22,7 @@ use std::io::Read;
 /// The most faults that are listed.
 pub const MOST_FAULTS: usize = 1_000;
 
-/// The most records that are read while faults are listed.
+/// No file of so many records has fewer than 1,000 that are left out, beside those that are kept.
 const MOST_CHECKED: u32 = 2_001_000;
 
 /// Lists what is wrong with a .pb file: a fault for each row of PROJECTS and VOTES that is refused, up to 1,000.
@@ -142,7 +142,10 @@ impl Check {
                     faults.push(ReadFault { kind, at })?;
                     return Ok(());
                 }
-                Verdict::Done => return Ok(()),
+                Verdict::Done => {
+                    watch.end();
+                    return Ok(());
+                }
             }
         }
         Ok(())
@@ -152,10 +155,11 @@ impl Check {
     fn read_on<R: Read, W: Watch>(&mut self, records: &mut Records<R>, watch: &mut W, done: u32)
         requires { IsReady self.old.progress }
     {
-        for before in done..MOST_RECORDS {
+        for before in done..MOST_CHECKED {
             match self.next(records, watch, 0, before + 1) {
                 Verdict::Passes | Verdict::LeavesOut(_) => {}
-                Verdict::Ends(_) | Verdict::Done => return,
+                Verdict::Ends(_) => return,
+                Verdict::Done => return watch.end(),
             }
         }
     }
@@ -175,13 +179,15 @@ impl Check {
     {
         match self.row.read_any(self.alloc, &mut self.raw, records) {
             Ok(Found::Text) => {
+                let part = self.progress.part_of(&self.row);
                 let verdict = self.judge(kept);
-                watch.see(self.row.bytes(), at, verdict.fault());
+                watch.see(self.row.bytes(), at, part, verdict.fault());
                 verdict
             }
             Ok(Found::NoText) => {
+                let part = self.progress.stage.part();
                 let verdict = self.refused_by(ReadKind::NotText);
-                watch.see(&self.raw, at, verdict.fault());
+                watch.see(&self.raw, at, part, verdict.fault());
                 verdict
             }
             Ok(Found::End) => self.judge_end(),
@@ -221,30 +227,20 @@ impl Check {
 
     /// What comes of a fault of this kind.
     fn refused_by(&self, kind: ReadKind) -> Verdict
-        ensures { IsRefusal kind result }
+        ensures { IsRefusal self.now.progress.stage kind result }
     {
         match kind {
             ReadKind::NoMemory => Verdict::Ends(kind),
-            _ if is_of_row(kind) || (self.progress.is_in_rows() && may_be_of_row(kind)) => {
-                Verdict::LeavesOut(kind)
-            }
+            _ if is_of_row(kind) && self.progress.is_in_rows() => Verdict::LeavesOut(kind),
             _ => Verdict::Ends(kind),
         }
     }
 }
 
-/// Whether only rows of PROJECTS and VOTES have a fault of this kind.
+/// Whether rows of PROJECTS and VOTES have a fault of this kind by themselves.
 fn is_of_row(kind: ReadKind) -> bool
     ensures { result ≡ is_of_row kind }
 {
     let number = kind.number();
-    number == 8 || (14 <= number && number <= 20)
-}
-
-/// Whether rows of PROJECTS and VOTES have a fault of this kind, besides others or alone.
-fn may_be_of_row(kind: ReadKind) -> bool
-    ensures { result ≡ may_be_of_row kind }
-{
-    let number = kind.number();
-    is_of_row(kind) || number == 2 || (11 <= number && number <= 13)
+    number == 2 || number == 8 || (11 <= number && number <= 20)
 }

@@ -8,17 +8,17 @@ use std::alloc::Global;
 
 /// The places of the columns of PROJECTS, from 0.
 #[derive(Clone, Copy)]
-pub(crate) struct ProjectColumns {
-    pub(crate) id: usize,
-    pub(crate) cost: usize,
-    pub(crate) name: Option<usize>,
+pub struct ProjectColumns {
+    pub id: usize,
+    pub cost: usize,
+    pub name: Option<usize>,
 }
 
 /// The places of the columns of VOTES, from 0.
 #[derive(Clone, Copy)]
-pub(crate) struct VoteColumns {
-    pub(crate) voter: usize,
-    pub(crate) vote: usize,
+pub struct VoteColumns {
+    pub voter: usize,
+    pub vote: usize,
 }
 
 impl ProjectColumns {

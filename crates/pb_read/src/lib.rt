@@ -13,10 +13,13 @@ mod read;
 mod row;
 mod section;
 mod vote;
+mod warning;
 mod watch;
 
 pub use check::{MOST_FAULTS, list_faults};
+pub use columns::{ProjectColumns, VoteColumns};
 pub use fault::{ReadFault, ReadKind};
 pub use laws::{first_listed, max_length_is_what_its_text_names, one_answer};
-pub use read::{MOST_RECORDS, read_pb};
-pub use watch::{Warning, Watch};
+pub use read::{MOST_RECORDS, read_pb, read_pb_watched};
+pub use warning::{Oddity, Warning, WarningRow};
+pub use watch::{Heed, NoWatch, Part, Warn, Watch};

@@ -1,7 +1,7 @@
 //! How far a file was read.
 
 ghost use Rattle.std.specs.Prelude.{◌≡◌, ◌≢◌, None, false, Some, IfErr, OnOk, MatchResult};
-ghost use Rattle.pb_read.specs.Listed.{is_of_row};
+ghost use Rattle.pb_read.specs.Listed.{is_in_rows, leaves_out};
 ghost use Rattle.pb_read.specs.Stages.{head, next_row, plain, the_end};
 ghost use Rattle.pb_read.specs.Inner.Machine.{budget_of, head_checks, limit_of};
 ghost use Rattle.pb_read.specs.Inner.Progresses.{Advances, EndsWith, IsRead, IsReady, Refuses, Stays, place_of};
@@ -15,6 +15,7 @@ use crate::fault::ReadKind;
 use crate::meta::Meta;
 use crate::row::Row;
 use crate::section::Section;
+use crate::watch::Part;
 use pb_core::election::Election;
 use pb_core::money::Money;
 use std::alloc::Global;
@@ -33,6 +34,19 @@ pub(crate) enum Stage {
     InProjects(ProjectColumns),
     /// A row of VOTES, or the end of the file.
     InVotes(VoteColumns),
+}
+
+impl Stage {
+    /// What a record is that comes at this stage, and is neither blank nor a section's head.
+    pub(crate) fn part(&self) -> Part {
+        match *self {
+            Stage::Start => Part::Other,
+            Stage::Header(_) => Part::Names,
+            Stage::InMeta(_) => Part::Key,
+            Stage::InProjects(columns) => Part::Project(columns),
+            Stage::InVotes(columns) => Part::Vote(columns),
+        }
+    }
 }
 
 /// How far a file was read, and what it gave so far.
@@ -138,8 +152,19 @@ impl Progress {
         Ok(())
     }
 
+    /// What a record is that comes next.
+    pub(crate) fn part_of(&self, row: &Row) -> Part {
+        if row.is_blank() || Section::headed_by(row).is_some() {
+            Part::Other
+        } else {
+            self.stage.part()
+        }
+    }
+
     /// Whether rows of PROJECTS or of VOTES are read.
-    pub(crate) fn is_in_rows(&self) -> bool {
+    pub(crate) fn is_in_rows(&self) -> bool
+        ensures { result ≡ is_in_rows self.now.stage }
+    {
         matches!(self.stage, Stage::InProjects(_) | Stage::InVotes(_))
     }
 
@@ -147,7 +172,7 @@ impl Progress {
     #[tactic(auto, unfolding(crate::specs::Inner::Machine::row_fault))]
     pub(crate) fn finish(&mut self) -> Result<Election, ReadKind>
         ensures end { MatchResult result (EndsWith (place_of self.old)) (Refuses self.old the_end) }
-        ensures no_row { IfErr result (λ kind. is_of_row kind ≡ false) }
+        ensures no_row { IfErr result (λ kind. leaves_out self.old.stage kind ≡ false) }
     {
         match self.stage {
             Stage::InVotes(_) => Ok(self.draft.take_election()),

@@ -15,6 +15,7 @@ ghost use Rattle.pb_read.specs.declared.progress.Stage.TheVariants.{Start};
 use crate::fault::{ReadFault, ReadKind};
 use crate::progress::Progress;
 use crate::row::Row;
+use crate::watch::{NoWatch, Watch};
 use pb_core::election::Election;
 use pb_rows::{Records, RecordsFault};
 use std::alloc::Global;
@@ -43,12 +44,36 @@ pub fn read_pb<R: Read + Drop>(alloc: Global, reader: R) -> Result<Election, Rea
         (e : ElectionView) → StandsFor (records_of bytes) e →
         MatchResult result (λ read. read ≡ e) (λ fault. IsFromOutside fault.kind)) }
 {
+    read_pb_watched(alloc, reader, &mut NoWatch)
+}
+
+/// The same, and who looks on is shown each record once it has passed, and then that the file has ended, where it stands
+/// for an election.
+pub fn read_pb_watched<R: Read + Drop, W: Watch>(
+    alloc: Global,
+    reader: R,
+    watch: &mut W,
+) -> Result<Election, ReadFault>
+    // What is answered is what the records stand for, and a refusal is their first fault.
+    ensures ok { IfSome (R.remaining reader) (λ bytes. IfOk result (λ e. StandsFor (records_of bytes) e)) }
+    ensures fault { IfSome (R.remaining reader) (λ bytes.
+        IfErr result (λ fault. IsFaultAt (records_of bytes) fault.kind fault.at)) }
+
+    // A file that stands for an election is refused only where memory or the reader failed.
+    ensures accepts { IfSome (R.remaining reader) (λ bytes.
+        (e : ElectionView) → StandsFor (records_of bytes) e →
+        MatchResult result (λ read. read ≡ e) (λ fault. IsFromOutside fault.kind)) }
+{
     let mut records = Records::new(alloc, reader);
-    read_records(alloc, &mut records)
+    read_records(alloc, &mut records, watch)
 }
 
 /// Reads all records into an election.
-fn read_records<R: Read>(alloc: Global, records: &mut Records<R>) -> Result<Election, ReadFault>
+fn read_records<R: Read, W: Watch>(
+    alloc: Global,
+    records: &mut Records<R>,
+    watch: &mut W,
+) -> Result<Election, ReadFault>
     ensures ok { IfSome records.old.left (λ all. IfOk result (λ e. StandsFor all e)) }
     ensures fault { IfSome records.old.left (λ all.
         IfErr result (λ fault. IsFaultAt all fault.kind fault.at)) }
@@ -57,7 +82,7 @@ fn read_records<R: Read>(alloc: Global, records: &mut Records<R>) -> Result<Elec
 {
     let mut row = Row::new(alloc);
     let mut progress = Progress::new(alloc);
-    let answer = read_election(records, &mut row, &mut progress);
+    let answer = read_election(records, &mut row, &mut progress, watch);
     // Letting go of both by a call keeps this function's proof short.
     drop(row);
     drop(progress);
@@ -65,10 +90,11 @@ fn read_records<R: Read>(alloc: Global, records: &mut Records<R>) -> Result<Elec
 }
 
 /// The same, where nothing was read yet.
-fn read_election<R: Read>(
+fn read_election<R: Read, W: Watch>(
     records: &mut Records<R>,
     row: &mut Row,
     progress: &mut Progress,
+    watch: &mut W,
 ) -> Result<Election, ReadFault>
     requires at_start { place_of progress.old ≡ (Start, opening 0 None) }
     requires ready { IsReady progress.old }
@@ -78,17 +104,18 @@ fn read_election<R: Read>(
     ensures blame { IfErr result (λ fault. BlamesReader fault.kind records.new.fault) }
     ensures read { HasReadAtMost 2000001 records.old.left records.new.left }
 {
-    match read_rows(records, row, progress) {
-        Ok(end) => finish(progress, end),
+    match read_rows(records, row, progress, watch) {
+        Ok(end) => finish(progress, end, watch),
         Err(fault) => Err(fault),
     }
 }
 
 /// Reads all records, one after another, and answers the number one past the last.
-fn read_rows<R: Read>(
+fn read_rows<R: Read, W: Watch>(
     records: &mut Records<R>,
     row: &mut Row,
     progress: &mut Progress,
+    watch: &mut W,
 ) -> Result<u32, ReadFault>
     requires at_start { place_of progress.old ≡ (Start, opening 0 None) }
     requires ready { IsReady progress.old }
@@ -103,7 +130,9 @@ fn read_rows<R: Read>(
         if !read_row(records, row, at)? {
             return Ok(at);
         }
+        let part = progress.part_of(row);
         take_row(progress, row, at)?;
+        watch.see(row.bytes(), at, part, None);
     }
     let at = MOST_RECORDS + 1;
     if read_row(records, row, at)? {
@@ -148,13 +177,16 @@ fn take_row(progress: &mut Progress, row: &Row, at: u32) -> Result<(), ReadFault
 }
 
 /// Ends the reading, where record `at` would stand.
-fn finish(progress: &mut Progress, at: u32) -> Result<Election, ReadFault>
+fn finish<W: Watch>(progress: &mut Progress, at: u32, watch: &mut W) -> Result<Election, ReadFault>
     ensures end { MatchResult result (EndsWith (place_of progress.old))
         (λ fault. (fault.at ≡ at) × Refuses progress.old the_end fault.kind) }
     ensures blame { IfErr result (λ fault. BlamesReader fault.kind None) }
 {
     match progress.finish() {
-        Ok(election) => Ok(election),
+        Ok(election) => {
+            watch.end();
+            Ok(election)
+        }
         Err(kind) => Err(ReadFault { kind, at }),
     }
 }

@@ -1,25 +1,70 @@
-//! Who looks on at a check, and warns.
+//! Who looks on while a file is read.
 
-use crate::fault::{ReadFault, ReadKind};
+ghost use Rattle.std.specs.Prelude.{◌≡◌, Option};
+ghost use Rattle.pb_read.specs.declared.warning.Warning.{Warning};
+
+use crate::columns::{ProjectColumns, VoteColumns};
+use crate::fault::ReadKind;
+use crate::warning::{Warning, WarningRow};
 use csv::ByteRecord;
 use pb_core::no_memory::NoMemory;
 
-/// Something in a file that is accepted, and probably not meant.
+/// What a record of a file is, by where it stands.
 #[derive(Clone, Copy)]
-pub struct Warning {
-    /// Its name, as rows have it.
-    pub name: &'static str,
-    /// The number of its record, from 1.
-    pub number: u64,
-    /// Whether the number is, instead, how many more there are of this name.
-    pub is_more: bool,
+pub enum Part {
+    /// No row of a section: it is blank or a section's head, or comes before META.
+    Other,
+    /// A section's row of column names.
+    Names,
+    /// A row of META: a key and its value.
+    Key,
+    /// A row of PROJECTS, with the places of its columns.
+    Project(ProjectColumns),
+    /// A row of VOTES, with the places of its columns.
+    Vote(VoteColumns),
 }
 
-/// Who looks on while a file is checked, and then warns. It changes nothing of the check, and nothing is proved of it.
+/// Who looks on while a file is read. It is only shown what the reader reads, so it changes nothing of it.
 pub trait Watch {
-    /// Sees the record with this number, from 1, as it stands in the file, and why it is refused, if it is.
-    fn see(&mut self, record: &ByteRecord, at: u32, refused: Option<ReadKind>);
+    /// Sees the record with this number, from 1, as it stands in the file, what it is, and why it is refused, if it is.
+    fn see(&mut self, record: &ByteRecord, at: u32, part: Part, refused: Option<ReadKind>);
 
-    /// The warnings of what was seen, beside these faults, in the order in which they are written.
-    fn warnings(&mut self, faults: &[ReadFault]) -> Result<Vec<Warning>, NoMemory>;
+    /// Learns that the file has ended, and may end there: all of its rows were shown.
+    fn end(&mut self);
+}
+
+/// Who looks on at a check, and then warns.
+pub trait Warn: Watch {
+    /// The warnings of what was seen, in the order in which they are written.
+    fn warnings(&mut self) -> Result<Vec<WarningRow>, NoMemory>;
+}
+
+/// Who looks on at the file of a count, and may refuse it for a warning.
+pub trait Heed: Watch {
+    /// The warning for which it refuses what it saw, if there is one.
+    ghost refused_for: { Self → Option Warning };
+
+    /// The same.
+    fn refusal(&self) -> Option<Warning>
+        ensures { result ≡ refused_for self.now };
+}
+
+/// Nobody looks on.
+#[derive(Clone, Copy, Debug)]
+pub struct NoWatch;
+
+impl Watch for NoWatch {
+    fn see(&mut self, _record: &ByteRecord, _at: u32, _part: Part, _refused: Option<ReadKind>) {}
+
+    fn end(&mut self) {}
+}
+
+impl Heed for NoWatch {
+    ghost use Rattle.std.specs.Prelude.{None};
+
+    ghost refused_for = { λ _. None };
+
+    fn refusal(&self) -> Option<Warning> {
+        None
+    }
 }

@@ -1,14 +1,15 @@
 //! What META says that warnings rest on.
 
 use crate::fields::text_at;
+use crate::mark::Mark;
 use csv::ByteRecord;
 use pb_core::money::Money;
 
 /// A number that a row of META says.
 #[derive(Clone, Copy)]
 pub(crate) struct Claim {
-    /// The number of its record.
-    at: u64,
+    /// Where its record begins.
+    mark: Mark,
     /// None where the value is no whole number.
     number: Option<u64>,
 }
@@ -35,15 +36,15 @@ impl Claims {
         }
     }
 
-    /// Takes a row of META, the record with this number.
-    pub(crate) fn take(&mut self, row: &ByteRecord, at: u64) {
+    /// Takes a row of META, which begins here.
+    pub(crate) fn take(&mut self, row: &ByteRecord, mark: Mark) {
         let key = text_at(row, 0);
         let value = text_at(row, 1);
         let number = whole_number(value);
         let claim = if value.is_empty() {
             None
         } else {
-            Some(Claim { at, number })
+            Some(Claim { mark, number })
         };
         if key.eq_ignore_ascii_case("num_votes") {
             self.votes = claim;
@@ -62,13 +63,13 @@ impl Claims {
     }
 }
 
-/// The number of a claim's record, where the claim is of other than so many.
-pub(crate) fn broken(claim: Option<Claim>, count: u64) -> Option<u64> {
+/// Where a claim's record begins, where the claim is of other than so many.
+pub(crate) fn broken(claim: Option<Claim>, count: u64) -> Option<Mark> {
     let claim = claim?;
     if claim.number == Some(count) {
         return None;
     }
-    Some(claim.at)
+    Some(claim.mark)
 }
 
 /// The whole number that a value names, perhaps with zeros as decimals.

@@ -1,5 +1,7 @@
 //! Where a record begins in its text.
 
+use csv::{ByteRecord, Position};
+
 /// Where a record begins in its text. The bytes before it may end with blank lines that are no records.
 #[derive(Clone, Copy)]
 pub(crate) struct Mark {
@@ -18,6 +20,16 @@ impl Mark {
             at: 0,
             byte: 0,
             line: 1,
+        }
+    }
+
+    /// Where the record with this number begins, as its reader says.
+    pub(crate) fn of(record: &ByteRecord, at: u64) -> Mark {
+        let position = record.position().unwrap_or(Position::new());
+        Mark {
+            at,
+            byte: position.byte(),
+            line: position.line(),
         }
     }
 }

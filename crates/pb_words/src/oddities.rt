@@ -1,129 +1,134 @@
 //! What is accepted in a .pb file and probably not meant, as it is found.
 
+use crate::mark::Mark;
 use pb_core::no_memory::NoMemory;
-use pb_read::Warning;
+use pb_read::{Oddity, Warning, WarningRow};
 use std::alloc::Global;
 
-/// What is accepted, and probably not meant, in the order in which warnings are written.
-#[derive(Clone, Copy)]
-pub(crate) enum Oddity {
-    /// META's `num_votes` is not the number of votes.
-    VotesMissing,
-    /// META's `num_projects` is not the number of projects.
-    ProjectsMissing,
-    /// A vote has more fields than the row of column names.
-    SurplusFields,
-    /// A ballot approves more projects than META's `max_length`.
-    TooLongBallot,
-    /// A ballot approves fewer projects than META's `min_length`.
-    TooShortBallot,
-    /// A ballot approves nothing.
-    EmptyBallot,
-    /// Nobody approves a project.
-    NoSupporter,
-    /// A project costs more than the budget.
-    OverBudget,
-    /// A project's id has a comma, so no vote can name it.
-    CommaInId,
-}
-
-/// The names that rows have, in the same order.
-const NAMES: [&str; 9] = [
-    "VotesMissing",
-    "ProjectsMissing",
-    "SurplusFields",
-    "TooLongBallot",
-    "TooShortBallot",
-    "EmptyBallot",
-    "NoSupporter",
-    "OverBudget",
-    "CommaInId",
+/// The oddities in the order in which warnings are written.
+pub(crate) const ALL: [Oddity; 12] = [
+    Oddity::VotesMissing,
+    Oddity::ProjectsMissing,
+    Oddity::SurplusFields,
+    Oddity::TooLongBallot,
+    Oddity::TooShortBallot,
+    Oddity::EmptyBallot,
+    Oddity::NoSupporter,
+    Oddity::OverBudget,
+    Oddity::CommaInId,
+    Oddity::ThousandsMark,
+    Oddity::RepeatedKey,
+    Oddity::FooterRow,
 ];
 
-/// The most warnings of one name.
-const MOST: u64 = 100;
-
-/// A list of warnings. Where memory is refused it is void, which its end tells.
-#[derive(Drop)]
-pub(crate) struct List {
-    rows: Vec<Warning>,
-    pub(crate) is_whole: bool,
+/// A record that is odd, with what words need to speak of it.
+#[derive(Clone, Copy)]
+pub(crate) struct Odd {
+    pub(crate) oddity: Oddity,
+    /// Where the record begins.
+    pub(crate) mark: Mark,
+    /// What its row is of: a `key`, a `project` or a `voter`.
+    pub(crate) subject: &'static str,
+    /// The places of its id and of the value that is spoken of.
+    pub(crate) id_place: usize,
+    pub(crate) value_place: usize,
+    /// What it is measured by, as how many rows there are.
+    pub(crate) number: u64,
 }
 
-impl List {
-    /// No warning yet.
-    pub(crate) fn new(alloc: Global) -> List {
-        List {
-            rows: Vec::new(alloc),
+/// What was found: so many odd records of each kind at most, and how many there are of each.
+#[derive(Drop)]
+pub(crate) struct Oddities {
+    alloc: Global,
+    most: u64,
+    found: Vec<Odd>,
+    counts: [u64; 12],
+    firsts: [u64; 12],
+    is_whole: bool,
+}
+
+impl Oddities {
+    /// Nothing was found yet; of each kind this many are kept.
+    pub(crate) fn new(alloc: Global, most: u64) -> Oddities {
+        Oddities {
+            alloc,
+            most,
+            found: Vec::new(alloc),
+            counts: [0; 12],
+            firsts: [0; 12],
             is_whole: true,
         }
     }
 
-    fn put(&mut self, warning: Warning) {
-        if self.rows.push(warning).is_err() {
+    /// Takes an odd record.
+    pub(crate) fn take(&mut self, odd: Odd) {
+        let place = odd.oddity as usize;
+        if self.counts[place] == 0 {
+            self.firsts[place] = odd.mark.at;
+        }
+        self.counts[place] = self.counts[place].saturating_add(1);
+        if self.counts[place] <= self.most && self.found.push(odd).is_err() {
             self.is_whole = false;
         }
     }
 
-    /// The warnings, where no memory was refused.
-    pub(crate) fn finish(self) -> Result<Vec<Warning>, NoMemory> {
-        if self.is_whole {
-            Ok(self.rows)
-        } else {
-            Err(NoMemory)
-        }
-    }
-}
-
-/// What was found: at most 100 warnings of each name, and how many there are of each.
-#[derive(Drop)]
-pub(crate) struct Oddities {
-    pub(crate) found: List,
-    counts: [u64; 9],
-}
-
-impl Oddities {
-    /// Nothing was found yet.
-    pub(crate) fn new(alloc: Global) -> Oddities {
-        Oddities {
-            found: List::new(alloc),
-            counts: [0; 9],
-        }
+    /// Says that memory was refused.
+    pub(crate) fn fail(&mut self) {
+        self.is_whole = false;
     }
 
-    /// Warns of the record with this number.
-    pub(crate) fn warn(&mut self, oddity: Oddity, at: u64) {
-        let place = oddity as usize;
-        self.counts[place] = self.counts[place].saturating_add(1);
-        if self.counts[place] <= MOST {
-            self.found.put(Warning {
-                name: NAMES[place],
-                number: at,
-                is_more: false,
-            });
-        }
+    /// Whether no memory was refused.
+    pub(crate) fn is_whole(&self) -> bool {
+        self.is_whole
     }
 
-    /// Puts the warnings by their names, after those of each how many more there are.
-    pub(crate) fn put_all(&self, all: &mut List) {
-        for place in 0..9usize {
-            self.put_named(NAMES[place], all);
-            let count = self.counts[place];
-            if count > MOST {
-                all.put(Warning {
-                    name: NAMES[place],
-                    number: count - MOST,
-                    is_more: true,
-                });
+    /// How many there are of a kind beyond those that are kept.
+    pub(crate) fn more(&self, oddity: Oddity) -> u64 {
+        self.counts[oddity as usize].saturating_sub(self.most)
+    }
+
+    /// Those that are kept, in the order in which they were found.
+    pub(crate) fn found(&self) -> &[Odd] {
+        self.found.as_slice()
+    }
+
+    /// The first of the first kind that was found.
+    pub(crate) fn first(&self) -> Option<Warning> {
+        for oddity in ALL {
+            if self.counts[oddity as usize] > 0 {
+                let at = self.firsts[oddity as usize];
+                return Some(Warning { oddity, at });
             }
         }
+        None
     }
 
-    fn put_named(&self, name: &str, all: &mut List) {
-        for warning in &self.found.rows {
-            if warning.name == name {
-                all.put(*warning);
+    /// The rows of all, by their kinds, with how many more there are of each.
+    pub(crate) fn rows(&self) -> Result<Vec<WarningRow>, NoMemory> {
+        if !self.is_whole {
+            return Err(NoMemory);
+        }
+        let mut rows = Vec::new(self.alloc);
+        for oddity in ALL {
+            if self.put_rows(oddity, &mut rows).is_err() {
+                drop(rows);
+                return Err(NoMemory);
             }
         }
+        Ok(rows)
+    }
+
+    fn put_rows(&self, oddity: Oddity, rows: &mut Vec<WarningRow>) -> Result<(), NoMemory> {
+        for odd in &self.found {
+            if odd.oddity == oddity {
+                let at = odd.mark.at;
+                rows.push(WarningRow::Of(Warning { oddity, at }))?;
+            }
+        }
+        let more = self.more(oddity);
+        if more > 0 {
+            rows.push(WarningRow::MoreOf(oddity, more))?;
+        }
+        Ok(())
     }
 }

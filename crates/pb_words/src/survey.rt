@@ -39,7 +39,7 @@ fn read_to_end<F: Read>(records: &mut Records<F>, voter: &str) -> Survey {
         }
         let mark = records.mark();
         match seen.stage {
-            Stage::Rows(Section::Meta) => claims.take(&records.last, mark.at),
+            Stage::Rows(Section::Meta) => claims.take(&records.last, mark),
             Stage::Rows(Section::Votes) => has_vote |= seen.id(&records.last) == voter,
             _ => {}
         }

@@ -1,23 +1,32 @@
 //! Warnings of what is accepted in a .pb file, and probably not meant.
 
-use crate::claims::{Claims, broken};
-use crate::fields::is_blank;
+ghost use Rattle.std.specs.Prelude.{◌≡◌, Option};
+
+use crate::fields::text_at;
 use crate::mark::Mark;
-use crate::oddities::{List, Oddities, Oddity};
-use crate::section::{Section, Stage};
-use crate::seen::Seen;
+use crate::oddities::{Odd, Oddities};
+use crate::oddity_words::put_oddities;
+use crate::result_oddities::{ResultOddities, of_vote};
+use crate::text::Text;
+use crate::words::Words;
 use csv::ByteRecord;
 use pb_core::money::Money;
 use pb_core::no_memory::NoMemory;
 use pb_ids::IdTable;
-use pb_read::{ReadFault, ReadKind, Warning, Watch};
+use pb_read::{
+    Heed, Oddity, Part, ProjectColumns, ReadKind, VoteColumns, Warn, Warning, WarningRow, Watch,
+};
 use std::alloc::{AllocError, Global};
+use std::rt::Files;
+
+/// The most warnings of one name that a check lists.
+const MOST: u64 = 100;
 
 /// A project, and how it is backed.
 #[derive(Clone, Copy)]
 struct Backed {
-    /// The number of its record.
-    at: u64,
+    mark: Mark,
+    columns: ProjectColumns,
     /// The last vote that named it, from 1; 0 is none.
     vote: u64,
 }
@@ -26,13 +35,12 @@ struct Backed {
 #[derive(Drop)]
 pub struct Warnings {
     alloc: Global,
-    seen: Seen,
-    claims: Claims,
-    /// How many fields the row of the section's column names has.
-    columns: usize,
+    results: ResultOddities,
+    oddities: Oddities,
     places: IdTable,
     projects: Vec<Backed>,
-    oddities: Oddities,
+    /// Whether the file has ended, and may end there.
+    has_ended: bool,
 }
 
 impl Warnings {
@@ -40,51 +48,75 @@ impl Warnings {
     pub fn new(alloc: Global) -> Warnings {
         Warnings {
             alloc,
-            seen: Seen::nothing(),
-            claims: Claims::none(),
-            columns: 0,
+            results: ResultOddities::none(),
+            oddities: Oddities::new(alloc, MOST),
             places: IdTable::new(alloc),
             projects: Vec::new(alloc),
-            oddities: Oddities::new(alloc),
+            has_ended: false,
         }
     }
 
-    /// Takes a project that is accepted.
-    fn take_project(&mut self, row: &ByteRecord, at: u64) -> Result<(), AllocError> {
-        let id = self.seen.id(row);
-        if id.contains(',') {
-            self.oddities.warn(Oddity::CommaInId, at);
+    /// Words for the warnings of the file with this path; no path is standard input.
+    pub fn words<R: Files>(&self, rt: &R, path: Option<&str>) -> Result<String, AllocError> {
+        let mut out = Words::new(self.alloc);
+        if self.has_ended {
+            let text = Text::new(rt, self.alloc, path, "record");
+            put_oddities(&mut out, self.alloc, &text, &self.oddities);
         }
-        if is_above(self.seen.value(row), self.claims.budget) {
-            self.oddities.warn(Oddity::OverBudget, at);
+        out.finish()
+    }
+
+    /// Takes a project that is accepted.
+    fn take_project(
+        &mut self,
+        row: &ByteRecord,
+        at: u32,
+        columns: ProjectColumns,
+    ) -> Result<(), AllocError> {
+        let id = text_at(row, columns.id);
+        let mark = Mark::of(row, u64::from(at));
+        let budget = self.results.claims.budget;
+        if id.contains(',') {
+            self.oddities
+                .take(of_project(Oddity::CommaInId, mark, columns));
+        }
+        if is_above(text_at(row, columns.cost), budget) {
+            self.oddities
+                .take(of_project(Oddity::OverBudget, mark, columns));
         }
         let place = u32::try_from(self.projects.len()).unwrap_or(u32::MAX);
         self.places.insert(self.alloc, id, place)?;
-        self.projects.push(Backed { at, vote: 0 })?;
+        self.projects.push(Backed {
+            mark,
+            columns,
+            vote: 0,
+        })?;
         Ok(())
     }
 
     /// Takes a vote that is accepted.
-    fn take_vote(&mut self, row: &ByteRecord, at: u64) {
-        if row.len() > self.columns {
-            self.oddities.warn(Oddity::SurplusFields, at);
-        }
-        let length = self.back(row);
+    fn take_vote(&mut self, row: &ByteRecord, at: u32, columns: VoteColumns) {
+        let length = self.back(text_at(row, columns.vote));
+        let mark = Mark::of(row, u64::from(at));
         if length == 0 {
-            self.oddities.warn(Oddity::EmptyBallot, at);
+            self.warn_vote(Oddity::EmptyBallot, mark, columns, length);
         }
-        if length > self.claims.max_length.unwrap_or(u64::MAX) {
-            self.oddities.warn(Oddity::TooLongBallot, at);
+        if length > self.results.claims.max_length.unwrap_or(u64::MAX) {
+            self.warn_vote(Oddity::TooLongBallot, mark, columns, length);
         }
-        if length < self.claims.min_length.unwrap_or(0) {
-            self.oddities.warn(Oddity::TooShortBallot, at);
+        if length < self.results.claims.min_length.unwrap_or(0) {
+            self.warn_vote(Oddity::TooShortBallot, mark, columns, length);
         }
     }
 
+    fn warn_vote(&mut self, oddity: Oddity, mark: Mark, columns: VoteColumns, length: u64) {
+        self.oddities.take(of_vote(oddity, mark, columns, length));
+    }
+
     /// Notes which projects the last vote names, and answers how many they are.
-    fn back(&mut self, row: &ByteRecord) -> u64 {
+    fn back(&mut self, vote: &str) -> u64 {
         let mut length = 0u64;
-        for piece in self.seen.value(row).split(',') {
+        for piece in vote.split(',') {
             if self.is_backed(piece.trim()) {
                 length = length.saturating_add(1);
             }
@@ -95,70 +127,120 @@ impl Warnings {
     /// Notes that the last vote names this project, and answers whether it did not name it before.
     fn is_backed(&mut self, id: &str) -> bool {
         let place = self.places.get(id).unwrap_or(u32::MAX) as usize;
-        if place < self.projects.len() && self.projects[place].vote < self.seen.votes {
-            self.projects[place].vote = self.seen.votes;
+        if place < self.projects.len() && self.projects[place].vote < self.results.votes {
+            self.projects[place].vote = self.results.votes;
             true
         } else {
             false
         }
     }
+}
 
-    /// Warns of what is known at the end alone.
-    fn take_end(&mut self) {
-        if let Some(at) = broken(self.claims.votes, self.seen.votes) {
-            self.oddities.warn(Oddity::VotesMissing, at);
+impl Watch for Warnings {
+    fn see(&mut self, record: &ByteRecord, at: u32, part: Part, refused: Option<ReadKind>) {
+        if refused.is_some() {
+            return self.results.count(part);
         }
-        if let Some(at) = broken(self.claims.projects, self.seen.projects) {
-            self.oddities.warn(Oddity::ProjectsMissing, at);
+        self.results.take(record, at, part, &mut self.oddities);
+        match part {
+            Part::Project(columns) => {
+                if self.take_project(record, at, columns).is_err() {
+                    self.oddities.fail();
+                }
+            }
+            Part::Vote(columns) => self.take_vote(record, at, columns),
+            Part::Other | Part::Names | Part::Key => {}
         }
+    }
+
+    fn end(&mut self) {
+        self.has_ended = true;
+        self.results.end(&mut self.oddities);
         for project in &self.projects {
             if project.vote == 0 {
-                self.oddities.warn(Oddity::NoSupporter, project.at);
+                let (mark, columns) = (project.mark, project.columns);
+                self.oddities
+                    .take(of_project(Oddity::NoSupporter, mark, columns));
             }
         }
     }
 }
 
-impl Watch for Warnings {
-    fn see(&mut self, record: &ByteRecord, at: u32, refused: Option<ReadKind>) {
-        if is_blank(record) {
-            return;
+impl Warn for Warnings {
+    fn warnings(&mut self) -> Result<Vec<WarningRow>, NoMemory> {
+        if self.has_ended {
+            self.oddities.rows()
+        } else {
+            Ok(Vec::new(self.alloc))
         }
-        if refused.is_some() {
-            return self.seen.count();
-        }
-        let at = u64::from(at);
-        let is_head = Section::headed_by(record).is_some();
-        let stage = self.seen.stage;
-        self.seen.take(
-            record,
-            Mark {
-                at,
-                ..Mark::start()
-            },
-        );
-        match stage {
-            _ if is_head => {}
-            Stage::Header(_) => self.columns = record.len(),
-            Stage::Rows(Section::Meta) => self.claims.take(record, at),
-            Stage::Rows(Section::Projects) => {
-                if self.take_project(record, at).is_err() {
-                    self.oddities.found.is_whole = false;
-                }
-            }
-            Stage::Rows(Section::Votes) => self.take_vote(record, at),
-            Stage::Start => {}
+    }
+}
+
+/// Looks on while a file is read that is counted, and collects what can change the result.
+#[derive(Drop)]
+pub struct ResultWarnings {
+    alloc: Global,
+    results: ResultOddities,
+    oddities: Oddities,
+    /// Whether a warning refuses the file.
+    is_strict: bool,
+    /// The first warning, once the file has ended and may end there.
+    first: Option<Warning>,
+}
+
+impl ResultWarnings {
+    /// Nothing was seen yet; where it is strict a warning refuses the file.
+    pub fn new(alloc: Global, is_strict: bool) -> ResultWarnings {
+        ResultWarnings {
+            alloc,
+            results: ResultOddities::none(),
+            oddities: Oddities::new(alloc, 1),
+            is_strict,
+            first: None,
         }
     }
 
-    fn warnings(&mut self, faults: &[ReadFault]) -> Result<Vec<Warning>, NoMemory> {
-        let mut all = List::new(self.alloc);
-        if !ends_early(faults, self.seen.stage) {
-            self.take_end();
-            self.oddities.put_all(&mut all);
+    /// Words for the warnings of the file with this path, each name once; no path is standard input.
+    pub fn words<R: Files>(&self, rt: &R, path: Option<&str>) -> Result<String, AllocError> {
+        let mut out = Words::new(self.alloc);
+        if self.first.is_some() {
+            let text = Text::new(rt, self.alloc, path, "record");
+            put_oddities(&mut out, self.alloc, &text, &self.oddities);
         }
-        all.is_whole &= self.oddities.found.is_whole;
-        all.finish()
+        out.finish()
+    }
+}
+
+impl Watch for ResultWarnings {
+    fn see(&mut self, record: &ByteRecord, at: u32, part: Part, _refused: Option<ReadKind>) {
+        self.results.take(record, at, part, &mut self.oddities);
+    }
+
+    fn end(&mut self) {
+        self.results.end(&mut self.oddities);
+        self.first = self.oddities.first();
+    }
+}
+
+impl Heed for ResultWarnings {
+    ghost use Rattle.std.specs.Prelude.{None, if◌then◌else◌};
+
+    ghost refused_for = { λ warnings. if warnings.is_strict then warnings.first else None };
+
+    fn refusal(&self) -> Option<Warning> {
+        if self.is_strict { self.first } else { None }
+    }
+}
+
+/// A row of PROJECTS that is odd.
+fn of_project(oddity: Oddity, mark: Mark, columns: ProjectColumns) -> Odd {
+    Odd {
+        oddity,
+        mark,
+        subject: "project",
+        id_place: columns.id,
+        value_place: columns.cost,
+        number: 0,
     }
 }
 
@@ -168,16 +250,4 @@ fn is_above(cost: &str, budget: Option<u64>) -> bool {
         Ok(cost) => cost.0 > budget.unwrap_or(u64::MAX),
         Err(_) => false,
     }
-}
-
-/// Whether a check ended before the file did.
-fn ends_early(faults: &[ReadFault], stage: Stage) -> bool {
-    let by_fault = match faults.last() {
-        Some(fault) => matches!(
-            fault.kind,
-            ReadKind::ReadFailed | ReadKind::TooManyRecords | ReadKind::SectionOrder
-        ),
-        None => false,
-    };
-    by_fault || stage != Stage::Rows(Section::Votes)
 }

@@ -6,11 +6,12 @@ use Rattle.pb_reasons.specs.declared.project_reason.Ending.TheVariants.{Won, Los
 use Rattle.pb_rounds.specs.declared.options.CountOptions.{CountOptions}
 use Rattle.pb_commands.specs.Exported.{ExportRefuses}
 use Rattle.pb_faults.specs.declared.fault.AppFault.{AppFault}
-use Rattle.pb_faults.specs.declared.fault.AppFault.TheVariants.{Memory}
+use Rattle.pb_faults.specs.declared.fault.AppFault.TheVariants.{Memory, Warned}
 
 -- memory was refused, or the election is
 abbrev pub IsStopped : CountOptions → ElectionView → AppFault → Type 0
 IsStopped options e Memory = ⊤
+IsStopped options e (Warned warning) = ⊥
 IsStopped options e fault = ExportRefuses options e fault
 
 -- whether a project is elected

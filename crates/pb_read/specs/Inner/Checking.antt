@@ -4,7 +4,7 @@ use Rattle.csv.specs.Records.{AllText}
 use Rattle.pb_core.specs.Election.{ElectionView}
 use Rattle.pb_rows.specs.Reading.{Fields, IsNext}
 use Rattle.pb_read.specs.FirstFault.{IsFaultAt}
-use Rattle.pb_read.specs.Listed.{is_of_row, may_be_of_row}
+use Rattle.pb_read.specs.Listed.{IsLeftOut, leaves_out}
 use Rattle.pb_read.specs.Inner.Machine.{Position, advance, lowest_kind, row_fault}
 use Rattle.pb_read.specs.Inner.Progresses.{EndsWith}
 use Rattle.pb_read.specs.Stages.{next_row, the_end}
@@ -15,6 +15,7 @@ use Rattle.pb_read.specs.declared.check.Verdict.TheVariants.{Passes, LeavesOut, 
 use Rattle.pb_read.specs.declared.fault.ReadFault.{ReadFault}
 use Rattle.pb_read.specs.declared.fault.ReadKind.{ReadKind}
 use Rattle.pb_read.specs.declared.fault.ReadKind.TheVariants.{ReadFailed, NoMemory, TooManyRecords}
+use Rattle.pb_read.specs.declared.progress.Stage.{Stage}
 use Rattle.pb_read.specs.declared.row.Found.{Found}
 use Rattle.pb_read.specs.declared.row.Found.TheVariants.{Text, NoText, End}
 
@@ -28,11 +29,11 @@ HasFound left after row End = (fields : Fields) × IsNext left after false field
 abbrev pub text_fault : ℕ → Position → Fields → Option ReadKind
 text_fault kept p row = if kept == most_records then Some TooManyRecords else row_fault p (next_row row)
 
--- what comes of a fault of this kind
-abbrev pub IsRefusal : ReadKind → Verdict → Type 0
-IsRefusal kind (LeavesOut other) = (other ≡ kind) × (kind ≢ NoMemory) × (may_be_of_row kind ≡ true)
-IsRefusal kind (Ends other) = (other ≡ kind) × (is_of_row kind ≡ false)
-IsRefusal kind verdict = ⊥
+-- what comes of a fault of this kind, where the file has come to this stage
+abbrev pub IsRefusal : Stage → ReadKind → Verdict → Type 0
+IsRefusal stage kind (LeavesOut other) = (other ≡ kind) × (kind ≢ NoMemory) × (leaves_out stage kind ≡ true)
+IsRefusal stage kind (Ends other) = (other ≡ kind) × (leaves_out stage kind ≡ false)
+IsRefusal stage kind verdict = ⊥
 
 -- reading ends at a kind that applies; that the reader failed, or memory was refused, no clause can say
 abbrev pub EndsAt : ReadKind → Option ReadKind → Type 0
@@ -42,8 +43,8 @@ EndsAt kind found = found ≡ Some kind
 
 -- a verdict on what comes next at a position, by the lowest kind that applies there
 abbrev pub IsVerdict : Option ReadKind → Position → Position → Verdict → Type 0
-IsVerdict found p q (LeavesOut kind) = (found ≡ Some kind) × (q ≡ p) × (may_be_of_row kind ≡ true)
-IsVerdict found p q (Ends kind) = EndsAt kind found × (is_of_row kind ≡ false)
+IsVerdict found p q (LeavesOut kind) = (found ≡ Some kind) × (q ≡ p) × (leaves_out p.0 kind ≡ true)
+IsVerdict found p q (Ends kind) = EndsAt kind found × (leaves_out p.0 kind ≡ false)
 IsVerdict found p q verdict = ⊥
 
 -- the same of a row that is text, which may pass
@@ -71,13 +72,13 @@ abbrev pub Judges :
 Judges kept left after p q Passes =
     (row : Fields) × IsNextRow left after true row × JudgesRow kept row p q Passes
 Judges kept left after p q (LeavesOut kind) =
-    NextHas kept left after p kind × (q ≡ p) × (may_be_of_row kind ≡ true)
-Judges kept left after p q (Ends kind) = LeftHas kept left p kind × (is_of_row kind ≡ false)
+    NextHas kept left after p kind × (q ≡ p) × (leaves_out p.0 kind ≡ true)
+Judges kept left after p q (Ends kind) = LeftHas kept left p kind × (leaves_out p.0 kind ≡ false)
 Judges kept left after p q Done = IfSome left (λ records. records ≡ []) × ((e : ElectionView) × EndsWith p e)
 
 -- a verdict on the end of the file
 abbrev pub JudgesEnd : Position → Verdict → Type 0
-JudgesEnd p (Ends kind) = EndsAt kind (row_fault p the_end) × (is_of_row kind ≡ false)
+JudgesEnd p (Ends kind) = EndsAt kind (row_fault p the_end) × (leaves_out p.0 kind ≡ false)
 JudgesEnd p Done = (e : ElectionView) × EndsWith p e
 JudgesEnd p verdict = ⊥
 
@@ -96,7 +97,8 @@ abbrev pub LeadsTo : ℕ → List Fields → List ReadFault → List Fields → 
 LeadsTo out records [] now = records ≡ now
 LeadsTo out records (fault ∷ more) now =
     (out < fault.at) × IsFaultAt records fault.kind (fault.at - out)
-    × (may_be_of_row fault.kind ≡ true) × LeadsTo (out + 1) (without (fault.at - out) records) more now
+    × (out < 999) × IsLeftOut true records fault.kind (fault.at - out)
+    × LeadsTo (out + 1) (without (fault.at - out) records) more now
 
 -- this many records were read, and these faults listed
 pub record Going (all : List Fields) (left : Option (List Fields)) (done : ℕ) (faults : List ReadFault)

@@ -9,7 +9,7 @@ pub returns-in_err-election-clause-fault : goal.returns-in_err-election-clause-f
 returns-in_err-election-clause-fault g c = reader_refuses _ _ c.in_err-election.field-0.0 _ c.from_residual.ensures.1 c.in_err-election.ensures.fault
 
 pub returns-in_err-election-clause-accepts : goal.returns-in_err-election-clause-accepts
-returns-in_err-election-clause-accepts g c = reader_bars _ _ c.in_err-election.field-0.0 _ c.from_residual.ensures.1 c.in_err-election.ensures.accepts
+returns-in_err-election-clause-accepts g c = λ none. reader_bars _ _ c.in_err-election.field-0.0 _ c.from_residual.ensures.1 c.in_err-election.ensures.accepts
 
 pub returns-in_err-election-clause-file : goal.returns-in_err-election-clause-file
 returns-in_err-election-clause-file g c = reader_is_judged _ c.in_err-election.field-0.0 _ c.from_residual.ensures.1 c.in_err-election.ensures.fault
@@ -22,7 +22,7 @@ returns-in_err-desk-clause-fault g c =
     journal_refuses c.in_ok-election.election c.in_err-desk.field-0.0 _ _ _ c.from_residual-in_err-desk.ensures.1 c.in_ok-election.ensures.ok c.in_err-desk.ensures.fault
 
 pub returns-in_err-desk-clause-accepts : goal.returns-in_err-desk-clause-accepts
-returns-in_err-desk-clause-accepts g c =
+returns-in_err-desk-clause-accepts g c = λ none.
     journal_bars c.in_ok-election.election c.in_err-desk.field-0.0 _ _ _ c.from_residual-in_err-desk.ensures.1 c.in_ok-election.ensures.ok c.in_err-desk.ensures.fault
 
 pub returns-in_err-desk-clause-file : goal.returns-in_err-desk-clause-file
@@ -47,7 +47,7 @@ pub returns-then-is_shut-clause-fault : goal.returns-then-is_shut-clause-fault
 returns-then-is_shut-clause-fault g c = left_refuses c.left_by.result c.left_by.ensures.fault _ _
 
 pub returns-then-is_shut-clause-accepts : goal.returns-then-is_shut-clause-accepts
-returns-then-is_shut-clause-accepts g c = left_bars c.left_by.result c.left_by.ensures.fault _ _
+returns-then-is_shut-clause-accepts g c = λ none. left_bars c.left_by.result c.left_by.ensures.fault _ _
 
 pub returns-then-is_shut-clause-file : goal.returns-then-is_shut-clause-file
 returns-then-is_shut-clause-file g c = left_is_judged c.left_by.result c.left_by.ensures.fault _
@@ -64,7 +64,7 @@ returns-else-is_shut-clause-fault g c =
     (record { stands = c.in_ok-election.ensures.ok; election = known.opening; room = known.room; sound = known.sound; rows = known.rows }) standing
 
 pub returns-else-is_shut-clause-accepts : goal.returns-else-is_shut-clause-accepts
-returns-else-is_shut-clause-accepts g c =
+returns-else-is_shut-clause-accepts g c = λ none.
     let d = c.in_ok-desk.desk in
     let known = c.in_ok-desk.ensures in
     let standing : (standing_of d).is_shut ≡ false = search rules in

@@ -36,7 +36,7 @@ pub returns-clause-file : goal.returns-clause-file
 returns-clause-file g c = judged_by_writer _ c.in_ok-election.election _ c.write_out.ensures.fault c.in_ok-election.ensures.ok
 
 pub returns-in_err-election-clause-accepts : goal.returns-in_err-election-clause-accepts
-returns-in_err-election-clause-accepts g c =
+returns-in_err-election-clause-accepts g c = λ none.
     audited_by_reader _ _ c.args.counting.now.options.now c.in_err-election.field-0.0 _ c.from_residual.ensures.1 c.in_err-election.ensures.accepts
 
 pub returns-in_err-election-clause-file : goal.returns-in_err-election-clause-file
@@ -48,7 +48,7 @@ returns-in_err-desk-clause-fault g c =
     c.in_ok-election.ensures.ok c.in_err-desk.ensures.fault
 
 pub returns-in_err-desk-clause-accepts : goal.returns-in_err-desk-clause-accepts
-returns-in_err-desk-clause-accepts g c =
+returns-in_err-desk-clause-accepts g c = λ none.
     audited_by_journal _ _ c.args.counting.now.options.now c.in_ok-election.election c.in_err-desk.field-0.0 _ c.from_residual-in_err-desk.ensures.1
     c.in_ok-election.ensures.ok c.in_err-desk.ensures.fault
 
@@ -63,7 +63,7 @@ returns-in_err-text-clause-fault g c =
     (record { stands = c.in_ok-election.ensures.ok; election = desk.opening; room = desk.room; sound = desk.sound; rows = desk.rows }) c.in_err-text.ensures.fault
 
 pub returns-in_err-text-clause-accepts : goal.returns-in_err-text-clause-accepts
-returns-in_err-text-clause-accepts g c =
+returns-in_err-text-clause-accepts g c = λ none.
     let desk = c.in_ok-desk.ensures in
     audited_by_desk _ _ c.args.counting.now.options.now c.in_ok-election.election c.in_ok-desk.desk c.in_err-text.field-0.0 _ c.from_residual-in_err-text.ensures.1
     (record { stands = c.in_ok-election.ensures.ok; election = desk.opening; room = desk.room; sound = desk.sound; rows = desk.rows }) c.in_err-text.ensures.fault

@@ -5,7 +5,7 @@ pub returns-in-Err-clause-fault : goal.returns-in-Err-clause-fault
 returns-in-Err-clause-fault g c = refused_early c.args.counting.now.options.now _ _ c.in-Err.fault c.in-Err.ensures.fault
 
 pub returns-in-Err-clause-accepts : goal.returns-in-Err-clause-accepts
-returns-in-Err-clause-accepts g c = barred_early c.args.counting.now.options.now _ _ c.in-Err.fault c.in-Err.ensures.accepts
+returns-in-Err-clause-accepts g c = λ none. barred_early c.args.counting.now.options.now _ _ c.in-Err.fault (c.in-Err.ensures.accepts none)
 
 pub returns-in-Ok-made-clause-ok : goal.returns-in-Ok-made-clause-ok
 returns-in-Ok-made-clause-ok g c =
@@ -21,5 +21,5 @@ returns-in-Err-made-clause-fault g c =
     refused_late c.args.counting.now.options.now c.in-Ok.election _ _ c.in-Err-made.fault c.in-Ok.ensures.ok c.in-Err-made.ensures.fault
 
 pub returns-in-Err-made-clause-accepts : goal.returns-in-Err-made-clause-accepts
-returns-in-Err-made-clause-accepts g c =
+returns-in-Err-made-clause-accepts g c = λ none.
     barred_late c.args.counting.now.options.now c.in-Ok.election _ _ c.in-Err-made.fault c.in-Ok.ensures.ok c.in-Err-made.ensures.fault c.in-Err-made.ensures.merged

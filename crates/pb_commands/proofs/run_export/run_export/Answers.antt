@@ -15,8 +15,8 @@ pub returns-in_err-election-clause-merged : goal.returns-in_err-election-clause-
 returns-in_err-election-clause-merged g c = stays_merged (Read c.in_err-election.field-0.0) _ c.from_residual.ensures.1
 
 pub returns-in_err-election-clause-accepts : goal.returns-in_err-election-clause-accepts
-returns-in_err-election-clause-accepts g c = accepted_by_reader c.args.counting.now.options.now _ c.in_err-election.field-0.0 _ c.from_residual.ensures.1 c.in_err-election.ensures.accepts
+returns-in_err-election-clause-accepts g c = λ none. accepted_by_reader c.args.counting.now.options.now _ c.in_err-election.field-0.0 _ c.from_residual.ensures.1 c.in_err-election.ensures.accepts
 
 pub returns-in-Err-clause-accepts : goal.returns-in-Err-clause-accepts
-returns-in-Err-clause-accepts g c =
+returns-in-Err-clause-accepts g c = λ none.
     stopped_accepts c.args.counting.now.options.now _ c.in_ok-election.election c.in-Err.fault c.in_ok-election.ensures.ok c.in-Err.ensures.fault c.in-Err.ensures.merged

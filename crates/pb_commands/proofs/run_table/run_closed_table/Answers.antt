@@ -10,8 +10,8 @@ returns-in_err-election-clause-fault g c =
     refused_as c.args.table c.args.counting.now.options.now _ _ c.in_err-election.field-0.0 _ c.from_residual.ensures.1 c.in_err-election.ensures.fault
 
 pub returns-in_err-election-clause-accepts : goal.returns-in_err-election-clause-accepts
-returns-in_err-election-clause-accepts g c =
-    barred_as c.args.table c.args.counting.now.options.now _ _ c.in_err-election.field-0.0 _ c.from_residual.ensures.1 c.in_err-election.ensures.accepts
+returns-in_err-election-clause-accepts g c = λ none.
+    barred_as c.args.table c.args.counting.now.options.now _ _ c.in_err-election.field-0.0 _ c.from_residual.ensures.1 (c.in_err-election.ensures.accepts none)
 
 pub returns-in_err-election-clause-file : goal.returns-in_err-election-clause-file
 returns-in_err-election-clause-file g c = judged_as _ c.in_err-election.field-0.0 _ c.from_residual.ensures.1 c.in_err-election.ensures.file
@@ -26,7 +26,7 @@ returns-in_err-text-clause-fault g c =
     c.in_ok-election.ensures.ok c.in_err-text.ensures.fault
 
 pub returns-in_err-text-clause-accepts : goal.returns-in_err-text-clause-accepts
-returns-in_err-text-clause-accepts g c =
+returns-in_err-text-clause-accepts g c = λ none.
     count_bars c.args.table c.args.counting.now.options.now c.in_ok-election.election _ _ c.in_err-text.field-0.0 _ c.from_residual-in_err-text.ensures.1
     c.in_ok-election.ensures.ok c.in_err-text.ensures.fault
 

@@ -4,4 +4,4 @@ use Rattle.pb_read.specs.Stages.{the_end}
 use Rattle.pb_read.proofs.read.finish.Goals as goal
 
 pub returns-in-Err-clause-blame : goal.returns-in-Err-clause-blame
-returns-in-Err-clause-blame c = explained_blames (place_of c.args.progress.now) the_end c.in-Err.kind c.in-Err.ensures.end
+returns-in-Err-clause-blame g c = explained_blames (place_of c.args.progress.now) the_end c.in-Err.kind c.in-Err.ensures.end

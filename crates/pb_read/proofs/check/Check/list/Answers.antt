@@ -56,7 +56,7 @@ loop-done-preserved g c =
       | in-LeavesOut+in_ok-push-in-LeavesOut+else-len-ge-MOST_FAULTS w ↦
           let longer = one_longer faults w.push.new.self.items _ w.in_ok-push-in-LeavesOut.ensures.items in
           rw w.faults-is (record {
-            going = subst (λ fs. IsGoing all after (done + 1) fs q) (sym w.in_ok-push-in-LeavesOut.ensures.items) (going_leaves all left after done kept faults p q w.in-LeavesOut.kind c.loop-done.invariant.going same w.in-LeavesOut.ensures.judged);
+            going = subst (λ fs. IsGoing all after (done + 1) fs q) (sym w.in_ok-push-in-LeavesOut.ensures.items) (going_leaves all left after done kept faults p q w.in-LeavesOut.kind c.loop-done.invariant.going same (omega (arith, longer, w.len-in-LeavesOut.ensures, w.if-len-ge-MOST_FAULTS.false)) w.in-LeavesOut.ensures.judged);
             ready = w.in-LeavesOut.ensures.ready tt;
             few = omega (arith, w.len-in-LeavesOut.ensures, w.if-len-ge-MOST_FAULTS.false);
             within = omega (arith, longer, c.loop-done.invariant.within);

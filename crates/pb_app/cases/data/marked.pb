@@ -1,0 +1,12 @@
+META
+key;value
+budget;60.000
+vote_type;approval
+PROJECTS
+project_id;cost
+park;20000
+well;50
+VOTES
+voter_id;vote
+v1;park,well
+v2;park,well

@@ -1,0 +1,72 @@
+//! What is accepted in a file, and probably not meant.
+
+ghost use Rattle.std.specs.Prelude.{◌≡◌};
+ghost use Rattle.pb_read.specs.Oddities.{name_of};
+
+/// What is accepted in a file, and probably not meant, in the order in which warnings are written.
+#[derive(Clone, Copy, PartialEq, Eq, Debug)]
+pub enum Oddity {
+    /// META's `num_votes` is not the number of votes.
+    VotesMissing,
+    /// META's `num_projects` is not the number of projects.
+    ProjectsMissing,
+    /// A vote has more fields than the row of column names.
+    SurplusFields,
+    /// A ballot approves more projects than META's `max_length`.
+    TooLongBallot,
+    /// A ballot approves fewer projects than META's `min_length`.
+    TooShortBallot,
+    /// A ballot approves nothing.
+    EmptyBallot,
+    /// Nobody approves a project.
+    NoSupporter,
+    /// A project costs more than the budget.
+    OverBudget,
+    /// A project's id has a comma, so no vote can name it.
+    CommaInId,
+    /// An amount has exactly three digits behind its mark, and is read as decimals.
+    ThousandsMark,
+    /// A key of META that the count uses is repeated; the last value counts.
+    RepeatedKey,
+    /// The last row of PROJECTS or VOTES looks like their sum.
+    FooterRow,
+}
+
+impl Oddity {
+    /// Its name, as rows and fault lines print it.
+    pub fn name(&self) -> &'static str
+        ensures { result.now ≡ name_of self.now }
+    {
+        match self {
+            Oddity::VotesMissing => "VotesMissing",
+            Oddity::ProjectsMissing => "ProjectsMissing",
+            Oddity::SurplusFields => "SurplusFields",
+            Oddity::TooLongBallot => "TooLongBallot",
+            Oddity::TooShortBallot => "TooShortBallot",
+            Oddity::EmptyBallot => "EmptyBallot",
+            Oddity::NoSupporter => "NoSupporter",
+            Oddity::OverBudget => "OverBudget",
+            Oddity::CommaInId => "CommaInId",
+            Oddity::ThousandsMark => "ThousandsMark",
+            Oddity::RepeatedKey => "RepeatedKey",
+            Oddity::FooterRow => "FooterRow",
+        }
+    }
+}
+
+/// A warning: what is odd, and in which record.
+#[derive(Clone, Copy, PartialEq, Eq, Debug)]
+pub struct Warning {
+    pub oddity: Oddity,
+    /// The number of the record, from 1.
+    pub at: u64,
+}
+
+/// A row of a list of warnings.
+#[derive(Clone, Copy)]
+pub enum WarningRow {
+    /// A warning.
+    Of(Warning),
+    /// So many more of the name are not listed.
+    MoreOf(Oddity, u64),
+}
