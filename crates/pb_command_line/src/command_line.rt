@@ -240,7 +240,7 @@ const COMMANDS: &[CommandForm] = &[
     },
     CommandForm {
         name: "projects",
-        about: "Counts a .pb file, and prints who won and why, and who lost and by how much",
+        about: "Counts a .pb file, and prints who won and why, and what the others lacked at the last share",
         arguments: &[
             ELECTION, LEFT_BY, WORKERS, STEP, RAISES, PLAIN, MEASURE, STRICT, OUTPUT, QUIET,
             PROGRESS,

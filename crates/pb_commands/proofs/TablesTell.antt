@@ -25,7 +25,7 @@ use Rattle.pb_rounds.specs.Run.{ElectedView, is_elected}
 use Rattle.pb_rounds.specs.declared.options.CountOptions.{CountOptions}
 use Rattle.pb_reasons.proofs.ElectedPlaces.{count_elects_projects}
 use Rattle.pb_reasons.proofs.Tellable.{count_can_be_told}
-use Rattle.pb_reasons.specs.Totals.{collected_for}
+use Rattle.pb_reasons.specs.Totals.{collected_for, totals_of}
 
 -- a project that is not elected has no round
 no_round : (elected : List ElectedView) (place : ℕ) → is_elected elected place ≡ false → length elected ≤ round_of elected place
@@ -110,9 +110,10 @@ spent_within s rests (w ∷ elected) (row ∷ rows) all =
     omega (arith, spent_within s rests elected rows all.1, all.0.covered, sum_by-cons (λ (w : ElectedView). w.collected) w elected, sum_by-cons (λ (w : ElectedView). cost_at s w.place) w elected)
 
 pub paid_told : (e : ElectionView) (options : CountOptions) (o : OutcomeView) → IsElection e → IsCountOf e options o
-    → sum_by (λ voter. (voter_reason e o voter).paid) (range_with_len 0 (length e.voters)) ≡ spent_on (support_of e) o.elected + (collected_for o.elected - spent_on (support_of e) o.elected)
+    → (sum_by (λ voter. (voter_reason e o voter).paid) (range_with_len 0 (length e.voters)) ≡ collected_for o.elected)
+    × ((totals_of e o.elected).spent + (totals_of e o.elected).surplus ≡ collected_for o.elected)
 paid_told e options o h counted =
     let told = count_can_be_told e options o h counted in
     let all = columns_sum (support_of e) o.rests o.elected (all_payments e o) told.price_system.paid in
     let within = spent_within (support_of e) o.rests o.elected (all_payments e o) told.price_system.paid in
-    all ∙ omega (arith, within)
+    (all, omega (arith, within))

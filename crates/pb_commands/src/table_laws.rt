@@ -1,6 +1,6 @@
 //! Laws of the tables.
 
-ghost use Rattle.std.specs.Prelude.{◌≡◌, ◌<◌, ◌+◌, ◌-◌, ℕ, Some, false, length, slice_get, sum_by};
+ghost use Rattle.std.specs.Prelude.{◌≡◌, ◌<◌, ◌+◌, ℕ, Some, false, length, slice_get, sum_by};
 ghost use Rattle.std.specs.List.{range_with_len};
 ghost use Rattle.pb_core.specs.Election.{ElectionView, IsElection};
 ghost use Rattle.pb_price.specs.Supporters.{cost_at, support_of};
@@ -8,16 +8,16 @@ ghost use Rattle.pb_reasons.specs.Reasons.{project_reason, voter_reason};
 ghost use Rattle.pb_reasons.specs.declared.project_reason.Ending.TheVariants as ending;
 ghost use Rattle.pb_reasons.specs.declared.project_reason.Lost.{Lost};
 ghost use Rattle.pb_reasons.specs.declared.project_reason.Won.{Won};
-ghost use Rattle.pb_rounds.specs.Count.{spent_on};
 ghost use Rattle.pb_rounds.specs.Counted.{IsCountOf};
 ghost use Rattle.pb_rounds.specs.Outcome.{OutcomeView};
 ghost use Rattle.pb_rounds.specs.Run.{ElectedView, is_elected};
 ghost use Rattle.pb_rounds.specs.declared.options.CountOptions.{CountOptions};
-ghost use Rattle.pb_reasons.specs.Totals.{collected_for};
+ghost use Rattle.pb_reasons.specs.Totals.{collected_for, totals_of};
 
 /// What the two tables of a count tell: a project that is not elected lacks something, and each voter has paid what is
 /// not left of the share. They agree with the report: the projects that it names as elected are so in the table of
-/// projects, with the same round, price and collected amount; and its spent and its surplus are what the voters paid.
+/// projects, with the same round, price and collected amount; and its spent and its surplus sum to
+/// what the voters paid, which is what was collected.
 pub fn tables_tell()
     ensures missing { (e : ElectionView) (options : CountOptions) (o : OutcomeView) (place : ℕ)
         → IsElection e → IsCountOf e options o → place < length e.projects → is_elected o.elected place ≡ false
@@ -32,6 +32,6 @@ pub fn tables_tell()
         × (won.round ≡ round + 1) × (won.price ≡ w.price) × (won.collected ≡ w.collected) }
     ensures paid { (e : ElectionView) (options : CountOptions) (o : OutcomeView)
         → IsElection e → IsCountOf e options o
-        → sum_by (λ voter. (voter_reason e o voter).paid) (range_with_len 0 (length e.voters))
-        ≡ spent_on (support_of e) o.elected + (collected_for o.elected - spent_on (support_of e) o.elected) }
+        → (sum_by (λ voter. (voter_reason e o voter).paid) (range_with_len 0 (length e.voters)) ≡ collected_for o.elected)
+        × ((totals_of e o.elected).spent + (totals_of e o.elected).surplus ≡ collected_for o.elected) }
 {}

@@ -16,14 +16,23 @@ text_adds_none text rest =
 place_skipped : (c : ℕ) (cs : List ℕ) → c ≡ 126 → delimiters (c ∷ cs) ≡ delimiters cs
 place_skipped c cs place = rw place refl
 
+next_skipped : (c : ℕ) (cs : List ℕ) → c ≡ 94 → delimiters (c ∷ cs) ≡ delimiters cs
+next_skipped c cs place = rw place refl
+
 filled_delimiters : (piece : List ℕ) (texts : List (List ℕ)) → delimiters (filled piece texts) ≡ delimiters piece
 filled_delimiters [] texts = refl
 filled_delimiters (c ∷ cs) texts = elim (cases_Bool (c == 126)) [
   | inl place ↦
       ap delimiters (cond-true (c == 126) _ _ place) ∙ text_adds_none (slice_index_or texts 0 []) (filled cs (drop 1 texts))
       ∙ filled_delimiters cs (drop 1 texts) ∙ sym (place_skipped c cs (eqb-true c 126 place))
-  | inr other ↦
-      ap delimiters (cond-false (c == 126) _ _ other) ∙ ap (λ (t : List ℕ). cond (is_delimiter c) (c ∷ t) t) (filled_delimiters cs texts)
+  | inr other ↦ ap delimiters (cond-false (c == 126) _ _ other) ∙ elim (cases_Bool (c == 94)) [
+    | inl next ↦
+        ap delimiters (cond-true (c == 94) _ _ next) ∙ text_adds_none (slice_index_or texts 0 []) (filled cs texts)
+        ∙ filled_delimiters cs texts ∙ sym (next_skipped c cs (eqb-true c 94 next))
+    | inr plain ↦
+        ap delimiters (cond-false (c == 94) _ _ plain)
+        ∙ ap (λ (t : List ℕ). cond (is_delimiter c) (c ∷ t) t) (filled_delimiters cs texts)
+  ]
 ]
 
 pub page_delimiters : (fillings : List Filling) → delimiters (page_of fillings) ≡ flat_map (λ f. delimiters f.piece) fillings

@@ -2,3 +2,4 @@
 mod Characters
 mod Texts
 mod Delimiters
+mod Ends

@@ -11,11 +11,13 @@ text_of (Text text) = text.now
 text_of (Number n) = decimal n
 text_of (Amount hundredths) = money_text hundredths
 
--- a piece of markup in which texts, as they stand in a page, take the places of `~`, one after the other
+-- a piece of markup in which texts, as they stand in a page, take the places of `~`, one after the other; `^` is the
+-- text of the next `~` as well
 abbrev pub filled : List ℕ → List (List ℕ) → List ℕ
 filled [] texts = []
 filled (c ∷ cs) texts =
-    if c == 126 then written (slice_index_or texts 0 []) ++ filled cs (drop 1 texts) else c ∷ filled cs texts
+    if c == 126 then written (slice_index_or texts 0 []) ++ filled cs (drop 1 texts)
+    else (if c == 94 then written (slice_index_or texts 0 []) ++ filled cs texts else c ∷ filled cs texts)
 
 -- a piece of markup, and the texts that fill it
 pub record Filling : Type 0 where

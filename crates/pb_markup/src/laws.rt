@@ -1,13 +1,18 @@
 //! Laws of the definitions.
 
-ghost use Rattle.std.specs.Prelude.{◌≡◌, ◌||◌, ℕ, All, List, false, flat_map};
+ghost use Rattle.std.specs.Prelude.{◌≡◌, ◌≢◌, ◌≤◌, ◌==◌, ◌⊎◌, ◌++◌, ◌∷◌, ℕ, All, List, flat_map};
+ghost use Rattle.std.specs.List.{before_first};
 ghost use Rattle.pb_markup.specs.Filling.{Filling, delimiters, page_of};
-ghost use Rattle.pb_markup.specs.Markup.{is_control, is_delimiter, read_back, written};
+ghost use Rattle.pb_markup.specs.Markup.{read_back, written};
 
-/// A text as it stands in a page has no `<`, no `>`, no quote and no control character, and is read as it was: so
-/// each `&` in it begins a reference.
+/// A text as it stands in a page never ends the attribute that it stands in, whichever of the two quotes (34, 39) ends
+/// that, opens no tag (60) and closes none (62), has no control character of ASCII, and is read as it was: so each `&`
+/// in it begins a reference.
 pub fn texts_stay_texts()
-    ensures plain { (text : List ℕ) → All (λ c. (is_delimiter c || is_control c) ≡ false) (written text) }
+    ensures attribute { (quote : ℕ) (text after : List ℕ) → (quote ≡ 34) ⊎ (quote ≡ 39)
+        → before_first (λ c. c == quote) (written text ++ quote ∷ after) ≡ written text }
+    ensures tags { (text : List ℕ) → All (λ c. (c ≢ 60) × (c ≢ 62)) (written text) }
+    ensures control { (text : List ℕ) → All (λ c. (32 ≤ c) × (c ≢ 127)) (written text) }
     ensures back { (text : List ℕ) → read_back (written text) ≡ text }
 {}
 

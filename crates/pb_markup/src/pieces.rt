@@ -13,8 +13,11 @@ use std::alloc::Global;
 /// Stands in a piece of markup where a value goes.
 const PLACE: u8 = b'~';
 
+/// Stands in a piece of markup where the value of the next place goes as well.
+const NEXT: u8 = b'^';
+
 /// Writes a piece of the program's own markup after a page, with these values in the places of its `~`, one after
-/// the other. A place without a value stays empty.
+/// the other; each `^` is the value of the next `~` as well. A place without a value stays empty.
 pub fn fill(
     page: &mut Vec<u8>,
     alloc: Global,
@@ -26,12 +29,14 @@ pub fn fill(
     let mut used = 0;
     let bytes = piece.as_bytes();
     for byte in bytes {
-        if *byte != PLACE {
+        if *byte != PLACE && *byte != NEXT {
             page.push(*byte)?;
         } else if used < values.len() {
             let value = &values[used];
             write_value(page, alloc, value)?;
-            used += 1;
+            if *byte == PLACE {
+                used += 1;
+            }
         }
     }
     Ok(())

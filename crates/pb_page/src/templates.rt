@@ -51,7 +51,7 @@ pub(crate) const NOTHING: &str = "<section aria-labelledby='~'>
 pub(crate) const OTHERS_OPENING: &str = "<section class='lost' aria-labelledby='others'>
 <h2 id='others'>The other projects</h2>
 <table class='wide' role='table'>
-<caption role='caption'>In the order of the file. The bar is how near the project came: what its supporters have left, as a part of its cost.</caption>
+<caption role='caption'>In the order of the file. What a project's supporters have left, and what it was short of its cost, are told at the share where the raises ended. Shares there are counted money, not the budget's: a project that cost so much less might still not win. The bar is what its supporters have left, as a part of its cost.</caption>
 <thead role='rowgroup'><tr role='row'><th role='columnheader' scope='col'>Project</th><th role='columnheader' scope='col' class='n'>Cost</th><th role='columnheader' scope='col' class='n'>Votes</th><th role='columnheader' scope='col' class='n'>Its supporters have left</th><th role='columnheader' scope='col' class='n'>Missing</th></tr></thead>
 <tbody role='rowgroup'>
 ";
