@@ -5,6 +5,7 @@ use pb_commands::Counting;
 use pb_commands::run_count::run_count_watched;
 use pb_core::gate::Gate;
 use pb_core::money::Money;
+use pb_read::NoWatch;
 use pb_rounds::options::CountOptions;
 use std::sync::atomic::Ordering::Relaxed;
 use std::sync::atomic::{AtomicBool, AtomicU32};
@@ -58,7 +59,7 @@ fn a_count_tells_of_its_raises(rt: HostRuntime) {
         gate: &told,
         options: &options,
     };
-    let counted = run_count_watched(&counting, file, &mut report);
+    let counted = run_count_watched(&counting, file, &mut NoWatch, &mut report);
     same(&rt, counted.is_ok(), true, "a count");
     drop(report);
     same(

@@ -5,7 +5,6 @@ pub mod ReportSums
 pub mod Closings
 pub mod AuditWritten
 pub mod Accepted
-pub mod Heeds
 pub mod AuditAccepted
 mod ThreeVoters
 pub mod DeskRuns
