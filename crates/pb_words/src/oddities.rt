@@ -21,14 +21,33 @@ pub(crate) const ALL: [Oddity; 12] = [
     Oddity::FooterRow,
 ];
 
+/// What a row is of.
+#[derive(Clone, Copy, PartialEq, Eq)]
+pub(crate) enum Subject {
+    Key,
+    Project,
+    Voter,
+}
+
+impl Subject {
+    /// What words call it.
+    pub(crate) fn word(self) -> &'static str {
+        match self {
+            Subject::Key => "key",
+            Subject::Project => "project",
+            Subject::Voter => "voter",
+        }
+    }
+}
+
 /// A record that is odd, with what words need to speak of it.
 #[derive(Clone, Copy)]
 pub(crate) struct Odd {
     pub(crate) oddity: Oddity,
     /// Where the record begins.
     pub(crate) mark: Mark,
-    /// What its row is of: a `key`, a `project` or a `voter`.
-    pub(crate) subject: &'static str,
+    /// What its row is of.
+    pub(crate) subject: Subject,
     /// The places of its id and of the value that is spoken of.
     pub(crate) id_place: usize,
     pub(crate) value_place: usize,

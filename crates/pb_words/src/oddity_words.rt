@@ -3,7 +3,7 @@
 use crate::fields::text_at;
 use crate::mark::Mark;
 use crate::mark_words::{put_mark, put_record_number, put_subject};
-use crate::oddities::{ALL, Odd, Oddities};
+use crate::oddities::{ALL, Odd, Oddities, Subject};
 use crate::text::Text;
 use crate::words::Value::{Number, Own, Quoted};
 use crate::words::Words;
@@ -133,7 +133,7 @@ pub(crate) fn put_oddities<R: Files>(
 
 /// Puts what is said of an odd record.
 fn put_odd<R: Files>(out: &mut Words, text: &Text<'_, R>, odd: &Odd) {
-    let said = said_of(odd.oddity, odd.subject == "voter");
+    let said = said_of(odd.oddity, odd.subject == Subject::Voter);
     if !put_row(out, text, odd, said) {
         put_record_number(out, text, odd.mark.at);
         out.put(": ");
@@ -157,7 +157,11 @@ fn put_row<R: Files>(out: &mut Words, text: &Text<'_, R>, odd: &Odd, said: &Said
     let is_there = records.advance();
     if is_there {
         put_mark(out, text, odd.mark);
-        put_subject(out, odd.subject, text_at(&records.last, odd.id_place));
+        put_subject(
+            out,
+            odd.subject.word(),
+            text_at(&records.last, odd.id_place),
+        );
         out.put(": ");
         out.fill(
             said.what,

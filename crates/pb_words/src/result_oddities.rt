@@ -3,7 +3,7 @@
 use crate::claims::{Claim, Claims, broken};
 use crate::fields::text_at;
 use crate::mark::Mark;
-use crate::oddities::{Odd, Oddities};
+use crate::oddities::{Odd, Oddities, Subject};
 use csv::ByteRecord;
 use pb_core::money::Money;
 use pb_read::{Oddity, Part, ProjectColumns, VoteColumns};
@@ -170,7 +170,7 @@ impl ResultOddities {
                 out.take(Odd {
                     oddity: Oddity::FooterRow,
                     mark: last.mark,
-                    subject: "voter",
+                    subject: Subject::Voter,
                     id_place: last.id_place,
                     value_place: last.value_place,
                     number: 0,
@@ -192,7 +192,7 @@ fn of_key(oddity: Oddity, mark: Mark, number: u64) -> Odd {
     Odd {
         oddity,
         mark,
-        subject: "key",
+        subject: Subject::Key,
         id_place: 0,
         value_place: 1,
         number,
@@ -204,7 +204,7 @@ fn of_project(oddity: Oddity, last: Last, number: u64) -> Odd {
     Odd {
         oddity,
         mark: last.mark,
-        subject: "project",
+        subject: Subject::Project,
         id_place: last.id_place,
         value_place: last.value_place,
         number,
@@ -216,7 +216,7 @@ pub(crate) fn of_vote(oddity: Oddity, mark: Mark, columns: VoteColumns, number: 
     Odd {
         oddity,
         mark,
-        subject: "voter",
+        subject: Subject::Voter,
         id_place: columns.voter,
         value_place: columns.vote,
         number,

@@ -4,7 +4,7 @@ ghost use Rattle.std.specs.Prelude.{◌≡◌, Option};
 
 use crate::fields::text_at;
 use crate::mark::Mark;
-use crate::oddities::{Odd, Oddities};
+use crate::oddities::{Odd, Oddities, Subject};
 use crate::oddity_words::put_oddities;
 use crate::result_oddities::{ResultOddities, of_vote};
 use crate::text::Text;
@@ -237,7 +237,7 @@ fn of_project(oddity: Oddity, mark: Mark, columns: ProjectColumns) -> Odd {
     Odd {
         oddity,
         mark,
-        subject: "project",
+        subject: Subject::Project,
         id_place: columns.id,
         value_place: columns.cost,
         number: 0,
