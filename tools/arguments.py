@@ -1,4 +1,6 @@
-"""The arguments of the tools: `--help` says what a tool does and takes; what it does not take is refused in one line, status 2."""
+"""The arguments of the tools: `--help` says what a tool does and takes; what it does not take is refused in one line, with
+status 2.
+"""
 import argparse, os, pathlib
 
 TOP = pathlib.Path(__file__).resolve().parent.parent

@@ -12,7 +12,8 @@ def lines_of(text):
 
 def difference(wanted, written):
     """The lines that differ: after `-` those that are expected, after `+` those that were written."""
-    same = next((at for at, (one, other) in enumerate(zip(wanted, written)) if one != other), min(len(wanted), len(written)))
+    pairs = enumerate(zip(wanted, written))
+    same = next((at for at, (one, other) in pairs if one != other), min(len(wanted), len(written)))
     begin, end = max(0, same - AROUND), same + COMPARED
     lines = difflib.unified_diff(wanted[begin:end], written[begin:end], n=AROUND, lineterm='')
     return '\n'.join(['what is expected has -, what was written has +:'] + ['..' if it.startswith('@@') else it for it in list(lines)[3:]])
