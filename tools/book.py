@@ -25,6 +25,7 @@ import os
 import re
 import sys
 
+import arguments
 import steps
 from sources import TOP, WORD, DECLARED, Definition, crates_in_order, definitions_of, declared_in, contracts_of
 
@@ -233,17 +234,22 @@ def check(crates, book):
 
 
 def main():
+    parser = arguments.Parser("book.py", __doc__)
+    how = parser.add_mutually_exclusive_group()
+    how.add_argument("--count", action="store_true", help="print the lines of each crate's definitions, and of all")
+    how.add_argument("--check", action="store_true", help=f"fail where docs/{PAGE.name} is not true")
+    given = parser.parse_args()
     crates = crates_in_order()
     definitions = {crate: definitions_of(crate) for crate in crates}
     contracts = [contract for crate in crates for contract in contracts_of(crate)]
     types = {crate: declared_in(crate) for crate in crates}
     book = Reach(contracts, definitions, types)
     reached = book.reached
-    if "--count" in sys.argv:
+    if given.count:
         for crate in crates:
             print(f"{crate:12} {lines_of(reached, crate):5}")
         print(f"{'all':12} {sum(lines_of(reached, crate) for crate in crates):5}")
-    elif "--check" in sys.argv:
+    elif given.check:
         wrong = check(crates, book)
         print("\n".join(wrong))
         sys.exit(1 if wrong else 0)

@@ -1,9 +1,15 @@
 """The list of the crates, crates.txt, and the toolchain that reads it."""
-import pathlib, shutil, sys
+import functools, pathlib, shutil, sys
 
 TOP = pathlib.Path(__file__).resolve().parent.parent
 CRATES = TOP / 'crates'
-KIT = pathlib.Path(shutil.which('rt') or sys.exit('there is no rt: put the toolchain on the path')).resolve().parent.parent
+
+
+@functools.cache
+def kit():
+    """The folder of the toolchain whose `rt` is on the path."""
+    found = shutil.which('rt') or sys.exit('there is no rt: put the toolchain on the path')
+    return pathlib.Path(found).resolve().parent.parent
 
 
 def name_of(line):

@@ -6,7 +6,7 @@ usage: replace_ids.py FILE JOURNAL NEW_FILE NEW_JOURNAL
 The new files are made for this account alone. It replaces no file, and writes none where it refuses: the status is then 1,
 and one line on standard error says why. Where there is no journal, /dev/null stands for it.
 """
-import csv, io, os, secrets, sys
+import argparse, csv, io, os, secrets, sys
 
 SECTIONS = ('META', 'PROJECTS', 'VOTES')
 csv.field_size_limit(1 << 30)
@@ -97,12 +97,20 @@ def replace(file, journal, new_file, new_journal):
     write(new_journal, entries)
 
 
+def given_arguments():
+    parser = argparse.ArgumentParser(prog='replace_ids.py', description=__doc__.split('\n\n')[0], epilog=__doc__.split('\n\n')[2])
+    parser.error = lambda said: parser.exit(2, f'replace_ids.py: {said}; `replace_ids.py --help` says what it takes\n')
+    parser.add_argument('file', metavar='FILE', help="the election's .pb file")
+    parser.add_argument('journal', metavar='JOURNAL', help="the desk's journal; /dev/null, where there is none")
+    parser.add_argument('new_file', metavar='NEW_FILE', help='the file that is made, with new ids')
+    parser.add_argument('new_journal', metavar='NEW_JOURNAL', help='the journal that is made, with the same new ids')
+    return parser.parse_args()
+
+
 def main():
-    if len(sys.argv) != 5:
-        print('usage: replace_ids.py FILE JOURNAL NEW_FILE NEW_JOURNAL', file=sys.stderr)
-        return 2
+    given = given_arguments()
     try:
-        replace(*sys.argv[1:])
+        replace(given.file, given.journal, given.new_file, given.new_journal)
     except Refused as why:
         print(f'replace_ids: {why}', file=sys.stderr)
         return 1
