@@ -2,7 +2,7 @@
 (() => {
   const text = element => element && element.textContent;
   const rows = section => [...document.querySelectorAll(`${section} tbody tr`)].map(row => [...row.cells].map(
-    cell => (cell.querySelector('bdi') || cell.firstChild || cell).textContent));
+    cell => cell.textContent));
   const widths = selector => [...document.querySelectorAll(selector)].map(rect => Number(rect.getAttribute('width')));
   const channel = value => value <= 0.03928 ? value / 12.92 : ((value + 0.055) / 1.055) ** 2.4;
   const light = ([red, green, blue]) => 0.2126 * channel(red / 255) + 0.7152 * channel(green / 255) + 0.0722 * channel(blue / 255);
@@ -51,6 +51,10 @@
     sentences: [...document.querySelectorAll('ol li')].map(text),
     digests: [...document.querySelectorAll('dd code')].map(text),
     command: text(document.querySelector('pre')),
+    data: [...document.querySelectorAll('data')].map(it => [(it.closest('[data-project]') || it).dataset.project || '', it.className, it.value])
+      .filter(([project, name]) => project || name),
+    shown: [...document.querySelectorAll('data')].every(it => it.textContent.split(' ')[0] === it.value),
+    links: [...document.querySelectorAll('a')].map(it => [it.getAttribute('href'), text(it)]),
     directions: [...document.querySelectorAll('bdi, h1')].every(it => it.getAttribute('dir') === 'auto'),
     tables: [...document.querySelectorAll('table')].every(it => it.caption && it.caption.textContent.trim()
       && [...it.querySelectorAll('thead th')].every(th => th.scope === 'col') && [...it.rows].slice(1).every(row => row.querySelector('th[scope=row]'))),

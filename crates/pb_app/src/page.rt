@@ -5,7 +5,7 @@ ghost use Rattle.pb_rounds.specs.Counted.{IsCountFault};
 ghost use Rattle.pb_commands.specs.Ends.{HasWritten};
 ghost use Rattle.pb_page.specs.Page.{IsPage};
 
-use pb_command_line::{Ballots, Source as Given};
+use pb_command_line::{PageRun, Source as Given};
 use pb_commands::{AppFault, Counting, closed_ballots, own_ballots, write_out};
 use pb_core::election::Election;
 use pb_core::gate::Gate;
@@ -36,26 +36,22 @@ struct Contents {
 /// Counts these ballots, and writes the page of the outcome. What refuses it, and when, is as for the tables.
 pub(crate) fn page<'a, R, W: Write>(
     counting: &Counting<'_, R, Progress<'_, R>>,
-    ballots: &Ballots<'a>,
-    title: &'a str,
+    run: &PageRun<'a>,
     writer: &mut W,
     seen: &mut ResultWarnings,
 ) -> Result<(), AppFault>
 where
     R: Files + Input + Eprint + Clock + Threads + Sync,
 {
-    let read = match &ballots.journal {
-        None => read_file(
-            counting.alloc,
-            open_shown(counting.gate, &ballots.file)?,
-            seen,
-        ),
+    let given = &run.ballots.file;
+    let read = match &run.ballots.journal {
+        None => read_file(counting.alloc, open_shown(counting.gate, given)?, seen),
         Some(journal) => {
-            let (file, journal) = open_both_shown(counting.gate, &ballots.file, journal)?;
+            let (file, journal) = open_both_shown(counting.gate, given, journal)?;
             read_both(counting.alloc, file, journal, seen)
         }
     }?;
-    let written = write_page(counting, &read, ballots, title, writer);
+    let written = write_page(counting, &read, run, writer);
     drop(read);
     written
 }
@@ -101,18 +97,18 @@ fn read_both<P: Read + Drop, J: Read + Drop>(
 fn write_page<'a, T: Threads + Sync, G: Gate, W: Write>(
     counting: &Counting<'_, T, G>,
     read: &'a Contents,
-    ballots: &Ballots<'a>,
-    title: &'a str,
+    run: &PageRun<'a>,
     writer: &mut W,
 ) -> Result<(), AppFault> {
-    let journal = match (&ballots.journal, &read.journal) {
+    let journal = match (&run.ballots.journal, &read.journal) {
         (Some(given), Some(digest)) => Some(source_of(given, digest)),
         _ => None,
     };
     let facts = Facts {
-        title,
-        file: source_of(&ballots.file, &read.file),
+        title: run.title,
+        file: source_of(&run.ballots.file, &read.file),
         journal,
+        recount: run.recount,
         options: *counting.options,
     };
     let (rt, alloc) = (counting.rt, counting.alloc);

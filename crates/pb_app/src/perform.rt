@@ -118,7 +118,7 @@ where
         Task::Voters(ballots, _) => {
             tell(counting, ballots, Table::Voters, writer, &mut notes.seen)
         }
-        Task::Page(ballots, _, title) => page(counting, ballots, title, writer, &mut notes.seen),
+        Task::Page(run) => page(counting, run, writer, &mut notes.seen),
         Task::Export(ballots, _) => export(counting, ballots, writer, &mut notes.seen),
         Task::Check(source) => check(counting, source, writer, notes),
         Task::Desk(asked) => desk(counting, asked, writer, &mut notes.written),

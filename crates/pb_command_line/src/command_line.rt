@@ -1,6 +1,6 @@
 //! The commands and options that the program knows, and what parsed arguments ask for.
 
-use crate::task::{Asked, AuditRun, Ballots, DeskRun, Source, Task};
+use crate::task::{Asked, AuditRun, Ballots, DeskRun, PageRun, Source, Task};
 use clap::{Arg, ArgAction, ArgMatches, Command, value_parser};
 use pb_core::money::Money;
 use pb_rounds::measure::Measure;
@@ -226,6 +226,13 @@ const TITLE: Argument = Argument {
     help: "What was voted on, as the page says it [default: Participatory budgeting]",
 };
 
+/// Where a page leads those who recount it.
+const RECOUNT: Argument = Argument {
+    name: "recount",
+    takes: Takes::Text("URL"),
+    help: "Where a copy of recount.html lies, to which the page then leads; of https or http, or relative to the page",
+};
+
 /// What a page is about where it is not said.
 const NO_TITLE: &str = "Participatory budgeting";
 
@@ -258,8 +265,8 @@ const COMMANDS: &[CommandForm] = &[
         name: "page",
         about: "Counts a .pb file, and prints the result as a web page that people look at",
         arguments: &[
-            ELECTION, LEFT_BY, TITLE, WORKERS, STEP, RAISES, PLAIN, MEASURE, STRICT, OUTPUT, QUIET,
-            PROGRESS,
+            ELECTION, LEFT_BY, TITLE, RECOUNT, WORKERS, STEP, RAISES, PLAIN, MEASURE, STRICT,
+            OUTPUT, QUIET, PROGRESS,
         ],
     },
     CommandForm {
@@ -424,11 +431,12 @@ fn task_of<'a>(name: &str, given: &ArgMatches<'a>) -> Task<'a> {
         "count" => Task::Count(file, options_of(given)),
         "projects" => Task::Projects(ballots_of(given, file), options_of(given)),
         "voters" => Task::Voters(ballots_of(given, file), options_of(given)),
-        "page" => Task::Page(
-            ballots_of(given, file),
-            options_of(given),
-            given.get_str("title").unwrap_or(NO_TITLE),
-        ),
+        "page" => Task::Page(PageRun {
+            ballots: ballots_of(given, file),
+            options: options_of(given),
+            title: given.get_str("title").unwrap_or(NO_TITLE),
+            recount: given.get_str("recount"),
+        }),
         "export" => Task::Export(ballots_of(given, file), options_of(given)),
         "check" => Task::Check(file),
         "desk" => Task::Desk(DeskRun {

@@ -1,9 +1,10 @@
 //! The command line: the commands and options that the program knows, and what given arguments ask for.
 #![tactic(auto)]
 
+mod address;
 mod command_line;
 pub mod parse;
 pub mod task;
 
 pub use parse::Parsed;
-pub use task::{Asked, AuditRun, Ballots, DeskRun, Source, Task};
+pub use task::{Asked, AuditRun, Ballots, DeskRun, PageRun, Source, Task};

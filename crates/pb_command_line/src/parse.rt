@@ -1,7 +1,8 @@
 //! What given arguments ask for.
 
+use crate::address::is_address;
 use crate::command_line::{asked_by, command_line};
-use crate::task::{Asked, Source, Task};
+use crate::task::{Asked, PageRun, Source, Task};
 use clap::Error;
 use clap::error::ErrorKind;
 use std::alloc::{AllocError, Global};
@@ -40,6 +41,9 @@ pub fn parse<'a, R: Print + Eprint>(
             if replaces_what_it_reads(&asked) {
                 return Ok(Parsed::Ends(refuse_output(rt)));
             }
+            if leads_elsewhere(&asked.task) {
+                return Ok(Parsed::Ends(refuse_address(rt)));
+            }
             Ok(Parsed::Asks(asked))
         }
         Err(error) => {
@@ -58,7 +62,7 @@ fn read_twice(task: &Task<'_>) -> Option<&'static str> {
         Task::Projects(ballots, _)
         | Task::Voters(ballots, _)
         | Task::Export(ballots, _)
-        | Task::Page(ballots, ..) => (ballots.file, ballots.journal, "JOURNAL"),
+        | Task::Page(PageRun { ballots, .. }) => (ballots.file, ballots.journal, "JOURNAL"),
         Task::Count(..) | Task::Check(_) | Task::Serve(..) => return None,
     };
     match (file, beside) {
@@ -80,6 +84,27 @@ fn needs_path(task: &Task<'_>) -> Option<&'static str> {
         Task::Serve(_, "-") => Some("JOURNAL"),
         _ => None,
     }
+}
+
+/// Whether a page would lead to what no link of it may lead to.
+fn leads_elsewhere(task: &Task<'_>) -> bool {
+    match task {
+        Task::Page(
+            PageRun {
+                recount: Some(address),
+                ..
+            },
+        ) => !is_address(address),
+        _ => false,
+    }
+}
+
+/// Refuses an address that no link may lead to.
+fn refuse_address<R: Eprint>(rt: &R) -> u8 {
+    let _ = eprintln!(rt;
+        "error: --recount takes an address that begins with https: or http:, or a relative one, without blanks"
+    );
+    BAD_ARGUMENTS
 }
 
 /// Refuses arguments of which this one is standard input, where the requests stand there.

@@ -66,6 +66,17 @@ pub struct AuditRun<'a> {
     pub digests: bool,
 }
 
+/// The page of a count.
+#[derive(Clone, Copy)]
+pub struct PageRun<'a> {
+    pub ballots: Ballots<'a>,
+    pub options: CountOptions,
+    /// What was voted on.
+    pub title: &'a str,
+    /// The address of a page that recounts in a browser, if one is given.
+    pub recount: Option<&'a str>,
+}
+
 /// What the arguments ask for.
 #[derive(Clone, Copy)]
 pub enum Task<'a> {
@@ -75,8 +86,8 @@ pub enum Task<'a> {
     Projects(Ballots<'a>, CountOptions),
     /// The voters of a count of these ballots: who paid.
     Voters(Ballots<'a>, CountOptions),
-    /// The page of a count of these ballots, with this title.
-    Page(Ballots<'a>, CountOptions, &'a str),
+    /// The page of a count.
+    Page(PageRun<'a>),
     /// The .pb file of these ballots, with what their count came to.
     Export(Ballots<'a>, CountOptions),
     /// A check of a .pb file.
@@ -96,8 +107,8 @@ impl<'a> Task<'a> {
             Task::Count(_, options)
             | Task::Projects(_, options)
             | Task::Voters(_, options)
-            | Task::Page(_, options, _)
             | Task::Export(_, options) => *options,
+            Task::Page(run) => run.options,
             Task::Audit(run) => run.options,
             Task::Desk(..) | Task::Serve(..) | Task::Check(_) => CountOptions::standard(),
         }
@@ -110,7 +121,9 @@ impl<'a> Task<'a> {
             Task::Projects(ballots, _)
             | Task::Voters(ballots, _)
             | Task::Export(ballots, _)
-            | Task::Page(ballots, ..) => (ballots.file.path(), ballots.journal_path()),
+            | Task::Page(PageRun { ballots, .. }) => {
+                (ballots.file.path(), ballots.journal_path())
+            }
             Task::Desk(DeskRun { file, script, .. }) => (file.path(), script.path()),
             Task::Audit(AuditRun { file, journal, .. }) => (file.path(), journal.path()),
             Task::Serve(file, journal) => (Some(file), Some(journal)),

@@ -9,12 +9,14 @@ use pb_core::election::Election;
 use pb_core::money::Money;
 use pb_core::no_memory::NoMemory;
 use pb_markup::Value;
+use pb_reasons::Totals;
 use pb_rounds::outcome::Elected;
 use std::alloc::Global;
 
 /// How many ten thousandths of the whole an amount is; all of them where it is more.
 pub(crate) fn ten_thousandths(amount: Money, whole: Money) -> u64 {
-    (amount.0.saturating_mul(10_000) / whole.0.max(1)).min(10_000)
+    let parts = u128::from(amount.0) * 10_000 / u128::from(whole.0.max(1));
+    parts.min(10_000) as u64
 }
 
 /// A noun or a verb for this number of things.
@@ -24,7 +26,7 @@ pub(crate) fn word(number: u64, one: &'static str, many: &'static str) -> &'stat
 
 /// The head of a page: what it is about.
 pub(crate) fn put_head(page: &mut Page, alloc: Global, title: &str) -> Result<(), NoMemory> {
-    page.put(alloc, Part::Head, &[Value::Text(title), Value::Text(title)])
+    page.put(alloc, Part::Head, &[Value::Text(title)])
 }
 
 /// Who voted, what was spent, how many won.
@@ -61,11 +63,12 @@ pub(crate) fn put_budget(
     alloc: Global,
     election: &Election,
     elected: &[Elected],
-    spent: Money,
+    totals: Totals,
 ) -> Result<(), NoMemory>
     requires { All (λ w. w.place < length election.now.projects) elected.now }
 {
     let budget = election.budget();
+    let spent = totals.spent;
     let left = Money(budget.0.saturating_sub(spent.0));
     page.put(
         alloc,
@@ -80,7 +83,11 @@ pub(crate) fn put_budget(
     page.put(
         alloc,
         Part::BudgetClosing,
-        &[Value::Amount(spent), Value::Amount(left)],
+        &[
+            Value::Amount(spent),
+            Value::Amount(left),
+            Value::Amount(totals.surplus),
+        ],
     )
 }
 

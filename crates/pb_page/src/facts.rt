@@ -20,6 +20,8 @@ pub struct Facts<'a> {
     pub file: Source<'a>,
     /// The journal that left the ballots, if there is one.
     pub journal: Option<Source<'a>>,
+    /// Where a page lies that recounts in a browser, if one does.
+    pub recount: Option<&'a str>,
     /// How it was counted.
     pub options: CountOptions,
 }

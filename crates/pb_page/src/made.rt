@@ -56,9 +56,9 @@ fn put_all(
     let elected = outcome.elected.as_slice();
     let teller = ProjectTeller::of(alloc, election, outcome)?;
     put_head(page, alloc, facts.title)?;
-    let spent = Totals::of(election, outcome).spent;
-    put_summary(page, alloc, election, elected.len() as u64, spent)?;
-    put_budget(page, alloc, election, elected, spent)?;
+    let totals = Totals::of(election, outcome);
+    put_summary(page, alloc, election, elected.len() as u64, totals.spent)?;
+    put_budget(page, alloc, election, elected, totals)?;
     put_winners(page, alloc, election, &teller, elected)?;
     put_others(page, alloc, election, &teller, elected.len())?;
     put_voters(page, alloc, election, elected)?;

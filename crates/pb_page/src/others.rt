@@ -4,7 +4,7 @@ ghost use Rattle.std.specs.Prelude.{◌≡◌};
 
 use crate::budget::ten_thousandths;
 use crate::part::Part;
-use crate::winners::{put_nothing, shown};
+use crate::winners::shown;
 use crate::written_page::Page;
 use pb_core::election::Election;
 use pb_core::no_memory::NoMemory;
@@ -24,13 +24,7 @@ pub(crate) fn put_others(
     requires { teller.now.0 ≡ election.now }
 {
     if elected == election.projects().len() {
-        return put_nothing(
-            page,
-            alloc,
-            "others",
-            "The other projects",
-            "There are none.",
-        );
+        return page.put(alloc, Part::NoOthers, &[]);
     }
     page.put(alloc, Part::OthersOpening, &[])?;
     put_rows(page, alloc, election, teller)?;
@@ -68,6 +62,7 @@ fn put_other(
         alloc,
         Part::Other,
         &[
+            Value::Text(project.id()),
             Value::Text(shown(project)),
             Value::Number(ten_thousandths(lost.left, project.cost())),
             Value::Amount(project.cost()),

@@ -1,6 +1,6 @@
 //! The head of a page, with how it looks.
 
-/// The head, and what the page is about. Values: the title, and again the title.
+/// The head, and what the page is about. Value: the title, in two places.
 pub(crate) const HEAD: &str = "<!DOCTYPE html>
 <html lang='en'>
 <head>
@@ -9,7 +9,7 @@ pub(crate) const HEAD: &str = "<!DOCTYPE html>
 <meta http-equiv='Content-Security-Policy' content=\"default-src 'none'; style-src 'unsafe-inline'; img-src data:\">
 <meta name='color-scheme' content='light dark'>
 <link rel='icon' href='data:,'>
-<title>~</title>
+<title>^</title>
 <style>
 :root {
   color-scheme: light dark;
@@ -37,9 +37,9 @@ figure { margin: 1rem 0 0; }
 figcaption { margin-top: .4rem; }
 figcaption, caption { color: var(--soft); font-size: .9rem; }
 svg { display: block; width: 100%; }
-.budget { height: 2.75rem; border: 1px solid var(--soft); border-radius: .35rem; background: var(--track); }
-.budget rect { fill: var(--won); stroke: var(--paper); stroke-width: 1; vector-effect: non-scaling-stroke; }
-.budget rect:nth-child(even) { fill: var(--won-too); }
+svg.budget { height: 2.75rem; border: 1px solid var(--soft); border-radius: .35rem; background: var(--track); }
+svg.budget rect { fill: var(--won); stroke: var(--paper); stroke-width: 1; vector-effect: non-scaling-stroke; }
+svg.budget rect:nth-child(even) { fill: var(--won-too); }
 .bar { height: .4rem; margin-top: .3rem; background: var(--track); border-radius: .2rem; overflow: hidden; }
 .won .bar rect { fill: var(--won); }
 .lost .bar rect { fill: var(--lost); }
@@ -54,6 +54,7 @@ td.n { overflow-wrap: normal; white-space: nowrap; }
 dl { margin: .5rem 0; }
 dt { color: var(--soft); font-size: .9rem; }
 dd { margin: 0 0 .6rem; }
+a { color: var(--many); }
 code { font: .9rem/1.5 ui-monospace, 'DejaVu Sans Mono', Consolas, monospace; }
 pre { margin: .5rem 0; padding: .75rem; background: var(--track); border-radius: .35rem; white-space: pre-wrap; }
 @media (min-width: 44rem) {

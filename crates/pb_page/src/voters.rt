@@ -31,7 +31,6 @@ pub(crate) fn put_voters(
             Value::Text(word(voters, "voter", "voters")),
             Value::Text(word(with, "has", "have")),
             Value::Number(without),
-            Value::Text(word(without, "voter", "voters")),
             Value::Text(word(without, "has", "have")),
         ],
     )?;
@@ -50,14 +49,17 @@ fn put_rows(
     for winners in 0..KINDS {
         let count = counts[winners];
         if left > 0 {
-            let more = if winners == KINDS - 1 { " or more" } else { "" };
+            let part = if winners == KINDS - 1 {
+                Part::VotersLastRow
+            } else {
+                Part::VotersRow
+            };
             let width = ten_thousandths(Money(count), Money(voters));
             page.put(
                 alloc,
-                Part::VotersRow,
+                part,
                 &[
                     Value::Number(winners as u64),
-                    Value::Text(more),
                     Value::Number(width),
                     Value::Number(count),
                 ],

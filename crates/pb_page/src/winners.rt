@@ -20,26 +20,6 @@ pub(crate) fn shown(project: &Project) -> &str {
     if name.is_empty() { project.id() } else { name }
 }
 
-/// A section that says that there is nothing to list.
-pub(crate) fn put_nothing(
-    page: &mut Page,
-    alloc: Global,
-    id: &'static str,
-    heading: &'static str,
-    sentence: &'static str,
-) -> Result<(), NoMemory> {
-    page.put(
-        alloc,
-        Part::Nothing,
-        &[
-            Value::Text(id),
-            Value::Text(id),
-            Value::Text(heading),
-            Value::Text(sentence),
-        ],
-    )
-}
-
 /// The winners, in order of election.
 pub(crate) fn put_winners(
     page: &mut Page,
@@ -52,7 +32,7 @@ pub(crate) fn put_winners(
     requires known { All (λ w. w.place < length election.now.projects) elected.now }
 {
     if elected.is_empty() {
-        return put_nothing(page, alloc, "winners", "The winners", "No project won.");
+        return page.put(alloc, Part::NoWinners, &[]);
     }
     let projects = election.projects();
     page.put(alloc, Part::WinnersOpening, &[])?;
@@ -79,6 +59,7 @@ fn put_winner(
         alloc,
         Part::Winner,
         &[
+            Value::Text(project.id()),
             Value::Number(u64::from(won.round)),
             Value::Text(shown(project)),
             Value::Number(ten_thousandths(project.cost(), budget)),
