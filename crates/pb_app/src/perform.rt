@@ -13,7 +13,9 @@ use pb_commands::run_table::{run_closed_table, run_table};
 use pb_commands::{AppFault, Counting, Table};
 use pb_core::gate::NoGate;
 use pb_read::ReadFault;
-use pb_streams::{Output, Progress, Shown, open_both, open_both_shown, open_shown};
+use pb_streams::{
+    Bar, Output, Progress, Shown, Unplaced, bar_of, open_both, open_both_shown, open_shown,
+};
 use pb_words::Tally;
 use pb_words::warnings::{ResultWarnings, Warnings};
 use std::fs::File;
@@ -27,8 +29,10 @@ use std::thread::Threads;
 pub(crate) enum Refusal {
     /// The runs of the commands say why.
     Fault(AppFault),
-    /// Another run serves the journal.
-    Locked,
+    /// Another run serves the journal at the path of this number: 2 is JOURNAL, 3 where the result goes.
+    Locked(u8),
+    /// The result would replace what it never does, which the output tells.
+    Barred,
     /// The journal could not be opened or made, for this reason.
     NoJournal(Error),
     /// The journal is legal, and not spelled as a desk spells it.
@@ -66,18 +70,21 @@ pub(crate) struct Notes {
     pub(crate) seen: ResultWarnings,
 }
 
-/// Does what the arguments ask for, and writes the result to its place. Files are opened, in their order, before any
-/// is read.
-pub(crate) fn perform<R>(
+/// Does what the arguments ask for, and writes the result to its place. What the result would replace is looked at first,
+/// and then files are opened, in their order, before any is read.
+pub(crate) fn perform<'a, R>(
     rt: &R,
-    asked: &Asked<'_>,
-    output: &mut Output<'_, R>,
+    asked: &'a Asked<'a>,
+    output: &mut Output<'a, R>,
     notes: &mut Notes,
     progress: &Progress<'_, R>,
 ) -> Result<(), Refusal>
 where
     R: Files<File = File> + Input + Print + Eprint + Clock + AllocGlobal + Threads + Sync,
 {
+    if let Some(bar) = bar_of(rt, asked).map_err(AppFault::from)? {
+        return Err(barred(output, bar));
+    }
     let options = asked.task.options();
     let counting = Counting {
         rt,
@@ -93,11 +100,21 @@ where
     }
     match output.finish() {
         Ok(()) => Ok(()),
-        Err(error) => {
+        Err(Unplaced::Barred(bar)) => Err(barred(output, bar)),
+        Err(Unplaced::Failed(error)) => {
             output.failure = Some(error);
             Err(Refusal::Fault(AppFault::Write))
         }
     }
+}
+
+/// Why a run ends whose result would replace what it never does.
+fn barred<'a, R>(output: &mut Output<'a, R>, bar: Bar<'a>) -> Refusal {
+    if let Bar::IsServed = bar {
+        return Refusal::Locked(3);
+    }
+    output.bar = Some(bar);
+    Refusal::Barred
 }
 
 /// Does a task; how it counts is said beside it.
