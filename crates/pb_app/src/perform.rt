@@ -13,13 +13,11 @@ use pb_commands::run_table::{run_closed_table, run_table};
 use pb_commands::{AppFault, Counting, Table};
 use pb_core::gate::NoGate;
 use pb_read::ReadFault;
-use pb_streams::{
-    Bar, Output, Progress, Shown, Unplaced, bar_of, open_both, open_both_shown, open_shown,
-};
+use pb_streams::{Bar, Output, Progress, Shown, Unplaced, open_both, open_both_shown, open_shown};
 use pb_words::Tally;
 use pb_words::warnings::{ResultWarnings, Warnings};
 use std::fs::File;
-use std::io::{Error, Write};
+use std::io::{Error, ErrorKind, Write};
 use std::mem;
 use std::rt::{Clock, Files};
 use std::thread::Threads;
@@ -82,8 +80,8 @@ pub(crate) fn perform<'a, R>(
 where
     R: Files<File = File> + Input + Print + Eprint + Clock + AllocGlobal + Threads + Sync,
 {
-    if let Some(bar) = bar_of(rt, asked).map_err(AppFault::from)? {
-        return Err(barred(output, bar));
+    if let Err(why) = output.look() {
+        return Err(unplaced(output, why));
     }
     let options = asked.task.options();
     let counting = Counting {
@@ -100,21 +98,26 @@ where
     }
     match output.finish() {
         Ok(()) => Ok(()),
-        Err(Unplaced::Barred(bar)) => Err(barred(output, bar)),
-        Err(Unplaced::Failed(error)) => {
-            output.failure = Some(error);
-            Err(Refusal::Fault(AppFault::Write))
-        }
+        Err(why) => Err(unplaced(output, why)),
     }
 }
 
-/// Why a run ends whose result would replace what it never does.
-fn barred<'a, R>(output: &mut Output<'a, R>, bar: Bar<'a>) -> Refusal {
-    if let Bar::IsServed = bar {
-        return Refusal::Locked(3);
+/// Why a run ends whose result is not put in its place.
+fn unplaced<'a, R>(output: &mut Output<'a, R>, why: Unplaced<'a>) -> Refusal {
+    match why {
+        Unplaced::Barred(Bar::IsServed) => Refusal::Locked(3),
+        Unplaced::Barred(bar) => {
+            output.bar = Some(bar);
+            Refusal::Barred
+        }
+        Unplaced::Failed(error) if error.kind() == ErrorKind::OutOfMemory => {
+            Refusal::Fault(AppFault::Memory)
+        }
+        Unplaced::Failed(error) => {
+            output.failure = Some(error);
+            Refusal::Fault(AppFault::Write)
+        }
     }
-    output.bar = Some(bar);
-    Refusal::Barred
 }
 
 /// Does a task; how it counts is said beside it.

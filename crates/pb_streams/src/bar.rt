@@ -1,27 +1,21 @@
 //! What a result never replaces.
 
-use crate::file_id::{FileId, id_of, id_of_text};
-use crate::journal_start::begins_as_journal;
-use crate::texts::{journal_of, makes_journal, texts_of};
-use pb_command_line::{Asked, Task};
-use std::alloc::{AllocError, Global};
+use crate::beside::stands_beside;
+use crate::file_id::FileId;
+use crate::journal_start::{LOOKED_AT, begins_as_journal};
+use crate::texts::{journal_of, makes_journal};
+use pb_command_line::{Source, Task};
+use std::alloc::Global;
 use std::fs;
 use std::fs::{File, TryLockError};
-use std::io::Read;
-use std::path::Path;
+use std::io::{Read, Result};
 use std::rt::Files;
-
-/// So many files beside a journal have the name of those that are kept, and a number.
-const MOST_KEPT: u32 = 1_000;
-
-/// So many bytes of a file are looked at: a journal's first record has fewer.
-const LOOKED_AT: usize = 65_536;
 
 /// Why a result does not go to the path that is named for it.
 #[derive(Clone, Copy)]
 pub enum Bar<'a> {
-    /// It leads to this text, which the run reads; none is standard input.
-    IsRead(Option<&'a str>),
+    /// It leads to this text, which the run reads.
+    IsRead(Source<'a>),
     /// It leads to what stands beside this journal, which the run reads.
     IsBeside(&'a str),
     /// A journal stands there, and the result is none.
@@ -30,147 +24,79 @@ pub enum Bar<'a> {
     IsServed,
 }
 
-/// What bars the result of a run from the path that is named for it, as files stand now.
-pub fn bar_of<'a, R: Files<File = File> + AllocGlobal>(
+/// What bars the result of a task from a path, as files stand now. An error is a call of the system that has failed: what
+/// can't be looked at is not replaced.
+pub(crate) fn bar_of<'a, R: Files<File = File> + AllocGlobal>(
     rt: &R,
-    asked: &Asked<'a>,
-) -> Result<Option<Bar<'a>>, AllocError> {
-    let Some(path) = asked.output else {
-        return Ok(None);
-    };
-    let journal = journal_of(&asked.task);
-    let is_file = match fs::metadata(rt, path) {
-        Ok(metadata) => metadata.is_file(),
-        Err(_) => {
-            // A file of that name would stand beside the journal.
-            return Ok(match journal {
-                Some(journal) if is_named_beside(rt, path, journal) => Some(Bar::IsBeside(journal)),
-                _ => None,
-            });
+    task: &Task<'a>,
+    path: &str,
+) -> Result<Option<Bar<'a>>> {
+    let target = FileId::at(rt, path)?;
+    if let Some(target) = target {
+        if let Some(text) = text_of(rt, task, target)? {
+            return Ok(Some(Bar::IsRead(text)));
         }
-    };
-    let Some(target) = id_of(rt, path) else {
-        return Ok(None);
-    };
-    // A device or a pipe is not replaced.
-    if !is_file {
-        return Ok(None);
     }
-    if let Some(read) = read_at(rt, &asked.task, target) {
-        return Ok(Some(Bar::IsRead(read)));
-    }
-    if let Some(journal) = journal {
-        if is_named_beside(rt, path, journal) || stands_beside(rt, journal, target)? {
+    if let Some(journal) = journal_of(task) {
+        if stands_beside(rt, path, journal)? {
             return Ok(Some(Bar::IsBeside(journal)));
         }
     }
-    bar_of_journal(rt, path, &asked.task)
+    match target {
+        Some(target) if target.is_plain => bar_of_file(rt, task, path),
+        _ => Ok(None),
+    }
 }
 
-/// The text of a run that is this file, where one is.
-fn read_at<'a, R: Files>(rt: &R, task: &Task<'a>, target: FileId) -> Option<Option<&'a str>> {
-    let (file, second) = texts_of(task);
-    if id_of_text(rt, &file) == Some(target) {
-        return Some(file.path());
+/// The text of a task that is read from this file, where one is.
+fn text_of<'a, R: Files>(rt: &R, task: &Task<'a>, target: FileId) -> Result<Option<Source<'a>>> {
+    let (file, second) = task.texts();
+    if target.has_text(rt, &file)? {
+        return Ok(Some(file));
     }
     match second {
-        Some(text) if id_of_text(rt, &text) == Some(target) => Some(text.path()),
-        _ => None,
+        Some(text) => {
+            let is_read = target.has_text(rt, &text)?;
+            Ok(if is_read { Some(text) } else { None })
+        }
+        None => Ok(None),
     }
 }
 
-/// Whether this file stands beside a journal, under one of the names that the program gives there.
-fn stands_beside<R: Files + AllocGlobal>(
+/// What bars the result of a task from the file with this path, which may be a journal.
+fn bar_of_file<'a, R: Files<File = File> + AllocGlobal>(
     rt: &R,
-    journal: &str,
-    target: FileId,
-) -> Result<bool, AllocError> {
-    for end in [".torn", ".file", ".kept"] {
-        let path = format!(in rt.alloc(); "{journal}{end}")?;
-        let is = id_of(rt, path.as_str()) == Some(target);
-        drop(path);
-        if is {
-            return Ok(true);
-        }
-    }
-    for number in 1..MOST_KEPT {
-        let path = format!(in rt.alloc(); "{journal}.kept{number}")?;
-        let id = id_of(rt, path.as_str());
-        drop(path);
-        if id.is_none() {
-            return Ok(false);
-        }
-        if id == Some(target) {
-            return Ok(true);
-        }
-    }
-    Ok(false)
-}
-
-/// Whether a path is one of the names that the program gives beside a journal.
-fn is_named_beside<R: Files>(rt: &R, path: &str, journal: &str) -> bool {
-    let (Some(name), Some(journal_name)) = (
-        Path::new(path).file_name(),
-        Path::new(journal).file_name(),
-    ) else {
-        return false;
-    };
-    let Some(end) = name.strip_prefix(journal_name) else {
-        return false;
-    };
-    let is_name = match end.strip_prefix(".kept") {
-        Some(number) => number.bytes().all(|byte| byte.is_ascii_digit()),
-        None => end == ".torn" || end == ".file",
-    };
-    if !is_name {
-        return false;
-    }
-    let folder = id_of(rt, folder_of(path));
-    folder.is_some() && folder == id_of(rt, folder_of(journal))
-}
-
-/// The folder of a path.
-fn folder_of(path: &str) -> &str {
-    match Path::new(path).parent() {
-        Some(folder) if folder.as_str() != "" => folder.as_str(),
-        _ => ".",
-    }
-}
-
-/// What bars a result from a file where a journal may stand.
-fn bar_of_journal<'a, R: Files<File = File> + AllocGlobal>(
-    rt: &R,
-    path: &str,
     task: &Task<'_>,
-) -> Result<Option<Bar<'a>>, AllocError> {
-    // What may not be read is replaced, as far as its folder lets it be.
-    let Ok(mut file) = fs::open(rt, path) else {
-        return Ok(None);
-    };
-    let bar = match file.try_lock_shared() {
-        Err(TryLockError::WouldBlock) => Some(Bar::IsServed),
-        _ if makes_journal(task) => None,
-        _ => journal_in(rt.alloc(), &mut file)?,
-    };
-    drop(file);
-    Ok(bar)
-}
-
-/// Whether a file begins as a journal does.
-fn journal_in<'a>(alloc: Global, file: &mut File) -> Result<Option<Bar<'a>>, AllocError> {
-    let mut start = vec![in alloc; 0u8; LOOKED_AT]?;
-    let mut length = 0usize;
-    for _ in 0..LOOKED_AT {
-        match file.read(&mut start[length..]) {
-            Ok(count) if count > 0 && count <= LOOKED_AT - length => length += count,
-            _ => break,
-        }
+    path: &str,
+) -> Result<Option<Bar<'a>>> {
+    let file = fs::open(rt, path)?;
+    // Nobody serves a file whose system has no locks.
+    if let Err(TryLockError::WouldBlock) = file.try_lock_shared() {
+        drop(file);
+        return Ok(Some(Bar::IsServed));
     }
-    let is_journal = begins_as_journal(alloc, &start[..length]);
-    drop(start);
+    if makes_journal(task) {
+        drop(file);
+        return Ok(None);
+    }
+    let is_journal = is_journal(rt.alloc(), file)?;
     Ok(if is_journal {
         Some(Bar::IsJournal)
     } else {
         None
     })
+}
+
+/// Whether a file begins as a journal does.
+fn is_journal(alloc: Global, file: File) -> Result<bool> {
+    let mut reader = file.take(LOOKED_AT as u64);
+    let mut start = Vec::new(alloc);
+    let read = reader.read_to_end(&mut start);
+    drop(reader);
+    let begins = match read {
+        Ok(_) => begins_as_journal(alloc, &start),
+        Err(error) => Err(error),
+    };
+    drop(start);
+    begins
 }

@@ -2,6 +2,7 @@
 
 use pb_command_line::Source;
 use std::fs;
+use std::io::{ErrorKind, Result};
 use std::os::unix::fs::MetadataExt;
 use std::rt::Files;
 
@@ -13,20 +14,30 @@ const INPUT: &str = "/dev/stdin";
 pub(crate) struct FileId {
     device: u64,
     number: u64,
+    /// It is no folder, device or pipe.
+    pub(crate) is_plain: bool,
 }
 
-/// The file that a text is read from, where it is one.
-pub(crate) fn id_of_text<R: Files>(rt: &R, text: &Source<'_>) -> Option<FileId> {
-    id_of(rt, text.path().unwrap_or(INPUT))
-}
+impl FileId {
+    /// The file that a path leads to, over links, where there is one.
+    pub(crate) fn at<R: Files>(rt: &R, path: &str) -> Result<Option<FileId>> {
+        match fs::metadata(rt, path) {
+            Ok(metadata) => Ok(Some(FileId {
+                device: metadata.dev(),
+                number: metadata.ino(),
+                is_plain: metadata.is_file(),
+            })),
+            Err(error) if error.kind() == ErrorKind::OutOfMemory => Err(error),
+            // Whoever opens it is told why.
+            Err(_) => Ok(None),
+        }
+    }
 
-/// The file that a path leads to, over links, where there is one.
-pub(crate) fn id_of<R: Files>(rt: &R, path: &str) -> Option<FileId> {
-    match fs::metadata(rt, path) {
-        Ok(metadata) => Some(FileId {
-            device: metadata.dev(),
-            number: metadata.ino(),
-        }),
-        Err(_) => None,
+    /// Whether a text is read from this file; standard input is none where it is a terminal or a pipe.
+    pub(crate) fn has_text<R: Files>(self, rt: &R, text: &Source<'_>) -> Result<bool> {
+        match text {
+            Source::Input => Ok(self.is_plain && FileId::at(rt, INPUT)? == Some(self)),
+            Source::File(path) => Ok(FileId::at(rt, path)? == Some(self)),
+        }
     }
 }

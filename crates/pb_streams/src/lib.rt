@@ -3,6 +3,7 @@
 #![tactic(auto)]
 
 mod bar;
+mod beside;
 mod digested;
 mod file_id;
 mod given;
@@ -12,7 +13,7 @@ mod part_file;
 mod progress;
 mod texts;
 
-pub use bar::{Bar, bar_of};
+pub use bar::Bar;
 pub use digested::{Digested, Hex};
 pub use given::{Given, open, open_both, open_file};
 pub use output::{Output, Unplaced};

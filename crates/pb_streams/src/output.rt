@@ -3,7 +3,7 @@
 use crate::bar::{Bar, bar_of};
 use crate::part_file::PartFile;
 use crate::texts::pairs_ids;
-use pb_command_line::Asked;
+use pb_command_line::{Asked, Task};
 use std::fs;
 use std::fs::{File, OpenOptions};
 use std::io::{Error, ErrorKind, Result, Write};
@@ -18,7 +18,7 @@ enum Opened {
     Device(File),
 }
 
-/// Why a whole result is not put in its place.
+/// Why a result is not put in its place.
 #[derive(Clone, Copy)]
 pub enum Unplaced<'a> {
     /// It would replace what it never does.
@@ -52,6 +52,14 @@ impl<'a, R: Files<File = File> + Print + AllocGlobal> Output<'a, R> {
         }
     }
 
+    /// Looks at what the result would replace.
+    pub fn look(&self) -> std::result::Result<(), Unplaced<'a>> {
+        match self.asked.output {
+            Some(path) => look_at(self.rt, &self.asked.task, path),
+            None => Ok(()),
+        }
+    }
+
     /// Writes some of these bytes to where they go.
     fn write_some(&mut self, buf: &[u8]) -> Result<usize> {
         let Some(path) = self.asked.output else {
@@ -67,7 +75,7 @@ impl<'a, R: Files<File = File> + Print + AllocGlobal> Output<'a, R> {
         }
     }
 
-    /// Puts a whole result in the place of an older one, also an empty one. What it may replace is looked at before.
+    /// Puts a whole result in the place of an older one, also an empty one. What it replaces is looked at before.
     pub fn finish(&mut self) -> std::result::Result<(), Unplaced<'a>> {
         let Some(path) = self.asked.output else {
             return Ok(());
@@ -77,7 +85,7 @@ impl<'a, R: Files<File = File> + Print + AllocGlobal> Output<'a, R> {
             None => open(self.rt, path, pairs_ids(&self.asked.task)),
         };
         match opened {
-            Ok(Opened::Part(part)) => put_in_place(self.rt, self.asked, part),
+            Ok(Opened::Part(part)) => put_in_place(self.rt, &self.asked.task, part),
             Ok(Opened::Device(file)) => {
                 drop(file);
                 Ok(())
@@ -133,20 +141,32 @@ fn open<R: Files<File = File> + AllocGlobal>(
 /// Sees that a file is on its device, and gives it the name of the one that it replaces, if nothing bars it.
 fn put_in_place<'a, R: Files<File = File> + AllocGlobal>(
     rt: &R,
-    asked: &Asked<'a>,
+    task: &Task<'a>,
     part: PartFile<File>,
 ) -> std::result::Result<(), Unplaced<'a>> {
-    let why = match (part.sync(), bar_of(rt, asked)) {
-        (Err(error), _) => Unplaced::Failed(error),
-        (Ok(()), Ok(Some(bar))) => Unplaced::Barred(bar),
-        (Ok(()), Err(_)) => Unplaced::Failed(Error::from(ErrorKind::OutOfMemory)),
-        (Ok(()), Ok(None)) => {
-            return match part.place(rt) {
-                Ok(()) => Ok(()),
-                Err(error) => Err(Unplaced::Failed(error)),
-            };
-        }
+    let allowed = match part.sync() {
+        Ok(()) => look_at(rt, task, part.target()),
+        Err(error) => Err(Unplaced::Failed(error)),
     };
-    part.give_up(rt);
-    Err(why)
+    if allowed.is_err() {
+        part.give_up(rt);
+        return allowed;
+    }
+    match part.place(rt) {
+        Ok(()) => Ok(()),
+        Err(error) => Err(Unplaced::Failed(error)),
+    }
+}
+
+/// Looks at what a result at this path would replace.
+fn look_at<'a, R: Files<File = File> + AllocGlobal>(
+    rt: &R,
+    task: &Task<'a>,
+    path: &str,
+) -> std::result::Result<(), Unplaced<'a>> {
+    match bar_of(rt, task, path) {
+        Ok(None) => Ok(()),
+        Ok(Some(bar)) => Err(Unplaced::Barred(bar)),
+        Err(error) => Err(Unplaced::Failed(error)),
+    }
 }

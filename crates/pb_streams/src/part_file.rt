@@ -1,11 +1,11 @@
 //! A file that is written beside the one that it replaces, and then gets that one's name.
 
+use crate::beside::folder_of;
 use std::alloc::Global;
 use std::fs;
 use std::fs::{OpenFile, OpenOptions, Permissions};
 use std::io::{Error, ErrorKind, Result};
 use std::os::unix::fs::{OpenOptionsExt, PermissionsExt};
-use std::path::Path;
 use std::rt::Files;
 
 /// How many names are tried for the file beside.
@@ -51,6 +51,11 @@ impl<F: OpenFile + Drop> PartFile<F> {
             let _ = file.set_permissions(Permissions::from_mode(OWNER_ALONE));
         }
         Ok(PartFile { file, part, target })
+    }
+
+    /// The path of the file that it is to replace.
+    pub(crate) fn target(&self) -> &str {
+        self.target.as_str()
     }
 
     /// Sees that the bytes are on their device.
@@ -104,11 +109,7 @@ fn create<R: Files>(rt: &R, alloc: Global, target: &str, mode: u32) -> Result<(R
 
 /// Sees that a new name is on its device, where the system lets a folder be opened for that.
 fn sync_folder<R: Files>(rt: &R, target: &str) {
-    let folder = match Path::new(target).parent() {
-        Some(folder) if folder.as_str() != "" => folder.as_str(),
-        _ => ".",
-    };
-    if let Ok(file) = fs::open(rt, folder) {
+    if let Ok(file) = fs::open(rt, folder_of(target)) {
         let _ = file.sync_all();
         drop(file);
     }

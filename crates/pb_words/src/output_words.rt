@@ -1,7 +1,7 @@
 //! Words for a result that does not go to the path that was named for it.
 
 use crate::words::Value::Name;
-use crate::words::Words;
+use crate::words::{Value, Words};
 use std::alloc::{AllocError, Global};
 
 /// Words for a path that leads to a text that the run reads; one without a path is standard input.
@@ -13,8 +13,7 @@ pub fn read_output_words(
     said(
         alloc,
         "error: --output {} would replace {}, which this run reads.\nName another file.\n",
-        path,
-        text,
+        &[Name(Some(path)), Name(text)],
     )
 }
 
@@ -22,9 +21,8 @@ pub fn read_output_words(
 pub fn beside_output_words(alloc: Global, path: &str, journal: &str) -> Result<String, AllocError> {
     said(
         alloc,
-        "error: --output {} would replace what stands beside the journal {}.\nName another file.\n",
-        path,
-        Some(journal),
+        "error: --output {} would replace a file that belongs to the journal {}, which this run reads.\nName another file.\n",
+        &[Name(Some(path)), Name(Some(journal))],
     )
 }
 
@@ -32,9 +30,8 @@ pub fn beside_output_words(alloc: Global, path: &str, journal: &str) -> Result<S
 pub fn journal_output_words(alloc: Global, path: &str) -> Result<String, AllocError> {
     said(
         alloc,
-        "error: --output {} would replace a journal.\nName another file, or move the journal away first.\n",
-        path,
-        None,
+        "error: --output {} would replace a journal, which only `desk` does.\nName another file, or move the journal away first.\n",
+        &[Name(Some(path))],
     )
 }
 
@@ -43,14 +40,13 @@ pub fn served_output_words(alloc: Global, path: &str) -> Result<String, AllocErr
     said(
         alloc,
         "--output {} would replace a journal that another run serves.\nName another file.\n",
-        path,
-        None,
+        &[Name(Some(path))],
     )
 }
 
-/// A text with both paths in it.
-fn said(alloc: Global, form: &str, path: &str, other: Option<&str>) -> Result<String, AllocError> {
+/// A text with these values in it.
+fn said(alloc: Global, form: &str, values: &[Value<'_>]) -> Result<String, AllocError> {
     let mut out = Words::new(alloc);
-    out.fill(form, &[Name(Some(path)), Name(other)]);
+    out.fill(form, values);
     out.finish()
 }
