@@ -141,7 +141,7 @@ fn say_bar<R: Eprint + AllocGlobal>(rt: &R, output: Option<&str>, bar: Option<Ba
     let (alloc, path) = (rt.alloc(), output.unwrap_or("-"));
     let words = match bar {
         Some(Bar::IsRead(text)) => read_output_words(alloc, path, text.path()),
-        Some(Bar::IsBeside(journal)) => beside_output_words(alloc, path, journal),
+        Some(Bar::IsBeside(journal)) => beside_output_words(alloc, path, journal.path()),
         Some(Bar::IsServed) => served_output_words(alloc, path),
         Some(Bar::IsJournal) | None => journal_output_words(alloc, path),
     };

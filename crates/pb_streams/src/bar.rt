@@ -17,7 +17,7 @@ pub enum Bar<'a> {
     /// It leads to this text, which the run reads.
     IsRead(Source<'a>),
     /// It leads to what stands beside this journal, which the run reads.
-    IsBeside(&'a str),
+    IsBeside(Source<'a>),
     /// A journal stands there, and the result is none.
     IsJournal,
     /// A run serves the journal that stands there.
@@ -38,7 +38,7 @@ pub(crate) fn bar_of<'a, R: Files<File = File> + AllocGlobal>(
         }
     }
     if let Some(journal) = journal_of(task) {
-        if stands_beside(rt, path, journal)? {
+        if stands_beside(rt, path, &journal)? {
             return Ok(Some(Bar::IsBeside(journal)));
         }
     }

@@ -1,6 +1,7 @@
 //! What stands beside a journal.
 
-use crate::file_id::FileId;
+use crate::file_id::{FileId, INPUT};
+use pb_command_line::Source;
 use std::fs;
 use std::io::{ErrorKind, Result};
 use std::path::Path;
@@ -13,12 +14,13 @@ const ENDS: [&str; 3] = [".torn", ".file", ".kept"];
 const MOST_KEPT: u32 = 10_000;
 
 /// Whether a path is one of the names that the program gives beside a journal, or leads to a file that has one. The journal
-/// may be named by a link.
+/// may be named by a link, or be standard input.
 pub(crate) fn stands_beside<R: Files + AllocGlobal>(
     rt: &R,
     path: &str,
-    journal: &str,
+    journal: &Source<'_>,
 ) -> Result<bool> {
+    let journal = journal.path().unwrap_or(INPUT);
     let target = FileId::at(rt, path)?;
     if is_beside(rt, path, target, journal)? {
         return Ok(true);
@@ -30,7 +32,7 @@ pub(crate) fn stands_beside<R: Files + AllocGlobal>(
             is_beside_own
         }
         Err(error) if error.kind() == ErrorKind::OutOfMemory => Err(error),
-        // It can't be read either, which the run tells.
+        // It is a pipe, or can't be read, which the run tells.
         Err(_) => Ok(false),
     }
 }

@@ -7,7 +7,7 @@ use std::os::unix::fs::MetadataExt;
 use std::rt::Files;
 
 /// What standard input is to the system.
-const INPUT: &str = "/dev/stdin";
+pub(crate) const INPUT: &str = "/dev/stdin";
 
 /// A file, by its device and its number there.
 #[derive(Clone, Copy, PartialEq, Eq)]

@@ -1,13 +1,13 @@
 //! What a task reads beside a .pb file, and what its result is.
 
-use pb_command_line::Task;
+use pb_command_line::{Source, Task};
 
-/// The path of the journal that is read, if one is; standard input has none.
-pub(crate) fn journal_of<'a>(task: &Task<'a>) -> Option<&'a str> {
+/// The journal that is read, if one is.
+pub(crate) fn journal_of<'a>(task: &Task<'a>) -> Option<Source<'a>> {
     match task {
         Task::Desk(_) => None,
         _ => {
-            let (_, journal) = task.paths();
+            let (_, journal) = task.texts();
             journal
         }
     }

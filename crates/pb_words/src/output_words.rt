@@ -17,12 +17,16 @@ pub fn read_output_words(
     )
 }
 
-/// Words for a path that leads to what stands beside a journal that the run reads.
-pub fn beside_output_words(alloc: Global, path: &str, journal: &str) -> Result<String, AllocError> {
+/// Words for a path that leads to what stands beside a journal that the run reads; one without a path is standard input.
+pub fn beside_output_words(
+    alloc: Global,
+    path: &str,
+    journal: Option<&str>,
+) -> Result<String, AllocError> {
     said(
         alloc,
-        "error: --output {} would replace a file that belongs to the journal {}, which this run reads.\nName another file.\n",
-        &[Name(Some(path)), Name(Some(journal))],
+        "error: --output {} belongs to {}, the journal that this run reads.\nName another file.\n",
+        &[Name(Some(path)), Name(journal)],
     )
 }
 
