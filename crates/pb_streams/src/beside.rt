@@ -13,8 +13,8 @@ const ENDS: [&str; 3] = [".torn", ".file", ".kept"];
 /// So many files with a number are looked for.
 const MOST_KEPT: u32 = 10_000;
 
-/// Whether a path is one of the names that the program gives beside a journal, or leads to a file that has one. The journal
-/// may be named by a link, or be standard input.
+/// Whether a path is one of the names that the program gives beside a journal, or leads to a file that has one.
+/// The journal may be named by a link, or be standard input.
 pub(crate) fn stands_beside<R: Files + AllocGlobal>(
     rt: &R,
     path: &str,
@@ -44,8 +44,10 @@ fn is_beside<R: Files + AllocGlobal>(
     target: Option<FileId>,
     journal: &str,
 ) -> Result<bool> {
+    if has_such_name(path, journal) && is_same_folder(rt, path, journal)? {
+        return Ok(true);
+    }
     match target {
-        _ if has_such_name(path, journal) && is_same_folder(rt, path, journal)? => Ok(true),
         Some(target) => is_linked(rt, target, journal),
         None => Ok(false),
     }
