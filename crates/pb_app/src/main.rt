@@ -25,9 +25,6 @@ use std::rt::{Clock, Env, Files};
 use std::thread::Threads;
 use std::{env, io};
 
-/// The line of a journal that another run serves.
-const LOCKED: &[u8] = b"fault;locked;2\n";
-
 /// The status where a row was not of the form.
 const BAD_ROWS: u8 = 1;
 
@@ -90,11 +87,11 @@ where
 }
 
 /// Does a task, and says on standard error what came of it.
-fn done<R>(rt: &R, asked: &Asked<'_>, shows: bool) -> ExitCode
+fn done<'a, R>(rt: &'a R, asked: &'a Asked<'a>, shows: bool) -> ExitCode
 where
     R: Files<File = File> + Input + Print + Eprint + Clock + AllocGlobal + Threads + Sync,
 {
-    let mut output = Output::new(rt, asked.output);
+    let mut output = Output::new(rt, asked);
     let mut notes = Notes {
         written: Tally::new(),
         audited: Tally::new(),
@@ -118,7 +115,7 @@ where
                 words::say_tally(rt, &asked.task, &notes.written, &notes.audited);
             }
             let status = write_line(rt, &refusal);
-            words::say_refusal(rt, asked, &refusal, output.failure.as_ref(), &notes.audited);
+            words::say_refusal(rt, asked, &refusal, &output, &notes.audited);
             words::say_warnings(rt, &asked.task, &notes.checked, &notes.seen);
             status
         }
@@ -152,10 +149,12 @@ fn write_line<R: Print>(rt: &R, refusal: &Refusal) -> u8 {
             let _ = ServingFault::Moved.write_line(&mut io::writer(rt));
             ServingFault::Moved.status()
         }
-        Refusal::Locked => {
-            let _ = io::writer(rt).write_all(LOCKED);
+        Refusal::Locked(text) => {
+            let _ = writeln!(io::writer(rt), "fault;locked;{text}");
             NOT_READY
         }
+        // Words alone say it, as of all arguments that are refused.
+        Refusal::Barred => BAD_ARGUMENTS,
         // Each of them has its line already.
         Refusal::BadRows(_) => BAD_ROWS,
     }

@@ -13,11 +13,11 @@ use pb_commands::run_table::{run_closed_table, run_table};
 use pb_commands::{AppFault, Counting, Table};
 use pb_core::gate::NoGate;
 use pb_read::ReadFault;
-use pb_streams::{Output, Progress, Shown, open_both, open_both_shown, open_shown};
+use pb_streams::{Bar, Output, Progress, Shown, Unplaced, open_both, open_both_shown, open_shown};
 use pb_words::Tally;
 use pb_words::warnings::{ResultWarnings, Warnings};
 use std::fs::File;
-use std::io::{Error, Write};
+use std::io::{Error, ErrorKind, Write};
 use std::mem;
 use std::rt::{Clock, Files};
 use std::thread::Threads;
@@ -27,8 +27,10 @@ use std::thread::Threads;
 pub(crate) enum Refusal {
     /// The runs of the commands say why.
     Fault(AppFault),
-    /// Another run serves the journal.
-    Locked,
+    /// Another run serves the journal at the path of this number: 2 is JOURNAL, 3 where the result goes.
+    Locked(u8),
+    /// The result would replace what it never does, which the output tells.
+    Barred,
     /// The journal could not be opened or made, for this reason.
     NoJournal(Error),
     /// The journal is legal, and not spelled as a desk spells it.
@@ -66,18 +68,21 @@ pub(crate) struct Notes {
     pub(crate) seen: ResultWarnings,
 }
 
-/// Does what the arguments ask for, and writes the result to its place. Files are opened, in their order, before any
-/// is read.
-pub(crate) fn perform<R>(
+/// Does what the arguments ask for, and writes the result to its place. What the result would replace is looked at first,
+/// and then files are opened, in their order, before any is read.
+pub(crate) fn perform<'a, R>(
     rt: &R,
-    asked: &Asked<'_>,
-    output: &mut Output<'_, R>,
+    asked: &'a Asked<'a>,
+    output: &mut Output<'a, R>,
     notes: &mut Notes,
     progress: &Progress<'_, R>,
 ) -> Result<(), Refusal>
 where
     R: Files<File = File> + Input + Print + Eprint + Clock + AllocGlobal + Threads + Sync,
 {
+    if let Err(why) = output.look() {
+        return Err(unplaced(output, why));
+    }
     let options = asked.task.options();
     let counting = Counting {
         rt,
@@ -93,9 +98,24 @@ where
     }
     match output.finish() {
         Ok(()) => Ok(()),
-        Err(error) => {
+        Err(why) => Err(unplaced(output, why)),
+    }
+}
+
+/// Why a run ends whose result is not put in its place.
+fn unplaced<'a, R>(output: &mut Output<'a, R>, why: Unplaced<'a>) -> Refusal {
+    match why {
+        Unplaced::Barred(Bar::IsServed) => Refusal::Locked(3),
+        Unplaced::Barred(bar) => {
+            output.bar = Some(bar);
+            Refusal::Barred
+        }
+        Unplaced::Failed(error) if error.kind() == ErrorKind::OutOfMemory => {
+            Refusal::Fault(AppFault::Memory)
+        }
+        Unplaced::Failed(error) => {
             output.failure = Some(error);
-            Err(Refusal::Fault(AppFault::Write))
+            Refusal::Fault(AppFault::Write)
         }
     }
 }

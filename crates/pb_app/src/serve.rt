@@ -142,7 +142,7 @@ where
 /// Why a journal was not opened.
 fn unopened(fault: FileFault) -> Refusal {
     match fault {
-        FileFault::Locked => Refusal::Locked,
+        FileFault::Locked => Refusal::Locked(2),
         FileFault::Open(error) if error.kind() == ErrorKind::OutOfMemory => {
             Refusal::Fault(AppFault::Memory)
         }

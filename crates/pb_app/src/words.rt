@@ -7,8 +7,12 @@ use pb_desk::desk::MOST_CLERKS;
 use pb_durable::moved::kept_path;
 use pb_export::ExportFault;
 use pb_read::ReadFault;
+use pb_streams::{Bar, Output};
 use pb_words::count_words::count_words;
 use pb_words::journal_words::journal_words;
+use pb_words::output_words::{
+    beside_output_words, journal_output_words, read_output_words, served_output_words,
+};
 use pb_words::read_words::{list_words, read_words};
 use pb_words::script_words::script_words;
 use pb_words::serve_words::{
@@ -51,10 +55,13 @@ pub(crate) fn say_refusal<R: Files + Eprint + AllocGlobal>(
     rt: &R,
     asked: &Asked<'_>,
     refusal: &Refusal,
-    failure: Option<&Error>,
+    output: &Output<'_, R>,
     audited: &Tally,
 ) {
+    let failure = output.failure.as_ref();
     match refusal {
+        Refusal::Locked(3) => say_bar(rt, asked.output, Some(Bar::IsServed)),
+        Refusal::Barred => say_bar(rt, asked.output, output.bar),
         Refusal::Fault(AppFault::OpenDesk) => say(rt, OPEN_DESK),
         Refusal::Fault(AppFault::Export(ExportFault::SectionWord)) => say(rt, SECTION_WORD),
         Refusal::Fault(AppFault::Export(_)) => say(rt, COMMA_IN_ID),
@@ -71,7 +78,7 @@ fn words_of_serve(alloc: Global, task: &Task<'_>, refusal: &Refusal) -> Result<S
     let (_, second) = task.paths();
     let path = second.unwrap_or("-");
     match refusal {
-        Refusal::Locked => locked_words(alloc, path),
+        Refusal::Locked(_) => locked_words(alloc, path),
         Refusal::NoJournal(reason) => unopened_words(alloc, path, reason),
         Refusal::Spelling => spelling_words(alloc, path),
         Refusal::Journal(reason) => unkept_words(alloc, path, reason),
@@ -89,7 +96,7 @@ fn words_of_serve(alloc: Global, task: &Task<'_>, refusal: &Refusal) -> Result<S
         }
         Refusal::Moved(Err(reason)) => lost_words(alloc, path, reason),
         Refusal::BadRows(rows) => bad_rows_words(alloc, *rows),
-        Refusal::Unanswered | Refusal::Fault(_) => Err(AllocError),
+        Refusal::Unanswered | Refusal::Barred | Refusal::Fault(_) => Err(AllocError),
     }
 }
 
@@ -127,6 +134,18 @@ fn words_of<R: Files + AllocGlobal>(
             Err(AllocError)
         }
     }
+}
+
+/// Says what a result would replace that it never does.
+fn say_bar<R: Eprint + AllocGlobal>(rt: &R, output: Option<&str>, bar: Option<Bar<'_>>) {
+    let (alloc, path) = (rt.alloc(), output.unwrap_or("-"));
+    let words = match bar {
+        Some(Bar::IsRead(text)) => read_output_words(alloc, path, text.path()),
+        Some(Bar::IsBeside(journal)) => beside_output_words(alloc, path, journal.path()),
+        Some(Bar::IsServed) => served_output_words(alloc, path),
+        Some(Bar::IsJournal) | None => journal_output_words(alloc, path),
+    };
+    say_words(rt, words);
 }
 
 fn is_serve(task: &Task<'_>) -> bool {

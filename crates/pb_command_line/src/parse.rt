@@ -38,9 +38,6 @@ pub fn parse<'a, R: Print + Eprint>(
             if let Some(name) = read_twice(&asked.task) {
                 return Ok(Parsed::Ends(refuse_twice(rt, name)));
             }
-            if replaces_what_it_reads(&asked) {
-                return Ok(Parsed::Ends(refuse_output(rt)));
-            }
             if leads_elsewhere(&asked.task) {
                 return Ok(Parsed::Ends(refuse_address(rt)));
             }
@@ -56,25 +53,11 @@ pub fn parse<'a, R: Print + Eprint>(
 
 /// The argument that is standard input beside FILE, where it is.
 fn read_twice(task: &Task<'_>) -> Option<&'static str> {
-    let (file, beside, name) = match task {
-        Task::Desk(run) => (run.file, Some(run.script), "SCRIPT"),
-        Task::Audit(run) => (run.file, Some(run.journal), "JOURNAL"),
-        Task::Projects(ballots, _)
-        | Task::Voters(ballots, _)
-        | Task::Export(ballots, _)
-        | Task::Page(PageRun { ballots, .. }) => (ballots.file, ballots.journal, "JOURNAL"),
-        Task::Count(..) | Task::Check(_) | Task::Serve(..) => return None,
-    };
-    match (file, beside) {
-        (Source::Input, Some(Source::Input)) => Some(name),
+    match (task.texts(), task) {
+        ((Source::Input, Some(Source::Input)), Task::Desk(_)) => Some("SCRIPT"),
+        ((Source::Input, Some(Source::Input)), _) => Some("JOURNAL"),
         _ => None,
     }
-}
-
-/// Whether the result would go to a file that is read for it, by the same path.
-fn replaces_what_it_reads(asked: &Asked<'_>) -> bool {
-    let (first, second) = asked.task.paths();
-    asked.output.is_some() && (asked.output == first || asked.output == second)
 }
 
 /// The argument that is standard input where the requests stand there, if it is.
@@ -120,12 +103,6 @@ fn refuse_twice<R: Eprint>(rt: &R, name: &str) -> u8 {
     let _ = eprintln!(rt;
         "error: FILE and {name} are both standard input (-), which can be read once"
     );
-    BAD_ARGUMENTS
-}
-
-/// Refuses arguments by which the result would replace a file that is read.
-fn refuse_output<R: Eprint>(rt: &R) -> u8 {
-    let _ = eprintln!(rt; "error: --output would replace a file that is read: name another one");
     BAD_ARGUMENTS
 }
 

@@ -114,19 +114,26 @@ impl<'a> Task<'a> {
         }
     }
 
-    /// The paths of the texts that are read; standard input has none.
-    pub fn paths(&self) -> (Option<&'a str>, Option<&'a str>) {
+    /// The texts that are read: the .pb file, and behind it a script or a journal, where there is one.
+    pub fn texts(&self) -> (Source<'a>, Option<Source<'a>>) {
         match *self {
-            Task::Count(file, _) | Task::Check(file) => (file.path(), None),
+            Task::Count(file, _) | Task::Check(file) => (file, None),
             Task::Projects(ballots, _)
             | Task::Voters(ballots, _)
             | Task::Export(ballots, _)
-            | Task::Page(PageRun { ballots, .. }) => {
-                (ballots.file.path(), ballots.journal_path())
-            }
-            Task::Desk(DeskRun { file, script, .. }) => (file.path(), script.path()),
-            Task::Audit(AuditRun { file, journal, .. }) => (file.path(), journal.path()),
-            Task::Serve(file, journal) => (Some(file), Some(journal)),
+            | Task::Page(PageRun { ballots, .. }) => (ballots.file, ballots.journal),
+            Task::Desk(DeskRun { file, script, .. }) => (file, Some(script)),
+            Task::Audit(AuditRun { file, journal, .. }) => (file, Some(journal)),
+            Task::Serve(file, journal) => (Source::File(file), Some(Source::File(journal))),
+        }
+    }
+
+    /// Their paths; standard input has none.
+    pub fn paths(&self) -> (Option<&'a str>, Option<&'a str>) {
+        let (file, second) = self.texts();
+        match second {
+            Some(text) => (file.path(), text.path()),
+            None => (file.path(), None),
         }
     }
 }

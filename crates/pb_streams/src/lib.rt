@@ -2,12 +2,19 @@
 //! the file that gets a result whole or not at all.
 #![tactic(auto)]
 
+mod bar;
+mod beside;
 mod digested;
+mod file_id;
 mod given;
+mod journal_start;
 mod output;
+mod part_file;
 mod progress;
+mod texts;
 
+pub use bar::Bar;
 pub use digested::{Digested, Hex};
 pub use given::{Given, open, open_both, open_file};
-pub use output::Output;
+pub use output::{Output, Unplaced};
 pub use progress::{Progress, Shown, open_both_shown, open_shown};

@@ -1,79 +1,110 @@
 //! Where a result goes: to standard output, or to a file that gets it whole or not at all.
 
-use std::alloc::Global;
-use std::fs::{Metadata, OpenFile, OpenOptions};
+use crate::bar::{Bar, bar_of};
+use crate::part_file::PartFile;
+use crate::texts::pairs_ids;
+use pb_command_line::{Asked, Task};
+use std::fs;
+use std::fs::{File, OpenOptions};
 use std::io::{Error, ErrorKind, Result, Write};
-use std::path::Path;
 use std::rt::Files;
-use std::{fs, io};
-
-/// How many names are tried for the file beside.
-const MOST_NAMES: u32 = 100;
 
 /// An open file that a result is written to.
 #[derive(Drop)]
-struct Opened<F> {
-    file: F,
-    /// The file that is written beside the one that it replaces, by their paths; none where a device is written.
-    beside: Option<(String, String)>,
+enum Opened {
+    /// One beside the file that it replaces.
+    Part(PartFile<File>),
+    /// A device or a pipe, which is written as it is.
+    Device(File),
+}
+
+/// Why a result is not put in its place.
+#[derive(Clone, Copy)]
+pub enum Unplaced<'a> {
+    /// It would replace what it never does.
+    Barred(Bar<'a>),
+    /// A call on the file has failed.
+    Failed(Error),
 }
 
 /// A writer of a result. A file is opened at the first write: a run that is refused writes nothing, and leaves no file.
 #[derive(Drop)]
-pub struct Output<'a, R: Files + Print + AllocGlobal> {
+pub struct Output<'a, R> {
     rt: &'a R,
-    /// The path of the file that gets the result; none is standard output.
-    path: Option<&'a str>,
-    opened: Option<Opened<R::File>>,
+    /// What the run was asked for: its output is the path of the file that gets the result, none is standard output.
+    asked: &'a Asked<'a>,
+    opened: Option<Opened>,
     /// Why a write failed.
     pub failure: Option<Error>,
+    /// What the result would replace, and never does.
+    pub bar: Option<Bar<'a>>,
 }
 
-impl<'a, R: Files + Print + AllocGlobal> Output<'a, R> {
-    /// A result that goes to the file with this path, or to standard output.
-    pub fn new(rt: &'a R, path: Option<&'a str>) -> Output<'a, R> {
+impl<'a, R: Files<File = File> + Print + AllocGlobal> Output<'a, R> {
+    /// The result of what is asked for.
+    pub fn new(rt: &'a R, asked: &'a Asked<'a>) -> Output<'a, R> {
         Output {
             rt,
-            path,
+            asked,
             opened: None,
             failure: None,
+            bar: None,
+        }
+    }
+
+    /// Looks at what the result would replace.
+    pub fn look(&self) -> std::result::Result<(), Unplaced<'a>> {
+        match self.asked.output {
+            Some(path) => look_at(self.rt, &self.asked.task, path),
+            None => Ok(()),
         }
     }
 
     /// Writes some of these bytes to where they go.
     fn write_some(&mut self, buf: &[u8]) -> Result<usize> {
-        let Some(path) = self.path else {
+        let Some(path) = self.asked.output else {
             return self.rt.write_some(buf);
         };
         if self.opened.is_none() {
-            self.opened = Some(open(self.rt, path)?);
+            self.opened = Some(open(self.rt, path, pairs_ids(&self.asked.task))?);
         }
         match &mut self.opened {
-            Some(opened) => opened.file.write(buf),
+            Some(Opened::Part(part)) => part.file.write(buf),
+            Some(Opened::Device(file)) => file.write(buf),
             None => Ok(0),
         }
     }
 
-    /// Puts a whole result in the place of an older one.
-    pub fn finish(&mut self) -> Result<()> {
-        match self.opened.take() {
-            Some(opened) => put_in_place(self.rt, opened),
-            None => Ok(()),
+    /// Puts a whole result in the place of an older one, also an empty one. What it replaces is looked at before.
+    pub fn finish(&mut self) -> std::result::Result<(), Unplaced<'a>> {
+        let Some(path) = self.asked.output else {
+            return Ok(());
+        };
+        let opened = match self.opened.take() {
+            Some(opened) => Ok(opened),
+            None => open(self.rt, path, pairs_ids(&self.asked.task)),
+        };
+        match opened {
+            Ok(Opened::Part(part)) => put_in_place(self.rt, &self.asked.task, part),
+            Ok(Opened::Device(file)) => {
+                drop(file);
+                Ok(())
+            }
+            Err(error) => Err(Unplaced::Failed(error)),
         }
     }
 
     /// Takes away what was written of a result that did not become whole.
     pub fn give_up(&mut self) {
-        if let Some(opened) = self.opened.take() {
-            if let Some((part, _)) = &opened.beside {
-                let _ = fs::remove_file(self.rt, part.as_str());
-            }
-            drop(opened);
+        match self.opened.take() {
+            Some(Opened::Part(part)) => part.give_up(self.rt),
+            Some(Opened::Device(file)) => drop(file),
+            None => {}
         }
     }
 }
 
-impl<R: Files + Print + AllocGlobal> Write for Output<'_, R> {
+impl<R: Files<File = File> + Print + AllocGlobal> Write for Output<'_, R> {
     fn write(&mut self, buf: &[u8]) -> Result<usize> {
         match self.write_some(buf) {
             Ok(count) => Ok(count.min(buf.len())),
@@ -91,92 +122,51 @@ impl<R: Files + Print + AllocGlobal> Write for Output<'_, R> {
 }
 
 /// Opens a file beside the one with this path, or the device that has it.
-fn open<R: Files + AllocGlobal>(rt: &R, path: &str) -> Result<Opened<R::File>> {
-    match fs::metadata(rt, path) {
-        Ok(metadata) if metadata.is_dir() => Err(Error::from(ErrorKind::IsADirectory)),
-        Ok(metadata) if metadata.is_file() => {
-            let target = fs::canonicalize(rt, path)?.into_string();
-            open_beside(rt, target, Some(metadata))
-        }
-        Ok(_) => Ok(Opened {
-            file: OpenOptions::new().write(true).open(rt, path)?,
-            beside: None,
-        }),
-        Err(error) if error.kind() == ErrorKind::NotFound => {
-            let target = String::from_str(rt.alloc(), path)?;
-            open_beside(rt, target, None)
-        }
-        Err(error) => Err(error),
-    }
-}
-
-/// Opens a new file beside the one with this path, with the permissions of that one.
-fn open_beside<R: Files + AllocGlobal>(
+fn open<R: Files<File = File> + AllocGlobal>(
     rt: &R,
-    target: String,
-    older: Option<Metadata>,
-) -> Result<Opened<R::File>> {
-    let (file, part) = create_beside(rt, rt.alloc(), target.as_str())?;
-    if let Some(older) = older {
-        let _ = file.set_permissions(older.permissions());
-    }
-    Ok(Opened {
-        file,
-        beside: Some((part, target)),
-    })
+    path: &str,
+    for_owner: bool,
+) -> Result<Opened> {
+    let target = match fs::metadata(rt, path) {
+        Ok(metadata) if metadata.is_dir() => return Err(Error::from(ErrorKind::IsADirectory)),
+        Ok(metadata) if metadata.is_file() => fs::canonicalize(rt, path)?.into_string(),
+        Ok(_) => return Ok(Opened::Device(OpenOptions::new().write(true).open(rt, path)?)),
+        Err(error) if error.kind() == ErrorKind::NotFound => String::from_str(rt.alloc(), path)?,
+        Err(error) => return Err(error),
+    };
+    let part = PartFile::make(rt, rt.alloc(), target, for_owner)?;
+    Ok(Opened::Part(part))
 }
 
-/// Makes a new file whose name is that of the target and `.partN`, N the first number that is free.
-fn create_beside<R: Files>(rt: &R, alloc: Global, target: &str) -> Result<(R::File, String)> {
-    for number in 0..MOST_NAMES {
-        let part = format!(in alloc; "{target}.part{number}")?;
-        match OpenOptions::new()
-            .write(true)
-            .create_new(true)
-            .open(rt, part.as_str())
-        {
-            Ok(file) => return Ok((file, part)),
-            Err(error) if error.kind() == ErrorKind::AlreadyExists => drop(part),
-            Err(error) => {
-                drop(part);
-                return Err(error);
-            }
-        }
+/// Sees that a file is on its device, and gives it the name of the one that it replaces, if nothing bars it.
+fn put_in_place<'a, R: Files<File = File> + AllocGlobal>(
+    rt: &R,
+    task: &Task<'a>,
+    part: PartFile<File>,
+) -> std::result::Result<(), Unplaced<'a>> {
+    let allowed = match part.sync() {
+        Ok(()) => look_at(rt, task, part.target()),
+        Err(error) => Err(Unplaced::Failed(error)),
+    };
+    if allowed.is_err() {
+        part.give_up(rt);
+        return allowed;
     }
-    Err(Error::from(ErrorKind::AlreadyExists))
+    match part.place(rt) {
+        Ok(()) => Ok(()),
+        Err(error) => Err(Unplaced::Failed(error)),
+    }
 }
 
-/// Sees that a file is on its device, and gives it the name of the one that it replaces.
-fn put_in_place<R: Files>(rt: &R, opened: Opened<R::File>) -> Result<()> {
-    let Opened { file, beside } = opened;
-    let Some((part, target)) = beside else {
-        drop(file);
-        return Ok(());
-    };
-    let synced = file.sync_all();
-    drop(file);
-    let placed = match synced {
-        Ok(()) => fs::rename(rt, part.as_str(), target.as_str()),
-        Err(error) => Err(error),
-    };
-    if placed.is_err() {
-        let _ = fs::remove_file(rt, part.as_str());
-    } else {
-        sync_folder(rt, target.as_str());
-    }
-    drop(part);
-    drop(target);
-    placed
-}
-
-/// Sees that a new name is on its device, where the system lets a folder be opened for that.
-fn sync_folder<R: Files>(rt: &R, target: &str) {
-    let folder = match Path::new(target).parent() {
-        Some(folder) if folder.as_str() != "" => folder.as_str(),
-        _ => ".",
-    };
-    if let Ok(file) = fs::open(rt, folder) {
-        let _ = file.sync_all();
-        drop(file);
+/// Looks at what a result at this path would replace.
+fn look_at<'a, R: Files<File = File> + AllocGlobal>(
+    rt: &R,
+    task: &Task<'a>,
+    path: &str,
+) -> std::result::Result<(), Unplaced<'a>> {
+    match bar_of(rt, task, path) {
+        Ok(None) => Ok(()),
+        Ok(Some(bar)) => Err(Unplaced::Barred(bar)),
+        Err(error) => Err(Unplaced::Failed(error)),
     }
 }

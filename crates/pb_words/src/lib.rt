@@ -24,6 +24,7 @@ mod mark_words;
 mod meta_words;
 mod oddities;
 mod oddity_words;
+pub mod output_words;
 mod quote;
 mod read_rules;
 pub mod read_words;

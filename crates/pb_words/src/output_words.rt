@@ -1,0 +1,56 @@
+//! Words for a result that does not go to the path that was named for it.
+
+use crate::words::Value::Name;
+use crate::words::{Value, Words};
+use std::alloc::{AllocError, Global};
+
+/// Words for a path that leads to a text that the run reads; one without a path is standard input.
+pub fn read_output_words(
+    alloc: Global,
+    path: &str,
+    text: Option<&str>,
+) -> Result<String, AllocError> {
+    said(
+        alloc,
+        "error: --output {} would replace {}, which this run reads.\nName another file.\n",
+        &[Name(Some(path)), Name(text)],
+    )
+}
+
+/// Words for a path that leads to what stands beside a journal that the run reads; one without a path is standard input.
+pub fn beside_output_words(
+    alloc: Global,
+    path: &str,
+    journal: Option<&str>,
+) -> Result<String, AllocError> {
+    said(
+        alloc,
+        "error: --output {} belongs to {}, the journal that this run reads.\nName another file.\n",
+        &[Name(Some(path)), Name(journal)],
+    )
+}
+
+/// Words for a path at which a journal stands, where the result is none.
+pub fn journal_output_words(alloc: Global, path: &str) -> Result<String, AllocError> {
+    said(
+        alloc,
+        "error: --output {} would replace a journal, which only `desk` does.\nName another file, or move the journal away first.\n",
+        &[Name(Some(path))],
+    )
+}
+
+/// Words for a path at which a journal stands that a run serves.
+pub fn served_output_words(alloc: Global, path: &str) -> Result<String, AllocError> {
+    said(
+        alloc,
+        "--output {} would replace a journal that another run serves.\nName another file.\n",
+        &[Name(Some(path))],
+    )
+}
+
+/// A text with these values in it.
+fn said(alloc: Global, form: &str, values: &[Value<'_>]) -> Result<String, AllocError> {
+    let mut out = Words::new(alloc);
+    out.fill(form, values);
+    out.finish()
+}
