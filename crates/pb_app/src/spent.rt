@@ -32,7 +32,7 @@ where
 {
     match ballots_again(rt, task) {
         Some(election) => {
-            let deciding = deciding(rt, &election, &task.options(), gate);
+            let deciding = search(rt, &election, &task.options(), gate);
             let budget = Some(election.budget().0);
             drop(election);
             Found { deciding, budget }
@@ -88,7 +88,7 @@ fn open_again<R: Files>(rt: &R, path: &str) -> Option<R::File> {
 }
 
 /// Counts with twice as many raises as were allowed, and with twice as many again while less than a second has gone by.
-fn deciding<R, G: Gate>(rt: &R, election: &Election, options: &CountOptions, gate: &G) -> Deciding
+fn search<R, G: Gate>(rt: &R, election: &Election, options: &CountOptions, gate: &G) -> Deciding
 where
     R: Clock + AllocGlobal + Threads + Sync,
 {

@@ -1,6 +1,6 @@
 //! A record of a .pb file that has a fault, and what is wrong with it, in words.
 
-use crate::fields::{Joined, bytes_at, column_of, joined, place_of_no_text, text_at};
+use crate::fields::{JoinedBy, bytes_at, column_of, joined, place_of_no_text, text_at};
 use crate::mark::Mark;
 use crate::mark_words::put_subject;
 use crate::read_rules::words_of;
@@ -57,10 +57,10 @@ impl<'r> FaultyRecord<'r> {
     }
 
     /// Why the row is one field that seems to be a whole row, if it is one.
-    pub(crate) fn joined(&self) -> Option<Joined> {
+    pub(crate) fn joined(&self) -> Option<JoinedBy> {
         match (self.kind, joined(self.record)) {
             (ReadKind::NoSection | ReadKind::MissingColumn, joined) => joined,
-            (ReadKind::MissingField, Some(Joined::Quotes)) => Some(Joined::Quotes),
+            (ReadKind::MissingField, Some(JoinedBy::Quotes)) => Some(JoinedBy::Quotes),
             _ => None,
         }
     }

@@ -64,7 +64,7 @@ pub(crate) fn place_of_no_text(record: &ByteRecord) -> Option<usize> {
 
 /// Why a whole row is one field.
 #[derive(Clone, Copy)]
-pub(crate) enum Joined {
+pub(crate) enum JoinedBy {
     /// It stands in quotation marks, with its `;`.
     Quotes,
     /// It has no `;`, and these seem to separate its fields.
@@ -73,17 +73,17 @@ pub(crate) enum Joined {
 }
 
 /// Why a record is one field that seems to be a whole row, if it is one.
-pub(crate) fn joined(record: &ByteRecord) -> Option<Joined> {
+pub(crate) fn joined(record: &ByteRecord) -> Option<JoinedBy> {
     if record.len() != 1 {
         return None;
     }
     let field = bytes_at(record, 0);
     if field.contains(&b';') {
-        Some(Joined::Quotes)
+        Some(JoinedBy::Quotes)
     } else if field.contains(&b'\t') {
-        Some(Joined::Tabs)
+        Some(JoinedBy::Tabs)
     } else if field.contains(&b',') {
-        Some(Joined::Commas)
+        Some(JoinedBy::Commas)
     } else {
         None
     }

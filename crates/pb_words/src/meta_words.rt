@@ -1,6 +1,6 @@
 //! Words for META: its values, which are judged at the head of PROJECTS, and its head.
 
-use crate::fields::{Joined, joined, text_at};
+use crate::fields::{JoinedBy, joined, text_at};
 use crate::mark::Mark;
 use crate::mark_words::{line_of, put_mark};
 use crate::read_rules::words_of;
@@ -92,13 +92,13 @@ pub(crate) fn put_missing_key<R: Files>(
         ADD_VOTE_TYPE
     };
     match joined_at(text, seen.last) {
-        Some(Joined::Quotes) => out.fill(NO_QUOTES_AT, &[Number(line_of(text, seen.last))]),
+        Some(JoinedBy::Quotes) => out.fill(NO_QUOTES_AT, &[Number(line_of(text, seen.last))]),
         joined => put_joined(out, joined, remedy),
     }
 }
 
 /// Why the record with this mark is one field that seems to be a whole row, if it is one.
-fn joined_at<R: Files>(text: &Text<'_, R>, mark: Mark) -> Option<Joined> {
+fn joined_at<R: Files>(text: &Text<'_, R>, mark: Mark) -> Option<JoinedBy> {
     let records = text.records_at(Mark::start(), mark.at)?;
     let joined = joined(&records.last);
     drop(records);
@@ -106,11 +106,11 @@ fn joined_at<R: Files>(text: &Text<'_, R>, mark: Mark) -> Option<Joined> {
 }
 
 /// Puts what to do where a whole row is one field, or another remedy where it is not.
-pub(crate) fn put_joined(out: &mut Words, joined: Option<Joined>, remedy: &str) {
+pub(crate) fn put_joined(out: &mut Words, joined: Option<JoinedBy>, remedy: &str) {
     match joined {
-        Some(Joined::Quotes) => out.put(NO_QUOTES),
-        Some(Joined::Tabs) => out.fill(SAVE_AGAIN, &[Own("tabs")]),
-        Some(Joined::Commas) => out.fill(SAVE_AGAIN, &[Own("commas")]),
+        Some(JoinedBy::Quotes) => out.put(NO_QUOTES),
+        Some(JoinedBy::Tabs) => out.fill(SAVE_AGAIN, &[Own("tabs")]),
+        Some(JoinedBy::Commas) => out.fill(SAVE_AGAIN, &[Own("commas")]),
         None => out.put(remedy),
     }
 }

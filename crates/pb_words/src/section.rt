@@ -1,6 +1,6 @@
 //! The sections of a .pb file, and what may come next in one.
 
-use crate::fields::text_at;
+use crate::fields::{joined, text_at};
 use crate::mark::Mark;
 use csv::ByteRecord;
 
@@ -64,8 +64,11 @@ impl Section {
         Section::named(text_at(record, 0))
     }
 
-    /// The section that a record seems to be meant as the head of, and is not: marks stand beside its name.
+    /// The section that a record seems to be meant as the head of, and is not: punctuation stands beside its name.
     pub(crate) fn meant_by(record: &ByteRecord) -> Option<Section> {
+        if joined(record).is_some() {
+            return None;
+        }
         let field = text_at(record, 0);
         let name = field.trim_matches(|c: char| c.is_ascii_punctuation() || c.is_whitespace());
         if name.len() == field.len() {
