@@ -134,7 +134,14 @@ where
         Task::Desk(asked) => desk(counting, asked, writer, &mut notes.written),
         Task::Audit(asked) => audit(counting, asked, writer, notes),
         Task::Serve(file, journal) => {
-            return serve(counting.rt, file, journal, writer, &mut notes.written, typing);
+            return serve(
+                counting.rt,
+                file,
+                journal,
+                writer,
+                &mut notes.written,
+                typing,
+            );
         }
     };
     Ok(done?)

@@ -51,7 +51,8 @@ For more: pb_app --help
 ";
 
 /// How requests are typed.
-const HOW_TO_ASK: &str = "Type a request a row: CLERK;REQUEST;VOTER;PLACES, as `0;cast;ann;0,2`, `0;replace;ann;1` or `0;withdraw;ann;`.
+const HOW_TO_ASK: &str =
+    "Type a request a row: CLERK;REQUEST;VOTER;PLACES, as `0;cast;ann;0,2`, `0;replace;ann;1` or `0;withdraw;ann;`.
 A place is a project's position in FILE, from 0. Ctrl-D on a line of its own ends the run.
 ";
 
@@ -257,7 +258,10 @@ where
             let found = look_further(rt, &asked.task, progress);
             progress.clear();
             let options = asked.task.options();
-            say_words(rt, spent_words(rt.alloc(), &options, found.deciding, found.budget))
+            say_words(
+                rt,
+                spent_words(rt.alloc(), &options, found.deciding, found.budget),
+            )
         }
         _ => {}
     }

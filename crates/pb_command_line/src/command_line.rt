@@ -292,9 +292,7 @@ const COMMANDS: &[CommandForm] = &[
     CommandForm {
         name: "desk",
         about: "Serves a script's requests on the desk of a .pb file, and prints the journal",
-        arguments: &[
-            ELECTION, SCRIPT, CLERKS, SHUT, OUTPUT, QUIET_DESK, PROGRESS,
-        ],
+        arguments: &[ELECTION, SCRIPT, CLERKS, SHUT, OUTPUT, QUIET_DESK, PROGRESS],
     },
     CommandForm {
         name: "audit",
