@@ -7,6 +7,9 @@ mod counted;
 mod page;
 mod perform;
 mod serve;
+mod spent;
+mod terminal;
+mod typing;
 mod words;
 
 use crate::perform::{Notes, Refusal, perform};
@@ -33,14 +36,16 @@ const NOT_READY: u8 = 3;
 
 /// Which streams are terminals.
 #[derive(Clone, Copy)]
-struct Terminals {
-    input: bool,
-    error: bool,
+pub(crate) struct Terminals {
+    pub(crate) input: bool,
+    pub(crate) output: bool,
+    pub(crate) error: bool,
 }
 
 fn main(rt: HostRuntime) -> ExitCode {
     let terminals = Terminals {
         input: rt.stdin().is_terminal(),
+        output: rt.stdout().is_terminal(),
         error: rt.stderr().is_terminal(),
     };
     match run(&rt, terminals) {
@@ -66,16 +71,16 @@ where
         words::say_usage(rt);
         return Ok(ExitCode::from(BAD_ARGUMENTS));
     }
-    obey(rt, arguments.as_slice(), terminals.error)
+    obey(rt, arguments.as_slice(), terminals)
 }
 
 /// Does what these arguments ask for.
-fn obey<R>(rt: &R, arguments: &[String], shows: bool) -> Result<ExitCode, AppFault>
+fn obey<R>(rt: &R, arguments: &[String], terminals: Terminals) -> Result<ExitCode, AppFault>
 where
     R: Files<File = File> + Input + Print + Eprint + Clock + AllocGlobal + Threads + Sync,
 {
     match parse(rt, rt.alloc(), arguments) {
-        Ok(Parsed::Asks(asked)) => Ok(done(rt, &asked, shows)),
+        Ok(Parsed::Asks(asked)) => Ok(done(rt, &asked, terminals)),
         Ok(Parsed::Ends(status)) => {
             if status == BAD_ARGUMENTS {
                 words::say_mistaken(rt, arguments);
@@ -87,7 +92,7 @@ where
 }
 
 /// Does a task, and says on standard error what came of it.
-fn done<'a, R>(rt: &'a R, asked: &'a Asked<'a>, shows: bool) -> ExitCode
+fn done<'a, R>(rt: &'a R, asked: &'a Asked<'a>, terminals: Terminals) -> ExitCode
 where
     R: Files<File = File> + Input + Print + Eprint + Clock + AllocGlobal + Threads + Sync,
 {
@@ -99,27 +104,28 @@ where
         checked: Warnings::new(rt.alloc()),
         seen: ResultWarnings::new(rt.alloc(), asked.is_strict),
     };
-    let progress = Progress::new(rt, asked.shows.unwrap_or(shows));
-    let result = perform(rt, asked, &mut output, &mut notes, &progress);
+    let progress = Progress::new(rt, asked.shows.unwrap_or(terminals.error));
+    let result = perform(rt, asked, &mut output, &mut notes, &progress, terminals);
     progress.clear();
-    drop(progress);
     let code = match result {
         Ok(()) => {
-            words::say_tally(rt, &asked.task, &notes.written, &notes.audited);
+            words::say_tally(rt, asked, &notes.written, &notes.audited);
             words::say_faults(rt, &asked.task, notes.faults.as_slice());
             words::say_warnings(rt, &asked.task, &notes.checked, &notes.seen);
             status_of(notes.faults.as_slice())
         }
         Err(refusal) => {
             if let Refusal::BadRows(_) = refusal {
-                words::say_tally(rt, &asked.task, &notes.written, &notes.audited);
+                words::say_tally(rt, asked, &notes.written, &notes.audited);
             }
             let status = write_line(rt, &refusal);
             words::say_refusal(rt, asked, &refusal, &output, &notes.audited);
+            words::say_spent(rt, asked, &refusal, &progress);
             words::say_warnings(rt, &asked.task, &notes.checked, &notes.seen);
             status
         }
     };
+    drop(progress);
     drop(notes);
     drop(output);
     ExitCode::from(code)

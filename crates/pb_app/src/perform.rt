@@ -1,9 +1,13 @@
 //! What the command line asks for, done on real files.
 
+use crate::Terminals;
 use crate::audit::audit;
 use crate::counted::CountedWriter;
 use crate::page::page;
 use crate::serve::serve;
+use crate::terminal::ShownWriter;
+use crate::typing::Typing;
+use crate::words::is_quiet;
 use pb_command_line::{Asked, Ballots, DeskRun, Source, Task};
 use pb_commands::run_check::run_check;
 use pb_commands::run_count::run_count_watched;
@@ -76,6 +80,7 @@ pub(crate) fn perform<'a, R>(
     output: &mut Output<'a, R>,
     notes: &mut Notes,
     progress: &Progress<'_, R>,
+    terminals: Terminals,
 ) -> Result<(), Refusal>
 where
     R: Files<File = File> + Input + Print + Eprint + Clock + AllocGlobal + Threads + Sync,
@@ -90,7 +95,11 @@ where
         gate: progress,
         options: &options,
     };
-    let done = run(&counting, &asked.task, output, notes);
+    let typing = Typing::new(terminals.input && !is_quiet(asked));
+    let is_shown = terminals.output && asked.output.is_none();
+    let mut writer = ShownWriter::new(rt.alloc(), output, is_shown);
+    let done = run(&counting, &asked.task, &mut writer, notes, &typing);
+    drop(writer);
     drop(counting);
     if done.is_err() {
         output.give_up();
@@ -126,6 +135,7 @@ fn run<R, W: Write>(
     task: &Task<'_>,
     writer: &mut W,
     notes: &mut Notes,
+    typing: &Typing,
 ) -> Result<(), Refusal>
 where
     R: Files<File = File> + Input + Eprint + Clock + AllocGlobal + Threads + Sync,
@@ -144,7 +154,14 @@ where
         Task::Desk(asked) => desk(counting, asked, writer, &mut notes.written),
         Task::Audit(asked) => audit(counting, asked, writer, notes),
         Task::Serve(file, journal) => {
-            return serve(counting.rt, file, journal, writer, &mut notes.written);
+            return serve(
+                counting.rt,
+                file,
+                journal,
+                writer,
+                &mut notes.written,
+                typing,
+            );
         }
     };
     Ok(done?)

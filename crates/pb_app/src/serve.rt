@@ -2,6 +2,7 @@
 
 use crate::counted::CountedWriter;
 use crate::perform::Refusal;
+use crate::typing::{HeardWriter, TypedReader, Typing};
 use crate::words;
 use pb_commands::AppFault;
 use pb_core::election::Election;
@@ -58,15 +59,23 @@ pub(crate) fn serve<R, W: Write>(
     journal: &str,
     writer: &mut W,
     tally: &mut Tally,
+    typing: &Typing,
 ) -> Result<(), Refusal>
 where
     R: Files<File = File> + Input + Eprint + AllocGlobal,
 {
-    serve_file(rt, file, journal, &mut CountedWriter::new(writer, tally))
+    let mut answers = CountedWriter::new(writer, tally);
+    serve_file(rt, file, journal, &mut answers, typing)
 }
 
 /// The same; what is written is counted.
-fn serve_file<R, W: Write>(rt: &R, file: &str, journal: &str, writer: &mut W) -> Result<(), Refusal>
+fn serve_file<R, W: Write>(
+    rt: &R,
+    file: &str,
+    journal: &str,
+    writer: &mut W,
+    typing: &Typing,
+) -> Result<(), Refusal>
 where
     R: Files<File = File> + Input + Eprint + AllocGlobal,
 {
@@ -87,7 +96,8 @@ where
         journal,
         failure: &beside,
     };
-    match serve_on(rt, election, device, &mut torn, writer) {
+    let mut answers = HeardWriter::new(writer, typing);
+    match serve_on(rt, election, device, &mut torn, typing, &mut answers) {
         Ok(0) => Ok(()),
         Ok(rows) => Err(Refusal::BadRows(rows)),
         Err(fault) => Err(refusal_of(fault, failure.get(), beside.get())),
@@ -100,15 +110,18 @@ fn serve_on<R, B: Beside, W: Write>(
     election: Election,
     device: FileDevice<'_, R>,
     beside: &mut B,
+    typing: &Typing,
     writer: &mut W,
 ) -> Result<u64, ServingFault>
 where
-    R: Files<File = File> + Input + AllocGlobal,
+    R: Files<File = File> + Input + Eprint + AllocGlobal,
 {
     let alloc = rt.alloc();
     let mut file = JournalFile::on(alloc, device);
     match pb_durable::open(alloc, &mut file, election, ROOM, beside) {
-        Ok(Opened { desk, torn }) => serve_desk(rt, DurableDesk::on(desk, file), torn, writer),
+        Ok(Opened { desk, torn }) => {
+            serve_desk(rt, DurableDesk::on(desk, file), torn, typing, writer)
+        }
         Err(fault) => {
             drop(file);
             Err(ServingFault::from(fault))
@@ -121,13 +134,14 @@ fn serve_desk<R, W: Write>(
     rt: &R,
     mut desk: DurableDesk<FileDevice<'_, R>>,
     torn: usize,
+    typing: &Typing,
     writer: &mut W,
 ) -> Result<u64, ServingFault>
 where
-    R: Files<File = File> + Input + AllocGlobal,
+    R: Files<File = File> + Input + Eprint + AllocGlobal,
 {
     let at_hand = AtHand::new();
-    let served = match Paced::new(rt.alloc(), rt.reader(), &at_hand) {
+    let served = match Paced::new(rt.alloc(), TypedReader::new(rt, typing), &at_hand) {
         Ok(input) => {
             let pace = &at_hand;
             let incoming = Incoming { input, pace };

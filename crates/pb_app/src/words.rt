@@ -1,14 +1,16 @@
 //! What is said on standard error, beside what programs read.
 
 use crate::perform::Refusal;
+use crate::spent::look_further;
 use pb_command_line::{Asked, Source, Task};
 use pb_commands::AppFault;
 use pb_desk::desk::MOST_CLERKS;
 use pb_durable::moved::kept_path;
 use pb_export::ExportFault;
 use pb_read::ReadFault;
-use pb_streams::{Bar, Output};
-use pb_words::count_words::count_words;
+use pb_rounds::count_fault::CountFault;
+use pb_streams::{Bar, Output, Progress};
+use pb_words::count_words::{count_words, spent_words};
 use pb_words::journal_words::journal_words;
 use pb_words::output_words::{
     beside_output_words, journal_output_words, read_output_words, served_output_words,
@@ -20,11 +22,12 @@ use pb_words::serve_words::{
     unanswered_words, unkept_words, unopened_words,
 };
 use pb_words::warnings::{ResultWarnings, Warnings};
-use pb_words::{AuditPaths, Tally, mistaken_words, open_words, write_words};
+use pb_words::{AuditPaths, Tally, TypedRow, mistaken_words, open_words, write_words};
 use std::alloc::{AllocError, Global};
 use std::fs;
 use std::io::Error;
-use std::rt::Files;
+use std::rt::{Clock, Files};
+use std::thread::Threads;
 
 /// What is said where memory is refused, also for words.
 const NO_MEMORY: &str = "Memory was refused.\nRun again on a machine with more memory.\n";
@@ -49,6 +52,16 @@ const USAGE: &str = "pb_app counts a participatory budgeting election: pb_app co
 Without a command it counts standard input, which is a terminal here.
 For more: pb_app --help
 ";
+
+/// How requests are typed.
+const HOW_TO_ASK: &str =
+    "Type a request a row: CLERK;REQUEST;VOTER;PLACES, as `0;cast;ann;0,2`, `0;replace;ann;1` or `0;withdraw;ann;`.
+A place is a project's position in FILE, from 0. Ctrl-D on a line of its own ends the run.
+";
+
+/// What is said of a row that goes on.
+const OPEN_ROW: &str =
+    "A quotation mark is open, so the row goes on with the next line: close it by `\"`.\n";
 
 /// Says why a run has no result.
 pub(crate) fn say_refusal<R: Files + Eprint + AllocGlobal>(
@@ -126,7 +139,7 @@ fn words_of<R: Files + AllocGlobal>(
             };
             journal_words(rt, alloc, paths, *fault, audited)
         }
-        AppFault::Count(fault) => count_words(rt, alloc, first, *fault, &asked.task.options()),
+        AppFault::Count(fault) => count_words(alloc, first, *fault, &asked.task.options()),
         AppFault::Open(1) => open_words(rt, alloc, first.unwrap_or("-")),
         AppFault::Open(_) => open_words(rt, alloc, second.unwrap_or("-")),
         AppFault::Write => write_words(alloc, asked.output, failure),
@@ -190,14 +203,17 @@ pub(crate) fn say_warnings<R: Files + Eprint + AllocGlobal>(
     }
 }
 
-/// Says how many requests were done and refused, where a journal was written or audited.
+/// Says how many requests were done and refused, where a journal was written or audited and `--quiet` is not given.
 pub(crate) fn say_tally<R: Eprint + AllocGlobal>(
     rt: &R,
-    task: &Task<'_>,
+    asked: &Asked<'_>,
     written: &Tally,
     audited: &Tally,
 ) {
-    match task {
+    if is_quiet(asked) {
+        return;
+    }
+    match &asked.task {
         Task::Count(..)
         | Task::Projects(..)
         | Task::Voters(..)
@@ -209,6 +225,26 @@ pub(crate) fn say_tally<R: Eprint + AllocGlobal>(
         }
         Task::Audit(..) => say_words(rt, audited.words(rt.alloc(), "entries audited")),
     }
+}
+
+/// Whether nothing is said of how a run goes.
+pub(crate) fn is_quiet(asked: &Asked<'_>) -> bool {
+    asked.shows == Some(false)
+}
+
+/// Says how requests are typed.
+pub(crate) fn say_how_to_ask<R: Eprint>(rt: &R) {
+    say(rt, HOW_TO_ASK);
+}
+
+/// Says that the row that is being typed goes on.
+pub(crate) fn say_open_row<R: Eprint>(rt: &R) {
+    say(rt, OPEN_ROW);
+}
+
+/// Says why the row that was typed last is none.
+pub(crate) fn say_bad_row<R: Eprint>(rt: &R, row: &TypedRow) {
+    say_words(rt, row.bad_words());
 }
 
 /// Says how the program is used, where it would wait for what nobody types.
@@ -224,6 +260,26 @@ pub(crate) fn say_mistaken<R: Files + Eprint + AllocGlobal>(rt: &R, arguments: &
     match fs::metadata(rt, path.as_str()) {
         Ok(metadata) if metadata.is_file() => {
             say_words(rt, mistaken_words(rt.alloc(), path.as_str()))
+        }
+        _ => {}
+    }
+}
+
+/// Says what to do where the raises were spent. Whether more would decide is looked for first, after it was said why there
+/// is no result.
+pub(crate) fn say_spent<R>(rt: &R, asked: &Asked<'_>, refusal: &Refusal, progress: &Progress<'_, R>)
+where
+    R: Files + Clock + Eprint + AllocGlobal + Threads + Sync,
+{
+    match refusal {
+        Refusal::Fault(AppFault::Count(CountFault::RaisesSpent)) => {
+            let found = look_further(rt, &asked.task, progress);
+            progress.clear();
+            let options = asked.task.options();
+            say_words(
+                rt,
+                spent_words(rt.alloc(), &options, found.deciding, found.budget),
+            )
         }
         _ => {}
     }

@@ -205,6 +205,20 @@ const QUIET: Argument = Argument {
     help: "Shows nothing of how far the work has come",
 };
 
+/// Whether nothing is told of a desk's work either.
+const QUIET_DESK: Argument = Argument {
+    name: "quiet",
+    takes: Takes::Nothing,
+    help: "Shows nothing of how far the work has come, and no summary; refusals and warnings stay",
+};
+
+/// Whether nothing is told of the rows that are served.
+const QUIET_SERVE: Argument = Argument {
+    name: "quiet",
+    takes: Takes::Nothing,
+    help: "Shows no summary, and at a terminal says nothing of how to ask and of rows",
+};
+
 /// Whether it is shown.
 const PROGRESS: Argument = Argument {
     name: "progress",
@@ -285,7 +299,7 @@ const COMMANDS: &[CommandForm] = &[
     CommandForm {
         name: "desk",
         about: "Serves a script's requests on the desk of a .pb file, and prints the journal",
-        arguments: &[ELECTION, SCRIPT, CLERKS, SHUT, OUTPUT, QUIET, PROGRESS],
+        arguments: &[ELECTION, SCRIPT, CLERKS, SHUT, OUTPUT, QUIET_DESK, PROGRESS],
     },
     CommandForm {
         name: "audit",
@@ -302,14 +316,14 @@ const COMMANDS: &[CommandForm] = &[
             DIGESTS,
             STRICT,
             OUTPUT,
-            QUIET,
+            QUIET_DESK,
             PROGRESS,
         ],
     },
     CommandForm {
         name: "serve",
         about: "Serves standard input's requests on the desk of a .pb file, whose journal stands in a file",
-        arguments: &[SERVED, DURABLE],
+        arguments: &[SERVED, DURABLE, QUIET_SERVE],
     },
 ];
 

@@ -1,17 +1,25 @@
 //! Words for a count's options, and for raises that were spent.
 
-use crate::survey::survey_of;
-use crate::text::Text;
 use crate::words::Value::{Name, Number, Own};
 use crate::words::Words;
 use pb_rounds::count_fault::CountFault;
 use pb_rounds::options::{CountOptions, LARGEST_STEP, MOST_RAISES};
 use std::alloc::{AllocError, Global};
-use std::rt::Files;
+
+/// What is known of raises beyond those that were allowed and spent.
+#[derive(Clone, Copy)]
+pub enum Deciding {
+    /// This is the least limit of raises with which the count ends.
+    Least(u32),
+    /// With this limit it does not end either.
+    NotWithin(u32),
+    /// They were not looked for, since the ballots can't be read again.
+    Unread,
+}
 
 /// Words for a count of the .pb file with this path that is refused, by these options; no path is standard input.
-pub fn count_words<R: Files>(
-    rt: &R,
+/// Of raises that were spent they say no more than that: what to do is said by `spent_words`.
+pub fn count_words(
     alloc: Global,
     path: Option<&str>,
     fault: CountFault,
@@ -19,15 +27,70 @@ pub fn count_words<R: Files>(
 ) -> Result<String, AllocError> {
     let mut out = Words::new(alloc);
     match fault {
-        CountFault::RaisesSpent => put_spent(
-            &mut out,
-            path,
-            options,
-            budget_of(&Text::new(rt, alloc, path, "record")),
-        ),
+        CountFault::RaisesSpent => {
+            out.fill(
+                "{}: no share decides within {} raises of ",
+                &[Name(path), Number(u64::from(options.max_raises))],
+            );
+            put_amount(&mut out, options.step.0);
+            out.put(".\n")
+        }
         fault => put_option(&mut out, fault, options),
     }
     out.finish()
+}
+
+/// Words for what to do about raises that were spent, of a count by these options: what is known of more raises, and a
+/// step that decides, where the budget in hundredths is known.
+pub fn spent_words(
+    alloc: Global,
+    options: &CountOptions,
+    deciding: Deciding,
+    budget: Option<u64>,
+) -> Result<String, AllocError> {
+    let mut out = Words::new(alloc);
+    put_raises(&mut out, deciding);
+    if options.max_raises > 0 {
+        put_step(&mut out, sure_step(options.max_raises, budget));
+    }
+    out.put("The rules of the vote should say which step and how many raises hold.\n");
+    out.finish()
+}
+
+/// Puts how many raises would decide.
+fn put_raises(out: &mut Words, deciding: Deciding) {
+    match deciding {
+        Deciding::Least(raises) => out.fill(
+            "Allow more raises: `--raises {}` decides, and fewer do not.\n",
+            &[Number(u64::from(raises))],
+        ),
+        Deciding::NotWithin(MOST_RAISES) => out.put(
+            "More raises can't help: 1000000 is the most that `--raises` can be, and does not decide.\n",
+        ),
+        Deciding::NotWithin(raises) => out.fill(
+            "Allow more raises, up to 1000000: with {} no share decides either.\n",
+            &[Number(u64::from(raises))],
+        ),
+        Deciding::Unread => out.put(
+            "Allow more raises, up to 1000000: how many decide is not known, since the ballots can't be read again.\n",
+        ),
+    }
+}
+
+/// Puts a larger step, which is known to decide where it is given, and what it may cost.
+fn put_step(out: &mut Words, step: Option<u64>) {
+    match step {
+        Some(step) => {
+            out.fill(
+                "A larger step can decide too: with `--step {}` (hundredths: ",
+                &[Number(step)],
+            );
+            put_amount(out, step);
+            out.put(") the last raise gives each voter the whole budget.\n");
+        }
+        None => out.put("A larger step can decide too.\n"),
+    }
+    out.put("But a larger step passes over the shares between, and may elect fewer projects.\n")
 }
 
 /// Puts which option a count refuses.
@@ -61,27 +124,6 @@ pub(crate) fn put_range<'w>(out: &mut Words, option: &'w str, value: u64, range:
     )
 }
 
-/// Puts that the raises were spent, and what would decide.
-fn put_spent(out: &mut Words, path: Option<&str>, options: &CountOptions, budget: Option<u64>) {
-    out.fill(
-        "{}: no share decides within {} raises of ",
-        &[Name(path), Number(u64::from(options.max_raises))],
-    );
-    put_amount(out, options.step.0);
-    match sure_step(options.max_raises, budget) {
-        Some(step) => {
-            out.fill(".\nWith `--step {}` (hundredths: ", &[Number(step)]);
-            put_amount(out, step);
-            out.put(") the last raise gives each voter the whole budget, and that decides.\n");
-        }
-        None => out.put(".\nAllow more raises, or a larger step.\n"),
-    }
-    if options.max_raises == MOST_RAISES {
-        out.put("More raises can't help: 1000000 is the most that `--raises` can be.\n");
-    }
-    out.put("The rules of the vote should say which step and how many raises hold.\n")
-}
-
 /// The least step by which this many raises give each voter the whole budget; none where no raise is
 /// allowed, or the budget is not known. At a share of the whole budget the outcome is over or exhausted:
 /// what is not spent of it pays for any project that fits, by one of its supporters alone.
@@ -105,9 +147,4 @@ fn put_amount(out: &mut Words, amount: u64) {
         "{}{}{}",
         &[Number(amount / 100), Own(point), Number(hundredths)],
     )
-}
-
-/// The budget of a .pb file, where it can be read again.
-fn budget_of<R: Files>(text: &Text<'_, R>) -> Option<u64> {
-    survey_of(text, "")?.claims.budget
 }

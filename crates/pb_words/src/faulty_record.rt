@@ -1,17 +1,14 @@
 //! A record of a .pb file that has a fault, and what is wrong with it, in words.
 
-use crate::fields::{bytes_at, column_of, place_of_no_text, text_at};
+use crate::fields::{JoinedBy, bytes_at, column_of, joined, place_of_no_text, text_at};
 use crate::mark::Mark;
 use crate::mark_words::put_subject;
 use crate::read_rules::words_of;
-use crate::section::{Names, Section, Stage};
+use crate::section::{Names, OddHead, Section, Stage};
 use crate::words::Value::{Bytes, Number, Own, Quoted};
 use crate::words::Words;
 use csv::ByteRecord;
 use pb_read::ReadKind;
-
-/// What to do about a row that is one field in quotes.
-const NO_QUOTES: &str = "Quotation marks make the whole row one field: take them out.\n";
 
 /// What to do about the column names of VOTES among the projects.
 const NO_VOTES: &str =
@@ -26,6 +23,8 @@ pub(crate) struct FaultyRecord<'r> {
     pub(crate) mark: Mark,
     /// What might come where it stands, and what things are called there.
     pub(crate) stage: Stage,
+    /// The first row of the section before it that seems to be meant as a head.
+    pub(crate) odd_head: Option<OddHead>,
     pub(crate) names: &'static Names,
     /// The row's id, and its other value; the empty text where it has none.
     pub(crate) id: &'r str,
@@ -35,17 +34,35 @@ pub(crate) struct FaultyRecord<'r> {
 }
 
 impl<'r> FaultyRecord<'r> {
-    /// What to do about a row that is in another form than rows have, or in the wrong section.
+    /// What to do about a row that is in the wrong section.
     pub(crate) fn remedy(&self) -> Option<&'static str> {
         let is_project = self.stage == Stage::Rows(Section::Projects);
         if is_project && column_of(self.record, "voter_id").is_some() {
             return Some(NO_VOTES);
         }
-        let is_one_field = self.kind == ReadKind::MissingField && self.record.len() == 1;
-        if is_one_field && bytes_at(self.record, 0).contains(&b';') {
-            return Some(NO_QUOTES);
-        }
         None
+    }
+
+    /// The row that seems to be meant as a section's head: one before it in the section, or this one.
+    pub(crate) fn odd_head(&self) -> Option<OddHead> {
+        if self.odd_head.is_some() {
+            return self.odd_head;
+        }
+        if self.stage.section() == Section::Votes {
+            return None;
+        }
+        let section = Section::meant_by(self.record)?;
+        let mark = self.mark;
+        Some(OddHead { section, mark })
+    }
+
+    /// Why the row is one field that seems to be a whole row, if it is one.
+    pub(crate) fn joined(&self) -> Option<JoinedBy> {
+        match (self.kind, joined(self.record)) {
+            (ReadKind::NoSection | ReadKind::MissingColumn, joined) => joined,
+            (ReadKind::MissingField, Some(JoinedBy::Quotes)) => Some(JoinedBy::Quotes),
+            _ => None,
+        }
     }
 
     /// Puts what is wrong with the record by itself.

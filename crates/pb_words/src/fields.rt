@@ -62,16 +62,28 @@ pub(crate) fn place_of_no_text(record: &ByteRecord) -> Option<usize> {
     None
 }
 
-/// What separates the fields of a record that has no `;`, where something else seems to.
-pub(crate) fn other_separator(record: &ByteRecord) -> Option<&'static str> {
+/// Why a whole row is one field.
+#[derive(Clone, Copy)]
+pub(crate) enum JoinedBy {
+    /// It stands in quotation marks, with its `;`.
+    Quotes,
+    /// It has no `;`, and these seem to separate its fields.
+    Tabs,
+    Commas,
+}
+
+/// Why a record is one field that seems to be a whole row, if it is one.
+pub(crate) fn joined(record: &ByteRecord) -> Option<JoinedBy> {
     if record.len() != 1 {
         return None;
     }
     let field = bytes_at(record, 0);
-    if field.contains(&b'\t') {
-        Some("tabs")
+    if field.contains(&b';') {
+        Some(JoinedBy::Quotes)
+    } else if field.contains(&b'\t') {
+        Some(JoinedBy::Tabs)
     } else if field.contains(&b',') {
-        Some("commas")
+        Some(JoinedBy::Commas)
     } else {
         None
     }

@@ -1,12 +1,12 @@
 //! Words for META: its values, which are judged at the head of PROJECTS, and its head.
 
-use crate::fields::{other_separator, text_at};
+use crate::fields::{JoinedBy, joined, text_at};
 use crate::mark::Mark;
 use crate::mark_words::{line_of, put_mark};
 use crate::read_rules::words_of;
 use crate::records::Records;
-use crate::section::Section;
-use crate::seen::Seen;
+use crate::section::{OddHead, Section};
+use crate::seen::{Given, Seen};
 use crate::text::Text;
 use crate::words::Value::{Number, Own, Quoted};
 use crate::words::Words;
@@ -24,11 +24,22 @@ const ADD_VOTE_TYPE: &str = "Add the row that is missing, as `vote_type;approval
 const SAVE_AGAIN: &str =
     "The file has {} where `;` is due: save it again with `;` between the fields (within a vote commas stay).\n";
 
+/// What to do about a row that is one field in quotes.
+const NO_QUOTES: &str = "Quotation marks make the whole row one field: take them out.\n";
+
+/// The same, where the row on this line is one.
+const NO_QUOTES_AT: &str =
+    "Quotation marks make whole rows one field, as on line {}: take them out.\n";
+
+/// What to do about a key that stands more than once.
+const REPEATED_KEY: &str =
+    "The key stands on line {} too, and of a repeated key the last row counts: take out the row that does not hold.\n";
+
 /// META's head is looked for in so many records after a first one that is none.
 const MOST_BEFORE_META: u64 = 1_000;
 
-/// The key of META that a fault at the head of PROJECTS is about, and the row that gave it last.
-fn key_of(kind: ReadKind, seen: &Seen) -> (&'static str, Option<Mark>) {
+/// The key of META that a fault at the head of PROJECTS is about, and the rows that gave it.
+fn key_of(kind: ReadKind, seen: &Seen) -> (&'static str, Option<Given>) {
     match kind {
         ReadKind::VoteType => ("vote_type", seen.vote_type),
         ReadKind::BadLength => ("max_length", seen.max_length),
@@ -44,24 +55,25 @@ pub(crate) fn put_value_words<R: Files>(
     kind: ReadKind,
 ) -> bool {
     let (key, given) = key_of(kind, seen);
-    let Some(mark) = given else {
+    let Some(Given { first, last }) = given else {
         return false;
     };
-    let Some(records) = text.records_at(Mark::start(), mark.at) else {
+    let Some(records) = text.records_at(Mark::start(), last.at) else {
         return false;
     };
-    put_mark(out, text, mark);
+    put_mark(out, text, last);
     put_value(out, key, kind, text_at(&records.last, 1));
     drop(records);
+    if first.at != last.at {
+        out.fill(REPEATED_KEY, &[Number(line_of(text, first))]);
+    }
+    out.put(words_of(kind).remedy);
     true
 }
 
 fn put_value(out: &mut Words, key: &str, kind: ReadKind, value: &str) {
-    let words = words_of(kind);
-    out.fill(
-        ", key {}: {}{}{}",
-        &[Own(key), Quoted(value), Own(words.rule), Own(words.remedy)],
-    )
+    let rule = words_of(kind).rule;
+    out.fill(", key {}: {}{}", &[Own(key), Quoted(value), Own(rule)])
 }
 
 /// Puts which key META lacks, and what to do.
@@ -79,23 +91,37 @@ pub(crate) fn put_missing_key<R: Files>(
         out.put(": META ends here without the key `vote_type`.\n");
         ADD_VOTE_TYPE
     };
-    put_separator(out, separator_at(text, seen.last), remedy)
+    match joined_at(text, seen.last) {
+        Some(JoinedBy::Quotes) => out.fill(NO_QUOTES_AT, &[Number(line_of(text, seen.last))]),
+        joined => put_joined(out, joined, remedy),
+    }
 }
 
-/// What separates the fields of the record with this mark, where it is not `;`.
-fn separator_at<R: Files>(text: &Text<'_, R>, mark: Mark) -> Option<&'static str> {
+/// Why the record with this mark is one field that seems to be a whole row, if it is one.
+fn joined_at<R: Files>(text: &Text<'_, R>, mark: Mark) -> Option<JoinedBy> {
     let records = text.records_at(Mark::start(), mark.at)?;
-    let separator = other_separator(&records.last);
+    let joined = joined(&records.last);
     drop(records);
-    separator
+    joined
 }
 
-/// Puts what to do where fields are separated by something else than `;`, or another remedy where they are not.
-pub(crate) fn put_separator(out: &mut Words, separator: Option<&str>, remedy: &str) {
-    match separator {
-        Some(separator) => out.fill(SAVE_AGAIN, &[Own(separator)]),
+/// Puts what to do where a whole row is one field, or another remedy where it is not.
+pub(crate) fn put_joined(out: &mut Words, joined: Option<JoinedBy>, remedy: &str) {
+    match joined {
+        Some(JoinedBy::Quotes) => out.put(NO_QUOTES),
+        Some(JoinedBy::Tabs) => out.fill(SAVE_AGAIN, &[Own("tabs")]),
+        Some(JoinedBy::Commas) => out.fill(SAVE_AGAIN, &[Own("commas")]),
         None => out.put(remedy),
     }
+}
+
+/// Puts what to do about a row that seems to be meant as a head.
+pub(crate) fn put_odd_head<R: Files>(out: &mut Words, text: &Text<'_, R>, odd: OddHead) {
+    let head = odd.section.names().head;
+    out.fill(
+        "Line {} is probably meant as the head {}: write {} there, without punctuation.\n",
+        &[Number(line_of(text, odd.mark)), Own(head), Own(head)],
+    )
 }
 
 /// Puts what to do where META's head stands behind the record with this mark, and answers whether it does.

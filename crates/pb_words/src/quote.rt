@@ -6,8 +6,8 @@ use std::io::Read;
 use std::rt::Files;
 
 /// How far the bytes of a record were looked at.
-#[derive(Clone, Copy)]
-enum State {
+#[derive(Clone, Copy, PartialEq, Eq)]
+pub(crate) enum State {
     /// Before the record: line ends may come that are no record's.
     Before,
     /// A field begins.
@@ -75,7 +75,7 @@ impl Span {
 
 impl State {
     /// The state behind the next byte.
-    fn behind(self, byte: u8) -> State {
+    pub(crate) fn behind(self, byte: u8) -> State {
         match (self, byte) {
             (State::Done, _) => State::Done,
             (State::Before, b'\n' | b'\r') => State::Before,

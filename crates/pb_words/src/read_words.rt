@@ -1,13 +1,14 @@
 //! Words for the faults of a .pb file.
 
 use crate::faulty_record::FaultyRecord;
-use crate::fields::other_separator;
 use crate::file_words::put_reading_failed;
 use crate::ids::Ids;
 use crate::looks::looks_of;
 use crate::mark::Mark;
 use crate::mark_words::{line_of, put_mark, put_quotes, put_record_number, put_subject};
-use crate::meta_words::{put_late_meta, put_missing_key, put_separator, put_value_words};
+use crate::meta_words::{
+    put_joined, put_late_meta, put_missing_key, put_odd_head, put_value_words,
+};
 use crate::read_rules::words_of;
 use crate::section::{Section, Stage};
 use crate::seen::Seen;
@@ -103,7 +104,7 @@ fn put_fault<R: Files>(
         Ok(false) => return put_end(out, text, &walk.seen, fault.kind),
         Err(_) => return out.fail(),
     }
-    if walk.keep(true).is_err() {
+    if walk.leave_out().is_err() {
         out.fail();
     }
 }
@@ -174,15 +175,14 @@ fn put_remedy<R: Files>(
     faulty: &FaultyRecord<'_>,
     remedy: &str,
 ) {
+    if let Some(odd) = faulty.odd_head() {
+        return put_odd_head(out, text, odd);
+    }
     let is_before_meta = faulty.stage == Stage::Start && faulty.kind == ReadKind::NoSection;
     if is_before_meta && put_late_meta(out, text, faulty.mark) {
         return;
     }
-    let separator = match faulty.kind {
-        ReadKind::NoSection | ReadKind::MissingColumn => other_separator(faulty.record),
-        _ => None,
-    };
-    put_separator(out, separator, faulty.remedy().unwrap_or(remedy))
+    put_joined(out, faulty.joined(), faulty.remedy().unwrap_or(remedy))
 }
 
 /// The line at which a record begins, if there is one.
@@ -238,7 +238,11 @@ fn put_end<R: Files>(out: &mut Words, text: &Text<'_, R>, seen: &Seen, kind: Rea
     } else {
         out.fill("{}: the file ends, and {}", &[Name(text.path), Own(due)]);
     }
-    if !put_quotes(out, text, seen.last) {
-        out.put(words_of(kind).remedy);
+    if put_quotes(out, text, seen.last) {
+        return;
+    }
+    match seen.odd_head {
+        Some(odd) => put_odd_head(out, text, odd),
+        None => out.put(words_of(kind).remedy),
     }
 }

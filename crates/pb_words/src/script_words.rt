@@ -2,21 +2,28 @@
 
 use crate::complaint::{Complaint, no_text};
 use crate::count_words::put_range;
-use crate::fields::{other_separator, place_of_no_text, raw_text};
+use crate::fields::{joined, place_of_no_text, raw_text};
 use crate::file_words::put_reading_failed;
 use crate::mark::Mark;
 use crate::mark_words::{put_mark, put_quotes, put_record_number};
-use crate::meta_words::put_separator;
+use crate::meta_words::put_joined;
 use crate::row_form::{bad_asking, bad_places, put_field_count};
 use crate::text::Text;
 use crate::words::Words;
 use csv::ByteRecord;
+use pb_rows::read_number;
 use pb_script::ScriptFault;
 use std::alloc::{AllocError, Global};
 use std::rt::Files;
 
 /// What to do about a row of other than four fields.
 const FOUR_FIELDS: &str = "Write it as CLERK;REQUEST;VOTER;PLACES, with three `;`.\n";
+
+/// What is said of a journal's row.
+const JOURNAL_ROW: &str =
+    ": this is a row of a journal, and a request is due: CLERK;REQUEST;VOTER;PLACES.
+Audit a journal by `pb_app audit FILE JOURNAL`, or let its desk go on by `pb_app serve FILE JOURNAL`.
+";
 
 /// Words for a fault of the script with this path, of a run with this many clerks; no path is standard input.
 /// No fault is a run whose number of clerks is not 1 to 64.
@@ -80,15 +87,24 @@ fn put_row<R: Files>(out: &mut Words, text: &Text<'_, R>, at: u64, clerks: u32) 
 }
 
 /// Puts which condition a row breaks, and what to do.
-fn put_row_words(out: &mut Words, row: &ByteRecord, clerks: u32) {
+pub(crate) fn put_row_words(out: &mut Words, row: &ByteRecord, clerks: u32) {
+    if is_of_journal(row) {
+        return out.put(JOURNAL_ROW);
+    }
     if row.len() != 4 && place_of_no_text(row).is_none() {
         put_field_count(out, row, 4);
-        return put_separator(out, other_separator(row), FOUR_FIELDS);
+        return put_joined(out, joined(row), FOUR_FIELDS);
     }
     match complaint_of(row, clerks.min(64)) {
         Some(complaint) => complaint.put(out, complaint.condition.remedy),
         None => out.put(": the row is refused.\n"),
     }
+}
+
+/// Whether a row seems to be one of a journal: that of its version, or an entry.
+fn is_of_journal(row: &ByteRecord) -> bool {
+    let is_entry = row.len() == 6 && read_number(raw_text(row, 0)).is_some();
+    is_entry || raw_text(row, 0) == "journal"
 }
 
 /// The first condition that a row of four fields breaks.

@@ -1,6 +1,7 @@
 //! The sections of a .pb file, and what may come next in one.
 
-use crate::fields::text_at;
+use crate::fields::{joined, text_at};
+use crate::mark::Mark;
 use csv::ByteRecord;
 
 /// A section of a file.
@@ -22,6 +23,15 @@ pub(crate) struct Names {
     pub(crate) subject: &'static str,
     /// What is missing where it has no row of column names.
     pub(crate) header_due: &'static str,
+    /// Its name, which is its head.
+    pub(crate) head: &'static str,
+}
+
+/// A row that seems to be meant as the head of a section, and is none.
+#[derive(Clone, Copy)]
+pub(crate) struct OddHead {
+    pub(crate) section: Section,
+    pub(crate) mark: Mark,
 }
 
 const META: &Names = &Names {
@@ -29,6 +39,7 @@ const META: &Names = &Names {
     value_column: "value",
     subject: "key",
     header_due: "META's row of column names is due.\n",
+    head: "META",
 };
 
 const PROJECTS: &Names = &Names {
@@ -36,6 +47,7 @@ const PROJECTS: &Names = &Names {
     value_column: "cost",
     subject: "project",
     header_due: "PROJECTS' row of column names is due.\n",
+    head: "PROJECTS",
 };
 
 const VOTES: &Names = &Names {
@@ -43,12 +55,30 @@ const VOTES: &Names = &Names {
     value_column: "vote",
     subject: "voter",
     header_due: "VOTES' row of column names is due.\n",
+    head: "VOTES",
 };
 
 impl Section {
     /// The section that a record is the head of.
     pub(crate) fn headed_by(record: &ByteRecord) -> Option<Section> {
-        let head = text_at(record, 0);
+        Section::named(text_at(record, 0))
+    }
+
+    /// The section that a record seems to be meant as the head of, and is not: punctuation stands beside its name.
+    pub(crate) fn meant_by(record: &ByteRecord) -> Option<Section> {
+        if joined(record).is_some() {
+            return None;
+        }
+        let field = text_at(record, 0);
+        let name = field.trim_matches(|c: char| c.is_ascii_punctuation() || c.is_whitespace());
+        if name.len() == field.len() {
+            return None;
+        }
+        Section::named(name)
+    }
+
+    /// The section with this name, in any case.
+    fn named(head: &str) -> Option<Section> {
         if head.eq_ignore_ascii_case("META") {
             Some(Section::Meta)
         } else if head.eq_ignore_ascii_case("PROJECTS") {

@@ -2,8 +2,24 @@
 
 use crate::fields::{column_of, is_blank, text_at};
 use crate::mark::Mark;
-use crate::section::{Section, Stage};
+use crate::section::{OddHead, Section, Stage};
 use csv::ByteRecord;
+
+/// The rows of META that gave a key: the first, and the last, which counts.
+#[derive(Clone, Copy)]
+pub(crate) struct Given {
+    pub(crate) first: Mark,
+    pub(crate) last: Mark,
+}
+
+/// The rows that gave a key, with this one more.
+fn given_again(given: Option<Given>, mark: Mark) -> Option<Given> {
+    let first = match given {
+        Some(given) => given.first,
+        None => mark,
+    };
+    Some(Given { first, last: mark })
+}
 
 /// What the records say that were looked at so far.
 #[derive(Clone, Copy)]
@@ -12,10 +28,12 @@ pub(crate) struct Seen {
     /// The places of the needed columns in the section's rows.
     pub(crate) id_place: Option<usize>,
     pub(crate) value_place: Option<usize>,
-    /// The rows of META that gave these keys last.
-    pub(crate) budget: Option<Mark>,
-    pub(crate) vote_type: Option<Mark>,
-    pub(crate) max_length: Option<Mark>,
+    /// The rows of META that gave these keys.
+    pub(crate) budget: Option<Given>,
+    pub(crate) vote_type: Option<Given>,
+    pub(crate) max_length: Option<Given>,
+    /// The first row of the section that seems to be meant as a head.
+    pub(crate) odd_head: Option<OddHead>,
     /// How many rows PROJECTS and VOTES have.
     pub(crate) projects: u64,
     pub(crate) votes: u64,
@@ -32,6 +50,7 @@ impl Seen {
             budget: None,
             vote_type: None,
             max_length: None,
+            odd_head: None,
             projects: 0,
             votes: 0,
             last: Mark::start(),
@@ -45,9 +64,18 @@ impl Seen {
         }
         self.last = mark;
         match Section::headed_by(record) {
-            Some(section) => self.stage = Stage::Header(section),
+            Some(section) => {
+                self.stage = Stage::Header(section);
+                self.odd_head = None;
+            }
             None => self.take_plain(record, mark),
         }
+    }
+
+    /// Takes a record that is left out.
+    pub(crate) fn leave_out(&mut self, record: &ByteRecord, mark: Mark) {
+        self.last = mark;
+        self.take_head(record, mark);
     }
 
     /// Counts a row that is left out.
@@ -68,20 +96,36 @@ impl Seen {
                 self.value_place = column_of(record, names.value_column);
                 self.stage = Stage::Rows(section);
             }
-            Stage::Rows(Section::Meta) => self.take_key(text_at(record, 0), mark),
-            Stage::Rows(Section::Projects | Section::Votes) => self.count(),
+            Stage::Rows(Section::Meta) => {
+                self.take_head(record, mark);
+                self.take_key(text_at(record, 0), mark)
+            }
+            Stage::Rows(Section::Projects) => {
+                self.take_head(record, mark);
+                self.count()
+            }
+            Stage::Rows(Section::Votes) => self.count(),
+        }
+    }
+
+    /// Keeps where the first row stands that seems to be meant as a head.
+    fn take_head(&mut self, record: &ByteRecord, mark: Mark) {
+        if self.odd_head.is_none() && self.stage.section() != Section::Votes {
+            if let Some(section) = Section::meant_by(record) {
+                self.odd_head = Some(OddHead { section, mark });
+            }
         }
     }
 
     fn take_key(&mut self, key: &str, mark: Mark) {
         if key.eq_ignore_ascii_case("budget") {
-            self.budget = Some(mark);
+            self.budget = given_again(self.budget, mark);
         }
         if key.eq_ignore_ascii_case("vote_type") {
-            self.vote_type = Some(mark);
+            self.vote_type = given_again(self.vote_type, mark);
         }
         if key.eq_ignore_ascii_case("max_length") {
-            self.max_length = Some(mark);
+            self.max_length = given_again(self.max_length, mark);
         }
     }
 

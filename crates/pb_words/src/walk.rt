@@ -41,8 +41,15 @@ impl<F: Read> Walk<F> {
         Ok(self.records.advance())
     }
 
+    /// Leaves the record out that was read last.
+    pub(crate) fn leave_out(&mut self) -> Result<(), AllocError> {
+        let mark = self.records.mark();
+        self.seen.leave_out(&self.records.last, mark);
+        self.keep(true)
+    }
+
     /// Keeps the id of the record that was read last, which is left out or not.
-    pub(crate) fn keep(&mut self, is_left_out: bool) -> Result<(), AllocError> {
+    fn keep(&mut self, is_left_out: bool) -> Result<(), AllocError> {
         let mark = self.records.mark();
         self.ids
             .keep(&self.seen, &self.records.last, mark, is_left_out)
@@ -56,6 +63,7 @@ impl<F: Read> Walk<F> {
             record,
             mark: self.records.mark(),
             stage: self.seen.stage,
+            odd_head: self.seen.odd_head,
             names: self.seen.stage.section().names(),
             id: self.seen.id(record),
             value: self.seen.value(record),

@@ -159,6 +159,29 @@ impl Words {
         self.put(escape)
     }
 
+    /// Puts a character as a terminal may get it: a line end and what is seen as they are, others as escapes.
+    pub(crate) fn put_shown(&mut self, c: char) {
+        match c {
+            '\n' | '"' | '\\' => self.put_seen(c),
+            _ => self.put_char(c),
+        }
+    }
+
+    /// Puts a byte of what is no text, as a terminal may get it.
+    pub(crate) fn put_shown_byte(&mut self, byte: u8) {
+        if byte < 0x80 {
+            self.put_shown(char::from(byte));
+        } else {
+            self.put_byte(byte);
+        }
+    }
+
+    fn put_seen(&mut self, c: char) {
+        if self.text.push(c).is_err() {
+            self.is_whole = false;
+        }
+    }
+
     /// Puts a character that has no escape of its own.
     fn put_plain(&mut self, c: char) {
         let code = u32::from(c);
@@ -174,7 +197,7 @@ impl Words {
 }
 
 /// Whether a character is a control character, or one that is not seen or turns the direction of a line.
-fn is_hidden(code: u32) -> bool {
+pub(crate) fn is_hidden(code: u32) -> bool {
     match code {
         0..=0x1f | 0x7f..=0x9f | 0xad | 0x61c | 0xfeff => true,
         0x200b..=0x200f | 0x2028..=0x202e | 0x2060..=0x206f => true,
