@@ -26,7 +26,7 @@ impl<P: Read> Read for CountedReader<'_, P> {
     }
 }
 
-/// A writer whose bytes a tally takes.
+/// A writer whose bytes a tally takes. A contract sees what it was given, where it sees that of the writer underneath.
 #[derive(Drop)]
 pub(crate) struct CountedWriter<'a, W> {
     writer: &'a mut W,
@@ -40,6 +40,8 @@ impl<'a, W> CountedWriter<'a, W> {
 }
 
 impl<W: Write> Write for CountedWriter<'_, W> {
+    ghost contents = { λ counted. W.contents counted.writer.now };
+
     fn write(&mut self, buf: &[u8]) -> Result<usize> {
         let count = self.writer.write(buf)?;
         if count <= buf.len() {
