@@ -3,7 +3,7 @@
 use pb_words::Tally;
 use std::io::{Read, Result, Write};
 
-/// A reader whose bytes a tally takes.
+/// A reader whose bytes a tally takes. A contract sees what it has left, where it sees that of the reader underneath.
 #[derive(Drop)]
 pub(crate) struct CountedReader<'a, P> {
     reader: P,
@@ -17,6 +17,8 @@ impl<'a, P> CountedReader<'a, P> {
 }
 
 impl<P: Read> Read for CountedReader<'_, P> {
+    ghost remaining = { λ counted. P.remaining counted.reader };
+
     fn read(&mut self, buf: &mut [u8]) -> Result<usize> {
         let count = self.reader.read(buf)?;
         if count <= buf.len() {
