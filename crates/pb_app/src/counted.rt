@@ -3,7 +3,7 @@
 use pb_words::Tally;
 use std::io::{Read, Result, Write};
 
-/// A reader whose bytes a tally takes.
+/// A reader whose bytes a tally takes. A contract sees what it has left, where it sees that of the reader underneath.
 #[derive(Drop)]
 pub(crate) struct CountedReader<'a, P> {
     reader: P,
@@ -17,6 +17,8 @@ impl<'a, P> CountedReader<'a, P> {
 }
 
 impl<P: Read> Read for CountedReader<'_, P> {
+    ghost remaining = { λ counted. P.remaining counted.reader };
+
     fn read(&mut self, buf: &mut [u8]) -> Result<usize> {
         let count = self.reader.read(buf)?;
         if count <= buf.len() {
@@ -26,7 +28,7 @@ impl<P: Read> Read for CountedReader<'_, P> {
     }
 }
 
-/// A writer whose bytes a tally takes.
+/// A writer whose bytes a tally takes. A contract sees what it was given, where it sees that of the writer underneath.
 #[derive(Drop)]
 pub(crate) struct CountedWriter<'a, W> {
     writer: &'a mut W,
@@ -40,6 +42,8 @@ impl<'a, W> CountedWriter<'a, W> {
 }
 
 impl<W: Write> Write for CountedWriter<'_, W> {
+    ghost contents = { λ counted. W.contents counted.writer.now };
+
     fn write(&mut self, buf: &[u8]) -> Result<usize> {
         let count = self.writer.write(buf)?;
         if count <= buf.len() {

@@ -43,7 +43,7 @@ module _ (options : CountOptions) where
   from_outside e text writes (Count count.NoMemory) stopped is = cc is
   from_outside e text writes (Export export.SectionWord) stopped is = absurd (true≢false (sym stopped.1 ∙ writes.can.words))
   from_outside e text writes (Export export.CommaInId) stopped is = absurd (true≢false (sym stopped.1.1 ∙ writes.can.commas))
-  from_outside e text writes (Export export.OfNoFile) stopped is = absurd (true≢false (sym writes.can.of_file ∙ stopped.1))
+  from_outside e text writes (Export export.OfNoFile) stopped is = absurd (true≢false (sym writes.can.of_file ∙ stopped.1.2))
   from_outside e text writes (Export export.NoMemory) stopped is = cc is
   from_outside e text writes (Read fault) stopped is = absurd stopped
   from_outside e text writes (Script fault) stopped is = absurd stopped

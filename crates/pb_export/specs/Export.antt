@@ -38,5 +38,5 @@ pub record CanBeWritten (e : ElectionView) : Type 0 where
 abbrev pub IsExportFault : ElectionView → ExportFault → Type 0
 IsExportFault e SectionWord = has_section_word e ≡ true
 IsExportFault e CommaInId = (has_section_word e ≡ false) × (has_comma_in_vote e ≡ true)
-IsExportFault e OfNoFile = is_of_file e ≡ false
+IsExportFault e OfNoFile = (has_section_word e ≡ false) × (has_comma_in_vote e ≡ false) × (is_of_file e ≡ false)
 IsExportFault e NoMemory = ⊤
