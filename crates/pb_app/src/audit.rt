@@ -1,13 +1,15 @@
 //! The command `audit`: the report of a journal, alone, of a shut desk, or with the digests of what was read.
 
 use crate::counted::CountedReader;
+use crate::journal::open_with_journal;
 use crate::perform::Notes;
 use pb_command_line::AuditRun;
 use pb_commands::run_audit::run_audit_watched;
 use pb_commands::{AppFault, Counting, write_out};
-use pb_streams::{Digested, Hex, Progress, open_both_shown};
+use pb_streams::{Digested, Hex, Progress};
 use sha2::{Digest, Sha256};
 use std::alloc::Global;
+use std::fs::File;
 use std::io::Write;
 use std::rt::{Clock, Files};
 use std::thread::Threads;
@@ -28,7 +30,7 @@ pub(crate) fn audit<R, W: Write>(
     notes: &mut Notes,
 ) -> Result<(), AppFault>
 where
-    R: Files + Input + Eprint + Clock + Threads + Sync,
+    R: Files<File = File> + Input + Eprint + Clock + Threads + Sync,
 {
     if !asked.requires_shut && !asked.digests {
         return audit_plain(counting, asked, writer, notes);
@@ -62,9 +64,9 @@ fn audit_plain<R, W: Write>(
     notes: &mut Notes,
 ) -> Result<(), AppFault>
 where
-    R: Files + Input + Eprint + Clock + Threads + Sync,
+    R: Files<File = File> + Input + Eprint + Clock + Threads + Sync,
 {
-    let (file, journal) = open_both_shown(counting.gate, &asked.file, &asked.journal)?;
+    let (file, journal) = open_with_journal(counting, &asked.file, &asked.journal)?;
     let journal = CountedReader::new(journal, &mut notes.audited);
     run_audit_watched(counting, file, journal, &mut notes.seen, writer)
 }
@@ -77,9 +79,9 @@ fn audit_digested<R>(
     notes: &mut Notes,
 ) -> Result<Option<Digests>, AppFault>
 where
-    R: Files + Input + Eprint + Clock + Threads + Sync,
+    R: Files<File = File> + Input + Eprint + Clock + Threads + Sync,
 {
-    let (file, journal) = open_both_shown(counting.gate, &asked.file, &asked.journal)?;
+    let (file, journal) = open_with_journal(counting, &asked.file, &asked.journal)?;
     let mut of_file = Sha256::new();
     let mut of_journal = Sha256::new();
     let file = Digested::new(file, &mut of_file);

@@ -4,6 +4,7 @@
 
 mod audit;
 mod counted;
+mod journal;
 mod page;
 mod perform;
 mod serve;

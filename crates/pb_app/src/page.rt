@@ -5,6 +5,7 @@ ghost use Rattle.pb_rounds.specs.Counted.{IsCountFault};
 ghost use Rattle.pb_commands.specs.Ends.{HasWritten};
 ghost use Rattle.pb_page.specs.Page.{IsPage};
 
+use crate::journal::open_with_journal;
 use pb_command_line::{Ballots, Source as Given};
 use pb_commands::{AppFault, Counting, closed_ballots, own_ballots, write_out};
 use pb_core::election::Election;
@@ -12,10 +13,11 @@ use pb_core::gate::Gate;
 use pb_page::{Facts, Source, page_of};
 use pb_rounds::count::count_watched;
 use pb_rounds::count_fault::CountFault;
-use pb_streams::{Digested, Hex, Progress, open_both_shown, open_shown};
+use pb_streams::{Digested, Hex, Progress, open_shown};
 use pb_words::warnings::ResultWarnings;
 use sha2::{Digest, Sha256};
 use std::alloc::Global;
+use std::fs::File;
 use std::io::{Read, Write};
 use std::path::Path;
 use std::rt::{Clock, Files};
@@ -42,7 +44,7 @@ pub(crate) fn page<'a, R, W: Write>(
     seen: &mut ResultWarnings,
 ) -> Result<(), AppFault>
 where
-    R: Files + Input + Eprint + Clock + Threads + Sync,
+    R: Files<File = File> + Input + Eprint + Clock + Threads + Sync,
 {
     let read = match &ballots.journal {
         None => read_file(
@@ -51,7 +53,7 @@ where
             seen,
         ),
         Some(journal) => {
-            let (file, journal) = open_both_shown(counting.gate, &ballots.file, journal)?;
+            let (file, journal) = open_with_journal(counting, &ballots.file, journal)?;
             read_both(counting.alloc, file, journal, seen)
         }
     }?;

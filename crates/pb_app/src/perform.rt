@@ -2,6 +2,7 @@
 
 use crate::audit::audit;
 use crate::counted::CountedWriter;
+use crate::journal::open_with_journal;
 use crate::page::page;
 use crate::serve::serve;
 use pb_command_line::{Asked, Ballots, DeskRun, Source, Task};
@@ -13,7 +14,7 @@ use pb_commands::run_table::{run_closed_table, run_table};
 use pb_commands::{AppFault, Counting, Table};
 use pb_core::gate::NoGate;
 use pb_read::ReadFault;
-use pb_streams::{Output, Progress, Shown, open_both, open_both_shown, open_shown};
+use pb_streams::{Output, Progress, Shown, open_both, open_shown};
 use pb_words::Tally;
 use pb_words::warnings::{ResultWarnings, Warnings};
 use std::fs::File;
@@ -153,13 +154,13 @@ fn tell<R, W: Write>(
     seen: &mut ResultWarnings,
 ) -> Result<(), AppFault>
 where
-    R: Files + Input + Eprint + Clock + Threads + Sync,
+    R: Files<File = File> + Input + Eprint + Clock + Threads + Sync,
 {
     let Some(journal) = &ballots.journal else {
         let file = open_shown(counting.gate, &ballots.file)?;
         return run_table(counting, file, seen, writer, table);
     };
-    let (file, journal) = open_both_shown(counting.gate, &ballots.file, journal)?;
+    let (file, journal) = open_with_journal(counting, &ballots.file, journal)?;
     run_closed_table(counting, file, journal, seen, writer, table)
 }
 
@@ -171,14 +172,13 @@ fn export<R, W: Write>(
     seen: &mut ResultWarnings,
 ) -> Result<(), AppFault>
 where
-    R: Files + Input + Eprint + Clock + Threads + Sync,
+    R: Files<File = File> + Input + Eprint + Clock + Threads + Sync,
 {
     let Some(journal) = &ballots.journal else {
         let file = open_shown(counting.gate, &ballots.file)?;
         return run_export(counting, file, seen, writer);
     };
-    let (file, journal) = open_both(counting.rt, &ballots.file, journal)?;
-    let file = Shown::new(file, counting.gate);
+    let (file, journal) = open_with_journal(counting, &ballots.file, journal)?;
     run_closed_export(counting, file, journal, seen, writer)
 }
 

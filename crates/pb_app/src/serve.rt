@@ -16,7 +16,7 @@ use pb_words::Tally;
 use std::cell::Cell;
 use std::fs::File;
 use std::io::{Error, ErrorKind, Write};
-use std::rt::Files;
+use std::rt::{Clock, Files};
 
 /// The file that is kept beside a journal: its path is the journal's and `.torn`.
 #[derive(Drop)]
@@ -60,7 +60,7 @@ pub(crate) fn serve<R, W: Write>(
     tally: &mut Tally,
 ) -> Result<(), Refusal>
 where
-    R: Files<File = File> + Input + Eprint + AllocGlobal,
+    R: Files<File = File> + Input + Eprint + Clock + AllocGlobal,
 {
     serve_file(rt, file, journal, &mut CountedWriter::new(writer, tally))
 }
@@ -68,7 +68,7 @@ where
 /// The same; what is written is counted.
 fn serve_file<R, W: Write>(rt: &R, file: &str, journal: &str, writer: &mut W) -> Result<(), Refusal>
 where
-    R: Files<File = File> + Input + Eprint + AllocGlobal,
+    R: Files<File = File> + Input + Eprint + Clock + AllocGlobal,
 {
     let election = match read_pb(rt.alloc(), open_file(rt, file, 1)?) {
         Ok(election) => election,
