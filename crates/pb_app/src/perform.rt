@@ -3,6 +3,7 @@
 use crate::audit::audit;
 use crate::counted::CountedWriter;
 use crate::journal::open_with_journal;
+use crate::kinship::Kinship;
 use crate::page::page;
 use crate::serve::serve;
 use pb_command_line::{Asked, Ballots, DeskRun, Source, Task};
@@ -32,6 +33,10 @@ pub(crate) enum Refusal {
     Locked,
     /// The journal could not be opened or made, for this reason.
     NoJournal(Error),
+    /// What stands beside the journal, and says which file it belongs to, could not be read, for this reason.
+    NoFileBeside(Error),
+    /// It could not be written, for this reason.
+    FileUnkept(Error),
     /// The journal is legal, and not spelled as a desk spells it.
     Spelling,
     /// The journal could not be written, synced or cut, for this reason.
@@ -86,7 +91,12 @@ where
         gate: progress,
         options: &options,
     };
-    let done = run(&counting, &asked.task, output, notes);
+    let kinship = Kinship::new(asked.takes_other);
+    let done = match run(&counting, &asked.task, output, &kinship, notes) {
+        Err(refusal) => Err(kinship.refusal.get().unwrap_or(refusal)),
+        done => done,
+    };
+    drop(kinship);
     drop(counting);
     if done.is_err() {
         output.give_up();
@@ -102,10 +112,11 @@ where
 }
 
 /// Does a task; how it counts is said beside it.
-fn run<R, W: Write>(
-    counting: &Counting<'_, R, Progress<'_, R>>,
-    task: &Task<'_>,
+fn run<'a, R, W: Write>(
+    counting: &Counting<'a, R, Progress<'a, R>>,
+    task: &Task<'a>,
     writer: &mut W,
+    kinship: &'a Kinship,
     notes: &mut Notes,
 ) -> Result<(), Refusal>
 where
@@ -114,18 +125,25 @@ where
     let done = match task {
         Task::Count(source, _) => count(counting, source, writer, &mut notes.seen),
         Task::Projects(ballots, _) => {
-            tell(counting, ballots, Table::Projects, writer, &mut notes.seen)
+            tell(counting, ballots, Table::Projects, writer, kinship, &mut notes.seen)
         }
         Task::Voters(ballots, _) => {
-            tell(counting, ballots, Table::Voters, writer, &mut notes.seen)
+            tell(counting, ballots, Table::Voters, writer, kinship, &mut notes.seen)
         }
-        Task::Page(ballots, _, title) => page(counting, ballots, title, writer, &mut notes.seen),
-        Task::Export(ballots, _) => export(counting, ballots, writer, &mut notes.seen),
+        Task::Page(ballots, _, title) => page(counting, ballots, title, kinship, writer, &mut notes.seen),
+        Task::Export(ballots, _) => export(counting, ballots, writer, kinship, &mut notes.seen),
         Task::Check(source) => check(counting, source, writer, notes),
         Task::Desk(asked) => desk(counting, asked, writer, &mut notes.written),
-        Task::Audit(asked) => audit(counting, asked, writer, notes),
+        Task::Audit(asked) => audit(counting, asked, writer, kinship, notes),
         Task::Serve(file, journal) => {
-            return serve(counting.rt, file, journal, writer, &mut notes.written);
+            return serve(
+                counting.rt,
+                file,
+                journal,
+                kinship,
+                writer,
+                &mut notes.written,
+            );
         }
     };
     Ok(done?)
@@ -146,11 +164,12 @@ where
 }
 
 /// Counts these ballots, and writes this table of the outcome.
-fn tell<R, W: Write>(
-    counting: &Counting<'_, R, Progress<'_, R>>,
-    ballots: &Ballots<'_>,
+fn tell<'a, R, W: Write>(
+    counting: &Counting<'a, R, Progress<'a, R>>,
+    ballots: &Ballots<'a>,
     table: Table,
     writer: &mut W,
+    kinship: &'a Kinship,
     seen: &mut ResultWarnings,
 ) -> Result<(), AppFault>
 where
@@ -160,15 +179,16 @@ where
         let file = open_shown(counting.gate, &ballots.file)?;
         return run_table(counting, file, seen, writer, table);
     };
-    let (file, journal) = open_with_journal(counting, &ballots.file, journal)?;
+    let (file, journal) = open_with_journal(counting, &ballots.file, journal, kinship)?;
     run_closed_table(counting, file, journal, seen, writer, table)
 }
 
 /// Counts these ballots, and writes their .pb file with what the count came to.
-fn export<R, W: Write>(
-    counting: &Counting<'_, R, Progress<'_, R>>,
-    ballots: &Ballots<'_>,
+fn export<'a, R, W: Write>(
+    counting: &Counting<'a, R, Progress<'a, R>>,
+    ballots: &Ballots<'a>,
     writer: &mut W,
+    kinship: &'a Kinship,
     seen: &mut ResultWarnings,
 ) -> Result<(), AppFault>
 where
@@ -178,7 +198,7 @@ where
         let file = open_shown(counting.gate, &ballots.file)?;
         return run_export(counting, file, seen, writer);
     };
-    let (file, journal) = open_with_journal(counting, &ballots.file, journal)?;
+    let (file, journal) = open_with_journal(counting, &ballots.file, journal, kinship)?;
     run_closed_export(counting, file, journal, seen, writer)
 }
 
