@@ -142,7 +142,7 @@ int fsync(int fd) { return synced(fd); }
 int fdatasync(int fd) { return synced(fd); }
 
 int rename(const char *from, const char *to) {
-    if (fails('r', EIO)) return -1;
+    if (meets('r')) { errno = EIO; return -1; }
     note('r', 'f', 0, 0, 0);
     return syscall(SYS_rename, from, to);
 }
