@@ -19,8 +19,8 @@ SHIM = r'''
 #include <sys/syscall.h>
 #include <unistd.h>
 
-/* What is written down of a call: o opened and perhaps made, w written, c cut, s synced, a answered; the file, j the journal,
-   t what is kept beside, d a folder; where it was written, or how long the file became; and how many bytes follow. */
+/* What is written down of a call: o opened and perhaps made, w written, c cut, s synced, r renamed, a answered; the file, j the
+   journal, t what is kept beside, f what says which file it belongs to, d a folder; where it was written, or how long the file became; and how many bytes follow. */
 struct event { char what, file; char pad[6]; int64_t at, size; };
 
 static struct { long calls, refused, allocations; } *seen;
@@ -68,6 +68,7 @@ static int fails(char letter, int with) {
 static int opened(int folder, const char *path, int flags, mode_t mode) {
     size_t length = strlen(path);
     char file = length > 5 && !strcmp(path + length - 5, ".torn") ? 't'
+        : length > 9 && !strcmp(path + length - 9, ".file.new") ? 'f'
         : length > 8 && !strcmp(path + length - 8, ".journal") ? 'j' : 0;
     if (file && (flags & O_CREAT)) {
         if (fails('o', EACCES)) return -1;
@@ -102,7 +103,7 @@ static ssize_t taken(char file, int64_t at, const void *from, size_t size) {
 
 ssize_t write(int to, const void *from, size_t size) {
     char file = file_of(to);
-    if (file == 'j' || file == 't' || file == 'a') {
+    if (file == 'j' || file == 't' || file == 'f' || file == 'a') {
         ssize_t some = taken(file, file == 'a' ? 0 : syscall(SYS_lseek, to, 0, SEEK_CUR), from, size);
         if (some < 0) return -1;
         size = some;
@@ -139,6 +140,12 @@ static int synced(int fd) {
 /* The disk is that of the list: here the calls need not wait for the machine's. */
 int fsync(int fd) { return synced(fd); }
 int fdatasync(int fd) { return synced(fd); }
+
+int rename(const char *from, const char *to) {
+    if (meets('r')) { errno = EIO; return -1; }
+    note('r', 'f', 0, 0, 0);
+    return syscall(SYS_rename, from, to);
+}
 
 int flock(int fd, int how) {
     if (fails('l', ENOLCK)) return -1;
@@ -204,15 +211,17 @@ def torn_write(chance, old, at, new):
     return bytes(kept[:len(old)]) + tail
 
 
-def left_by(chance, events, journal, torn, lies=None):
-    """What a power cut may leave of the journal and of what is kept beside it, after these events, the last of which was
-    begun. `lies` says which of the journal's syncs were none."""
+def left_by(chance, events, journal, torn, named, lies=None):
+    """What a power cut may leave of the journal, of what is kept beside it and of what names its file, after these events, the
+    last of which was begun. `lies` says which of the journal's syncs were none."""
     synced = {'j': journal, 't': torn}
     made = {name for name in synced if synced[name] is not None}
-    named, since, syncs = set(made), {'j': [], 't': []}, 0
+    known, since, syncs = set(made), {'j': [], 't': []}, 0
     for event in events[:-1]:
+        if event.file == 'f':
+            continue
         if event.what == 's' and event.file == 'd':
-            named = set(made)
+            known = set(made)
         elif event.what == 's':
             syncs += event.file == 'j'
             if event.file == 'j' and lies and lies(syncs):
@@ -223,9 +232,29 @@ def left_by(chance, events, journal, torn, lies=None):
             made.add(event.file)
             since[event.file].append(event)
     last = events[-1]
-    if last.what in 'wc':
+    if last.what in 'wc' and last.file != 'f':
         since[last.file].append(last)
-    return [part(chance, synced[name], since[name], name in named) for name in 'jt']
+    return [part(chance, synced[name], since[name], name in known) for name in 'jt'] + [named_by(chance, events, named)]
+
+
+def named_by(chance, events, named):
+    """What a power cut may leave under the name of what names a journal's file: what stood there, or a new file that got the
+    name since the folder was synced last, of which what was not synced may be torn."""
+    left, fresh, since = [(named, [])], b'', []
+    for at, event in enumerate(events):
+        is_begun = at + 1 == len(events)
+        if event.file == 'f' and event.what == 'o':
+            fresh, since = b'', []
+        elif event.file == 'f' and event.what == 'w':
+            since = [*since, event]
+        elif event.file == 'f' and event.what == 's' and not is_begun:
+            fresh, since = whole(fresh, since), []
+        elif event.file == 'f' and event.what == 'r':
+            left.append((fresh, since))
+        elif event.file == 'd' and event.what == 's' and not is_begun:
+            left = left[-1:]
+    text, torn = chance.choice(left)
+    return part(chance, text, torn, True)
 
 
 def whole(text, events):

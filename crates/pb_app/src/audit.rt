@@ -1,13 +1,16 @@
 //! The command `audit`: the report of a journal, alone, of a shut desk, or with the digests of what was read.
 
 use crate::counted::CountedReader;
+use crate::journal::open_with_journal;
+use crate::kinship::Kinship;
 use crate::perform::Notes;
 use pb_command_line::AuditRun;
 use pb_commands::run_audit::run_audit_watched;
 use pb_commands::{AppFault, Counting, write_out};
-use pb_streams::{Digested, Hex, Progress, open_both_shown};
-use sha2::{Digest, Sha256};
+use pb_streams::{Digested, Hex, Progress};
 use std::alloc::Global;
+use std::cell::Cell;
+use std::fs::File;
 use std::io::Write;
 use std::rt::{Clock, Files};
 use std::thread::Threads;
@@ -21,23 +24,24 @@ struct Digests {
 
 /// Audits a journal on a .pb file. Where an open desk is refused, or digests stand before the report, nothing is written
 /// before the whole text is there: a refusal is its line alone.
-pub(crate) fn audit<R, W: Write>(
-    counting: &Counting<'_, R, Progress<'_, R>>,
-    asked: &AuditRun<'_>,
+pub(crate) fn audit<'a, R, W: Write>(
+    counting: &Counting<'a, R, Progress<'a, R>>,
+    asked: &AuditRun<'a>,
     writer: &mut W,
+    kinship: &'a Kinship,
     notes: &mut Notes,
 ) -> Result<(), AppFault>
 where
-    R: Files + Input + Eprint + Clock + Threads + Sync,
+    R: Files<File = File> + Input + Eprint + Clock + Threads + Sync,
 {
     if !asked.requires_shut && !asked.digests {
-        return audit_plain(counting, asked, writer, notes);
+        return audit_plain(counting, asked, writer, kinship, notes);
     }
     let mut report = Vec::new(counting.alloc);
     let audited = if asked.digests {
-        audit_digested(counting, asked, &mut report, notes)
+        audit_digested(counting, asked, &mut report, kinship, notes)
     } else {
-        match audit_plain(counting, asked, &mut report, notes) {
+        match audit_plain(counting, asked, &mut report, kinship, notes) {
             Ok(()) => Ok(None),
             Err(fault) => Err(fault),
         }
@@ -55,45 +59,48 @@ where
 }
 
 /// Audits a journal on a .pb file.
-fn audit_plain<R, W: Write>(
-    counting: &Counting<'_, R, Progress<'_, R>>,
-    asked: &AuditRun<'_>,
+fn audit_plain<'a, R, W: Write>(
+    counting: &Counting<'a, R, Progress<'a, R>>,
+    asked: &AuditRun<'a>,
     writer: &mut W,
+    kinship: &'a Kinship,
     notes: &mut Notes,
 ) -> Result<(), AppFault>
 where
-    R: Files + Input + Eprint + Clock + Threads + Sync,
+    R: Files<File = File> + Input + Eprint + Clock + Threads + Sync,
 {
-    let (file, journal) = open_both_shown(counting.gate, &asked.file, &asked.journal)?;
+    let (file, journal) = open_with_journal(counting, &asked.file, &asked.journal, kinship)?;
     let journal = CountedReader::new(journal, &mut notes.audited);
     run_audit_watched(counting, file, journal, &mut notes.seen, writer)
 }
 
 /// Audits a journal on a .pb file; answers the digests of both.
-fn audit_digested<R>(
-    counting: &Counting<'_, R, Progress<'_, R>>,
-    asked: &AuditRun<'_>,
+fn audit_digested<'a, R>(
+    counting: &Counting<'a, R, Progress<'a, R>>,
+    asked: &AuditRun<'a>,
     report: &mut Vec<u8>,
+    kinship: &'a Kinship,
     notes: &mut Notes,
 ) -> Result<Option<Digests>, AppFault>
 where
-    R: Files + Input + Eprint + Clock + Threads + Sync,
+    R: Files<File = File> + Input + Eprint + Clock + Threads + Sync,
 {
-    let (file, journal) = open_both_shown(counting.gate, &asked.file, &asked.journal)?;
-    let mut of_file = Sha256::new();
-    let mut of_journal = Sha256::new();
-    let file = Digested::new(file, &mut of_file);
+    let (file, journal) = open_with_journal(counting, &asked.file, &asked.journal, kinship)?;
+    let of_journal = Cell::new(None);
     let journal = Digested::new(
         CountedReader::new(journal, &mut notes.audited),
-        &mut of_journal,
+        &of_journal,
     );
-    let audited = run_audit_watched(counting, file, journal, &mut notes.seen, report);
-    let digests = Digests {
-        file: Hex::of(of_file),
-        journal: Hex::of(of_journal),
-    };
-    audited?;
-    Ok(Some(digests))
+    run_audit_watched(counting, file, journal, &mut notes.seen, report)?;
+    Ok(digests_of(kinship.file.get(), of_journal.get()))
+}
+
+/// The digests of a file and a journal that were read to their ends.
+fn digests_of(file: Option<Hex>, journal: Option<Hex>) -> Option<Digests> {
+    Some(Digests {
+        file: file?,
+        journal: journal?,
+    })
 }
 
 /// Writes the rows of the digests and the report, as one text.

@@ -4,6 +4,8 @@
 
 mod audit;
 mod counted;
+mod journal;
+mod kinship;
 mod page;
 mod perform;
 mod serve;
@@ -143,10 +145,11 @@ fn status_of(faults: &[ReadFault]) -> u8 {
 fn write_line<R: Print>(rt: &R, refusal: &Refusal) -> u8 {
     match refusal {
         Refusal::Fault(fault) => write_fault(rt, *fault),
-        Refusal::NoJournal(_) => write_fault(rt, AppFault::Open(2)),
-        Refusal::Journal(_) | Refusal::Beside(_) | Refusal::Unanswered => {
-            write_fault(rt, AppFault::Write)
-        }
+        Refusal::NoJournal(_) | Refusal::NoFileBeside(_) => write_fault(rt, AppFault::Open(2)),
+        Refusal::Journal(_)
+        | Refusal::Beside(_)
+        | Refusal::FileUnkept(_)
+        | Refusal::Unanswered => write_fault(rt, AppFault::Write),
         Refusal::Spelling => {
             let _ = ServingFault::Spelling.write_line(&mut io::writer(rt));
             ServingFault::Spelling.status()

@@ -5,6 +5,8 @@ ghost use Rattle.pb_rounds.specs.Counted.{IsCountFault};
 ghost use Rattle.pb_commands.specs.Ends.{HasWritten};
 ghost use Rattle.pb_page.specs.Page.{IsPage};
 
+use crate::journal::open_with_journal;
+use crate::kinship::Kinship;
 use pb_command_line::{PageRun, Source as Given};
 use pb_commands::{AppFault, Counting, closed_ballots, own_ballots, write_out};
 use pb_core::election::Election;
@@ -12,10 +14,11 @@ use pb_core::gate::Gate;
 use pb_page::{Facts, Source, page_of};
 use pb_rounds::count::count_watched;
 use pb_rounds::count_fault::CountFault;
-use pb_streams::{Digested, Hex, Progress, open_both_shown, open_shown};
+use pb_streams::{Digested, Hex, Progress, open_shown};
 use pb_words::warnings::ResultWarnings;
-use sha2::{Digest, Sha256};
 use std::alloc::Global;
+use std::cell::Cell;
+use std::fs::File;
 use std::io::{Read, Write};
 use std::path::Path;
 use std::rt::{Clock, Files};
@@ -28,27 +31,31 @@ const INPUT: &str = "standard input";
 #[derive(Drop)]
 struct Contents {
     election: Election,
-    file: Hex,
+    file: Option<Hex>,
     /// That of the journal, if there is one.
     journal: Option<Hex>,
 }
 
 /// Counts these ballots, and writes the page of the outcome. What refuses it, and when, is as for the tables.
 pub(crate) fn page<'a, R, W: Write>(
-    counting: &Counting<'_, R, Progress<'_, R>>,
+    counting: &Counting<'a, R, Progress<'a, R>>,
     run: &PageRun<'a>,
+    kinship: &'a Kinship,
     writer: &mut W,
     seen: &mut ResultWarnings,
 ) -> Result<(), AppFault>
 where
-    R: Files + Input + Eprint + Clock + Threads + Sync,
+    R: Files<File = File> + Input + Eprint + Clock + Threads + Sync,
 {
-    let given = &run.ballots.file;
     let read = match &run.ballots.journal {
-        None => read_file(counting.alloc, open_shown(counting.gate, given)?, seen),
+        None => {
+            let file = open_shown(counting.gate, &run.ballots.file)?;
+            let file = Digested::new(file, &kinship.file);
+            read_file(counting.alloc, file, kinship, seen)
+        }
         Some(journal) => {
-            let (file, journal) = open_both_shown(counting.gate, given, journal)?;
-            read_both(counting.alloc, file, journal, seen)
+            let (file, journal) = open_with_journal(counting, &run.ballots.file, journal, kinship)?;
+            read_both(counting.alloc, file, journal, kinship, seen)
         }
     }?;
     let written = write_page(counting, &read, run, writer);
@@ -60,14 +67,13 @@ where
 fn read_file<P: Read + Drop>(
     alloc: Global,
     file: P,
+    kinship: &Kinship,
     seen: &mut ResultWarnings,
 ) -> Result<Contents, AppFault> {
-    let mut of_file = Sha256::new();
-    let election = own_ballots(alloc, Digested::new(file, &mut of_file), seen);
-    let file = Hex::of(of_file);
+    let election = own_ballots(alloc, file, seen)?;
     Ok(Contents {
-        election: election?,
-        file,
+        election,
+        file: kinship.file.get(),
         journal: None,
     })
 }
@@ -77,19 +83,16 @@ fn read_both<P: Read + Drop, J: Read + Drop>(
     alloc: Global,
     file: P,
     journal: J,
+    kinship: &Kinship,
     seen: &mut ResultWarnings,
 ) -> Result<Contents, AppFault> {
-    let mut of_file = Sha256::new();
-    let mut of_journal = Sha256::new();
-    let file = Digested::new(file, &mut of_file);
-    let journal = Digested::new(journal, &mut of_journal);
-    let election = closed_ballots(alloc, file, journal, seen);
-    let file = Hex::of(of_file);
-    let journal = Some(Hex::of(of_journal));
+    let of_journal = Cell::new(None);
+    let journal = Digested::new(journal, &of_journal);
+    let election = closed_ballots(alloc, file, journal, seen)?;
     Ok(Contents {
-        election: election?,
-        file,
-        journal,
+        election,
+        file: kinship.file.get(),
+        journal: of_journal.get(),
     })
 }
 
@@ -101,12 +104,12 @@ fn write_page<'a, T: Threads + Sync, G: Gate, W: Write>(
     writer: &mut W,
 ) -> Result<(), AppFault> {
     let journal = match (&run.ballots.journal, &read.journal) {
-        (Some(given), Some(digest)) => Some(source_of(given, digest)),
+        (Some(given), Some(digest)) => Some(source_of(given, Some(digest))),
         _ => None,
     };
     let facts = Facts {
         title: run.title,
-        file: source_of(&run.ballots.file, &read.file),
+        file: source_of(&run.ballots.file, read.file.as_ref()),
         journal,
         recount: run.recount,
         options: *counting.options,
@@ -117,12 +120,15 @@ fn write_page<'a, T: Threads + Sync, G: Gate, W: Write>(
 }
 
 /// A text that was read, by its name without its folders.
-fn source_of<'a>(given: &Given<'a>, digest: &'a Hex) -> Source<'a> {
+fn source_of<'a>(given: &Given<'a>, digest: Option<&'a Hex>) -> Source<'a> {
     let name = match given.path() {
         Some(path) => Path::new(path).file_name().unwrap_or(path),
         None => INPUT,
     };
-    let digest = digest.text();
+    let digest = match digest {
+        Some(digest) => digest.text(),
+        None => "",
+    };
     Source { name, digest }
 }
 

@@ -3,6 +3,8 @@
 use crate::Terminals;
 use crate::audit::audit;
 use crate::counted::CountedWriter;
+use crate::journal::open_with_journal;
+use crate::kinship::Kinship;
 use crate::page::page;
 use crate::serve::serve;
 use crate::terminal::ShownWriter;
@@ -17,7 +19,7 @@ use pb_commands::run_table::{run_closed_table, run_table};
 use pb_commands::{AppFault, Counting, Table};
 use pb_core::gate::NoGate;
 use pb_read::ReadFault;
-use pb_streams::{Bar, Output, Progress, Shown, Unplaced, open_both, open_both_shown, open_shown};
+use pb_streams::{Bar, Output, Progress, Shown, Unplaced, open_both, open_shown};
 use pb_words::Tally;
 use pb_words::warnings::{ResultWarnings, Warnings};
 use std::fs::File;
@@ -37,6 +39,10 @@ pub(crate) enum Refusal {
     Barred,
     /// The journal could not be opened or made, for this reason.
     NoJournal(Error),
+    /// What stands beside the journal, and says which file it belongs to, could not be read, for this reason.
+    NoFileBeside(Error),
+    /// It could not be written, for this reason.
+    FileUnkept(Error),
     /// The journal is legal, and not spelled as a desk spells it.
     Spelling,
     /// The journal could not be written, synced or cut, for this reason.
@@ -95,11 +101,16 @@ where
         gate: progress,
         options: &options,
     };
+    let kinship = Kinship::new(asked.takes_other);
     let typing = Typing::new(terminals.input && !is_quiet(asked));
     let is_shown = terminals.output && asked.output.is_none();
     let mut writer = ShownWriter::new(rt.alloc(), output, is_shown);
-    let done = run(&counting, &asked.task, &mut writer, notes, &typing);
+    let done = match run(&counting, &asked.task, &mut writer, &kinship, notes, &typing) {
+        Err(refusal) => Err(kinship.refusal.get().unwrap_or(refusal)),
+        done => done,
+    };
     drop(writer);
+    drop(kinship);
     drop(counting);
     if done.is_err() {
         output.give_up();
@@ -130,10 +141,11 @@ fn unplaced<'a, R>(output: &mut Output<'a, R>, why: Unplaced<'a>) -> Refusal {
 }
 
 /// Does a task; how it counts is said beside it.
-fn run<R, W: Write>(
-    counting: &Counting<'_, R, Progress<'_, R>>,
-    task: &Task<'_>,
+fn run<'a, R, W: Write>(
+    counting: &Counting<'a, R, Progress<'a, R>>,
+    task: &Task<'a>,
     writer: &mut W,
+    kinship: &'a Kinship,
     notes: &mut Notes,
     typing: &Typing,
 ) -> Result<(), Refusal>
@@ -143,21 +155,22 @@ where
     let done = match task {
         Task::Count(source, _) => count(counting, source, writer, &mut notes.seen),
         Task::Projects(ballots, _) => {
-            tell(counting, ballots, Table::Projects, writer, &mut notes.seen)
+            tell(counting, ballots, Table::Projects, writer, kinship, &mut notes.seen)
         }
         Task::Voters(ballots, _) => {
-            tell(counting, ballots, Table::Voters, writer, &mut notes.seen)
+            tell(counting, ballots, Table::Voters, writer, kinship, &mut notes.seen)
         }
-        Task::Page(run) => page(counting, run, writer, &mut notes.seen),
-        Task::Export(ballots, _) => export(counting, ballots, writer, &mut notes.seen),
+        Task::Page(run) => page(counting, run, kinship, writer, &mut notes.seen),
+        Task::Export(ballots, _) => export(counting, ballots, writer, kinship, &mut notes.seen),
         Task::Check(source) => check(counting, source, writer, notes),
         Task::Desk(asked) => desk(counting, asked, writer, &mut notes.written),
-        Task::Audit(asked) => audit(counting, asked, writer, notes),
+        Task::Audit(asked) => audit(counting, asked, writer, kinship, notes),
         Task::Serve(file, journal) => {
             return serve(
                 counting.rt,
                 file,
                 journal,
+                kinship,
                 writer,
                 &mut notes.written,
                 typing,
@@ -182,40 +195,41 @@ where
 }
 
 /// Counts these ballots, and writes this table of the outcome.
-fn tell<R, W: Write>(
-    counting: &Counting<'_, R, Progress<'_, R>>,
-    ballots: &Ballots<'_>,
+fn tell<'a, R, W: Write>(
+    counting: &Counting<'a, R, Progress<'a, R>>,
+    ballots: &Ballots<'a>,
     table: Table,
     writer: &mut W,
+    kinship: &'a Kinship,
     seen: &mut ResultWarnings,
 ) -> Result<(), AppFault>
 where
-    R: Files + Input + Eprint + Clock + Threads + Sync,
+    R: Files<File = File> + Input + Eprint + Clock + Threads + Sync,
 {
     let Some(journal) = &ballots.journal else {
         let file = open_shown(counting.gate, &ballots.file)?;
         return run_table(counting, file, seen, writer, table);
     };
-    let (file, journal) = open_both_shown(counting.gate, &ballots.file, journal)?;
+    let (file, journal) = open_with_journal(counting, &ballots.file, journal, kinship)?;
     run_closed_table(counting, file, journal, seen, writer, table)
 }
 
 /// Counts these ballots, and writes their .pb file with what the count came to.
-fn export<R, W: Write>(
-    counting: &Counting<'_, R, Progress<'_, R>>,
-    ballots: &Ballots<'_>,
+fn export<'a, R, W: Write>(
+    counting: &Counting<'a, R, Progress<'a, R>>,
+    ballots: &Ballots<'a>,
     writer: &mut W,
+    kinship: &'a Kinship,
     seen: &mut ResultWarnings,
 ) -> Result<(), AppFault>
 where
-    R: Files + Input + Eprint + Clock + Threads + Sync,
+    R: Files<File = File> + Input + Eprint + Clock + Threads + Sync,
 {
     let Some(journal) = &ballots.journal else {
         let file = open_shown(counting.gate, &ballots.file)?;
         return run_export(counting, file, seen, writer);
     };
-    let (file, journal) = open_both(counting.rt, &ballots.file, journal)?;
-    let file = Shown::new(file, counting.gate);
+    let (file, journal) = open_with_journal(counting, &ballots.file, journal, kinship)?;
     run_closed_export(counting, file, journal, seen, writer)
 }
 

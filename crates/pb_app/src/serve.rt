@@ -1,23 +1,25 @@
 //! The command `serve`: a desk that stands on a file.
 
 use crate::counted::CountedWriter;
+use crate::kinship::{Kinship, standing_of};
 use crate::perform::Refusal;
 use crate::typing::{HeardWriter, TypedReader, Typing};
 use crate::words;
 use pb_commands::AppFault;
 use pb_core::election::Election;
 use pb_durable::file_device::{FileDevice, FileFailure, FileFault, fault_of, keep_beside};
-use pb_durable::{Beside, DeviceFault, DurableDesk, JournalFile, Opened};
+use pb_durable::file_beside::{name_file, read_file_beside};
+use pb_durable::{Belonging, Beside, Device, DeviceFault, DurableDesk, JournalFile, Opened};
 use pb_read::read_pb;
 use pb_script::ROOM;
 use pb_serving::run_serve::run_serve;
 use pb_serving::{AtHand, Incoming, Paced, ServingFault};
-use pb_streams::open_file;
+use pb_streams::{Digested, open_file};
 use pb_words::Tally;
 use std::cell::Cell;
 use std::fs::File;
 use std::io::{Error, ErrorKind, Write};
-use std::rt::Files;
+use std::rt::{Clock, Files};
 
 /// The file that is kept beside a journal: its path is the journal's and `.torn`.
 #[derive(Drop)]
@@ -57,15 +59,16 @@ pub(crate) fn serve<R, W: Write>(
     rt: &R,
     file: &str,
     journal: &str,
+    kinship: &Kinship,
     writer: &mut W,
     tally: &mut Tally,
     typing: &Typing,
 ) -> Result<(), Refusal>
 where
-    R: Files<File = File> + Input + Eprint + AllocGlobal,
+    R: Files<File = File> + Input + Eprint + Clock + AllocGlobal,
 {
     let mut answers = CountedWriter::new(writer, tally);
-    serve_file(rt, file, journal, &mut answers, typing)
+    serve_file(rt, file, journal, kinship, typing, &mut answers)
 }
 
 /// The same; what is written is counted.
@@ -73,55 +76,166 @@ fn serve_file<R, W: Write>(
     rt: &R,
     file: &str,
     journal: &str,
-    writer: &mut W,
+    kinship: &Kinship,
     typing: &Typing,
+    writer: &mut W,
+) -> Result<(), Refusal>
+where
+    R: Files<File = File> + Input + Eprint + Clock + AllocGlobal,
+{
+    let file = Digested::new(open_file(rt, file, 1)?, &kinship.file);
+    let election = match read_pb(rt.alloc(), file) {
+        Ok(election) => election,
+        Err(fault) => return Err(Refusal::Fault(AppFault::from(fault))),
+    };
+    let failure = Cell::new(None);
+    match FileDevice::open(rt, journal, &failure) {
+        Ok(device) => serve_device(rt, election, device, journal, kinship, typing, writer),
+        Err(fault) => {
+            drop(election);
+            Err(unopened(fault))
+        }
+    }
+}
+
+/// Serves the desk of an election whose journal stands on a device, if it belongs to the .pb file that was read.
+fn serve_device<R, W: Write>(
+    rt: &R,
+    election: Election,
+    mut device: FileDevice<'_, R>,
+    journal: &str,
+    kinship: &Kinship,
+    typing: &Typing,
+    writer: &mut W,
 ) -> Result<(), Refusal>
 where
     R: Files<File = File> + Input + Eprint + AllocGlobal,
 {
-    let election = match read_pb(rt.alloc(), open_file(rt, file, 1)?) {
-        Ok(election) => election,
-        Err(fault) => return Err(Refusal::Fault(AppFault::from(fault))),
-    };
-    let (failure, beside) = (Cell::new(None), Cell::new(None));
-    let device = match FileDevice::open(rt, journal, &failure) {
-        Ok(device) => device,
-        Err(fault) => {
+    let standing = match seen_on(rt, &mut device, journal, kinship) {
+        Ok(standing) => standing,
+        Err(refusal) => {
+            drop(device);
             drop(election);
-            return Err(unopened(fault));
+            return Err(refusal);
         }
     };
+    let (failure, beside) = (device.failure(), Cell::new(None));
     let mut torn = TornFile {
         rt,
         journal,
         failure: &beside,
     };
     let mut answers = HeardWriter::new(writer, typing);
-    match serve_on(rt, election, device, &mut torn, typing, &mut answers) {
+    let served = match open_on(rt, election, device, &mut torn) {
+        Ok((desk, torn)) => match keep_file(rt, journal, standing, kinship) {
+            Ok(()) => serve_desk(rt, desk, torn, typing, &mut answers),
+            Err(refusal) => {
+                drop(desk);
+                return Err(refusal);
+            }
+        },
+        Err(fault) => Err(fault),
+    };
+    match served {
         Ok(0) => Ok(()),
         Ok(rows) => Err(Refusal::BadRows(rows)),
         Err(fault) => Err(refusal_of(fault, failure.get(), beside.get())),
     }
 }
 
-/// Opens the desk of an election on a device, and serves it. Answers how many rows were not of the form.
-fn serve_on<R, B: Beside, W: Write>(
+/// What the journal on a device says of the .pb file that was read. One without an entry gets to belong to it, before it has
+/// a byte more.
+fn seen_on<R>(
+    rt: &R,
+    device: &mut FileDevice<'_, R>,
+    journal: &str,
+    kinship: &Kinship,
+) -> Result<Belonging, Refusal>
+where
+    R: Files<File = File> + AllocGlobal,
+{
+    let bytes = match device.read(rt.alloc()) {
+        Ok(bytes) => bytes,
+        Err(fault) => {
+            let why = device.failure().get();
+            return Err(refusal_of(ServingFault::from(fault), why, None));
+        }
+    };
+    let digest = kinship.file.get();
+    let standing = standing_of(rt, rt.alloc(), journal, bytes.as_slice(), digest);
+    drop(bytes);
+    match standing? {
+        Belonging::Other if !kinship.takes_other => Err(Refusal::Fault(AppFault::OtherFile)),
+        Belonging::New => {
+            put_digest(rt, journal, kinship, &[])?;
+            Ok(Belonging::New)
+        }
+        standing => Ok(standing),
+    }
+}
+
+/// Has it stand beside a journal, which was opened, that it belongs to the .pb file that was read.
+fn keep_file<R>(
+    rt: &R,
+    journal: &str,
+    standing: Belonging,
+    kinship: &Kinship,
+) -> Result<(), Refusal>
+where
+    R: Files<File = File> + Eprint + AllocGlobal,
+{
+    match standing {
+        Belonging::New | Belonging::Same => Ok(()),
+        Belonging::Unnamed => {
+            put_digest(rt, journal, kinship, &[])?;
+            if let Some(digest) = kinship.file.get() {
+                words::say_adopted(rt, journal, digest.text());
+            }
+            Ok(())
+        }
+        Belonging::Other => {
+            let former = match read_file_beside(rt, rt.alloc(), journal) {
+                Ok(former) => former.unwrap_or(Vec::new(rt.alloc())),
+                Err(error) => return Err(Refusal::NoFileBeside(error)),
+            };
+            let put = put_digest(rt, journal, kinship, former.as_slice());
+            drop(former);
+            put
+        }
+    }
+}
+
+/// Puts the digest of the .pb file that was read beside a journal, above what stood there.
+fn put_digest<R>(rt: &R, journal: &str, kinship: &Kinship, former: &[u8]) -> Result<(), Refusal>
+where
+    R: Files<File = File> + AllocGlobal,
+{
+    let Some(digest) = kinship.file.get() else {
+        return Err(Refusal::Fault(AppFault::OtherFile));
+    };
+    match name_file(rt, rt.alloc(), journal, digest.digits(), former) {
+        Ok(()) => Ok(()),
+        Err(error) if error.kind() == ErrorKind::OutOfMemory => {
+            Err(Refusal::Fault(AppFault::Memory))
+        }
+        Err(error) => Err(Refusal::FileUnkept(error)),
+    }
+}
+
+/// Opens the desk of an election on a device. Answers how many bytes were cut off, too.
+fn open_on<'a, R, B: Beside>(
     rt: &R,
     election: Election,
-    device: FileDevice<'_, R>,
+    device: FileDevice<'a, R>,
     beside: &mut B,
-    typing: &Typing,
-    writer: &mut W,
-) -> Result<u64, ServingFault>
+) -> Result<(DurableDesk<FileDevice<'a, R>>, usize), ServingFault>
 where
-    R: Files<File = File> + Input + Eprint + AllocGlobal,
+    R: Files<File = File> + AllocGlobal,
 {
     let alloc = rt.alloc();
     let mut file = JournalFile::on(alloc, device);
     match pb_durable::open(alloc, &mut file, election, ROOM, beside) {
-        Ok(Opened { desk, torn }) => {
-            serve_desk(rt, DurableDesk::on(desk, file), torn, typing, writer)
-        }
+        Ok(Opened { desk, torn }) => Ok((DurableDesk::on(desk, file), torn)),
         Err(fault) => {
             drop(file);
             Err(ServingFault::from(fault))

@@ -5,11 +5,13 @@ use crate::spent::look_further;
 use pb_command_line::{Asked, Source, Task};
 use pb_commands::AppFault;
 use pb_desk::desk::MOST_CLERKS;
+use pb_durable::file_beside::file_path;
 use pb_durable::moved::kept_path;
 use pb_export::ExportFault;
 use pb_read::ReadFault;
 use pb_rounds::count_fault::CountFault;
 use pb_streams::{Bar, Output, Progress};
+use pb_words::belonging_words::{adopted_words, other_file_words, unread_file_words};
 use pb_words::count_words::{count_words, spent_words};
 use pb_words::journal_words::journal_words;
 use pb_words::output_words::{
@@ -75,6 +77,9 @@ pub(crate) fn say_refusal<R: Files + Eprint + AllocGlobal>(
     match refusal {
         Refusal::Locked(3) => say_bar(rt, asked.output, Some(Bar::IsServed)),
         Refusal::Barred => say_bar(rt, asked.output, output.bar),
+        Refusal::Fault(AppFault::OtherFile) => {
+            say_words(rt, words_of_other_file(rt.alloc(), &asked.task));
+        }
         Refusal::Fault(AppFault::OpenDesk) => say(rt, OPEN_DESK),
         Refusal::Fault(AppFault::Export(ExportFault::SectionWord)) => say(rt, SECTION_WORD),
         Refusal::Fault(AppFault::Export(_)) => say(rt, COMMA_IN_ID),
@@ -93,6 +98,18 @@ fn words_of_serve(alloc: Global, task: &Task<'_>, refusal: &Refusal) -> Result<S
     match refusal {
         Refusal::Locked(_) => locked_words(alloc, path),
         Refusal::NoJournal(reason) => unopened_words(alloc, path, reason),
+        Refusal::NoFileBeside(reason) => {
+            let beside = file_path(alloc, path)?;
+            let words = unread_file_words(alloc, beside.as_str(), reason);
+            drop(beside);
+            words
+        }
+        Refusal::FileUnkept(reason) => {
+            let beside = file_path(alloc, path)?;
+            let words = unkept_words(alloc, beside.as_str(), reason);
+            drop(beside);
+            words
+        }
         Refusal::Spelling => spelling_words(alloc, path),
         Refusal::Journal(reason) => unkept_words(alloc, path, reason),
         Refusal::Beside(reason) => {
@@ -111,6 +128,15 @@ fn words_of_serve(alloc: Global, task: &Task<'_>, refusal: &Refusal) -> Result<S
         Refusal::BadRows(rows) => bad_rows_words(alloc, *rows),
         Refusal::Unanswered | Refusal::Barred | Refusal::Fault(_) => Err(AllocError),
     }
+}
+
+/// Words where a journal belongs to another file.
+fn words_of_other_file(alloc: Global, task: &Task<'_>) -> Result<String, AllocError> {
+    let (file, journal) = task.paths();
+    let beside = file_path(alloc, journal.unwrap_or("-"))?;
+    let words = other_file_words(alloc, file, journal, beside.as_str());
+    drop(beside);
+    words
 }
 
 /// Words for the fault of a run.
@@ -143,9 +169,11 @@ fn words_of<R: Files + AllocGlobal>(
         AppFault::Open(1) => open_words(rt, alloc, first.unwrap_or("-")),
         AppFault::Open(_) => open_words(rt, alloc, second.unwrap_or("-")),
         AppFault::Write => write_words(alloc, asked.output, failure),
-        AppFault::OpenDesk | AppFault::Export(_) | AppFault::Memory | AppFault::Warned(_) => {
-            Err(AllocError)
-        }
+        AppFault::OtherFile
+        | AppFault::OpenDesk
+        | AppFault::Export(_)
+        | AppFault::Memory
+        | AppFault::Warned(_) => Err(AllocError),
     }
 }
 
@@ -290,6 +318,23 @@ pub(crate) fn say_torn<R: Eprint + AllocGlobal>(rt: &R, path: &str, bytes: usize
     if bytes > 0 {
         say_words(rt, torn_words(rt.alloc(), path, bytes));
     }
+}
+
+/// Says that a journal, which had entries, now belongs to the file with this digest.
+pub(crate) fn say_adopted<R: Eprint + AllocGlobal>(rt: &R, journal: &str, digest: &str) {
+    say_words(rt, words_of_adopted(rt.alloc(), journal, digest));
+}
+
+/// Words for that.
+fn words_of_adopted(
+    alloc: Global,
+    journal: &str,
+    digest: &str,
+) -> Result<String, AllocError> {
+    let beside = file_path(alloc, journal)?;
+    let words = adopted_words(alloc, journal, beside.as_str(), digest);
+    drop(beside);
+    words
 }
 
 fn say_words<R: Eprint>(rt: &R, words: Result<String, AllocError>) {

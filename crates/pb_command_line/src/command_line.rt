@@ -41,6 +41,10 @@ the journal, once that is on the disk; a row of another form is answered by faul
 nothing. The first rows say how many bytes were cut off the journal's end and kept in JOURNAL.torn (torn;BYTES), if any,
 and how many entries it has (entries;N;open or entries;N;shut).
 
+JOURNAL.file says which file the journal belongs to: its first line is the SHA-256 of FILE. With another FILE the same
+places are other projects, so once there are entries it is refused (fault;other-file). --other-file goes on with it: each
+ballot keeps its places, so only names, costs and what stands behind the last project may have changed.
+
 Examples:
   pb_app serve city.pb city.journal
   pb_app serve city.pb city.journal < requests.script > answers
@@ -198,6 +202,13 @@ const STRICT: Argument = Argument {
     help: "Refuses a file with a warning that can change the result, as check lists them",
 };
 
+/// Whether a journal of another file is read all the same.
+const OTHER_FILE: Argument = Argument {
+    name: "other-file",
+    takes: Takes::Nothing,
+    help: "Goes on with FILE where the journal belongs to another file: each ballot keeps its places",
+};
+
 /// Whether it is not shown how far the work has come.
 const QUIET: Argument = Argument {
     name: "quiet",
@@ -263,7 +274,7 @@ const COMMANDS: &[CommandForm] = &[
         name: "projects",
         about: "Counts a .pb file, and prints who won and why, and what the others lacked at the last share",
         arguments: &[
-            ELECTION, LEFT_BY, WORKERS, STEP, RAISES, PLAIN, MEASURE, STRICT, OUTPUT, QUIET,
+            ELECTION, LEFT_BY, OTHER_FILE, WORKERS, STEP, RAISES, PLAIN, MEASURE, STRICT, OUTPUT, QUIET,
             PROGRESS,
         ],
     },
@@ -271,7 +282,7 @@ const COMMANDS: &[CommandForm] = &[
         name: "voters",
         about: "Counts a .pb file, and prints what each voter paid, and for what",
         arguments: &[
-            ELECTION, LEFT_BY, WORKERS, STEP, RAISES, PLAIN, MEASURE, STRICT, OUTPUT, QUIET,
+            ELECTION, LEFT_BY, OTHER_FILE, WORKERS, STEP, RAISES, PLAIN, MEASURE, STRICT, OUTPUT, QUIET,
             PROGRESS,
         ],
     },
@@ -279,15 +290,15 @@ const COMMANDS: &[CommandForm] = &[
         name: "page",
         about: "Counts a .pb file, and prints the result as a web page that people look at",
         arguments: &[
-            ELECTION, LEFT_BY, TITLE, RECOUNT, WORKERS, STEP, RAISES, PLAIN, MEASURE, STRICT,
-            OUTPUT, QUIET, PROGRESS,
+            ELECTION, LEFT_BY, OTHER_FILE, TITLE, RECOUNT, WORKERS, STEP, RAISES, PLAIN, MEASURE,
+            STRICT, OUTPUT, QUIET, PROGRESS,
         ],
     },
     CommandForm {
         name: "export",
         about: "Counts a .pb file, and prints the ballots with the result as a .pb file, which counts the same",
         arguments: &[
-            ELECTION, LEFT_BY, WORKERS, STEP, RAISES, PLAIN, MEASURE, STRICT, OUTPUT, QUIET,
+            ELECTION, LEFT_BY, OTHER_FILE, WORKERS, STEP, RAISES, PLAIN, MEASURE, STRICT, OUTPUT, QUIET,
             PROGRESS,
         ],
     },
@@ -307,6 +318,7 @@ const COMMANDS: &[CommandForm] = &[
         arguments: &[
             ELECTION,
             JOURNAL,
+            OTHER_FILE,
             WORKERS,
             STEP,
             RAISES,
@@ -323,7 +335,7 @@ const COMMANDS: &[CommandForm] = &[
     CommandForm {
         name: "serve",
         about: "Serves standard input's requests on the desk of a .pb file, whose journal stands in a file",
-        arguments: &[SERVED, DURABLE, QUIET_SERVE],
+        arguments: &[SERVED, DURABLE, OTHER_FILE, QUIET_SERVE],
     },
 ];
 
@@ -428,12 +440,14 @@ pub(crate) fn asked_by<'a>(matches: &ArgMatches<'a>) -> Asked<'a> {
             output: given.get_str("output"),
             shows: shows_by(given),
             is_strict: given.get_flag("strict"),
+            takes_other: given.get_flag("other-file"),
         },
         None => Asked {
             task: Task::Count(Source::Input, CountOptions::standard()),
             output: None,
             shows: None,
             is_strict: false,
+            takes_other: false,
         },
     }
 }

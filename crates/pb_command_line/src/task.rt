@@ -148,4 +148,6 @@ pub struct Asked<'a> {
     pub shows: Option<bool>,
     /// A warning refuses the .pb file of a count.
     pub is_strict: bool,
+    /// A journal that belongs to another .pb file is read all the same.
+    pub takes_other: bool,
 }

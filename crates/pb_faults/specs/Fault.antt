@@ -13,7 +13,7 @@ use Rattle.pb_rounds.specs.declared.count_fault.CountFault.TheVariants as count
 use Rattle.pb_script.specs.ScriptFault.{numbered_name as of_script}
 use Rattle.pb_script.specs.declared.script_fault.ScriptFault.TheVariants as script
 use Rattle.pb_faults.specs.declared.fault.AppFault.{AppFault}
-use Rattle.pb_faults.specs.declared.fault.AppFault.TheVariants.{Read, Script, ClerkCount, Audit, OpenDesk, Count, Export, Open, Write, Memory, Warned}
+use Rattle.pb_faults.specs.declared.fault.AppFault.TheVariants.{Read, Script, ClerkCount, Audit, OtherFile, OpenDesk, Count, Export, Open, Write, Memory, Warned}
 
 -- the same fault, in which out of memory is one case, whichever crate met it
 abbrev pub merged : AppFault → AppFault
@@ -42,6 +42,7 @@ told (Script fault) = told_at (codes "script") (of_script fault).0 (of_script fa
 told ClerkCount = (2, codes "clerks" ∷ codes "1" ∷ codes "ClerkCount" ∷ [])
 told (Audit fault) =
     told_at (codes "audit") (of_audit fault).0 (of_audit fault).1 (unwrap_or (of_audit fault).2 0)
+told OtherFile = (1, codes "other-file" ∷ [])
 told OpenDesk = (1, codes "open-desk" ∷ [])
 told (Count count.RaisesSpent) = (1, codes "count" ∷ codes "4" ∷ codes "RaisesSpent" ∷ [])
 told (Count fault) = (2, codes "count" ∷ decimal (of_count fault).0 ∷ (of_count fault).1 ∷ [])

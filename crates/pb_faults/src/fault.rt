@@ -24,6 +24,9 @@ pub enum AppFault {
     /// The journal is refused, or could not be read.
     #[error("journal: {0}")]
     Audit(AuditFault),
+    /// The journal belongs to another file.
+    #[error("the journal belongs to another file")]
+    OtherFile,
     /// The desk is open, and was to be shut.
     #[error("the desk is open")]
     OpenDesk,

@@ -39,6 +39,7 @@ impl AppFault {
                 let row = fault.at().unwrap_or(0);
                 write_at(writer, "audit", fault.number(), fault.name(), row)
             }
+            AppFault::OtherFile => write_fields(writer, &["other-file"]),
             AppFault::OpenDesk => write_fields(writer, &["open-desk"]),
             AppFault::Count(fault) => {
                 write_numbered(writer, "count", fault.number(), fault.name())
@@ -65,7 +66,8 @@ impl AppFault {
             AppFault::Script(fault) => read_status(fault.number()),
             AppFault::ClerkCount => BAD_ARGUMENTS,
             AppFault::Audit(fault) => read_status(fault.number()),
-            AppFault::OpenDesk
+            AppFault::OtherFile
+            | AppFault::OpenDesk
             | AppFault::Count(CountFault::RaisesSpent)
             | AppFault::Export(_)
             | AppFault::Warned(_) => REFUSED,

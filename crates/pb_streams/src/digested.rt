@@ -1,27 +1,38 @@
 //! A reader whose bytes are digested as they go by.
 
 use sha2::{Digest, Sha256};
+use std::cell::Cell;
 use std::io::{Read, Result};
+use std::mem;
 
 /// The digits of hexadecimal.
 const DIGITS: &[u8; 16] = b"0123456789abcdef";
 
-/// A reader whose bytes a hasher takes: of a reader that is read to its end, all its bytes, as they were read.
+/// A reader that leaves the digest of all its bytes, as they were read, in a cell once it is at its end.
 #[derive(Drop)]
 pub struct Digested<'a, P> {
     reader: P,
-    hasher: &'a mut Sha256,
+    hasher: Sha256,
+    digest: &'a Cell<Option<Hex>>,
 }
 
 impl<'a, P> Digested<'a, P> {
-    pub fn new(reader: P, hasher: &'a mut Sha256) -> Digested<'a, P> {
-        Digested { reader, hasher }
+    pub fn new(reader: P, digest: &'a Cell<Option<Hex>>) -> Digested<'a, P> {
+        Digested {
+            reader,
+            hasher: Sha256::new(),
+            digest,
+        }
     }
 }
 
 impl<P: Read> Read for Digested<'_, P> {
     fn read(&mut self, buf: &mut [u8]) -> Result<usize> {
         let count = self.reader.read(buf)?;
+        if count == 0 && !buf.is_empty() && self.digest.get().is_none() {
+            let hasher = mem::replace(&mut self.hasher, Sha256::new());
+            self.digest.set(Some(Hex::of(hasher)));
+        }
         if count <= buf.len() {
             self.hasher.update(&buf[..count]);
         }
@@ -44,6 +55,11 @@ impl Hex {
             digits[2 * at + 1] = DIGITS[usize::from(byte & 15)];
         }
         Hex(digits)
+    }
+
+    /// Its digits, as bytes.
+    pub fn digits(&self) -> &[u8] {
+        &self.0
     }
 
     /// Its digits.

@@ -17,4 +17,4 @@ pub use bar::Bar;
 pub use digested::{Digested, Hex};
 pub use given::{Given, open, open_both, open_file};
 pub use output::{Output, Unplaced};
-pub use progress::{Progress, Shown, open_both_shown, open_shown};
+pub use progress::{Progress, Shown, open_shown};

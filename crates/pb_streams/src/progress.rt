@@ -1,6 +1,6 @@
 //! How far reading and counting have come, shown in one line of standard error that is rewritten.
 
-use crate::given::{Given, open, open_both};
+use crate::given::{Given, open};
 use pb_command_line::Source;
 use pb_core::gate::Gate;
 use pb_core::money::Money;
@@ -117,14 +117,4 @@ pub fn open_shown<'a, R: Files + Input>(
 ) -> std::result::Result<Shown<'a, R, Given<R>>, AppFault> {
     let file = open(progress.rt, source, 1)?;
     Ok(Shown::new(file, progress))
-}
-
-/// Opens two texts of the command line, in their order; it is shown how much of both has come.
-pub fn open_both_shown<'a, R: Files + Input>(
-    progress: &'a Progress<'a, R>,
-    first: &Source<'_>,
-    second: &Source<'_>,
-) -> std::result::Result<(Shown<'a, R, Given<R>>, Shown<'a, R, Given<R>>), AppFault> {
-    let (first, second) = open_both(progress.rt, first, second)?;
-    Ok((Shown::new(first, progress), Shown::new(second, progress)))
 }

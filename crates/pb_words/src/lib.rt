@@ -7,6 +7,7 @@
 
 mod audit_paths;
 mod audited;
+pub mod belonging_words;
 mod claims;
 mod complaint;
 pub mod count_words;
