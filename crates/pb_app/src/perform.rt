@@ -125,12 +125,33 @@ where
     let done = match task {
         Task::Count(source, _) => count(counting, source, writer, &mut notes.seen),
         Task::Projects(ballots, _) => {
-            tell(counting, ballots, Table::Projects, writer, kinship, &mut notes.seen)
+            tell(
+                counting,
+                ballots,
+                Table::Projects,
+                writer,
+                kinship,
+                &mut notes.seen,
+            )
         }
         Task::Voters(ballots, _) => {
-            tell(counting, ballots, Table::Voters, writer, kinship, &mut notes.seen)
+            tell(
+                counting,
+                ballots,
+                Table::Voters,
+                writer,
+                kinship,
+                &mut notes.seen,
+            )
         }
-        Task::Page(ballots, _, title) => page(counting, ballots, title, kinship, writer, &mut notes.seen),
+        Task::Page(ballots, _, title) => page(
+            counting,
+            ballots,
+            title,
+            kinship,
+            writer,
+            &mut notes.seen,
+        ),
         Task::Export(ballots, _) => export(counting, ballots, writer, kinship, &mut notes.seen),
         Task::Check(source) => check(counting, source, writer, notes),
         Task::Desk(asked) => desk(counting, asked, writer, &mut notes.written),
