@@ -87,10 +87,7 @@ where
 {
     let (file, journal) = open_with_journal(counting, &asked.file, &asked.journal, kinship)?;
     let of_journal = Cell::new(None);
-    let journal = Digested::new(
-        CountedReader::new(journal, &mut notes.audited),
-        &of_journal,
-    );
+    let journal = Digested::new(CountedReader::new(journal, &mut notes.audited), &of_journal);
     run_audit_watched(counting, file, journal, &mut notes.seen, report)?;
     Ok(digests_of(kinship.file.get(), of_journal.get()))
 }

@@ -146,10 +146,8 @@ fn write_line<R: Print>(rt: &R, refusal: &Refusal) -> u8 {
     match refusal {
         Refusal::Fault(fault) => write_fault(rt, *fault),
         Refusal::NoJournal(_) | Refusal::NoFileBeside(_) => write_fault(rt, AppFault::Open(2)),
-        Refusal::Journal(_)
-        | Refusal::Beside(_)
-        | Refusal::FileUnkept(_)
-        | Refusal::Unanswered => write_fault(rt, AppFault::Write),
+        Refusal::Journal(_) | Refusal::Beside(_) | Refusal::FileUnkept(_) | Refusal::Unanswered =>
+            write_fault(rt, AppFault::Write),
         Refusal::Spelling => {
             let _ = ServingFault::Spelling.write_line(&mut io::writer(rt));
             ServingFault::Spelling.status()

@@ -105,7 +105,14 @@ where
     let typing = Typing::new(terminals.input && !is_quiet(asked));
     let is_shown = terminals.output && asked.output.is_none();
     let mut writer = ShownWriter::new(rt.alloc(), output, is_shown);
-    let done = match run(&counting, &asked.task, &mut writer, &kinship, notes, &typing) {
+    let done = match run(
+        &counting,
+        &asked.task,
+        &mut writer,
+        &kinship,
+        notes,
+        &typing,
+    ) {
         Err(refusal) => Err(kinship.refusal.get().unwrap_or(refusal)),
         done => done,
     };
@@ -155,10 +162,24 @@ where
     let done = match task {
         Task::Count(source, _) => count(counting, source, writer, &mut notes.seen),
         Task::Projects(ballots, _) => {
-            tell(counting, ballots, Table::Projects, writer, kinship, &mut notes.seen)
+            tell(
+                counting,
+                ballots,
+                Table::Projects,
+                writer,
+                kinship,
+                &mut notes.seen,
+            )
         }
         Task::Voters(ballots, _) => {
-            tell(counting, ballots, Table::Voters, writer, kinship, &mut notes.seen)
+            tell(
+                counting,
+                ballots,
+                Table::Voters,
+                writer,
+                kinship,
+                &mut notes.seen,
+            )
         }
         Task::Page(run) => page(counting, run, kinship, writer, &mut notes.seen),
         Task::Export(ballots, _) => export(counting, ballots, writer, kinship, &mut notes.seen),

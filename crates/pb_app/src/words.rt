@@ -326,11 +326,7 @@ pub(crate) fn say_adopted<R: Eprint + AllocGlobal>(rt: &R, journal: &str, digest
 }
 
 /// Words for that.
-fn words_of_adopted(
-    alloc: Global,
-    journal: &str,
-    digest: &str,
-) -> Result<String, AllocError> {
+fn words_of_adopted(alloc: Global, journal: &str, digest: &str) -> Result<String, AllocError> {
     let beside = file_path(alloc, journal)?;
     let words = adopted_words(alloc, journal, beside.as_str(), digest);
     drop(beside);

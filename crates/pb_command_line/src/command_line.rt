@@ -274,16 +274,16 @@ const COMMANDS: &[CommandForm] = &[
         name: "projects",
         about: "Counts a .pb file, and prints who won and why, and what the others lacked at the last share",
         arguments: &[
-            ELECTION, LEFT_BY, OTHER_FILE, WORKERS, STEP, RAISES, PLAIN, MEASURE, STRICT, OUTPUT, QUIET,
-            PROGRESS,
+            ELECTION, LEFT_BY, OTHER_FILE, WORKERS, STEP, RAISES, PLAIN, MEASURE, STRICT, OUTPUT,
+            QUIET, PROGRESS,
         ],
     },
     CommandForm {
         name: "voters",
         about: "Counts a .pb file, and prints what each voter paid, and for what",
         arguments: &[
-            ELECTION, LEFT_BY, OTHER_FILE, WORKERS, STEP, RAISES, PLAIN, MEASURE, STRICT, OUTPUT, QUIET,
-            PROGRESS,
+            ELECTION, LEFT_BY, OTHER_FILE, WORKERS, STEP, RAISES, PLAIN, MEASURE, STRICT, OUTPUT,
+            QUIET, PROGRESS,
         ],
     },
     CommandForm {
@@ -298,8 +298,8 @@ const COMMANDS: &[CommandForm] = &[
         name: "export",
         about: "Counts a .pb file, and prints the ballots with the result as a .pb file, which counts the same",
         arguments: &[
-            ELECTION, LEFT_BY, OTHER_FILE, WORKERS, STEP, RAISES, PLAIN, MEASURE, STRICT, OUTPUT, QUIET,
-            PROGRESS,
+            ELECTION, LEFT_BY, OTHER_FILE, WORKERS, STEP, RAISES, PLAIN, MEASURE, STRICT, OUTPUT,
+            QUIET, PROGRESS,
         ],
     },
     CommandForm {
