@@ -1,5 +1,5 @@
 -- Pages that grow by pieces.
-use Rattle.std.proofs.Common.{◌≡◌, ◌<◌, ◌+◌, ℕ, List, [], ◌∷◌, ◌++◌, append_assoc, append-nil, length, get_or, take, sym, refl, ◌∙◌, ap, arith}
+use Rattle.std.proofs.Common.{◌≡◌, ◌<◌, ◌+◌, ℕ, List, [], ◌∷◌, ◌++◌, append_assoc, append-nil, length, get_or, take, sym, ◌∙◌, ap, subst}
 use Rattle.std.specs.Prelude.{OnOk, Result, Ok, Err, flat_map}
 use Rattle.std.specs.List.{range_with_len}
 use Rattle.std.proofs.lemmas.Grind.{flat_map-append}
@@ -52,3 +52,7 @@ place_more row n old middle new one two =
     let all : flat_map row (range_with_len 0 (n + 1)) ≡ flat_map row (range_with_len 0 n) ++ row n =
     ap (flat_map row) (range_with_len_more n) ∙ flat_map-append row (range_with_len 0 n) (n ∷ []) ∙ ap (λ (t : List Filling). flat_map row (range_with_len 0 n) ++ t) (append-nil (row n)) in
     rw all (then _ _ _ _ _ one two)
+
+-- the same pieces
+pub grown_as : (old new : List ℕ) (xs ys : List Filling) → xs ≡ ys → Grows old new xs → Grows old new ys
+grown_as old new xs ys same grown = let P : List Filling → Type 0 = λ fillings. Grows old new fillings in subst P same grown

@@ -96,11 +96,15 @@ summary f =
     ∷ word f.projects (codes "project") (codes "projects") ∷ money_text f.budget ∷ decimal f.won
     ∷ word f.won (codes "project") (codes "projects") ∷ money_text f.spent ∷ money_text f.left ∷ [])
 
+-- what stands above the picture of the budget
+abbrev pub budget_opening : Figures → Filling
+budget_opening f =
+    filling part.BudgetOpening (money_text f.budget ∷ money_text f.spent ∷ money_text f.left ∷ [])
+
 -- the top of the page, down to the picture of the budget
 abbrev pub top : List ℕ → Figures → List Filling
 top title f =
-    filling part.Head (title ∷ []) ∷ summary f
-    ∷ filling part.BudgetOpening (money_text f.budget ∷ money_text f.spent ∷ money_text f.left ∷ []) ∷ []
+    filling part.Head (title ∷ []) ∷ summary f ∷ budget_opening f ∷ []
 
 -- the project at this place
 abbrev pub project_at : ElectionView → ℕ → ProjectView
@@ -208,14 +212,14 @@ rule options share raised =
     (money_text share ∷ decimal raised ∷ word raised (codes "raise") (codes "raises") ∷ money_text options.step ∷ [])
     ∷ filling (order_part options.measure) [] ∷ filling (raises_part options.completion raised) [] ∷ []
 
--- a text that was read
-abbrev pub source : Part → Source → Filling
-source part s = filling part (s.name.now ∷ s.digest.now ∷ [])
+-- a text that was read: its name and its digest
+abbrev pub named : Part → Source → Filling
+named part s = filling part (s.name.now ∷ s.digest.now ∷ [])
 
 -- what was counted, where a page recounts it, and the command that does, up to its options
 abbrev pub sources : Source → Option Source → List Filling
-sources file None = source part.CheckOpening file ∷ []
-sources file (Some journal) = source part.CheckOpening file ∷ source part.CheckJournal journal ∷ []
+sources file None = named part.CheckOpening file ∷ []
+sources file (Some journal) = named part.CheckOpening file ∷ named part.CheckJournal journal ∷ []
 
 abbrev pub link : Option (Bor (List ℕ)) → List Filling
 link None = filling part.NoRecount [] ∷ []

@@ -2,7 +2,7 @@
 
 ghost use Rattle.std.specs.Prelude.{◌++◌, [], ◌∷◌, OnOk};
 ghost use Rattle.pb_page.specs.Inner.Grown.{Grows};
-ghost use Rattle.pb_page.specs.Page.{closing, command, completion_option, link, measure_option, source, sources};
+ghost use Rattle.pb_page.specs.Page.{closing, command, completion_option, link, measure_option, named, sources};
 
 use crate::facts::{Facts, Source};
 use crate::part::Part;
@@ -48,7 +48,7 @@ fn put_source(
     part: Part,
     source: Source<'_>,
 ) -> Result<(), NoMemory>
-    ensures { OnOk result (Grows page.old.items page.new.items (source part source.entry ∷ [])) }
+    ensures { OnOk result (Grows page.old.items page.new.items (named part source.entry ∷ [])) }
 {
     put(
         page,

@@ -2,7 +2,7 @@
 
 ghost use Rattle.std.specs.Prelude.{[], ◌∷◌, ◌<◌, ◌^◌, All, OnOk, length};
 ghost use Rattle.pb_page.specs.Inner.Grown.{Grows};
-ghost use Rattle.pb_page.specs.Page.{blocks, summary, top};
+ghost use Rattle.pb_page.specs.Page.{blocks, budget_opening, summary, top};
 ghost use Rattle.pb_price.specs.Supporters.{support_of};
 ghost use Rattle.pb_rounds.specs.Count.{spent_on};
 
@@ -27,6 +27,13 @@ pub(crate) fn put_top(
 {
     put(page, alloc, Part::Head, &[Value::Text(title)])?;
     put_summary(page, alloc, figures)?;
+    put_opening(page, alloc, figures)
+}
+
+/// What stands above the picture of the budget.
+fn put_opening(page: &mut Vec<u8>, alloc: Global, figures: &Figures) -> Result<(), NoMemory>
+    ensures { OnOk result (Grows page.old.items page.new.items (budget_opening figures.now ∷ [])) }
+{
     put(
         page,
         alloc,
