@@ -28,9 +28,9 @@ then first more old middle new one two =
     ∙ ap (λ (t : List ℕ). old ++ t) (sym (flat_map-append (λ (f : Filling). filled f.piece f.texts) first more))
 
 -- what a whole page has grown by
-pub whole : (fillings : List Filling) (page : List ℕ) → Grows [] page fillings → page ≡ page_of fillings
+pub whole : (fillings : List Filling) (start page : List ℕ) → start ≡ [] → Grows start page fillings → page ≡ page_of fillings
 unfolding Grows
-whole fillings page grown = grown
+whole fillings start page empty grown = grown ∙ ap (λ (t : List ℕ). t ++ page_of fillings) empty
 
 -- some pieces, and then some more where memory suffices
 pub then_put : {E : Type 0} (r : Result (Unit {0}) E) (first more : List Filling) (old middle new : List ℕ)

@@ -114,14 +114,17 @@ project_at e place = slice_index_or e.projects place (record { id = []; name = [
 abbrev pub called : ProjectView → List ℕ
 called p = if length p.name == 0 then p.id else p.name
 
--- the winners' parts of the budget, in order of election, the first behind what those before it cost
+-- a winner's part of the budget, behind what those before it cost
+abbrev pub block : (budget before : ℕ) → ProjectView → Filling
+block budget before p =
+    filling part.BudgetPart
+    (decimal (width before budget) ∷ decimal (width p.cost budget) ∷ called p ∷ money_text p.cost ∷ [])
+
+-- the winners' parts of the budget, in order of election
 abbrev pub blocks : ElectionView → ℕ → List ElectedView → List Filling
 blocks e before [] = []
 blocks e before (w ∷ elected) =
-    let p = project_at e w.place in
-    filling part.BudgetPart
-    (decimal (width before e.budget) ∷ decimal (width p.cost e.budget) ∷ called p ∷ money_text p.cost ∷ [])
-    ∷ blocks e (before + cost_at (support_of e) w.place) elected
+    block e.budget before (project_at e w.place) ∷ blocks e (before + cost_at (support_of e) w.place) elected
 
 -- the row of a winner; what did not win has none
 abbrev pub won_row : (budget : ℕ) → ProjectView → (votes : ℕ) → Ending → List Filling
@@ -146,20 +149,25 @@ won_rows e o w =
 abbrev pub lost_rows : ElectionView → OutcomeView → ℕ → List Filling
 lost_rows e o place = let r = project_reason e o place in lost_row (project_at e place) r.votes r.ending
 
+abbrev pub winner_table : ElectionView → OutcomeView → List Filling
+winner_table e o =
+    filling part.WinnersOpening [] ∷ (flat_map (won_rows e o) o.elected ++ filling part.TableClosing [] ∷ [])
+
+abbrev pub other_table : ElectionView → OutcomeView → List Filling
+other_table e o =
+    filling part.OthersOpening []
+    ∷ (flat_map (lost_rows e o) (range_with_len 0 (length e.projects)) ++ filling part.TableClosing [] ∷ [])
+
 -- the winners, in order of election, and the other projects, in the order of the file
 abbrev pub winners : ElectionView → OutcomeView → List Filling
 winners e o =
     if length o.elected == 0 then filling part.NoWinners [] ∷ []
-    else filling part.WinnersOpening []
-    ∷ (flat_map (won_rows e o) o.elected
-    ++ filling part.TableClosing [] ∷ [])
+    else winner_table e o
 
 abbrev pub others : ElectionView → OutcomeView → List Filling
 others e o =
     if length o.elected == length e.projects then filling part.NoOthers [] ∷ []
-    else filling part.OthersOpening []
-    ∷ (flat_map (lost_rows e o) (range_with_len 0 (length e.projects))
-    ++ filling part.TableClosing [] ∷ [])
+    else other_table e o
 
 -- how many of each voter's choices won
 abbrev pub won_by_voter : ElectionView → OutcomeView → List ℕ
@@ -205,12 +213,16 @@ abbrev pub raises_part : Completion → ℕ → Part
 raises_part completion.Plain raised = part.Plain
 raises_part completion.Add1 raised = if raised == 0 then part.Unraised else part.Raised
 
+-- how the share came about
+abbrev pub share_rule : CountOptions → (share raised : ℕ) → Filling
+share_rule options share raised =
+    filling part.Rule
+    (money_text share ∷ decimal raised ∷ word raised (codes "raise") (codes "raises") ∷ money_text options.step ∷ [])
+
 -- how it was counted
 abbrev pub rule : CountOptions → (share raised : ℕ) → List Filling
 rule options share raised =
-    filling part.Rule
-    (money_text share ∷ decimal raised ∷ word raised (codes "raise") (codes "raises") ∷ money_text options.step ∷ [])
-    ∷ filling (order_part options.measure) [] ∷ filling (raises_part options.completion raised) [] ∷ []
+    share_rule options share raised ∷ filling (order_part options.measure) [] ∷ filling (raises_part options.completion raised) [] ∷ []
 
 -- a text that was read: its name and its digest
 abbrev pub named : Part → Source → Filling

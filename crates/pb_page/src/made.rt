@@ -1,6 +1,6 @@
 //! The page of an outcome.
 
-ghost use Rattle.std.specs.Prelude.{◌≡◌, ◌++◌, IfOk, OnOk};
+ghost use Rattle.std.specs.Prelude.{◌≡◌, ◌<◌, ◌++◌, All, IfOk, OnOk, length};
 ghost use Rattle.pb_page.specs.Inner.Grown.{Grows};
 ghost use Rattle.pb_page.specs.Page.{IsPage, budget, others, parts, winners, won_by_voter};
 ghost use Rattle.pb_reasons.specs.Reasons.{IsCounted};
@@ -21,7 +21,7 @@ use pb_core::election::Election;
 use pb_core::no_memory::NoMemory;
 use pb_markup::Value;
 use pb_reasons::ProjectTeller;
-use pb_rounds::outcome::Outcome;
+use pb_rounds::outcome::{Elected, Outcome};
 use std::alloc::Global;
 
 /// The page of an outcome of this election, counted with the options of these facts: an HTML document that needs no other
@@ -39,13 +39,26 @@ pub fn page_of(
     ensures { IfOk result (λ text. IsPage election.now facts.now text.items) }
 {
     let won = won_by_voter(alloc, election, outcome)?;
-    let mut page = Vec::new(alloc);
-    let put = put_all(&mut page, alloc, election, outcome, facts, won.as_slice());
+    let page = page_with(alloc, election, outcome, facts, won.as_slice());
     drop(won);
-    match put {
-        Ok(()) => Ok(page),
-        Err(refused) => Err(refused),
-    }
+    page
+}
+
+/// The same, where so many choices of each voter won.
+fn page_with(
+    alloc: Global,
+    election: &Election,
+    outcome: &Outcome,
+    facts: &Facts,
+    won: &[u32],
+) -> Result<Vec<u8>, NoMemory>
+    requires counted { IsCountOf election.now facts.now.options outcome.now }
+    requires won { won.now ≡ won_by_voter election.now outcome.now }
+    ensures { IfOk result (λ text. IsPage election.now facts.now text.items) }
+{
+    let mut page = Vec::new(alloc);
+    put_all(&mut page, alloc, election, outcome, facts, won)?;
+    Ok(page)
 }
 
 /// All pieces of a page; so many choices of each voter won.
@@ -64,7 +77,7 @@ fn put_all(
     put_budget(page, alloc, election, outcome, facts.title)?;
     put_projects(page, alloc, election, outcome)?;
     put_voters(page, alloc, won)?;
-    put_rule(page, alloc, &facts.options, outcome.share, outcome.raised)?;
+    put_rule(page, alloc, &facts.options, outcome)?;
     put_check(page, alloc, facts)
 }
 
@@ -79,6 +92,8 @@ fn put_budget(
     requires { IsCounted election.now outcome.now }
     ensures { OnOk result (Grows page.old.items page.new.items (budget title.now election.now outcome.now)) }
 {
+    // What is true of every election is true of the places of its elected projects.
+    let _budget = election.budget();
     let figures = Figures::of(election, outcome);
     put_top(page, alloc, title, &figures)?;
     put_blocks(page, alloc, election, outcome.elected.as_slice())?;
@@ -108,11 +123,25 @@ fn put_projects(
     let _budget = election.budget();
     let elected = outcome.elected.as_slice();
     let teller = ProjectTeller::of(alloc, election, outcome)?;
-    let put = put_winners(page, alloc, election, &teller, elected);
-    let put = match put {
-        Ok(()) => put_others(page, alloc, election, &teller, elected.len()),
-        Err(refused) => Err(refused),
-    };
+    let put = put_both(page, alloc, election, &teller, elected);
     drop(teller);
     put
+}
+
+/// The same, as it is told.
+fn put_both(
+    page: &mut Vec<u8>,
+    alloc: Global,
+    election: &Election,
+    teller: &ProjectTeller,
+    elected: &[Elected],
+) -> Result<(), NoMemory>
+    requires own { teller.now.0 ≡ election.now }
+    requires elected { teller.now.1.elected ≡ elected.now }
+    requires known { All (λ w. w.place < length election.now.projects) elected.now }
+    ensures { OnOk result (Grows page.old.items page.new.items
+        (winners election.now teller.now.1 ++ others election.now teller.now.1)) }
+{
+    put_winners(page, alloc, election, teller, elected)?;
+    put_others(page, alloc, election, teller, elected.len())
 }

@@ -3,7 +3,7 @@
 ghost use Rattle.std.specs.Prelude.{◌≡◌, OnOk, flat_map, length};
 ghost use Rattle.std.specs.List.{range_with_len};
 ghost use Rattle.pb_page.specs.Inner.Grown.{Grows};
-ghost use Rattle.pb_page.specs.Page.{lost_row, lost_rows, others};
+ghost use Rattle.pb_page.specs.Page.{lost_row, lost_rows, other_table, others};
 
 use crate::forms::{called, width};
 use crate::part::Part;
@@ -30,6 +30,19 @@ pub(crate) fn put_others(
     if elected == election.projects().len() {
         return put(page, alloc, Part::NoOthers, &[]);
     }
+    put_table(page, alloc, election, teller)
+}
+
+/// Their table.
+fn put_table(
+    page: &mut Vec<u8>,
+    alloc: Global,
+    election: &Election,
+    teller: &ProjectTeller,
+) -> Result<(), NoMemory>
+    requires { teller.now.0 ≡ election.now }
+    ensures { OnOk result (Grows page.old.items page.new.items (other_table election.now teller.now.1)) }
+{
     put(page, alloc, Part::OthersOpening, &[])?;
     put_rows(page, alloc, election, teller)?;
     put(page, alloc, Part::TableClosing, &[])

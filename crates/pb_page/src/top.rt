@@ -2,7 +2,7 @@
 
 ghost use Rattle.std.specs.Prelude.{[], ◌∷◌, ◌<◌, ◌^◌, All, OnOk, length};
 ghost use Rattle.pb_page.specs.Inner.Grown.{Grows};
-ghost use Rattle.pb_page.specs.Page.{blocks, budget_opening, summary, top};
+ghost use Rattle.pb_page.specs.Page.{block, blocks, budget_opening, summary, top};
 ghost use Rattle.pb_price.specs.Supporters.{support_of};
 ghost use Rattle.pb_rounds.specs.Count.{spent_on};
 
@@ -11,7 +11,9 @@ use crate::forms::{called, width, word};
 use crate::part::Part;
 use crate::put::put;
 use pb_core::election::Election;
+use pb_core::money::Money;
 use pb_core::no_memory::NoMemory;
+use pb_core::project::Project;
 use pb_markup::Value;
 use pb_rounds::outcome::Elected;
 use std::alloc::Global;
@@ -79,24 +81,36 @@ pub(crate) fn put_blocks(
     requires fits { spent_on (support_of election.now) elected.now < 2 ^ 64 }
     ensures { OnOk result (Grows page.old.items page.new.items (blocks election.now 0 elected.now)) }
 {
-    let budget = election.budget().0;
+    let budget = election.budget();
     let projects = election.projects();
     let mut before = 0;
     for winner in elected {
         let project = &projects[winner.place as usize];
-        let cost = project.cost();
-        put(
-            page,
-            alloc,
-            Part::BudgetPart,
-            &[
-                Value::Number(width(before, budget)),
-                Value::Number(width(cost.0, budget)),
-                Value::Text(called(project)),
-                Value::Amount(cost),
-            ],
-        )?;
-        before += cost.0;
+        put_block(page, alloc, project, before, budget)?;
+        before += project.cost().0;
     }
     Ok(())
+}
+
+/// The block of a project, behind those that cost so much before it.
+fn put_block(
+    page: &mut Vec<u8>,
+    alloc: Global,
+    project: &Project,
+    before: u64,
+    budget: Money,
+) -> Result<(), NoMemory>
+    ensures { OnOk result (Grows page.old.items page.new.items (block budget before project.now ∷ [])) }
+{
+    put(
+        page,
+        alloc,
+        Part::BudgetPart,
+        &[
+            Value::Number(width(before, budget.0)),
+            Value::Number(width(project.cost().0, budget.0)),
+            Value::Text(called(project)),
+            Value::Amount(project.cost()),
+        ],
+    )
 }

@@ -2,7 +2,7 @@
 
 ghost use Rattle.std.specs.Prelude.{◌≡◌, ◌<◌, All, OnOk, flat_map, length};
 ghost use Rattle.pb_page.specs.Inner.Grown.{Grows};
-ghost use Rattle.pb_page.specs.Page.{won_row, won_rows, winners};
+ghost use Rattle.pb_page.specs.Page.{winner_table, winners, won_row, won_rows};
 
 use crate::forms::{called, width};
 use crate::part::Part;
@@ -32,6 +32,22 @@ pub(crate) fn put_winners(
     if elected.is_empty() {
         return put(page, alloc, Part::NoWinners, &[]);
     }
+    put_table(page, alloc, election, teller, elected)
+}
+
+/// Their table.
+fn put_table(
+    page: &mut Vec<u8>,
+    alloc: Global,
+    election: &Election,
+    teller: &ProjectTeller,
+    elected: &[Elected],
+) -> Result<(), NoMemory>
+    requires own { teller.now.0 ≡ election.now }
+    requires elected { teller.now.1.elected ≡ elected.now }
+    requires known { All (λ w. w.place < length election.now.projects) elected.now }
+    ensures { OnOk result (Grows page.old.items page.new.items (winner_table election.now teller.now.1)) }
+{
     put(page, alloc, Part::WinnersOpening, &[])?;
     put_rows(page, alloc, election, teller, elected)?;
     put(page, alloc, Part::TableClosing, &[])

@@ -1,0 +1,9 @@
+use Rattle.pb_page.proofs.Grown.{then_put}
+use Rattle.pb_page.proofs.made.put_all.Goals as goal
+
+pub returns : goal.returns
+returns c =
+    then_put _ _ _ _ _ _ c.in_ok-put_budget.ensures
+    (then_put _ _ _ _ _ _ c.in_ok-put_projects.ensures
+    (then_put _ _ _ _ _ _ (rw c.requires.won at c.in_ok-put_voters.ensures)
+    (then_put _ _ _ _ _ _ c.in_ok-put_rule.ensures c.put_check.ensures)))
