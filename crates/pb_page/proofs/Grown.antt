@@ -1,6 +1,6 @@
 -- Pages that grow by pieces.
 use Rattle.std.proofs.Common.{◌≡◌, ◌<◌, ◌+◌, ℕ, List, [], ◌∷◌, ◌++◌, append_assoc, append-nil, length, get_or, take, sym, ◌∙◌, ap, subst}
-use Rattle.std.specs.Prelude.{OnOk, Result, Ok, Err, flat_map}
+use Rattle.std.specs.Prelude.{IsErrAnd, OnOk, Result, Ok, Err, flat_map}
 use Rattle.std.specs.List.{range_with_len}
 use Rattle.std.proofs.lemmas.Grind.{flat_map-append}
 use Rattle.std.proofs.lemmas.List.{take_more}
@@ -56,3 +56,8 @@ place_more row n old middle new one two =
 -- the same pieces
 pub grown_as : (old new : List ℕ) (xs ys : List Filling) → xs ≡ ys → Grows old new xs → Grows old new ys
 grown_as old new xs ys same grown = let P : List Filling → Type 0 = λ fillings. Grows old new fillings in subst P same grown
+
+-- nothing is asked of a page where memory is refused
+pub refused : {E : Type 0} (r : Result (Unit {0}) E) (P : E → Type 0) (Q : Type 0) → IsErrAnd r P → OnOk r Q
+refused {E} (Ok x) P Q is = absurd is
+refused {E} (Err x) P Q is = tt

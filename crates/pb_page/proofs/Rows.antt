@@ -1,7 +1,8 @@
 -- The rows of a page, as they are put.
-use Rattle.std.proofs.Common.{◌≡◌, ◌<◌, ◌+◌, ℕ, List, [], ◌∷◌, ◌++◌, get_or, length, map, sym, take, ◌∙◌, ap, arith, refl}
+use Rattle.std.proofs.Common.{◌≡◌, ◌<◌, ◌+◌, ℕ, List, [], ◌∷◌, ◌++◌, get_or, length, map, sym, take, ◌∙◌, ap, arith}
 use Rattle.std.specs.List.{range_with_len}
 use Rattle.std.proofs.lemmas.List.{get_or_default, take_more}
+use Rattle.std.proofs.lemmas.List.Sums.{sum_by-cons}
 use Rattle.std.proofs.lemmas.List.FromFn.{map-range_with_len_more}
 use Rattle.pb_core.specs.Election.{ElectionView, ProjectView}
 use Rattle.pb_markup.specs.Filling.{Filling}
@@ -46,7 +47,7 @@ blocks_more e before total [] w sum =
     let none : before ≡ total = omega (arith, sum) in ap (λ (n : ℕ). blocks e n (w ∷ [])) none
 blocks_more e before total (x ∷ xs) w sum =
     let cost = cost_at (support_of e) x.place in
-    let parts : spent_on (support_of e) (x ∷ xs) ≡ cost + spent_on (support_of e) xs = refl in
+    let parts : spent_on (support_of e) (x ∷ xs) ≡ cost + spent_on (support_of e) xs = sum_by-cons (λ (v : ElectedView). cost_at (support_of e) v.place) x xs in
     let rest : total ≡ (before + cost) + spent_on (support_of e) xs = omega (arith, sum, parts) in
     ap (λ (t : List Filling). blocks e before (x ∷ []) ++ t) (blocks_more e (before + cost) total xs w rest)
 

@@ -265,7 +265,7 @@ budget title e o =
     ++ filling part.BudgetClosing (money_text f.spent ∷ money_text f.left ∷ money_text f.surplus ∷ []) ∷ [])
 
 -- the parts of the page, one after the other
-abbrev pub parts : ElectionView → OutcomeView → Facts → List Filling
+unfoldable pub parts : ElectionView → OutcomeView → Facts → List Filling
 parts e o facts =
     budget facts.title.now e o
     ++ ((winners e o ++ others e o)

@@ -87,7 +87,8 @@ pub(crate) fn put_blocks(
     for winner in elected {
         let project = &projects[winner.place as usize];
         put_block(page, alloc, project, before, budget)?;
-        before += project.cost().0;
+        let cost = project.cost();
+        before += cost.0;
     }
     Ok(())
 }

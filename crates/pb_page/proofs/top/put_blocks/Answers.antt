@@ -19,5 +19,5 @@ loop-winner-preserved c =
     let cost : c.cost.inside.0 ≡ c.index-projects-winner.result.cost = c.cost.view_is ∙ c.cost-cost.ensures.cost in
     record {
       before = omega (arith, spent_more _ _ _ _ _ winner, c.loop-winner.invariant.before);
-      grown = block_more _ _ _ _ _ _ _ _ _ winner c.loop-winner.invariant.before c.loop-winner.invariant.grown (rw c.budget.ensures.budget at c.in_ok-put_block.ensures);
+      grown = block_more _ _ _ _ _ _ _ _ _ winner c.loop-winner.invariant.before c.loop-winner.invariant.grown (rw c.budget-budget.ensures.budget at c.in_ok-put_block.ensures);
     }
