@@ -1,3 +1,5 @@
+use Rattle.pb_core.specs.declared.no_memory.NoMemory.{NoMemory}
+use Rattle.pb_page.specs.Inner.Grown.{Grows}
 use Rattle.pb_page.specs.Page.{parts}
 use Rattle.pb_page.proofs.Grown.{refused, then_put}
 use Rattle.pb_page.proofs.made.put_all.Goals as goal
@@ -11,4 +13,7 @@ returns c =
     (then_put _ _ _ _ _ _ c.in_ok-put_rule.ensures c.put_check.ensures)))
 
 pub returns-in_err-put_rule : goal.returns-in_err-put_rule
-returns-in_err-put_rule c = refused _ _ _ c.from_residual-in_err-put_rule.ensures.1
+returns-in_err-put_rule c =
+    refused {E = NoMemory} c.from_residual-in_err-put_rule.result _
+    (Grows c.args.page.now.items c.put_rule.new.page.items (parts c.args.election.now c.args.outcome.now c.args.facts.now))
+    c.from_residual-in_err-put_rule.ensures.1
