@@ -132,8 +132,8 @@ fn source_of<'a>(given: &Given<'a>, digest: Option<&'a Hex>) -> Source<'a> {
     Source { name, digest }
 }
 
-/// The page of an election, counted with the options of these facts: nothing in it is markup but the program's own
-/// pieces. What refuses it is what refuses the count.
+/// The page of an election, counted with the options of these facts: each number on it is one of the outcome's, and nothing
+/// in it is markup but the program's own pieces. What refuses it is what refuses the count.
 fn page_text<T: Threads + Sync, G: Gate>(
     rt: &T,
     alloc: Global,
@@ -141,7 +141,7 @@ fn page_text<T: Threads + Sync, G: Gate>(
     election: &Election,
     facts: &Facts,
 ) -> Result<Vec<u8>, CountFault>
-    ensures ok { IfOk result (λ text. IsPage text.items) }
+    ensures ok { IfOk result (λ text. IsPage election.now facts.now text.items) }
     ensures fault { IfErr result (IsCountFault election.now facts.now.options) }
 {
     // What is true of every election is true of its reasons.
@@ -152,8 +152,7 @@ fn page_text<T: Threads + Sync, G: Gate>(
 
 /// Writes the whole page, and sees that it leaves the writer.
 fn write_whole<W: Write>(writer: &mut W, text: &[u8]) -> Result<(), AppFault>
-    requires { IsPage text.now }
-    ensures ok { OnOk result (HasWritten IsPage (W.contents writer.old) (W.contents writer.new)) }
+    ensures ok { OnOk result (HasWritten (λ written. written ≡ text.now) (W.contents writer.old) (W.contents writer.new)) }
     ensures fault { IfErr result (λ fault. fault ≡ AppFault.Write) }
 {
     write_out(writer, text, AppFault::Write)

@@ -1,45 +1,60 @@
 //! How many of each voter's choices won.
 
+ghost use Rattle.std.specs.Prelude.{◌≡◌, ◌<◌, ◌^◌, IfOk, length};
+ghost use Rattle.pb_page.specs.Page.{at_least, exactly, won_by_voter};
+ghost use Rattle.pb_reasons.specs.Reasons.{IsCounted};
+
 use pb_core::election::Election;
 use pb_core::no_memory::NoMemory;
-use pb_rounds::outcome::Elected;
+use pb_reasons::VoterTeller;
+use pb_rounds::outcome::Outcome;
 use std::alloc::Global;
 
-/// How many numbers of winners are told apart: the last is so many or more.
-pub(crate) const KINDS: usize = 10;
-
-/// For each number of winners, on how many ballots so many of the choices won.
-pub(crate) fn histogram(
+/// How many of each voter's choices won, voters in the order of the file.
+pub(crate) fn won_by_voter(
     alloc: Global,
     election: &Election,
-    elected: &[Elected],
-) -> Result<[u64; KINDS], NoMemory> {
+    outcome: &Outcome,
+) -> Result<Vec<u32>, NoMemory>
+    requires { IsCounted election.now outcome.now }
+    ensures { IfOk result (λ won. won.items ≡ won_by_voter election.now outcome.now) }
+{
+    let mut teller = VoterTeller::of(alloc, election, outcome)?;
+    let won = won_told(alloc, election, &mut teller);
+    drop(teller);
+    won
+}
+
+/// The same, as it is told.
+fn won_told(
+    alloc: Global,
+    election: &Election,
+    teller: &mut VoterTeller,
+) -> Result<Vec<u32>, NoMemory>
+    requires { teller.old.0 ≡ election.now }
+    ensures { IfOk result (λ won. won.items ≡ won_by_voter election.now teller.old.1) }
+{
+    let mut payments = Vec::new(alloc);
     let mut won = Vec::new(alloc);
-    for _project in election.projects() {
-        won.push(false)?;
+    for voter in 0..election.voters().len() {
+        let reason = teller.tell(voter as u32, &mut payments)?;
+        won.push(reason.elected)?;
     }
-    for winner in elected {
-        if let Some(flag) = won.get_mut(winner.place as usize) {
-            *flag = true;
-        }
-    }
-    let mut counts = [0; KINDS];
-    for voter in election.voters() {
-        let winners = winners_among(voter.ballot.places(), won.as_slice());
-        let count = &mut counts[winners.min(KINDS - 1)];
-        *count = u64::saturating_add(*count, 1);
-    }
-    Ok(counts)
+    Ok(won)
 }
 
-/// How many of these places won.
-fn winners_among(places: &[u32], won: &[bool]) -> usize {
-    places.iter().filter(|place| has_won(won, **place)).count()
+/// On how many ballots so many choices won.
+pub(crate) fn exactly(number: u32, won: &[u32]) -> u64
+    requires { length won.now < 2 ^ 64 }
+    ensures { result ≡ exactly number won.now }
+{
+    won.iter().filter(|each| **each == number).count() as u64
 }
 
-fn has_won(won: &[bool], place: u32) -> bool {
-    match won.get(place as usize) {
-        Some(flag) => *flag,
-        None => false,
-    }
+/// On how many ballots so many choices won, or more.
+pub(crate) fn at_least(number: u32, won: &[u32]) -> u64
+    requires { length won.now < 2 ^ 64 }
+    ensures { result ≡ at_least number won.now }
+{
+    won.iter().filter(|each| number <= **each).count() as u64
 }

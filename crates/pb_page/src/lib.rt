@@ -2,19 +2,21 @@
 //! counted, and how to check it.
 #![tactic(auto)]
 
-mod budget;
 mod check;
 mod facts;
+mod figures;
+mod forms;
 mod histogram;
 mod made;
 mod others;
 mod part;
+mod put;
 mod rule;
 mod style;
 mod templates;
+mod top;
 mod voters;
 mod winners;
-mod written_page;
 
 pub use facts::{Facts, Source};
 pub use made::page_of;

@@ -1,72 +1,108 @@
 //! The projects that did not win.
 
-ghost use Rattle.std.specs.Prelude.{◌≡◌};
+ghost use Rattle.std.specs.Prelude.{◌≡◌, OnOk, flat_map, length};
+ghost use Rattle.std.specs.List.{range_with_len};
+ghost use Rattle.pb_page.specs.Inner.Grown.{Grows};
+ghost use Rattle.pb_page.specs.Page.{lost_row, lost_rows, other_table, others};
 
-use crate::budget::ten_thousandths;
+use crate::forms::{called, width};
 use crate::part::Part;
-use crate::winners::shown;
-use crate::written_page::Page;
+use crate::put::put;
 use pb_core::election::Election;
 use pb_core::no_memory::NoMemory;
 use pb_core::project::Project;
 use pb_markup::Value;
-use pb_reasons::{Ending, ProjectReason, ProjectTeller};
+use pb_reasons::{Ending, Lost, ProjectReason, ProjectTeller};
 use std::alloc::Global;
 
 /// The projects that did not win, in the order of the file; so many are elected.
 pub(crate) fn put_others(
-    page: &mut Page,
+    page: &mut Vec<u8>,
     alloc: Global,
     election: &Election,
     teller: &ProjectTeller,
     elected: usize,
 ) -> Result<(), NoMemory>
-    requires { teller.now.0 ≡ election.now }
+    requires own { teller.now.0 ≡ election.now }
+    requires elected { elected ≡ length teller.now.1.elected }
+    ensures { OnOk result (Grows page.old.items page.new.items (others election.now teller.now.1)) }
 {
     if elected == election.projects().len() {
-        return page.put(alloc, Part::NoOthers, &[]);
+        return put(page, alloc, Part::NoOthers, &[]);
     }
-    page.put(alloc, Part::OthersOpening, &[])?;
-    put_rows(page, alloc, election, teller)?;
-    page.put(alloc, Part::TableClosing, &[])
+    put_table(page, alloc, election, teller)
 }
 
-/// A row for each project that did not win.
-fn put_rows(
-    page: &mut Page,
+/// Their table.
+fn put_table(
+    page: &mut Vec<u8>,
     alloc: Global,
     election: &Election,
     teller: &ProjectTeller,
 ) -> Result<(), NoMemory>
     requires { teller.now.0 ≡ election.now }
+    ensures { OnOk result (Grows page.old.items page.new.items (other_table election.now teller.now.1)) }
+{
+    put(page, alloc, Part::OthersOpening, &[])?;
+    put_rows(page, alloc, election, teller)?;
+    put(page, alloc, Part::TableClosing, &[])
+}
+
+/// A row for each project that did not win.
+fn put_rows(
+    page: &mut Vec<u8>,
+    alloc: Global,
+    election: &Election,
+    teller: &ProjectTeller,
+) -> Result<(), NoMemory>
+    requires { teller.now.0 ≡ election.now }
+    ensures { OnOk result (Grows page.old.items page.new.items
+        (flat_map (lost_rows election.now teller.now.1) (range_with_len 0 (length election.now.projects)))) }
 {
     let projects = election.projects();
     for place in 0..projects.len() {
         let reason = teller.tell(place as u32);
-        put_other(page, alloc, &projects[place], &reason)?;
+        put_row(page, alloc, &projects[place], &reason)?;
     }
     Ok(())
 }
 
-/// A project, where it did not win.
-fn put_other(
-    page: &mut Page,
+/// The row of a project, where it did not win.
+#[tactic(auto, using(crate::proofs::Grown::none))]
+fn put_row(
+    page: &mut Vec<u8>,
     alloc: Global,
     project: &Project,
     reason: &ProjectReason,
-) -> Result<(), NoMemory> {
-    let Ending::Lost(lost) = reason.ending else {
-        return Ok(());
-    };
-    page.put(
+) -> Result<(), NoMemory>
+    ensures { OnOk result (Grows page.old.items page.new.items (lost_row project.now reason.now.votes reason.now.ending)) }
+{
+    match &reason.ending {
+        Ending::Won(_) => Ok(()),
+        Ending::Lost(lost) => put_lost(page, alloc, project, reason.votes, lost),
+    }
+}
+
+/// The row of one that did not.
+fn put_lost(
+    page: &mut Vec<u8>,
+    alloc: Global,
+    project: &Project,
+    votes: u32,
+    lost: &Lost,
+) -> Result<(), NoMemory>
+    ensures { OnOk result (Grows page.old.items page.new.items (lost_row project.now votes (Ending.Lost lost.now))) }
+{
+    put(
+        page,
         alloc,
         Part::Other,
         &[
             Value::Text(project.id()),
-            Value::Text(shown(project)),
-            Value::Number(ten_thousandths(lost.left, project.cost())),
+            Value::Text(called(project)),
+            Value::Number(width(lost.left.0, project.cost().0)),
             Value::Amount(project.cost()),
-            Value::Number(u64::from(reason.votes)),
+            Value::Number(u64::from(votes)),
             Value::Amount(lost.left),
             Value::Amount(lost.missing),
         ],

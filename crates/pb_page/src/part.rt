@@ -48,6 +48,7 @@ pub enum Part {
 
 impl Part {
     /// Its markup.
+    #[tactic(auto, unfolding(crate::specs::Page::piece_of))]
     pub(crate) fn piece(self) -> &'static str
         ensures { result.now ≡ piece_of self }
     {

@@ -1,28 +1,42 @@
 //! What the voters got.
 
-use crate::budget::{ten_thousandths, word};
-use crate::histogram::{KINDS, histogram};
+ghost use Rattle.std.specs.Prelude.{[], ◌∷◌, ◌<◌, ◌^◌, OnOk, flat_map, length};
+ghost use Rattle.std.specs.List.{range_with_len};
+ghost use Rattle.pb_page.specs.Inner.Grown.{Grows};
+ghost use Rattle.pb_page.specs.Page.{ballots_row, exact_row, got, voters};
+
+use crate::forms::{width, word};
+use crate::histogram::{at_least, exactly};
 use crate::part::Part;
-use crate::written_page::Page;
-use pb_core::election::Election;
-use pb_core::money::Money;
+use crate::put::put;
 use pb_core::no_memory::NoMemory;
 use pb_markup::Value;
-use pb_rounds::outcome::Elected;
 use std::alloc::Global;
 
+/// So many winners or more are one row.
+const MOST: u32 = 9;
+
 /// How many voters have a winner among their choices, and the histogram of winners a voter.
-pub(crate) fn put_voters(
-    page: &mut Page,
-    alloc: Global,
-    election: &Election,
-    elected: &[Elected],
-) -> Result<(), NoMemory> {
-    let voters = election.voters().len() as u64;
-    let counts = histogram(alloc, election, elected)?;
-    let without = counts[0];
-    let with = voters.saturating_sub(without);
-    page.put(
+pub(crate) fn put_voters(page: &mut Vec<u8>, alloc: Global, won: &[u32]) -> Result<(), NoMemory>
+    requires { length won.now < 2 ^ 64 }
+    ensures { OnOk result (Grows page.old.items page.new.items (voters won.now)) }
+{
+    put_got(page, alloc, won)?;
+    put_rows(page, alloc, won)?;
+    put_row(page, alloc, Part::VotersLastRow, MOST, at_least(MOST, won), won)?;
+    put(page, alloc, Part::TableClosing, &[])
+}
+
+/// How many voters have a winner among their choices.
+fn put_got(page: &mut Vec<u8>, alloc: Global, won: &[u32]) -> Result<(), NoMemory>
+    requires { length won.now < 2 ^ 64 }
+    ensures { OnOk result (Grows page.old.items page.new.items (got won.now ∷ [])) }
+{
+    let voters = won.len() as u64;
+    let with = at_least(1, won);
+    let without = exactly(0, won);
+    put(
+        page,
         alloc,
         Part::VotersOpening,
         &[
@@ -33,39 +47,44 @@ pub(crate) fn put_voters(
             Value::Number(without),
             Value::Text(word(without, "has", "have")),
         ],
-    )?;
-    put_rows(page, alloc, &counts, voters)?;
-    page.put(alloc, Part::TableClosing, &[])
+    )
 }
 
-/// A row for each number of winners, up to the largest that a ballot has.
-fn put_rows(
-    page: &mut Page,
-    alloc: Global,
-    counts: &[u64; KINDS],
-    voters: u64,
-) -> Result<(), NoMemory> {
-    let mut left = voters;
-    for winners in 0..KINDS {
-        let count = counts[winners];
-        if left > 0 {
-            let part = if winners == KINDS - 1 {
-                Part::VotersLastRow
-            } else {
-                Part::VotersRow
-            };
-            let width = ten_thousandths(Money(count), Money(voters));
-            page.put(
-                alloc,
-                part,
-                &[
-                    Value::Number(winners as u64),
-                    Value::Number(width),
-                    Value::Number(count),
-                ],
-            )?;
-        }
-        left = left.saturating_sub(count);
+/// A row for each number of winners below the last.
+fn put_rows(page: &mut Vec<u8>, alloc: Global, won: &[u32]) -> Result<(), NoMemory>
+    requires { length won.now < 2 ^ 64 }
+    ensures { OnOk result (Grows page.old.items page.new.items (flat_map (exact_row won.now) (range_with_len 0 9))) }
+{
+    for number in 0..MOST {
+        put_row(page, alloc, Part::VotersRow, number, exactly(number, won), won)?;
     }
     Ok(())
+}
+
+/// The row of so many winners, on this many ballots, where a ballot has so many or more.
+#[tactic(auto, using(crate::proofs::Grown::none))]
+fn put_row(
+    page: &mut Vec<u8>,
+    alloc: Global,
+    part: Part,
+    number: u32,
+    ballots: u64,
+    won: &[u32],
+) -> Result<(), NoMemory>
+    requires { length won.now < 2 ^ 64 }
+    ensures { OnOk result (Grows page.old.items page.new.items (ballots_row part number ballots won.now)) }
+{
+    if at_least(number, won) == 0 {
+        return Ok(());
+    }
+    put(
+        page,
+        alloc,
+        part,
+        &[
+            Value::Number(u64::from(number)),
+            Value::Number(width(ballots, won.len() as u64)),
+            Value::Number(ballots),
+        ],
+    )
 }

@@ -1,28 +1,61 @@
 //! The projects that won.
 
-ghost use Rattle.std.specs.Prelude.{◌≡◌, ◌<◌, All, length};
+ghost use Rattle.std.specs.Prelude.{◌≡◌, ◌<◌, All, OnOk, flat_map, length};
+ghost use Rattle.pb_page.specs.Inner.Grown.{Grows};
+ghost use Rattle.pb_page.specs.Page.{winner_table, winners, won_row, won_rows};
 
-use crate::budget::ten_thousandths;
+use crate::forms::{called, width};
 use crate::part::Part;
-use crate::written_page::Page;
+use crate::put::put;
 use pb_core::election::Election;
 use pb_core::money::Money;
 use pb_core::no_memory::NoMemory;
 use pb_core::project::Project;
 use pb_markup::Value;
-use pb_reasons::{Ending, ProjectReason, ProjectTeller};
+use pb_reasons::{Ending, ProjectReason, ProjectTeller, Won};
 use pb_rounds::outcome::Elected;
 use std::alloc::Global;
 
-/// What a project is called: its name, or its id where it has none.
-pub(crate) fn shown(project: &Project) -> &str {
-    let name = project.name();
-    if name.is_empty() { project.id() } else { name }
-}
-
 /// The winners, in order of election.
 pub(crate) fn put_winners(
-    page: &mut Page,
+    page: &mut Vec<u8>,
+    alloc: Global,
+    election: &Election,
+    teller: &ProjectTeller,
+    elected: &[Elected],
+) -> Result<(), NoMemory>
+    requires own { teller.now.0 ≡ election.now }
+    requires elected { teller.now.1.elected ≡ elected.now }
+    requires known { All (λ w. w.place < length election.now.projects) elected.now }
+    ensures { OnOk result (Grows page.old.items page.new.items (winners election.now teller.now.1)) }
+{
+    if elected.is_empty() {
+        return put(page, alloc, Part::NoWinners, &[]);
+    }
+    put_table(page, alloc, election, teller, elected)
+}
+
+/// Their table.
+fn put_table(
+    page: &mut Vec<u8>,
+    alloc: Global,
+    election: &Election,
+    teller: &ProjectTeller,
+    elected: &[Elected],
+) -> Result<(), NoMemory>
+    requires own { teller.now.0 ≡ election.now }
+    requires elected { teller.now.1.elected ≡ elected.now }
+    requires known { All (λ w. w.place < length election.now.projects) elected.now }
+    ensures { OnOk result (Grows page.old.items page.new.items (winner_table election.now teller.now.1)) }
+{
+    put(page, alloc, Part::WinnersOpening, &[])?;
+    put_rows(page, alloc, election, teller, elected)?;
+    put(page, alloc, Part::TableClosing, &[])
+}
+
+/// A row for each winner.
+fn put_rows(
+    page: &mut Vec<u8>,
     alloc: Global,
     election: &Election,
     teller: &ProjectTeller,
@@ -30,41 +63,56 @@ pub(crate) fn put_winners(
 ) -> Result<(), NoMemory>
     requires own { teller.now.0 ≡ election.now }
     requires known { All (λ w. w.place < length election.now.projects) elected.now }
+    ensures { OnOk result (Grows page.old.items page.new.items (flat_map (won_rows election.now teller.now.1) elected.now)) }
 {
-    if elected.is_empty() {
-        return page.put(alloc, Part::NoWinners, &[]);
-    }
     let projects = election.projects();
-    page.put(alloc, Part::WinnersOpening, &[])?;
     for winner in elected {
         let reason = teller.tell(winner.place);
         let project = &projects[winner.place as usize];
-        put_winner(page, alloc, project, &reason, election.budget())?;
+        put_row(page, alloc, project, &reason, election.budget())?;
     }
-    page.put(alloc, Part::TableClosing, &[])
+    Ok(())
 }
 
-/// A winner.
-fn put_winner(
-    page: &mut Page,
+/// The row of a project, where it won.
+#[tactic(auto, using(crate::proofs::Grown::none))]
+fn put_row(
+    page: &mut Vec<u8>,
     alloc: Global,
     project: &Project,
     reason: &ProjectReason,
     budget: Money,
-) -> Result<(), NoMemory> {
-    let Ending::Won(won) = reason.ending else {
-        return Ok(());
-    };
-    page.put(
+) -> Result<(), NoMemory>
+    ensures { OnOk result (Grows page.old.items page.new.items (won_row budget project.now reason.now.votes reason.now.ending)) }
+{
+    match &reason.ending {
+        Ending::Won(won) => put_won(page, alloc, project, reason.votes, won, budget),
+        Ending::Lost(_) => Ok(()),
+    }
+}
+
+/// The row of a winner.
+fn put_won(
+    page: &mut Vec<u8>,
+    alloc: Global,
+    project: &Project,
+    votes: u32,
+    won: &Won,
+    budget: Money,
+) -> Result<(), NoMemory>
+    ensures { OnOk result (Grows page.old.items page.new.items (won_row budget project.now votes (Ending.Won won.now))) }
+{
+    put(
+        page,
         alloc,
         Part::Winner,
         &[
             Value::Text(project.id()),
             Value::Number(u64::from(won.round)),
-            Value::Text(shown(project)),
-            Value::Number(ten_thousandths(project.cost(), budget)),
+            Value::Text(called(project)),
+            Value::Number(width(project.cost().0, budget.0)),
             Value::Amount(project.cost()),
-            Value::Number(u64::from(reason.votes)),
+            Value::Number(u64::from(votes)),
             Value::Amount(won.price),
             Value::Number(u64::from(won.in_full)),
         ],

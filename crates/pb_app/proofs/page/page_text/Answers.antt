@@ -1,4 +1,4 @@
 use Rattle.pb_app.proofs.page.page_text.Goals as goal
 
 pub page_of-requires : goal.page_of-requires
-page_of-requires g c = (c.args.facts.now.options, c.in_ok-outcome.ensures.counted)
+page_of-requires g c = c.in_ok-outcome.ensures.counted

@@ -1,0 +1,7 @@
+use Rattle.pb_page.proofs.Grown.{then_put}
+use Rattle.pb_page.proofs.check.put_options.Goals as goal
+
+pub returns : goal.returns
+returns c =
+    rw (← c.options.view_is, ← c.from.ensures)
+    (then_put _ _ _ _ _ _ c.in_ok-put_measure.ensures (then_put _ _ _ _ _ _ c.in_ok-put_completion.ensures c.put.ensures))

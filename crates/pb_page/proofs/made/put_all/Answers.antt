@@ -1,0 +1,19 @@
+use Rattle.pb_core.specs.declared.no_memory.NoMemory.{NoMemory}
+use Rattle.pb_page.specs.Inner.Grown.{Grows}
+use Rattle.pb_page.specs.Page.{parts}
+use Rattle.pb_page.proofs.Grown.{refused, then_put}
+use Rattle.pb_page.proofs.made.put_all.Goals as goal
+
+pub returns : goal.returns
+unfolding parts
+returns c =
+    then_put _ _ _ _ _ _ c.in_ok-put_budget.ensures
+    (then_put _ _ _ _ _ _ c.in_ok-put_projects.ensures
+    (then_put _ _ _ _ _ _ (rw c.requires.won at c.in_ok-put_voters.ensures)
+    (then_put _ _ _ _ _ _ c.in_ok-put_rule.ensures c.put_check.ensures)))
+
+pub returns-in_err-put_rule : goal.returns-in_err-put_rule
+returns-in_err-put_rule c =
+    refused {E = NoMemory} c.from_residual-in_err-put_rule.result _
+    (Grows c.args.page.now.items c.put_rule.new.page.items (parts c.args.election.now c.args.outcome.now c.args.facts.now))
+    c.from_residual-in_err-put_rule.ensures.1

@@ -1,0 +1,7 @@
+use Rattle.std.proofs.Common.{map}
+use Rattle.pb_markup.specs.Filling.{text_of}
+use Rattle.pb_page.proofs.Grown.{one}
+use Rattle.pb_page.proofs.put.put.Goals as goal
+
+pub returns : goal.returns
+returns c = one c.args.part (map text_of c.args.values.now) _ _ (rw c.piece.ensures at c.in_ok-fill.ensures)

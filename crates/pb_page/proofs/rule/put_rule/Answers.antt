@@ -1,0 +1,8 @@
+use Rattle.pb_page.proofs.Grown.{then_put}
+use Rattle.pb_page.proofs.rule.put_rule.Goals as goal
+
+pub returns : goal.returns
+returns c =
+    rw (← c.outcome.view_is)
+    (then_put _ _ _ _ _ _ c.in_ok-put_share.ensures
+    (then_put _ _ _ _ _ _ (rw c.order_part.ensures at c.in_ok-put.ensures) (rw c.raises_part.ensures at c.put-2.ensures)))
