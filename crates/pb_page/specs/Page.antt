@@ -10,9 +10,6 @@ use Rattle.pb_reasons.specs.Reasons.{project_reason, voter_reason}
 use Rattle.pb_reasons.specs.Totals.{totals_of}
 use Rattle.pb_reasons.specs.declared.project_reason.Ending.{Ending}
 use Rattle.pb_reasons.specs.declared.project_reason.Ending.TheVariants.{Won, Lost}
-use Rattle.pb_reasons.specs.declared.project_reason.ProjectReason.{ProjectReason}
-use Rattle.pb_reasons.specs.declared.totals.Totals.{Totals}
-use Rattle.pb_reasons.specs.declared.voter_reason.VoterReason.{VoterReason}
 use Rattle.pb_rounds.specs.Counted.{IsCountOf}
 use Rattle.pb_rounds.specs.Outcome.{OutcomeView}
 use Rattle.pb_rounds.specs.Run.{ElectedView}

@@ -83,11 +83,7 @@ fn put_command(
 }
 
 /// The options of the command, and the end of the page.
-fn put_options(
-    page: &mut Vec<u8>,
-    alloc: Global,
-    options: &CountOptions,
-) -> Result<(), NoMemory>
+fn put_options(page: &mut Vec<u8>, alloc: Global, options: &CountOptions) -> Result<(), NoMemory>
     ensures { OnOk result (Grows page.old.items page.new.items (closing options.now)) }
 {
     put_measure(page, alloc, options.measure)?;
@@ -116,11 +112,7 @@ fn put_measure(page: &mut Vec<u8>, alloc: Global, measure: Measure) -> Result<()
 
 /// The option for a completion.
 #[tactic(auto, using(crate::proofs::Grown::none))]
-fn put_completion(
-    page: &mut Vec<u8>,
-    alloc: Global,
-    completion: Completion,
-) -> Result<(), NoMemory>
+fn put_completion(page: &mut Vec<u8>, alloc: Global, completion: Completion) -> Result<(), NoMemory>
     ensures { OnOk result (Grows page.old.items page.new.items (completion_option completion)) }
 {
     match completion {

@@ -26,7 +26,12 @@ pub(crate) fn put_rule(
 {
     put_share(page, alloc, options, outcome.share, outcome.raised)?;
     put(page, alloc, order_part(options.measure), &[])?;
-    put(page, alloc, raises_part(options.completion, outcome.raised), &[])
+    put(
+        page,
+        alloc,
+        raises_part(options.completion, outcome.raised),
+        &[],
+    )
 }
 
 /// How the share came about, and who can be paid.

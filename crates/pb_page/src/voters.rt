@@ -23,7 +23,14 @@ pub(crate) fn put_voters(page: &mut Vec<u8>, alloc: Global, won: &[u32]) -> Resu
 {
     put_got(page, alloc, won)?;
     put_rows(page, alloc, won)?;
-    put_row(page, alloc, Part::VotersLastRow, MOST, at_least(MOST, won), won)?;
+    put_row(
+        page,
+        alloc,
+        Part::VotersLastRow,
+        MOST,
+        at_least(MOST, won),
+        won,
+    )?;
     put(page, alloc, Part::TableClosing, &[])
 }
 
@@ -56,7 +63,14 @@ fn put_rows(page: &mut Vec<u8>, alloc: Global, won: &[u32]) -> Result<(), NoMemo
     ensures { OnOk result (Grows page.old.items page.new.items (flat_map (exact_row won.now) (range_with_len 0 9))) }
 {
     for number in 0..MOST {
-        put_row(page, alloc, Part::VotersRow, number, exactly(number, won), won)?;
+        put_row(
+            page,
+            alloc,
+            Part::VotersRow,
+            number,
+            exactly(number, won),
+            won,
+        )?;
     }
     Ok(())
 }

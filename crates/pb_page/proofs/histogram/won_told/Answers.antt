@@ -1,4 +1,4 @@
-use Rattle.std.proofs.Common.{◌≡◌, ◌<◌, ◌∙◌, ap, length}
+use Rattle.std.proofs.Common.{◌≡◌, ◌∙◌, ap}
 use Rattle.pb_core.specs.Election.{ElectionView}
 use Rattle.pb_rounds.specs.Outcome.{OutcomeView}
 use Rattle.pb_reasons.specs.Reasons.{voter_reason}

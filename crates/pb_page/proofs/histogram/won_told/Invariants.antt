@@ -1,7 +1,6 @@
 use Rattle.std.proofs.Common.{◌≡◌, map}
 use Rattle.std.specs.List.{range_with_len}
 use Rattle.pb_reasons.specs.Reasons.{voter_reason}
-use Rattle.pb_reasons.specs.declared.voter_reason.VoterReason.{VoterReason}
 use Rattle.pb_page.proofs.histogram.won_told.Given as goal
 
 abbrev pub invariant-loop-voter : goal.invariant-loop-voter

@@ -1,4 +1,4 @@
-use Rattle.std.proofs.Common.{◌≡◌, ap}
+use Rattle.std.proofs.Common.{ap}
 use Rattle.pb_reasons.proofs.WinnerSums.{the_winner}
 use Rattle.pb_rounds.specs.Run.{ElectedView}
 use Rattle.pb_page.specs.Page.{won_rows}
