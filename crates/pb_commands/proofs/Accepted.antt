@@ -28,7 +28,7 @@ use Rattle.pb_commands.specs.Report.{report_of}
 use Rattle.pb_script.specs.declared.script_fault.ScriptFault.{ScriptFault}
 use Rattle.pb_script.specs.declared.script_fault.ScriptFault.TheVariants as script
 use Rattle.pb_faults.specs.declared.fault.AppFault.{AppFault}
-use Rattle.pb_faults.specs.declared.fault.AppFault.TheVariants.{Read, Script, ClerkCount, Audit, OpenDesk, Count, Export, Open, Write, Memory, Warned}
+use Rattle.pb_faults.specs.declared.fault.AppFault.TheVariants.{Read, Script, ClerkCount, Audit, OtherFile, OpenDesk, Count, Export, Open, Write, Memory, Warned}
 
 pub read_from_outside : (kind : ReadKind) (at : ℕ) → IsFromOutside kind → IsOutsideFault (merged (Read (record { kind = kind; at = at })))
 read_from_outside kind at (inl is) = rw is refl
@@ -67,6 +67,7 @@ merged_again (Audit fault) = audit_again fault
 merged_again (Count fault) = count_again fault
 merged_again (Export fault) = export_again fault
 merged_again ClerkCount = refl
+merged_again OtherFile = refl
 merged_again OpenDesk = refl
 merged_again (Open number) = refl
 merged_again Write = refl

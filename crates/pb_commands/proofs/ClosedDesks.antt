@@ -22,7 +22,7 @@ use Rattle.pb_commands.specs.Closed.{ClosedRefuses, Leaves}
 use Rattle.pb_commands.specs.Ends.{FailsBy, IfBothKnown, IsOutsideFault, JudgesFile}
 use Rattle.pb_faults.specs.Fault.{merged}
 use Rattle.pb_faults.specs.declared.fault.AppFault.{AppFault}
-use Rattle.pb_faults.specs.declared.fault.AppFault.TheVariants.{Read, Script, ClerkCount, Audit, OpenDesk, Count, Export, Open, Write, Memory, Warned}
+use Rattle.pb_faults.specs.declared.fault.AppFault.TheVariants.{Read, Script, ClerkCount, Audit, OtherFile, OpenDesk, Count, Export, Open, Write, Memory, Warned}
 
 -- the fault is what refuses these bytes before anything is written
 abbrev pub Fails : List ℕ → List ℕ → AppFault → Type 0
@@ -41,6 +41,7 @@ fails_more Refuses IsText bytes Memory fails = fails
 fails_more Refuses IsText bytes (Script fault) fails = fails
 fails_more Refuses IsText bytes ClerkCount fails = fails
 fails_more Refuses IsText bytes (Audit fault) fails = fails
+fails_more Refuses IsText bytes OtherFile fails = fails
 fails_more Refuses IsText bytes OpenDesk fails = fails
 fails_more Refuses IsText bytes (Count fault) fails = fails
 fails_more Refuses IsText bytes (Export fault) fails = fails

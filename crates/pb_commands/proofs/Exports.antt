@@ -24,7 +24,7 @@ use Rattle.pb_commands.specs.Exported.{ClosedExportRefuses, ExportWrites, IsExpo
 use Rattle.pb_commands.specs.Inner.Exporting.{IsStopped}
 use Rattle.pb_faults.specs.Fault.{merged}
 use Rattle.pb_faults.specs.declared.fault.AppFault.{AppFault}
-use Rattle.pb_faults.specs.declared.fault.AppFault.TheVariants.{Read, Script, ClerkCount, Audit, OpenDesk, Count, Export, Open, Write, Memory, Warned}
+use Rattle.pb_faults.specs.declared.fault.AppFault.TheVariants.{Read, Script, ClerkCount, Audit, OtherFile, OpenDesk, Count, Export, Open, Write, Memory, Warned}
 
 -- one value more, for the next place
 pub one_put : {X : Type 0} (f : ℕ → X) (n : ℕ) (old new : List X) (x : X) → old ≡ map f (range_with_len 0 n) → new ≡ old ++ x ∷ [] → x ≡ f n → new ≡ map f (range_with_len 0 (n + 1))
@@ -49,6 +49,7 @@ module _ (options : CountOptions) where
   from_outside e text writes (Script fault) stopped is = absurd stopped
   from_outside e text writes ClerkCount stopped is = absurd stopped
   from_outside e text writes (Audit fault) stopped is = absurd stopped
+  from_outside e text writes OtherFile stopped is = absurd stopped
   from_outside e text writes OpenDesk stopped is = absurd stopped
   from_outside e text writes (Open number) stopped is = absurd stopped
   from_outside e text writes Write stopped is = absurd stopped
@@ -73,6 +74,7 @@ module _ (options : CountOptions) where
   early bytes rows IsText (Script fault) fails = fails
   early bytes rows IsText ClerkCount fails = fails
   early bytes rows IsText (Audit fault) fails = fails
+  early bytes rows IsText OtherFile fails = fails
   early bytes rows IsText OpenDesk fails = fails
   early bytes rows IsText (Count fault) fails = fails
   early bytes rows IsText (Export fault) fails = absurd fails.2
@@ -103,6 +105,7 @@ module _ (options : CountOptions) where
     stopped_fails bytes rows IsText (Script fault) leaves stopped = absurd stopped
     stopped_fails bytes rows IsText ClerkCount leaves stopped = absurd stopped
     stopped_fails bytes rows IsText (Audit fault) leaves stopped = absurd stopped
+    stopped_fails bytes rows IsText OtherFile leaves stopped = absurd stopped
     stopped_fails bytes rows IsText OpenDesk leaves stopped = absurd stopped
     stopped_fails bytes rows IsText (Open number) leaves stopped = absurd stopped
     stopped_fails bytes rows IsText Write leaves stopped = absurd stopped
