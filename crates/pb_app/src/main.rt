@@ -28,6 +28,7 @@ use std::io::{IsTerminal, Write};
 use std::process::ExitCode;
 use std::rt::{Clock, Env, Files};
 use std::thread::Threads;
+use std::time::Instant;
 use std::{env, io};
 
 /// The status where a row was not of the form.
@@ -107,6 +108,7 @@ where
         seen: ResultWarnings::new(rt.alloc(), asked.is_strict),
     };
     let progress = Progress::new(rt, asked.shows.unwrap_or(terminals.error));
+    let begun = Instant::now(rt).ok();
     let result = perform(rt, asked, &mut output, &mut notes, &progress, terminals);
     progress.clear();
     let code = match result {
@@ -120,9 +122,10 @@ where
             if let Refusal::BadRows(_) = refusal {
                 words::say_tally(rt, asked, &notes.written, &notes.audited);
             }
+            let took = begun.and_then(|begun| begun.elapsed(rt).ok());
             let status = write_line(rt, &refusal);
             words::say_refusal(rt, asked, &refusal, &output, &notes.audited);
-            words::say_spent(rt, asked, &refusal, &progress);
+            words::say_spent(rt, asked, &refusal, took, &progress);
             words::say_warnings(rt, &asked.task, &notes.checked, &notes.seen);
             status
         }

@@ -4,18 +4,19 @@ use pb_command_line::{Source, Task};
 use pb_commands::closed_ballots;
 use pb_core::election::Election;
 use pb_core::gate::Gate;
+use pb_core::money::Money;
 use pb_read::{NoWatch, read_pb};
 use pb_rounds::count::count_watched;
 use pb_rounds::count_fault::CountFault;
-use pb_rounds::options::{CountOptions, MOST_RAISES};
+use pb_rounds::options::{CountOptions, LARGEST_STEP, MOST_RAISES};
 use pb_words::count_words::Deciding;
 use std::fs;
 use std::rt::{Clock, Files};
 use std::thread::Threads;
-use std::time::Instant;
+use std::time::{Duration, Instant};
 
-/// The limit is doubled at most so often: from 1 it comes to 1,000,000.
-const MOST_DOUBLINGS: u32 = 21;
+/// How often a stride is halved: the widest is 524,288 raises.
+const MOST_HALVINGS: u32 = 19;
 
 /// What was found after the raises were spent.
 #[derive(Clone, Copy)]
@@ -25,14 +26,21 @@ pub(crate) struct Found {
     pub(crate) budget: Option<u64>,
 }
 
-/// Looks for the raises that would decide, in ballots that are read once more, where they stand in files.
-pub(crate) fn look_further<R, G: Gate>(rt: &R, task: &Task<'_>, gate: &G) -> Found
+/// Looks for raises that would decide, in ballots that are read once more, where they stand in files. It looks for about as
+/// long as the refused count took, and a second at least.
+pub(crate) fn look_further<R, G: Gate>(
+    rt: &R,
+    task: &Task<'_>,
+    took: Option<Duration>,
+    gate: &G,
+) -> Found
 where
     R: Files + Clock + AllocGlobal + Threads + Sync,
 {
+    let allowed = Allowed::new(rt, took);
     match ballots_again(rt, task) {
         Some(election) => {
-            let deciding = search(rt, &election, &task.options(), gate);
+            let deciding = search(rt, &election, &task.options(), &allowed, gate);
             let budget = Some(election.budget().0);
             drop(election);
             Found { deciding, budget }
@@ -83,36 +91,87 @@ fn open_again<R: Files>(rt: &R, path: &str) -> Option<R::File> {
     }
 }
 
-/// Counts with twice as many raises as were allowed, and with twice as many again while less than a second has gone by.
-fn search<R, G: Gate>(rt: &R, election: &Election, options: &CountOptions, gate: &G) -> Deciding
+/// The time that a search may take.
+#[derive(Clone, Copy)]
+struct Allowed {
+    begun: Option<Instant>,
+    most: Duration,
+}
+
+impl Allowed {
+    /// From now on, as long as the refused count took, and a second at least.
+    fn new<R: Clock>(rt: &R, took: Option<Duration>) -> Allowed {
+        let a_second = Duration::from_secs(1);
+        Allowed {
+            begun: Instant::now(rt).ok(),
+            most: took.unwrap_or(a_second).max(a_second),
+        }
+    }
+
+    /// Whether as much again as has been done leaves half of the time.
+    fn is_early<R: Clock>(&self, rt: &R) -> bool {
+        match self.begun.map(|begun| begun.elapsed(rt)) {
+            Some(Ok(elapsed)) => elapsed.as_millis() < self.most.as_millis() / 2,
+            _ => false,
+        }
+    }
+}
+
+/// Counts with wide strides first: a count whose step is so many steps decides at a share that the count of single steps
+/// comes to as well, and there it decides too, if it has not before. Each stride is half of the one before, so each count
+/// takes about twice as long as the last one.
+fn search<R, G: Gate>(
+    rt: &R,
+    election: &Election,
+    options: &CountOptions,
+    allowed: &Allowed,
+    gate: &G,
+) -> Deciding
 where
     R: Clock + AllocGlobal + Threads + Sync,
 {
-    let begun = Instant::now(rt).ok();
-    let mut limit = options.max_raises;
-    for doubling in 0..MOST_DOUBLINGS {
-        if limit >= MOST_RAISES || (doubling > 0 && !is_early(rt, begun)) {
-            break;
-        }
-        limit = limit.saturating_mul(2).clamp(1, MOST_RAISES);
-        match raised_within(rt, election, options, limit, gate) {
-            Ok(raised) => return least(rt, election, options, raised, gate),
-            Err(CountFault::RaisesSpent) => {}
+    if options.max_raises >= MOST_RAISES {
+        return Deciding::NoneIs;
+    }
+    let mut stride = widest_stride(options.step);
+    let strides_at_most = MOST_RAISES.checked_div(stride).unwrap_or(1);
+    let mut limit = strides_at_most.min(options.max_raises.max(1));
+    let mut deciding = Deciding::NotFound;
+    for _halving in 0..=MOST_HALVINGS {
+        let strides = CountOptions {
+            step: Money(options.step.0.saturating_mul(u64::from(stride))),
+            ..*options
+        };
+        match raised_within(rt, election, &strides, limit, gate) {
+            Ok(raised) if stride == 1 => {
+                return least(rt, election, options, raised, gate);
+            }
+            Ok(raised) => {
+                limit = raised.saturating_add(1).min(limit);
+                deciding = Deciding::Enough(limit.saturating_mul(stride));
+            }
+            Err(CountFault::RaisesSpent) => return deciding,
             Err(_) => return Deciding::Unread,
         }
+        if !allowed.is_early(rt) {
+            break;
+        }
+        stride /= 2;
+        limit = limit.saturating_mul(2);
     }
-    Deciding::NotWithin(limit)
+    deciding
 }
 
-/// Whether less than a second has gone by.
-fn is_early<R: Clock>(rt: &R, begun: Option<Instant>) -> bool {
-    match begun {
-        Some(begun) => match begun.elapsed(rt) {
-            Ok(elapsed) => elapsed.as_secs() < 1,
-            Err(_) => false,
-        },
-        None => false,
+/// The widest stride, a power of two, whose raises lift a share by no more than one raise may.
+fn widest_stride(step: Money) -> u32 {
+    let mut stride: u32 = 1;
+    for _doubling in 0..MOST_HALVINGS {
+        let twice = stride.saturating_mul(2);
+        if step.0.saturating_mul(u64::from(twice)) <= LARGEST_STEP.0 {
+            stride = twice;
+        }
     }
+    stride
 }
 
 /// The least limit of raises that decides, where the outcome that is answered is raised so many times: as many where that

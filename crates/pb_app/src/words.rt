@@ -30,6 +30,7 @@ use std::fs;
 use std::io::Error;
 use std::rt::{Clock, Files};
 use std::thread::Threads;
+use std::time::Duration;
 
 /// What is said where memory is refused, also for words.
 const NO_MEMORY: &str = "Memory was refused.\nRun again on a machine with more memory.\n";
@@ -293,15 +294,21 @@ pub(crate) fn say_mistaken<R: Files + Eprint + AllocGlobal>(rt: &R, arguments: &
     }
 }
 
-/// Says what to do where the raises were spent. Whether more would decide is looked for first, after it was said why there
-/// is no result.
-pub(crate) fn say_spent<R>(rt: &R, asked: &Asked<'_>, refusal: &Refusal, progress: &Progress<'_, R>)
+/// Says what to do where the raises were spent, by a count that took so long. Whether more would decide is looked for first,
+/// after it was said why there is no result.
+pub(crate) fn say_spent<R>(
+    rt: &R,
+    asked: &Asked<'_>,
+    refusal: &Refusal,
+    took: Option<Duration>,
+    progress: &Progress<'_, R>,
+)
 where
     R: Files + Clock + Eprint + AllocGlobal + Threads + Sync,
 {
     match refusal {
         Refusal::Fault(AppFault::Count(CountFault::RaisesSpent)) => {
-            let found = look_further(rt, &asked.task, progress);
+            let found = look_further(rt, &asked.task, took, progress);
             progress.clear();
             let options = asked.task.options();
             say_words(

@@ -3,7 +3,7 @@
 use crate::words::Value::{Name, Number, Own};
 use crate::words::Words;
 use pb_rounds::count_fault::CountFault;
-use pb_rounds::options::{CountOptions, LARGEST_STEP, MOST_RAISES};
+use pb_rounds::options::{CountOptions, LARGEST_STEP};
 use std::alloc::{AllocError, Global};
 
 /// What is known of raises beyond those that were allowed and spent.
@@ -11,8 +11,12 @@ use std::alloc::{AllocError, Global};
 pub enum Deciding {
     /// This is the least limit of raises with which the count ends.
     Least(u32),
-    /// With this limit it does not end either.
-    NotWithin(u32),
+    /// With this limit of raises the count ends, and perhaps with a smaller one.
+    Enough(u32),
+    /// None was found in the time that was allowed.
+    NotFound,
+    /// None is: as many were allowed as there can be.
+    NoneIs,
     /// They were not looked for, since the ballots can't be read again.
     Unread,
 }
@@ -64,12 +68,15 @@ fn put_raises(out: &mut Words, deciding: Deciding) {
             "Allow more raises: `--raises {}` decides, and fewer do not.\n",
             &[Number(u64::from(raises))],
         ),
-        Deciding::NotWithin(MOST_RAISES) => out.put(
+        Deciding::Enough(raises) => out.fill(
+            "Allow more raises: `--raises {}` decides, and perhaps fewer do.\n",
+            &[Number(u64::from(raises))],
+        ),
+        Deciding::NoneIs => out.put(
             "More raises can't help: 1000000 is the most that `--raises` can be, and does not decide.\n",
         ),
-        Deciding::NotWithin(raises) => out.fill(
-            "Allow more raises, up to 1000000: with {} no share decides either.\n",
-            &[Number(u64::from(raises))],
+        Deciding::NotFound => out.put(
+            "Allow more raises, up to 1000000: how many decide was not found in the time that this count took.\n",
         ),
         Deciding::Unread => out.put(
             "Allow more raises, up to 1000000: how many decide is not known, since the ballots can't be read again.\n",
