@@ -10,12 +10,12 @@ use Rattle.pb_durable.specs.JournalFile.{StandsForText}
 use Rattle.pb_rows.specs.Reading.{Fields}
 use Rattle.pb_rows.specs.Writing.{text_of_row}
 use Rattle.pb_script.specs.Script.{HasScriptForm, IsScriptRow}
-use Rattle.pb_script.specs.declared.script_fault.ScriptFault.TheVariants.{BadRow, ReadFailed}
+use Rattle.pb_script.specs.declared.script_fault.ScriptFault.TheVariants.{BadRow, ReadFailed, TooManyRows}
 use Rattle.pb_faults.specs.DeskRow.{entries_row}
 use Rattle.pb_faults.specs.Fault.{line, told}
-use Rattle.pb_faults.specs.declared.fault.AppFault.TheVariants.{Script}
+use Rattle.pb_faults.specs.declared.fault.AppFault.TheVariants.{Script, Memory, Write}
 use Rattle.pb_serving.specs.declared.serving_fault.ServingFault.{ServingFault}
-use Rattle.pb_serving.specs.declared.serving_fault.ServingFault.TheVariants.{App}
+use Rattle.pb_serving.specs.declared.serving_fault.ServingFault.TheVariants.{App, Output}
 
 -- what is said first: how many bytes were cut off the journal, where there were any, and the row of its desk
 abbrev pub heading : ℕ → DeskView → List ℕ
@@ -47,10 +47,14 @@ pub record StandsWithin (version : Version) (first last : List EntryView) (file 
   pub stands : StandsForText (journal_text version (first ++ more)) file
   pub last_is : last ≡ (first ++ more) ++ rest
 
--- a reader that failed is told with the number of the row behind these
+-- what a run may end by behind these rows: a reader that failed is told with the number of the row behind them
 abbrev pub IsBehind : ServingFault → List Fields → Type 0
 IsBehind (App (Script (ReadFailed i))) rows = i ≡ min (length rows + 1) (2 ^ 32 - 1)
-IsBehind fault rows = ⊤
+IsBehind (App (Script TooManyRows)) rows = 2 ^ 50 ≤ length rows
+IsBehind (App Memory) rows = ⊤
+IsBehind (App Write) rows = ⊤
+IsBehind Output rows = ⊤
+IsBehind fault rows = ⊥
 
 -- at some entry the journal, or its file, had no room for a batch more
 abbrev pub HasNoRoom : DeskView → Type 0

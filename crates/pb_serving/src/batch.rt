@@ -1,6 +1,6 @@
 //! The rows of the input that are served together.
 
-ghost use Rattle.std.specs.Prelude.{◌≡◌, ◌≤◌, ◌+◌, [], length, IsSome};
+ghost use Rattle.std.specs.Prelude.{◌≡◌, ◌<◌, ◌≤◌, ◌+◌, [], length, IsSome};
 ghost use Rattle.pb_serving.specs.Inner.Batch.{IsBatch};
 
 use crate::pace::Pace;
@@ -39,6 +39,7 @@ pub(crate) fn next_batch<R: Read, P: Pace>(
     ensures few { length asks.new.items ≤ 4096 }
     ensures batch { IsBatch rows.old.left rows.new.left asks.new.items result }
     ensures blame { result ≡ BatchEnd.ReadFailed → IsSome rows.new.fault }
+    ensures some { result ≡ BatchEnd.More → 0 < length asks.new.items }
 {
     for _ in 0..MOST_ROWS {
         match rows.next(alloc) {

@@ -28,6 +28,7 @@ use Rattle.pb_serving.proofs.run_serve.serve_rows.Goals as goal
 pub loop-init : goal.loop-init
 loop-init g c = record {
   few = omega arith;
+  many = omega arith;
   fewer = omega arith;
   failures = λ tells. refl;
   opening = refl;
@@ -175,6 +176,7 @@ loop-preserved g c =
     let size : c.len.result ≡ length asks = c.len.ensures ∙ c.next_batch-end.new.asks.ok.0 in
     let few : length asks ≤ 4096 = c.next_batch-end.ensures.few in
     let before = inv.few in
+    let many = inv.many in
     let fewer = inv.fewer in
     let contents = g.W.Write.contents in
     let all = c.args.rows.now.left in
@@ -193,8 +195,10 @@ loop-preserved g c =
       | in-More w ↦
           let row = w.row-is in
           let bad = w.bad_rows-is in
+          let some = c.next_batch-end.ensures.some w.in-More.is in
           record {
             few = omega (arith, row, size, few, before);
+            many = omega (arith, row, size, some, many);
             fewer = omega (arith, row, bad, size, fewer);
             failures = failures;
             opening = opening;
@@ -215,6 +219,7 @@ loop-preserved g c =
           let line_is = subst (λ (n : ℕ). Appends (contents c.answer.new.writer) (contents w.say_bad_row.new.writer) (line (told (Script (BadRow n))).1)) at w.in_ok-say_bad_row-in-Bad.ensures.ok in
           record {
             few = omega (arith, row, size, few, before);
+            many = omega (arith, row, size, many);
             fewer = omega (arith, row, bad, size, fewer);
             failures = failures;
             opening = opening;
@@ -238,7 +243,7 @@ returns-clause-stopped g c = λ other.
     let mid = c.loop.desk in
     halted (λ gone. IsBehind (App (Script TooManyRows)) gone) (λ kept. g.D.Device.tells → (f : List ℕ) → g.D.Device.may_leave mid.file.device f → StandsWithin mid.desk.opening.version kept mid.desk.journal f)
     c.args.rows.now.left c.loop.rows.left old.desk.journal mid.desk.journal (g.W.Write.contents c.args.writer.now) (g.W.Write.contents c.loop.writer) c.loop.row c.loop.bad_rows inv.progress
-    (λ gone count. tt) (λ tells f left. kept_all g.D.Device.moment g.D.Device.left_since g.D.Device.seen g.D.Device.may_leave mid (inv.durable tells) f left)
+    (λ gone count. let many = inv.many in omega (arith, count, many, c.loop-test.false)) (λ tells f left. kept_all g.D.Device.moment g.D.Device.left_since g.D.Device.seen g.D.Device.may_leave mid (inv.durable tells) f left)
 
 pub returns-in-Over-clause-grown : goal.returns-in-Over-clause-grown
 returns-in-Over-clause-grown g c =

@@ -9,6 +9,7 @@ use Rattle.pb_serving.proofs.run_serve.serve_rows.Given as goal
 abbrev pub invariant-loop : goal.invariant-loop
 invariant-loop g l = record {
   few : l.row ≤ 4097 * l.counter;
+  many : l.counter ≤ l.row;
   fewer : l.bad_rows ≤ l.row;
   failures : g.D.Device.tells → g.D.Device.failures l.desk.file.device ≡ g.D.Device.failures l.initial.desk.file.device;
   opening : l.desk.desk.opening ≡ l.initial.desk.desk.opening;
