@@ -7,8 +7,7 @@ use Rattle.std.proofs.lemmas.List.{take_more}
 use Rattle.pb_price.proofs.BuiltLists.{range_with_len_more}
 use Rattle.pb_markup.specs.Filling.{Filling, filled, page_of}
 use Rattle.pb_page.specs.Inner.Grown.{Grows}
-use Rattle.pb_page.specs.Page.{filling, piece_of}
-use Rattle.pb_page.specs.declared.part.Part.{Part}
+use Rattle.pb_page.specs.Page.{filling}
 
 -- no piece
 pub none : (page : List ℕ) → Grows page page []
@@ -16,9 +15,9 @@ unfolding Grows
 none page = sym (append-nil page)
 
 -- one piece
-pub one : (part : Part) (texts : List (List ℕ)) (old new : List ℕ) → new ≡ old ++ filled (piece_of part) texts → Grows old new (filling part texts ∷ [])
+pub one : (piece : List ℕ) (texts : List (List ℕ)) (old new : List ℕ) → new ≡ old ++ filled piece texts → Grows old new (filling piece texts ∷ [])
 unfolding Grows
-one part texts old new put = put ∙ ap (λ (t : List ℕ). old ++ t) (sym (append-nil (filled (piece_of part) texts)))
+one piece texts old new put = put ∙ ap (λ (t : List ℕ). old ++ t) (sym (append-nil (filled piece texts)))
 
 -- some pieces, and then some more
 pub then : (first more : List Filling) (old middle new : List ℕ) → Grows old middle first → Grows middle new more → Grows old new (first ++ more)

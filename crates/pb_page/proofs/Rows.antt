@@ -15,7 +15,8 @@ use Rattle.pb_rounds.specs.Outcome.{OutcomeView}
 use Rattle.pb_rounds.specs.Run.{ElectedView}
 use Rattle.pb_page.specs.Inner.Grown.{Grows}
 use Rattle.pb_page.proofs.Grown.{grown_as, then}
-use Rattle.pb_page.specs.Page.{block, blocks, lost_row, lost_rows, project_at, won_row, won_rows}
+use Rattle.pb_page.specs.Inner.Pieces.{block}
+use Rattle.pb_page.specs.Page.{blocks, lost_row, lost_rows, project_at, won_row, won_rows}
 
 pub the_project : (e : ElectionView) (place : ℕ) (p : ProjectView) → place < length e.projects → p ≡ get_or e.projects place p → p ≡ project_at e place
 the_project e place p known is = is ∙ get_or_default e.projects place p (record { id = []; name = []; cost = 0 }) known

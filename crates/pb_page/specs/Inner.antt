@@ -1,2 +1,3 @@
 -- Words that only private contracts speak of: nobody has to believe them.
 pub mod Grown
+pub mod Pieces

@@ -1,12 +1,16 @@
 //! How to check a result.
 
-ghost use Rattle.std.specs.Prelude.{◌++◌, [], ◌∷◌, OnOk};
+ghost use Rattle.std.specs.Prelude.{[], ◌∷◌, OnOk};
 ghost use Rattle.pb_page.specs.Inner.Grown.{Grows};
-ghost use Rattle.pb_page.specs.Page.{closing, command, completion_option, link, measure_option, named, sources};
+ghost use Rattle.pb_page.specs.Inner.Pieces.{closing, command, completion_option, link, measure_option, sources};
+ghost use Rattle.pb_page.specs.Page.{check, named};
 
 use crate::facts::{Facts, Source};
-use crate::part::Part;
 use crate::put::put;
+use crate::templates::{
+    AUDIT, CHECK_JOURNAL, CHECK_OPENING, CLOSING, COUNT, NO_RECOUNT, OPTION_COST, OPTION_PLAIN,
+    RECOUNT,
+};
 use pb_core::no_memory::NoMemory;
 use pb_markup::Value;
 use pb_rounds::measure::Measure;
@@ -15,9 +19,7 @@ use std::alloc::Global;
 
 /// What was counted, and how to count it again.
 pub(crate) fn put_check(page: &mut Vec<u8>, alloc: Global, facts: &Facts) -> Result<(), NoMemory>
-    ensures { OnOk result (Grows page.old.items page.new.items
-        (sources facts.now.file facts.now.journal ++ (link facts.now.recount
-        ++ (command facts.now.journal ++ closing facts.now.options)))) }
+    ensures { OnOk result (Grows page.old.items page.new.items (check facts.now)) }
 {
     put_sources(page, alloc, facts.file, facts.journal)?;
     put_link(page, alloc, facts.recount)?;
@@ -34,9 +36,9 @@ fn put_sources(
 ) -> Result<(), NoMemory>
     ensures { OnOk result (Grows page.old.items page.new.items (sources file.entry journal.entry)) }
 {
-    put_source(page, alloc, Part::CheckOpening, file)?;
+    put_source(page, alloc, CHECK_OPENING, file)?;
     match journal {
-        Some(journal) => put_source(page, alloc, Part::CheckJournal, journal),
+        Some(journal) => put_source(page, alloc, CHECK_JOURNAL, journal),
         None => Ok(()),
     }
 }
@@ -45,15 +47,15 @@ fn put_sources(
 fn put_source(
     page: &mut Vec<u8>,
     alloc: Global,
-    part: Part,
+    piece: &'static str,
     source: Source<'_>,
 ) -> Result<(), NoMemory>
-    ensures { OnOk result (Grows page.old.items page.new.items (named part source.entry ∷ [])) }
+    ensures { OnOk result (Grows page.old.items page.new.items (named piece.now source.entry ∷ [])) }
 {
     put(
         page,
         alloc,
-        part,
+        piece,
         &[Value::Text(source.name), Value::Text(source.digest)],
     )
 }
@@ -63,8 +65,8 @@ fn put_link(page: &mut Vec<u8>, alloc: Global, address: Option<&str>) -> Result<
     ensures { OnOk result (Grows page.old.items page.new.items (link address.entry)) }
 {
     match address {
-        Some(address) => put(page, alloc, Part::Recount, &[Value::Text(address)]),
-        None => put(page, alloc, Part::NoRecount, &[]),
+        Some(address) => put(page, alloc, RECOUNT, &[Value::Text(address)]),
+        None => put(page, alloc, NO_RECOUNT, &[]),
     }
 }
 
@@ -77,8 +79,8 @@ fn put_command(
     ensures { OnOk result (Grows page.old.items page.new.items (command journal.entry)) }
 {
     match journal {
-        Some(_) => put(page, alloc, Part::Audit, &[]),
-        None => put(page, alloc, Part::Count, &[]),
+        Some(_) => put(page, alloc, AUDIT, &[]),
+        None => put(page, alloc, COUNT, &[]),
     }
 }
 
@@ -91,7 +93,7 @@ fn put_options(page: &mut Vec<u8>, alloc: Global, options: &CountOptions) -> Res
     put(
         page,
         alloc,
-        Part::Closing,
+        CLOSING,
         &[
             Value::Number(options.step.0),
             Value::Number(u64::from(options.max_raises)),
@@ -106,7 +108,7 @@ fn put_measure(page: &mut Vec<u8>, alloc: Global, measure: Measure) -> Result<()
 {
     match measure {
         Measure::Votes => Ok(()),
-        Measure::Cost => put(page, alloc, Part::OptionCost, &[]),
+        Measure::Cost => put(page, alloc, OPTION_COST, &[]),
     }
 }
 
@@ -116,7 +118,7 @@ fn put_completion(page: &mut Vec<u8>, alloc: Global, completion: Completion) -> 
     ensures { OnOk result (Grows page.old.items page.new.items (completion_option completion)) }
 {
     match completion {
-        Completion::Plain => put(page, alloc, Part::OptionPlain, &[]),
+        Completion::Plain => put(page, alloc, OPTION_PLAIN, &[]),
         Completion::Add1 => Ok(()),
     }
 }

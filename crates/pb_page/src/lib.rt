@@ -9,7 +9,6 @@ mod forms;
 mod histogram;
 mod made;
 mod others;
-mod part;
 mod put;
 mod rule;
 mod style;

@@ -11,9 +11,9 @@ use crate::facts::Facts;
 use crate::figures::Figures;
 use crate::histogram::won_by_voter;
 use crate::others::put_others;
-use crate::part::Part;
 use crate::put::put;
 use crate::rule::put_rule;
+use crate::templates::BUDGET_CLOSING;
 use crate::top::{put_blocks, put_top};
 use crate::voters::put_voters;
 use crate::winners::put_winners;
@@ -100,7 +100,7 @@ fn put_budget(
     put(
         page,
         alloc,
-        Part::BudgetClosing,
+        BUDGET_CLOSING,
         &[
             Value::Amount(figures.spent),
             Value::Amount(figures.left),

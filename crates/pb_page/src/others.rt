@@ -3,11 +3,12 @@
 ghost use Rattle.std.specs.Prelude.{◌≡◌, OnOk, flat_map, length};
 ghost use Rattle.std.specs.List.{range_with_len};
 ghost use Rattle.pb_page.specs.Inner.Grown.{Grows};
-ghost use Rattle.pb_page.specs.Page.{lost_row, lost_rows, other_table, others};
+ghost use Rattle.pb_page.specs.Inner.Pieces.{other_table};
+ghost use Rattle.pb_page.specs.Page.{lost_row, lost_rows, others};
 
 use crate::forms::{called, width};
-use crate::part::Part;
 use crate::put::put;
+use crate::templates::{NO_OTHERS, OTHER, OTHERS_OPENING, TABLE_CLOSING};
 use pb_core::election::Election;
 use pb_core::no_memory::NoMemory;
 use pb_core::project::Project;
@@ -28,7 +29,7 @@ pub(crate) fn put_others(
     ensures { OnOk result (Grows page.old.items page.new.items (others election.now teller.now.1)) }
 {
     if elected == election.projects().len() {
-        return put(page, alloc, Part::NoOthers, &[]);
+        return put(page, alloc, NO_OTHERS, &[]);
     }
     put_table(page, alloc, election, teller)
 }
@@ -43,9 +44,9 @@ fn put_table(
     requires { teller.now.0 ≡ election.now }
     ensures { OnOk result (Grows page.old.items page.new.items (other_table election.now teller.now.1)) }
 {
-    put(page, alloc, Part::OthersOpening, &[])?;
+    put(page, alloc, OTHERS_OPENING, &[])?;
     put_rows(page, alloc, election, teller)?;
-    put(page, alloc, Part::TableClosing, &[])
+    put(page, alloc, TABLE_CLOSING, &[])
 }
 
 /// A row for each project that did not win.
@@ -96,7 +97,7 @@ fn put_lost(
     put(
         page,
         alloc,
-        Part::Other,
+        OTHER,
         &[
             Value::Text(project.id()),
             Value::Text(called(project)),

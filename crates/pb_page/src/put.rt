@@ -5,7 +5,6 @@ ghost use Rattle.pb_markup.specs.Filling.{text_of};
 ghost use Rattle.pb_page.specs.Inner.Grown.{Grows};
 ghost use Rattle.pb_page.specs.Page.{filling};
 
-use crate::part::Part;
 use pb_core::no_memory::NoMemory;
 use pb_markup::{Value, fill};
 use std::alloc::Global;
@@ -14,11 +13,11 @@ use std::alloc::Global;
 pub(crate) fn put(
     page: &mut Vec<u8>,
     alloc: Global,
-    part: Part,
+    piece: &'static str,
     values: &[Value],
 ) -> Result<(), NoMemory>
-    ensures { OnOk result (Grows page.old.items page.new.items (filling part (map text_of values.now) ∷ [])) }
+    ensures { OnOk result (Grows page.old.items page.new.items (filling piece.now (map text_of values.now) ∷ [])) }
 {
-    fill(page, alloc, part.piece(), values)?;
+    fill(page, alloc, piece, values)?;
     Ok(())
 }

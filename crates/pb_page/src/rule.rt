@@ -1,12 +1,13 @@
 //! How it was counted, in five sentences.
 
-ghost use Rattle.std.specs.Prelude.{[], ◌∷◌, ◌≡◌, OnOk};
+ghost use Rattle.std.specs.Prelude.{[], ◌∷◌, OnOk};
 ghost use Rattle.pb_page.specs.Inner.Grown.{Grows};
-ghost use Rattle.pb_page.specs.Page.{order_part, raises_part, rule, share_rule};
+ghost use Rattle.pb_page.specs.Inner.Pieces.{order, raises, share_rule};
+ghost use Rattle.pb_page.specs.Page.{rule};
 
 use crate::forms::word;
-use crate::part::Part;
 use crate::put::put;
+use crate::templates::{BY_COST, BY_VOTES, PLAIN, RAISED, RULE, UNRAISED};
 use pb_core::money::Money;
 use pb_core::no_memory::NoMemory;
 use pb_markup::Value;
@@ -25,13 +26,8 @@ pub(crate) fn put_rule(
     ensures { OnOk result (Grows page.old.items page.new.items (rule options.now outcome.now.share outcome.now.raised)) }
 {
     put_share(page, alloc, options, outcome.share, outcome.raised)?;
-    put(page, alloc, order_part(options.measure), &[])?;
-    put(
-        page,
-        alloc,
-        raises_part(options.completion, outcome.raised),
-        &[],
-    )
+    put_order(page, alloc, options.measure)?;
+    put_raises(page, alloc, options.completion, outcome.raised)
 }
 
 /// How the share came about, and who can be paid.
@@ -48,7 +44,7 @@ fn put_share(
     put(
         page,
         alloc,
-        Part::Rule,
+        RULE,
         &[
             Value::Amount(share),
             Value::Number(raises),
@@ -59,22 +55,27 @@ fn put_share(
 }
 
 /// Which project is elected first.
-fn order_part(measure: Measure) -> Part
-    ensures { result ≡ order_part measure }
+fn put_order(page: &mut Vec<u8>, alloc: Global, measure: Measure) -> Result<(), NoMemory>
+    ensures { OnOk result (Grows page.old.items page.new.items (order measure ∷ [])) }
 {
     match measure {
-        Measure::Votes => Part::ByVotes,
-        Measure::Cost => Part::ByCost,
+        Measure::Votes => put(page, alloc, BY_VOTES, &[]),
+        Measure::Cost => put(page, alloc, BY_COST, &[]),
     }
 }
 
 /// Whether shares were raised, and what that is called.
-fn raises_part(completion: Completion, raised: u32) -> Part
-    ensures { result ≡ raises_part completion raised }
+fn put_raises(
+    page: &mut Vec<u8>,
+    alloc: Global,
+    completion: Completion,
+    raised: u32,
+) -> Result<(), NoMemory>
+    ensures { OnOk result (Grows page.old.items page.new.items (raises completion raised ∷ [])) }
 {
     match completion {
-        Completion::Plain => Part::Plain,
-        Completion::Add1 if raised == 0 => Part::Unraised,
-        Completion::Add1 => Part::Raised,
+        Completion::Plain => put(page, alloc, PLAIN, &[]),
+        Completion::Add1 if raised == 0 => put(page, alloc, UNRAISED, &[]),
+        Completion::Add1 => put(page, alloc, RAISED, &[]),
     }
 }

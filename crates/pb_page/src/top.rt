@@ -2,14 +2,16 @@
 
 ghost use Rattle.std.specs.Prelude.{[], ◌∷◌, ◌<◌, ◌^◌, All, OnOk, length};
 ghost use Rattle.pb_page.specs.Inner.Grown.{Grows};
-ghost use Rattle.pb_page.specs.Page.{block, blocks, budget_opening, summary, top};
+ghost use Rattle.pb_page.specs.Inner.Pieces.{block, budget_opening, summary, top};
+ghost use Rattle.pb_page.specs.Page.{blocks};
 ghost use Rattle.pb_price.specs.Supporters.{support_of};
 ghost use Rattle.pb_rounds.specs.Count.{spent_on};
 
 use crate::figures::Figures;
 use crate::forms::{called, width, word};
-use crate::part::Part;
 use crate::put::put;
+use crate::style::HEAD;
+use crate::templates::{BUDGET_OPENING, BUDGET_PART, SUMMARY};
 use pb_core::election::Election;
 use pb_core::money::Money;
 use pb_core::no_memory::NoMemory;
@@ -27,7 +29,7 @@ pub(crate) fn put_top(
 ) -> Result<(), NoMemory>
     ensures { OnOk result (Grows page.old.items page.new.items (top title.now figures.now)) }
 {
-    put(page, alloc, Part::Head, &[Value::Text(title)])?;
+    put(page, alloc, HEAD, &[Value::Text(title)])?;
     put_summary(page, alloc, figures)?;
     put_opening(page, alloc, figures)
 }
@@ -39,7 +41,7 @@ fn put_opening(page: &mut Vec<u8>, alloc: Global, figures: &Figures) -> Result<(
     put(
         page,
         alloc,
-        Part::BudgetOpening,
+        BUDGET_OPENING,
         &[
             Value::Amount(figures.budget),
             Value::Amount(figures.spent),
@@ -55,7 +57,7 @@ fn put_summary(page: &mut Vec<u8>, alloc: Global, figures: &Figures) -> Result<(
     put(
         page,
         alloc,
-        Part::Summary,
+        SUMMARY,
         &[
             Value::Number(figures.voters),
             Value::Text(word(figures.voters, "person", "people")),
@@ -106,7 +108,7 @@ fn put_block(
     put(
         page,
         alloc,
-        Part::BudgetPart,
+        BUDGET_PART,
         &[
             Value::Number(width(before, budget.0)),
             Value::Number(width(project.cost().0, budget.0)),

@@ -3,12 +3,13 @@
 ghost use Rattle.std.specs.Prelude.{[], ◌∷◌, ◌<◌, ◌^◌, OnOk, flat_map, length};
 ghost use Rattle.std.specs.List.{range_with_len};
 ghost use Rattle.pb_page.specs.Inner.Grown.{Grows};
-ghost use Rattle.pb_page.specs.Page.{ballots_row, exact_row, got, voters};
+ghost use Rattle.pb_page.specs.Inner.Pieces.{exact_row, got};
+ghost use Rattle.pb_page.specs.Page.{ballots_row, voters};
 
 use crate::forms::{width, word};
 use crate::histogram::{at_least, exactly};
-use crate::part::Part;
 use crate::put::put;
+use crate::templates::{TABLE_CLOSING, VOTERS_LAST_ROW, VOTERS_OPENING, VOTERS_ROW};
 use pb_core::no_memory::NoMemory;
 use pb_markup::Value;
 use std::alloc::Global;
@@ -23,15 +24,8 @@ pub(crate) fn put_voters(page: &mut Vec<u8>, alloc: Global, won: &[u32]) -> Resu
 {
     put_got(page, alloc, won)?;
     put_rows(page, alloc, won)?;
-    put_row(
-        page,
-        alloc,
-        Part::VotersLastRow,
-        MOST,
-        at_least(MOST, won),
-        won,
-    )?;
-    put(page, alloc, Part::TableClosing, &[])
+    put_row(page, alloc, VOTERS_LAST_ROW, MOST, at_least(MOST, won), won)?;
+    put(page, alloc, TABLE_CLOSING, &[])
 }
 
 /// How many voters have a winner among their choices.
@@ -45,7 +39,7 @@ fn put_got(page: &mut Vec<u8>, alloc: Global, won: &[u32]) -> Result<(), NoMemor
     put(
         page,
         alloc,
-        Part::VotersOpening,
+        VOTERS_OPENING,
         &[
             Value::Number(with),
             Value::Number(voters),
@@ -63,14 +57,7 @@ fn put_rows(page: &mut Vec<u8>, alloc: Global, won: &[u32]) -> Result<(), NoMemo
     ensures { OnOk result (Grows page.old.items page.new.items (flat_map (exact_row won.now) (range_with_len 0 9))) }
 {
     for number in 0..MOST {
-        put_row(
-            page,
-            alloc,
-            Part::VotersRow,
-            number,
-            exactly(number, won),
-            won,
-        )?;
+        put_row(page, alloc, VOTERS_ROW, number, exactly(number, won), won)?;
     }
     Ok(())
 }
@@ -80,13 +67,13 @@ fn put_rows(page: &mut Vec<u8>, alloc: Global, won: &[u32]) -> Result<(), NoMemo
 fn put_row(
     page: &mut Vec<u8>,
     alloc: Global,
-    part: Part,
+    piece: &'static str,
     number: u32,
     ballots: u64,
     won: &[u32],
 ) -> Result<(), NoMemory>
     requires { length won.now < 2 ^ 64 }
-    ensures { OnOk result (Grows page.old.items page.new.items (ballots_row part number ballots won.now)) }
+    ensures { OnOk result (Grows page.old.items page.new.items (ballots_row piece.now number ballots won.now)) }
 {
     if at_least(number, won) == 0 {
         return Ok(());
@@ -94,7 +81,7 @@ fn put_row(
     put(
         page,
         alloc,
-        part,
+        piece,
         &[
             Value::Number(u64::from(number)),
             Value::Number(width(ballots, won.len() as u64)),

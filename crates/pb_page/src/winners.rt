@@ -2,11 +2,12 @@
 
 ghost use Rattle.std.specs.Prelude.{◌≡◌, ◌<◌, All, OnOk, flat_map, length};
 ghost use Rattle.pb_page.specs.Inner.Grown.{Grows};
-ghost use Rattle.pb_page.specs.Page.{winner_table, winners, won_row, won_rows};
+ghost use Rattle.pb_page.specs.Inner.Pieces.{winner_table};
+ghost use Rattle.pb_page.specs.Page.{winners, won_row, won_rows};
 
 use crate::forms::{called, width};
-use crate::part::Part;
 use crate::put::put;
+use crate::templates::{NO_WINNERS, TABLE_CLOSING, WINNER, WINNERS_OPENING};
 use pb_core::election::Election;
 use pb_core::money::Money;
 use pb_core::no_memory::NoMemory;
@@ -30,7 +31,7 @@ pub(crate) fn put_winners(
     ensures { OnOk result (Grows page.old.items page.new.items (winners election.now teller.now.1)) }
 {
     if elected.is_empty() {
-        return put(page, alloc, Part::NoWinners, &[]);
+        return put(page, alloc, NO_WINNERS, &[]);
     }
     put_table(page, alloc, election, teller, elected)
 }
@@ -48,9 +49,9 @@ fn put_table(
     requires known { All (λ w. w.place < length election.now.projects) elected.now }
     ensures { OnOk result (Grows page.old.items page.new.items (winner_table election.now teller.now.1)) }
 {
-    put(page, alloc, Part::WinnersOpening, &[])?;
+    put(page, alloc, WINNERS_OPENING, &[])?;
     put_rows(page, alloc, election, teller, elected)?;
-    put(page, alloc, Part::TableClosing, &[])
+    put(page, alloc, TABLE_CLOSING, &[])
 }
 
 /// A row for each winner.
@@ -105,7 +106,7 @@ fn put_won(
     put(
         page,
         alloc,
-        Part::Winner,
+        WINNER,
         &[
             Value::Text(project.id()),
             Value::Number(u64::from(won.round)),

@@ -4,4 +4,4 @@ use Rattle.pb_page.proofs.Grown.{one}
 use Rattle.pb_page.proofs.put.put.Goals as goal
 
 pub returns : goal.returns
-returns c = one c.args.part (map text_of c.args.values.now) _ _ (rw c.piece.ensures at c.in_ok-fill.ensures)
+returns c = one c.args.piece.now (map text_of c.args.values.now) _ _ c.in_ok-fill.ensures

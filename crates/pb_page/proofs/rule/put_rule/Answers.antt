@@ -5,4 +5,4 @@ pub returns : goal.returns
 returns c =
     rw (← c.outcome.view_is)
     (then_put _ _ _ _ _ _ c.in_ok-put_share.ensures
-    (then_put _ _ _ _ _ _ (rw c.order_part.ensures at c.in_ok-put.ensures) (rw c.raises_part.ensures at c.put-2.ensures)))
+    (then_put _ _ _ _ _ _ c.in_ok-put_order.ensures c.put_raises.ensures))

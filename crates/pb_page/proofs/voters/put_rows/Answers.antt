@@ -1,4 +1,4 @@
-use Rattle.pb_page.specs.Page.{exact_row}
+use Rattle.pb_page.specs.Inner.Pieces.{exact_row}
 use Rattle.pb_page.proofs.Grown.{none, place_more}
 use Rattle.pb_page.proofs.voters.put_rows.Goals as goal
 

@@ -1,7 +1,7 @@
 use Rattle.std.specs.List.{range_with_len}
 use Rattle.std.specs.Prelude.{flat_map}
 use Rattle.pb_page.specs.Inner.Grown.{Grows}
-use Rattle.pb_page.specs.Page.{exact_row}
+use Rattle.pb_page.specs.Inner.Pieces.{exact_row}
 use Rattle.pb_page.proofs.voters.put_rows.Given as goal
 
 abbrev pub invariant-loop-number : goal.invariant-loop-number
