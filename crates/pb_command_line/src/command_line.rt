@@ -7,8 +7,8 @@ use pb_rounds::measure::Measure;
 use pb_rounds::options::{Completion, CountOptions};
 use std::alloc::{AllocError, Global};
 
-/// The program's version.
-const VERSION: &str = "1.0.0";
+/// The program's version, and of which commit it is, which `tools/package` fills in.
+const VERSION: &str = "1.0.0 (built from source; which commit is not recorded)";
 
 /// The measures by their names, votes first.
 const MEASURES: &[&str] = &["votes", "cost"];
@@ -32,7 +32,8 @@ Statuses: 0 the result is written whole, 1 a file, script, journal or count is r
 refused, 3 a device failed or memory was refused. A refusal is one line on standard output, for programs; words for
 people stand on standard error.
 
-The formats, and what to do about each fault: docs/formats.md. What a count does: docs/counting.md.";
+Manual pages: man pb_app-count, and so for each command. The files: man pb_app-election, man pb_app-journal. What to do
+about each fault: man pb_app-faults. What a count does: man pb_app-counting. An office's days: man pb_app-office.";
 
 /// What stands below the arguments of `serve`.
 const AFTER_SERVE: &str =
@@ -53,7 +54,7 @@ Examples:
 Statuses: 0, and 1 where a row was not of the form or FILE or JOURNAL is refused; 2 the arguments are refused; 3 a device
 failed, memory was refused, or another serve has JOURNAL (fault;locked;2).
 
-An office's days with it: docs/office.md.";
+Manual pages: man pb_app-script, man pb_app-journal, man pb_app-office.";
 
 /// What an argument of a command takes.
 #[derive(Clone, Copy)]
@@ -86,6 +87,8 @@ struct Argument {
 #[derive(Clone, Copy)]
 struct CommandForm {
     name: &'static str,
+    /// What stands below its arguments.
+    notes: &'static str,
     about: &'static str,
     arguments: &'static [Argument],
 }
@@ -265,6 +268,7 @@ const NO_TITLE: &str = "Participatory budgeting";
 const COMMANDS: &[CommandForm] = &[
     CommandForm {
         name: "count",
+        notes: "Manual pages: man pb_app-election, man pb_app-report, man pb_app-counting.",
         about: "Counts a .pb file, and prints the report",
         arguments: &[
             ELECTION, WORKERS, STEP, RAISES, PLAIN, MEASURE, STRICT, OUTPUT, QUIET, PROGRESS,
@@ -272,6 +276,7 @@ const COMMANDS: &[CommandForm] = &[
     },
     CommandForm {
         name: "projects",
+        notes: "Manual pages: man pb_app-election, man 5 pb_app-projects, man pb_app-counting.",
         about: "Counts a .pb file, and prints who won and why, and what the others lacked at the last share",
         arguments: &[
             ELECTION, LEFT_BY, OTHER_FILE, WORKERS, STEP, RAISES, PLAIN, MEASURE, STRICT, OUTPUT,
@@ -280,6 +285,7 @@ const COMMANDS: &[CommandForm] = &[
     },
     CommandForm {
         name: "voters",
+        notes: "Manual pages: man pb_app-election, man 5 pb_app-voters, man pb_app-counting.",
         about: "Counts a .pb file, and prints what each voter paid, and for what",
         arguments: &[
             ELECTION, LEFT_BY, OTHER_FILE, WORKERS, STEP, RAISES, PLAIN, MEASURE, STRICT, OUTPUT,
@@ -288,6 +294,7 @@ const COMMANDS: &[CommandForm] = &[
     },
     CommandForm {
         name: "page",
+        notes: "Manual pages: man pb_app-election, man 5 pb_app-page, man pb_app-counting.",
         about: "Counts a .pb file, and prints the result as a web page that people look at",
         arguments: &[
             ELECTION, LEFT_BY, OTHER_FILE, TITLE, RECOUNT, WORKERS, STEP, RAISES, PLAIN, MEASURE,
@@ -296,6 +303,7 @@ const COMMANDS: &[CommandForm] = &[
     },
     CommandForm {
         name: "export",
+        notes: "Manual pages: man pb_app-election, man 5 pb_app-export, man pb_app-counting.",
         about: "Counts a .pb file, and prints the ballots with the result as a .pb file, which counts the same",
         arguments: &[
             ELECTION, LEFT_BY, OTHER_FILE, WORKERS, STEP, RAISES, PLAIN, MEASURE, STRICT, OUTPUT,
@@ -304,16 +312,19 @@ const COMMANDS: &[CommandForm] = &[
     },
     CommandForm {
         name: "check",
+        notes: "Manual pages: man pb_app-election, man pb_app-faults.",
         about: "Lists all that is wrong with a .pb file, and what is probably not meant",
         arguments: &[ELECTION, OUTPUT, QUIET, PROGRESS],
     },
     CommandForm {
         name: "desk",
+        notes: "Manual pages: man pb_app-election, man pb_app-script, man pb_app-journal.",
         about: "Serves a script's requests on the desk of a .pb file, and prints the journal",
         arguments: &[ELECTION, SCRIPT, CLERKS, SHUT, OUTPUT, QUIET_DESK, PROGRESS],
     },
     CommandForm {
         name: "audit",
+        notes: "Manual pages: man pb_app-election, man pb_app-journal, man pb_app-report, man pb_app-counting.",
         about: "Audits a journal on a .pb file, and prints the report of a shut desk",
         arguments: &[
             ELECTION,
@@ -334,18 +345,11 @@ const COMMANDS: &[CommandForm] = &[
     },
     CommandForm {
         name: "serve",
+        notes: AFTER_SERVE,
         about: "Serves standard input's requests on the desk of a .pb file, whose journal stands in a file",
         arguments: &[SERVED, DURABLE, OTHER_FILE, QUIET_SERVE],
     },
 ];
-
-/// What stands below the arguments of the command with this name.
-fn notes_of(name: &str) -> Option<&'static str> {
-    match name {
-        "serve" => Some(AFTER_SERVE),
-        _ => None,
-    }
-}
 
 /// The command line that the program reads.
 pub(crate) fn command_line<'a>(alloc: Global) -> Result<Command<'a>, AllocError> {
@@ -371,10 +375,9 @@ fn with_command<'a>(
     program: Command<'a>,
     form: &CommandForm,
 ) -> Result<Command<'a>, AllocError> {
-    let mut command = Command::new(alloc, form.name).about(form.about);
-    if let Some(notes) = notes_of(form.name) {
-        command = command.after_help(notes);
-    }
+    let command = Command::new(alloc, form.name)
+        .about(form.about)
+        .after_help(form.notes);
     match with_arguments(alloc, command, form.arguments) {
         Ok(command) => program.subcommand(command),
         Err(refused) => {
