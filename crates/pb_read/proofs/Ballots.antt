@@ -95,7 +95,7 @@ first_place ids place distinct below =
     (λ _. (bytes_eq-Decides (get_or ids place []) (get_or ids place [])).1 refl)
 
 -- the places of the pieces are those of the ids that the vote names
-members : (ids : List (List ℕ)) (vote : List ℕ) → AreDistinct ids → names_only ids vote ≡ true → HasSameMembers (places_in ids (pieces_of vote)) (ballot_of ids vote)
+pub members : (ids : List (List ℕ)) (vote : List ℕ) → AreDistinct ids → names_only ids vote ≡ true → HasSameMembers (places_in ids (pieces_of vote)) (ballot_of ids vote)
 members ids vote distinct known x = (there, back)
   where
     pieces : List (List ℕ)

@@ -13,6 +13,7 @@ pub mod Uniqueness
 pub mod Pieces
 pub mod Ballots
 pub mod DraftFacts
+pub mod IdLists
 pub mod ProgressFacts
 pub mod Tracking
 pub mod Blames

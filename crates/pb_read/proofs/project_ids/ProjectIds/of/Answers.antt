@@ -1,0 +1,23 @@
+use Rattle.std.proofs.Common.{◌≡◌, ◌≢◌, ◌<◌, ◌++◌, [], ◌∷◌, length, map, string_bytes, take_all, sym, ap, subst, ◌∙◌, arith, rules}
+use Rattle.std.specs.List.{AllPairs}
+use Rattle.std.proofs.lemmas.List.{length-map, map_push}
+use Rattle.pb_core.specs.Election.{project_ids}
+use Rattle.pb_read.proofs.IdLists.{HasIds-more, ids_of, no_ids}
+use Rattle.pb_read.proofs.project_ids.ProjectIds.of.Goals as goal
+
+pub loop-project-init : goal.loop-project-init
+loop-project-init c = rw c.new-ids.ensures.items (no_ids c.new-table.result c.projects-project-items.result.now c.new-table.ensures)
+
+pub loop-project-preserved : goal.loop-project-preserved
+loop-project-preserved c =
+    let projects = c.projects-project-items.result.now in
+    let differ : AllPairs (λ a b. a ≢ b) (ids_of projects) = subst (λ ps. AllPairs (λ a b. a ≢ b) (ids_of ps)) (sym c.projects-project-items.ensures.projects) c.projects-project-items.ensures.is_election.projects_differ in
+    let size : c.len.result ≡ length c.loop-project.ids.items = search rules in
+    HasIds-more c.loop-project.table c.insert.new.self _ _ projects c.loop-project.project-index _ c.project-item.result c.id-id.result.now c.loop-project.invariant
+    differ (search rules) c.project-item.is c.id-id.ensures.id (size ∙ sym (length-map c.loop-project.ids.items string_bytes)) c.in_ok-insert.ensures.ok (ap (map string_bytes) c.in_ok-push.ensures.items ∙ map_push string_bytes c.loop-project.ids.items _ ∙ ap (λ text. map string_bytes c.loop-project.ids.items ++ text ∷ []) (search rules))
+
+pub invariant_of-result : goal.invariant_of-result
+invariant_of-result c =
+    let projects = c.projects-project-items.result.now in
+    let differ : AllPairs (λ a b. a ≢ b) (ids_of projects) = subst (λ ps. AllPairs (λ a b. a ≢ b) (ids_of ps)) (sym c.projects-project-items.ensures.projects) c.projects-project-items.ensures.is_election.projects_differ in
+    (c.loop-project.invariant.found, (subst (AllPairs (λ a b. a ≢ b)) (sym (c.loop-project.invariant.are ∙ ap ids_of (take_all c.loop-project.project-index projects (search rules)))) differ, tt))
