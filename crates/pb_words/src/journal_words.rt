@@ -119,8 +119,8 @@ fn put_wrong_answer<R: Files>(
         ", request {}: the answer is {}",
         &[Bytes(bytes_at(row, 2)), Bytes(bytes_at(row, 5))],
     );
-    match audited.told_at(row, mark.at) {
-        Some(told) => told.put(out),
+    match audited.answer_at(row, mark) {
+        Some(answer) => answer.put(out, raw_text(row, 2)),
         None => out.put(", and the desk gives another.\n"),
     }
     out.put(

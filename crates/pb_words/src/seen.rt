@@ -34,9 +34,6 @@ pub(crate) struct Seen {
     pub(crate) max_length: Option<Given>,
     /// The first row of the section that seems to be meant as a head.
     pub(crate) odd_head: Option<OddHead>,
-    /// How many rows PROJECTS and VOTES have.
-    pub(crate) projects: u64,
-    pub(crate) votes: u64,
     /// The last record that is not blank.
     pub(crate) last: Mark,
 }
@@ -51,8 +48,6 @@ impl Seen {
             vote_type: None,
             max_length: None,
             odd_head: None,
-            projects: 0,
-            votes: 0,
             last: Mark::start(),
         }
     }
@@ -78,15 +73,6 @@ impl Seen {
         self.take_head(record, mark);
     }
 
-    /// Counts a row that is left out.
-    pub(crate) fn count(&mut self) {
-        match self.stage {
-            Stage::Rows(Section::Projects) => self.projects = self.projects.saturating_add(1),
-            Stage::Rows(Section::Votes) => self.votes = self.votes.saturating_add(1),
-            _ => {}
-        }
-    }
-
     fn take_plain(&mut self, record: &ByteRecord, mark: Mark) {
         match self.stage {
             Stage::Start => {}
@@ -100,11 +86,8 @@ impl Seen {
                 self.take_head(record, mark);
                 self.take_key(text_at(record, 0), mark)
             }
-            Stage::Rows(Section::Projects) => {
-                self.take_head(record, mark);
-                self.count()
-            }
-            Stage::Rows(Section::Votes) => self.count(),
+            Stage::Rows(Section::Projects) => self.take_head(record, mark),
+            Stage::Rows(Section::Votes) => {}
         }
     }
 

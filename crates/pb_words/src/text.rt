@@ -11,7 +11,7 @@ use std::rt::Files;
 #[derive(Drop)]
 pub(crate) struct Text<'a, R> {
     pub(crate) rt: &'a R,
-    alloc: Global,
+    pub(crate) alloc: Global,
     /// Its path; none is standard input.
     pub(crate) path: Option<&'a str>,
     /// What its records are called: a .pb file's `record`, a script's or a journal's `row`.
