@@ -2,6 +2,7 @@
 //! the desk that took its ballots.
 #![tactic(auto)]
 
+mod admitted;
 mod audit;
 mod counted;
 mod journal;

@@ -1,6 +1,7 @@
 //! What the command line asks for, done on real files.
 
 use crate::Terminals;
+use crate::admitted::{Told, rules_of};
 use crate::audit::audit;
 use crate::counted::CountedWriter;
 use crate::journal::open_with_journal;
@@ -13,7 +14,7 @@ use crate::words::is_quiet;
 use pb_command_line::{Asked, Ballots, DeskRun, Source, Task};
 use pb_commands::run_check::run_check;
 use pb_commands::run_count::run_count_watched;
-use pb_commands::run_desk::run_desk;
+use pb_commands::run_desk::run_admitted_desk;
 use pb_commands::run_export::{run_closed_export, run_export};
 use pb_commands::run_table::{run_closed_table, run_table};
 use pb_commands::{AppFault, Counting, Table};
@@ -53,7 +54,7 @@ pub(crate) enum Refusal {
     Moved(Result<u32, Error>),
     /// An answer could not be written; what it answers stands.
     Unanswered,
-    /// All rows were answered; so many were not of the form.
+    /// All rows were answered, and some were refused; so many were not of the form.
     BadRows(u64),
 }
 
@@ -186,11 +187,10 @@ where
         Task::Check(source) => check(counting, source, writer, notes),
         Task::Desk(asked) => desk(counting, asked, writer, &mut notes.written),
         Task::Audit(asked) => audit(counting, asked, writer, kinship, notes),
-        Task::Serve(file, journal) => {
+        Task::Serve(asked) => {
             return serve(
                 counting.rt,
-                file,
-                journal,
+                asked,
                 kinship,
                 writer,
                 &mut notes.written,
@@ -278,14 +278,23 @@ fn desk<R, W: Write>(
     tally: &mut Tally,
 ) -> Result<(), AppFault>
 where
-    R: Files + Input + Eprint + Clock + Threads + Sync,
+    R: Files + Input + Eprint + Clock + AllocGlobal + Threads + Sync,
 {
     let (rt, alloc) = (counting.rt, counting.alloc);
     let (file, script) = open_both(rt, &asked.file, &asked.script)?;
     let file = Shown::new(file, counting.gate);
+    let rules = match rules_of(rt, &asked.admits) {
+        Ok(rules) => rules,
+        Err(fault) => {
+            drop(file);
+            drop(script);
+            return Err(fault);
+        }
+    };
     let (clerks, shuts) = (asked.clerks, asked.shuts);
     let mut entries = CountedWriter::new(writer, tally);
-    run_desk(
+    let told = Told::script(rt, &asked.admits);
+    run_admitted_desk(
         rt,
         alloc,
         file,
@@ -293,6 +302,8 @@ where
         clerks,
         shuts,
         &NoGate,
+        rules,
+        &told,
         &mut entries,
     )
 }

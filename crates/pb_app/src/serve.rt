@@ -1,18 +1,22 @@
 //! The command `serve`: a desk that stands on a file.
 
+use crate::admitted::{Told, rules_of};
 use crate::counted::CountedWriter;
 use crate::kinship::{Kinship, standing_of};
 use crate::perform::Refusal;
 use crate::typing::{HeardWriter, TypedReader, Typing};
 use crate::words;
+use pb_command_line::{Admits, ServeRun};
 use pb_commands::AppFault;
+use pb_commands::run_desk::admission_of;
 use pb_core::election::Election;
 use pb_durable::file_beside::{name_file, read_file_beside};
 use pb_durable::file_device::{FileDevice, FileFailure, FileFault, fault_of, keep_beside};
 use pb_durable::{Belonging, Beside, Device, DeviceFault, DurableDesk, JournalFile, Opened};
 use pb_read::read_pb;
-use pb_script::ROOM;
-use pb_serving::run_serve::run_serve;
+use pb_rows::read_number;
+use pb_script::{Admission, ROOM};
+use pb_serving::run_serve::run_admitted;
 use pb_serving::{AtHand, Incoming, Paced, ServingFault};
 use pb_streams::{Digested, open_file};
 use pb_words::Tally;
@@ -53,12 +57,19 @@ impl<R: Files<File = File> + Eprint + AllocGlobal> Beside for TornFile<'_, R> {
     }
 }
 
-/// Serves the requests of standard input on the desk of the .pb file with this path, which stands on the journal with that
-/// one. FILE is read before the journal is opened or made.
+/// Which requests a run admits, who hears of those that it does not, and whether rows are typed.
+#[derive(Drop)]
+struct Hearing<'a, R> {
+    admission: &'a Admission,
+    told: Told<'a, R>,
+    typing: &'a Typing,
+}
+
+/// Serves the requests of standard input on the desk of a .pb file, which stands on a journal. FILE and the roll are read
+/// before the journal is opened or made.
 pub(crate) fn serve<R, W: Write>(
     rt: &R,
-    file: &str,
-    journal: &str,
+    asked: &ServeRun<'_>,
     kinship: &Kinship,
     writer: &mut W,
     tally: &mut Tally,
@@ -68,14 +79,13 @@ where
     R: Files<File = File> + Input + Eprint + Clock + AllocGlobal,
 {
     let mut answers = CountedWriter::new(writer, tally);
-    serve_file(rt, file, journal, kinship, typing, &mut answers)
+    serve_file(rt, asked, kinship, typing, &mut answers)
 }
 
 /// The same; what is written is counted.
 fn serve_file<R, W: Write>(
     rt: &R,
-    file: &str,
-    journal: &str,
+    asked: &ServeRun<'_>,
     kinship: &Kinship,
     typing: &Typing,
     writer: &mut W,
@@ -83,19 +93,24 @@ fn serve_file<R, W: Write>(
 where
     R: Files<File = File> + Input + Eprint + Clock + AllocGlobal,
 {
-    let file = Digested::new(open_file(rt, file, 1)?, &kinship.file);
-    let election = match read_pb(rt.alloc(), file) {
-        Ok(election) => election,
-        Err(fault) => return Err(Refusal::Fault(AppFault::from(fault))),
-    };
+    let (election, admission) = read_both(rt, asked, kinship)?;
     let failure = Cell::new(None);
-    match FileDevice::open(rt, journal, &failure) {
-        Ok(device) => serve_device(rt, election, device, journal, kinship, typing, writer),
+    let served = match FileDevice::open(rt, asked.journal, &failure) {
+        Ok(device) => {
+            let hearing = Hearing {
+                admission: &admission,
+                told: Told::rows(rt, &asked.admits),
+                typing,
+            };
+            serve_device(rt, election, device, asked.journal, kinship, &hearing, writer)
+        }
         Err(fault) => {
             drop(election);
             Err(unopened(fault))
         }
-    }
+    };
+    drop(admission);
+    served
 }
 
 /// Serves the desk of an election whose journal stands on a device, if it belongs to the .pb file that was read.
@@ -105,7 +120,7 @@ fn serve_device<R, W: Write>(
     mut device: FileDevice<'_, R>,
     journal: &str,
     kinship: &Kinship,
-    typing: &Typing,
+    hearing: &Hearing<'_, R>,
     writer: &mut W,
 ) -> Result<(), Refusal>
 where
@@ -125,10 +140,10 @@ where
         journal,
         failure: &beside,
     };
-    let mut answers = HeardWriter::new(writer, typing);
+    let mut answers = HeardWriter::new(writer, hearing.typing);
     let served = match open_on(rt, election, device, &mut torn) {
         Ok((desk, torn)) => match keep_file(rt, journal, standing, kinship) {
-            Ok(()) => serve_desk(rt, desk, torn, typing, &mut answers),
+            Ok(()) => serve_desk(rt, desk, torn, hearing, &mut answers),
             Err(refusal) => {
                 drop(desk);
                 return Err(refusal);
@@ -138,7 +153,7 @@ where
     };
     match served {
         Ok(0) => Ok(()),
-        Ok(rows) => Err(Refusal::BadRows(rows)),
+        Ok(rows) => Err(Refusal::BadRows(rows.saturating_sub(hearing.told.by_rules()))),
         Err(fault) => Err(refusal_of(fault, failure.get(), beside.get())),
     }
 }
@@ -222,6 +237,53 @@ where
     }
 }
 
+/// The election of the .pb file, and which requests are admitted on its desk.
+fn read_both<R>(
+    rt: &R,
+    asked: &ServeRun<'_>,
+    kinship: &Kinship,
+) -> Result<(Election, Admission), AppFault>
+where
+    R: Files<File = File> + Eprint + AllocGlobal,
+{
+    let file = Digested::new(open_file(rt, asked.file, 1)?, &kinship.file);
+    let election = read_pb(rt.alloc(), file)?;
+    match admission_on(rt, &asked.admits, &election) {
+        Ok(admission) => Ok((election, admission)),
+        Err(fault) => {
+            drop(election);
+            Err(fault)
+        }
+    }
+}
+
+/// Which requests are admitted on the desk of this election.
+fn admission_on<R>(rt: &R, admits: &Admits<'_>, election: &Election) -> Result<Admission, AppFault>
+where
+    R: Files<File = File> + Eprint + AllocGlobal,
+{
+    let rules = rules_of(rt, admits)?;
+    if !rules.by_id {
+        warn_of_ids(rt, election)?;
+    }
+    Ok(admission_of(rt.alloc(), rules, election)?)
+}
+
+/// Says, once, that an id of the election is itself a number below the number of projects, where one is: a place and an id
+/// are then easily confused.
+fn warn_of_ids<R: Eprint + AllocGlobal>(rt: &R, election: &Election) -> Result<(), AppFault> {
+    let projects = election.projects();
+    for project in projects {
+        if let Some(number) = read_number(project.id()) {
+            if (number as usize) < projects.len() {
+                words::say_like_a_place(rt, project.id());
+                return Ok(());
+            }
+        }
+    }
+    Ok(())
+}
+
 /// Opens the desk of an election on a device. Answers how many bytes were cut off, too.
 fn open_on<'a, R, B: Beside>(
     rt: &R,
@@ -248,18 +310,26 @@ fn serve_desk<R, W: Write>(
     rt: &R,
     mut desk: DurableDesk<FileDevice<'_, R>>,
     torn: usize,
-    typing: &Typing,
+    hearing: &Hearing<'_, R>,
     writer: &mut W,
 ) -> Result<u64, ServingFault>
 where
     R: Files<File = File> + Input + Eprint + AllocGlobal,
 {
     let at_hand = AtHand::new();
-    let served = match Paced::new(rt.alloc(), TypedReader::new(rt, typing), &at_hand) {
+    let served = match Paced::new(rt.alloc(), TypedReader::new(rt, hearing.typing), &at_hand) {
         Ok(input) => {
             let pace = &at_hand;
             let incoming = Incoming { input, pace };
-            run_serve(rt.alloc(), &mut desk, torn, incoming, writer)
+            run_admitted(
+                rt.alloc(),
+                &mut desk,
+                torn,
+                incoming,
+                hearing.admission,
+                &hearing.told,
+                writer,
+            )
         }
         Err(_) => Err(ServingFault::App(AppFault::Memory)),
     };

@@ -18,6 +18,10 @@ use pb_words::output_words::{
     beside_output_words, journal_output_words, read_output_words, served_output_words,
 };
 use pb_words::read_words::{list_words, read_words};
+use pb_script::{RowRefusal, ScriptFault};
+use pb_words::refused_words::{
+    like_a_place_words, not_on_roll_words, roll_words, too_few_words, unknown_id_words,
+};
 use pb_words::script_words::script_words;
 use pb_words::serve_words::{
     bad_rows_words, locked_words, lost_words, moved_words, spelling_words, torn_words,
@@ -86,8 +90,14 @@ pub(crate) fn say_refusal<R: Files + Eprint + AllocGlobal>(
         Refusal::Fault(AppFault::Export(_)) => say(rt, COMMA_IN_ID),
         Refusal::Fault(AppFault::Memory) => say(rt, NO_MEMORY),
         Refusal::Fault(AppFault::Warned(_)) => say(rt, STRICT),
+        // It was said when the row was read.
+        Refusal::Fault(AppFault::Script(
+            ScriptFault::UnknownId(_) | ScriptFault::NotOnRoll(_) | ScriptFault::TooFew(_),
+        )) => {}
         Refusal::Fault(fault) => say_words(rt, words_of(rt, asked, fault, failure, audited)),
         Refusal::Unanswered => say_words(rt, unanswered_words(rt.alloc(), failure)),
+        // Why each of the others was refused was said when it was read.
+        Refusal::BadRows(0) => {}
         _ => say_words(rt, words_of_serve(rt.alloc(), &asked.task, refusal)),
     }
 }
@@ -168,8 +178,10 @@ fn words_of<R: Files + AllocGlobal>(
         }
         AppFault::Count(fault) => count_words(alloc, first, *fault, &asked.task.options()),
         AppFault::Open(1) => open_words(rt, alloc, first.unwrap_or("-")),
+        AppFault::Open(3) => open_words(rt, alloc, asked.task.roll().unwrap_or("-")),
         AppFault::Open(_) => open_words(rt, alloc, second.unwrap_or("-")),
         AppFault::Write => write_words(alloc, asked.output, failure),
+        AppFault::Roll(fault) => roll_words(alloc, asked.task.roll().unwrap_or("-"), *fault),
         AppFault::OtherFile
         | AppFault::OpenDesk
         | AppFault::Export(_)
@@ -338,6 +350,30 @@ fn words_of_adopted(alloc: Global, journal: &str, digest: &str) -> Result<String
     let words = adopted_words(alloc, journal, beside.as_str(), digest);
     drop(beside);
     words
+}
+
+/// Says why a rule refuses the row with this number, from 1, and what of it: `unknown` is the id that no project has, where
+/// that is why.
+pub(crate) fn say_refused_row<R: Eprint + AllocGlobal>(
+    rt: &R,
+    row: u64,
+    why: RowRefusal,
+    unknown: &str,
+    least: u32,
+    refuses_script: bool,
+) {
+    let alloc = rt.alloc();
+    let words = match why {
+        RowRefusal::UnknownId => unknown_id_words(alloc, row, unknown, refuses_script),
+        RowRefusal::TooFew => too_few_words(alloc, row, least, refuses_script),
+        RowRefusal::NotOnRoll | RowRefusal::Bad => not_on_roll_words(alloc, row, refuses_script),
+    };
+    say_words(rt, words);
+}
+
+/// Says that this id of a project reads as a place.
+pub(crate) fn say_like_a_place<R: Eprint + AllocGlobal>(rt: &R, id: &str) {
+    say_words(rt, like_a_place_words(rt.alloc(), id));
 }
 
 fn say_words<R: Eprint>(rt: &R, words: Result<String, AllocError>) {

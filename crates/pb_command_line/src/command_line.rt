@@ -1,6 +1,8 @@
 //! The commands and options that the program knows, and what parsed arguments ask for.
 
-use crate::task::{Asked, AuditRun, Ballots, DeskRun, PageRun, Source, Task};
+use crate::task::{
+    Admits, Asked, AuditRun, Ballots, DeskRun, PageRun, ServeRun, Source, Task,
+};
 use clap::{Arg, ArgAction, ArgMatches, Command, value_parser};
 use pb_core::money::Money;
 use pb_rounds::measure::Measure;
@@ -39,8 +41,10 @@ about each fault: man pb_app-faults. What a count does: man pb_app-counting. An 
 const AFTER_SERVE: &str =
     "Standard input has a request a row, as a script has them: clerk;request;voter;places. Each row is answered by its row of
 the journal, once that is on the disk; a row of another form is answered by fault;script;2;BadRow;I, and changes
-nothing. The first rows say how many bytes were cut off the journal's end and kept in JOURNAL.torn (torn;BYTES), if any,
-and how many entries it has (entries;N;open or entries;N;shut).
+nothing. So is a row with an id that no project has (5;UnknownId), of a voter who is not on the roll (6;NotOnRoll), or of
+fewer projects than --min says (7;TooFew), where these options are given. The first rows say how many bytes were cut off
+the journal's end and kept in JOURNAL.torn (torn;BYTES), if any, and how many entries it has (entries;N;open or
+entries;N;shut).
 
 JOURNAL.file says which file the journal belongs to: its first line is the SHA-256 of FILE. With another FILE the same
 places are other projects, so once there are entries it is refused (fault;other-file). --other-file goes on with it: each
@@ -49,9 +53,10 @@ ballot keeps its places, so only names, costs and what stands behind the last pr
 Examples:
   pb_app serve city.pb city.journal
   pb_app serve city.pb city.journal < requests.script > answers
+  pb_app serve city.pb city.journal --by-id --roll voters.csv --min 1
   pb_app serve city.pb city.journal < /dev/null
 
-Statuses: 0, and 1 where a row was not of the form or FILE or JOURNAL is refused; 2 the arguments are refused; 3 a device
+Statuses: 0, and 1 where a row is refused or FILE, JOURNAL or ROLL is; 2 the arguments are refused; 3 a device
 failed, memory was refused, or another serve has JOURNAL (fault;locked;2).
 
 Manual pages: man pb_app-script, man pb_app-journal, man pb_app-office.";
@@ -63,6 +68,8 @@ enum Takes {
     Path,
     /// Where a text is read from, which its help calls so, behind an option.
     OptionalSource(&'static str),
+    /// The path of a file, which its help calls so, behind an option.
+    OptionalFile(&'static str),
     /// The path of a file, behind an option of this one letter too.
     OptionalPath(char),
     /// A whole number, which its help calls so.
@@ -147,6 +154,27 @@ const SHUT: Argument = Argument {
     name: "shut",
     takes: Takes::Nothing,
     help: "Shuts the desk by a last entry of clerk 0, after all rows; a shut row cuts off other clerks' rows",
+};
+
+/// Whether rows name projects by their ids.
+const BY_ID: Argument = Argument {
+    name: "by-id",
+    takes: Takes::Nothing,
+    help: "Rows name projects by their ids, separated by `,` as a vote's are, and not by their places",
+};
+
+/// The voters' roll.
+const ROLL: Argument = Argument {
+    name: "roll",
+    takes: Takes::OptionalFile("ROLL"),
+    help: "Takes requests only for the voters of this file, whose rows have their ids first",
+};
+
+/// How many projects a ballot has at least.
+const LEAST: Argument = Argument {
+    name: "min",
+    takes: Takes::Number("N"),
+    help: "How many projects a ballot that is cast or replaced has at least [default: 0]",
 };
 
 /// How many workers a count has.
@@ -320,7 +348,9 @@ const COMMANDS: &[CommandForm] = &[
         name: "desk",
         notes: "Manual pages: man pb_app-election, man pb_app-script, man pb_app-journal.",
         about: "Serves a script's requests on the desk of a .pb file, and prints the journal",
-        arguments: &[ELECTION, SCRIPT, CLERKS, SHUT, OUTPUT, QUIET_DESK, PROGRESS],
+        arguments: &[
+            ELECTION, SCRIPT, CLERKS, SHUT, BY_ID, ROLL, LEAST, OUTPUT, QUIET_DESK, PROGRESS,
+        ],
     },
     CommandForm {
         name: "audit",
@@ -347,7 +377,9 @@ const COMMANDS: &[CommandForm] = &[
         name: "serve",
         notes: AFTER_SERVE,
         about: "Serves standard input's requests on the desk of a .pb file, whose journal stands in a file",
-        arguments: &[SERVED, DURABLE, OTHER_FILE, QUIET_SERVE],
+        arguments: &[
+            SERVED, DURABLE, OTHER_FILE, BY_ID, ROLL, LEAST, QUIET_SERVE,
+        ],
     },
 ];
 
@@ -408,7 +440,7 @@ fn made<'a>(alloc: Global, argument: &Argument) -> Arg<'a> {
             .value_name(argument.name)
             .required(true)
             .action(ArgAction::Set),
-        Takes::OptionalSource(name) => arg
+        Takes::OptionalSource(name) | Takes::OptionalFile(name) => arg
             .long(argument.name)
             .value_name(name)
             .action(ArgAction::Set),
@@ -475,8 +507,13 @@ fn task_of<'a>(name: &str, given: &ArgMatches<'a>) -> Task<'a> {
             script: source_of(given, "SCRIPT"),
             clerks: given.get_one("clerks").unwrap_or(1),
             shuts: given.get_flag("shut"),
+            admits: admits_of(given),
         }),
-        "serve" => Task::Serve(path_of(given, "FILE"), path_of(given, "JOURNAL")),
+        "serve" => Task::Serve(ServeRun {
+            file: path_of(given, "FILE"),
+            journal: path_of(given, "JOURNAL"),
+            admits: admits_of(given),
+        }),
         _ => Task::Audit(AuditRun {
             file,
             journal: source_of(given, "JOURNAL"),
@@ -484,6 +521,15 @@ fn task_of<'a>(name: &str, given: &ArgMatches<'a>) -> Task<'a> {
             requires_shut: given.get_flag("require-shut"),
             digests: given.get_flag("digests"),
         }),
+    }
+}
+
+/// Which requests a desk admits.
+fn admits_of<'a>(given: &ArgMatches<'a>) -> Admits<'a> {
+    Admits {
+        by_id: given.get_flag("by-id"),
+        roll: given.get_str("roll"),
+        least: given.get_one("min").unwrap_or(0),
     }
 }
 

@@ -7,4 +7,4 @@ pub mod parse;
 pub mod task;
 
 pub use parse::Parsed;
-pub use task::{Asked, AuditRun, Ballots, DeskRun, PageRun, Source, Task};
+pub use task::{Admits, Asked, AuditRun, Ballots, DeskRun, PageRun, ServeRun, Source, Task};

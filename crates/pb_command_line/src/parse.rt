@@ -2,7 +2,7 @@
 
 use crate::address::is_address;
 use crate::command_line::{asked_by, command_line};
-use crate::task::{Asked, PageRun, Source, Task};
+use crate::task::{Admits, Asked, PageRun, ServeRun, Source, Task};
 use clap::Error;
 use clap::error::ErrorKind;
 use std::alloc::{AllocError, Global};
@@ -63,8 +63,14 @@ fn read_twice(task: &Task<'_>) -> Option<&'static str> {
 /// The argument that is standard input where the requests stand there, if it is.
 fn needs_path(task: &Task<'_>) -> Option<&'static str> {
     match task {
-        Task::Serve("-", _) => Some("FILE"),
-        Task::Serve(_, "-") => Some("JOURNAL"),
+        Task::Serve(ServeRun { file: "-", .. }) => Some("FILE"),
+        Task::Serve(ServeRun { journal: "-", .. }) => Some("JOURNAL"),
+        Task::Serve(ServeRun {
+            admits: Admits {
+                roll: Some("-"), ..
+            },
+            ..
+        }) => Some("ROLL"),
         _ => None,
     }
 }

@@ -40,6 +40,26 @@ impl<'a> Ballots<'a> {
     }
 }
 
+/// Which requests a desk admits, and how their rows name projects.
+#[derive(Clone, Copy)]
+pub struct Admits<'a> {
+    /// Rows name projects by their ids, and not by their places.
+    pub by_id: bool,
+    /// The path of the voters' roll.
+    pub roll: Option<&'a str>,
+    /// How many projects a ballot has at least.
+    pub least: u32,
+}
+
+/// A desk of a .pb file that stands on a journal; standard input asks.
+#[derive(Clone, Copy)]
+pub struct ServeRun<'a> {
+    /// The path of the .pb file.
+    pub file: &'a str,
+    pub journal: &'a str,
+    pub admits: Admits<'a>,
+}
+
 /// A run of the desk of a .pb file, whose clerks serve a script.
 #[derive(Clone, Copy)]
 pub struct DeskRun<'a> {
@@ -50,6 +70,7 @@ pub struct DeskRun<'a> {
     pub clerks: u32,
     /// The desk is shut at the end.
     pub shuts: bool,
+    pub admits: Admits<'a>,
 }
 
 /// An audit of a journal on a .pb file.
@@ -96,8 +117,8 @@ pub enum Task<'a> {
     Desk(DeskRun<'a>),
     /// An audit of a journal on a .pb file.
     Audit(AuditRun<'a>),
-    /// A desk of the .pb file with the first path, whose journal is the file with the second; standard input asks.
-    Serve(&'a str, &'a str),
+    /// A desk of a .pb file that stands on a journal.
+    Serve(ServeRun<'a>),
 }
 
 impl<'a> Task<'a> {
@@ -124,7 +145,19 @@ impl<'a> Task<'a> {
             | Task::Page(PageRun { ballots, .. }) => (ballots.file, ballots.journal),
             Task::Desk(DeskRun { file, script, .. }) => (file, Some(script)),
             Task::Audit(AuditRun { file, journal, .. }) => (file, Some(journal)),
-            Task::Serve(file, journal) => (Source::File(file), Some(Source::File(journal))),
+            Task::Serve(ServeRun { file, journal, .. }) => {
+                (Source::File(file), Some(Source::File(journal)))
+            }
+        }
+    }
+
+    /// The path of the voters' roll that is read, if there is one.
+    pub fn roll(&self) -> Option<&'a str> {
+        match *self {
+            Task::Desk(DeskRun { admits, .. }) | Task::Serve(ServeRun { admits, .. }) => {
+                admits.roll
+            }
+            _ => None,
         }
     }
 

@@ -75,6 +75,18 @@ const FAULTS: &[(ScriptFault, &str)] = &[
         "3 TooManyRows: there are too many rows",
     ),
     (ScriptFault::NoMemory, "4 NoMemory: out of memory"),
+    (
+        ScriptFault::UnknownId(7),
+        "5 UnknownId: row 7 names an id that no project has",
+    ),
+    (
+        ScriptFault::NotOnRoll(7),
+        "6 NotOnRoll: the voter of row 7 is not on the roll",
+    ),
+    (
+        ScriptFault::TooFew(7),
+        "7 TooFew: the ballot of row 7 has too few projects",
+    ),
 ];
 
 /// The fault's number, name and text are these.

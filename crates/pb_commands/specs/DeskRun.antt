@@ -1,21 +1,35 @@
 -- What a run of `desk` writes, and what it refuses.
-use Rattle.std.specs.Prelude.{ℕ, Bool, List}
-use Rattle.pb_core.specs.Election.{ElectionView}
+use Rattle.std.specs.Prelude.{ℕ, Bool, false, List, None, Some, if◌then◌else◌}
+use Rattle.pb_core.specs.Election.{ElectionView, project_ids}
 use Rattle.pb_read.specs.StandsFor.{StandsFor}
 use Rattle.pb_rows.specs.Reading.{records_of}
 use Rattle.pb_script.specs.Served.{IsServeFault, IsServed}
+use Rattle.pb_script.specs.declared.admission.Admission.{Admission}
 use Rattle.pb_script.specs.declared.serve_fault.ServeFault.TheVariants as serve
+use Rattle.pb_commands.specs.declared.run_desk.Rules.{Rules}
 use Rattle.pb_faults.specs.declared.fault.AppFault.{AppFault}
 use Rattle.pb_faults.specs.declared.fault.AppFault.TheVariants.{Script, ClerkCount}
 
--- what these bytes, as a file and as a script for this many clerks, make a run of `desk` write that shuts the desk
--- at its end, or does not
-abbrev pub DeskWrites : List ℕ → List ℕ → ℕ → Bool → List ℕ → Type 0
-DeskWrites bytes rows clerks shuts text =
-    (e : ElectionView) × StandsFor (records_of bytes) e × IsServed e clerks shuts (records_of rows) text
+-- which requests these rules admit on the desk of an election
+abbrev pub admission_on : Rules → ElectionView → Admission
+admission_on rules e = record {
+  ids = if rules.by_id then Some (project_ids e) else None;
+  roll = rules.roll;
+  least = rules.least;
+}
+
+-- all requests are admitted, and name projects by their places
+abbrev pub open_rules : Rules
+open_rules = record { by_id = false; roll = None; least = 0 }
+
+-- what these bytes, as a file and as a script for this many clerks, make a run of `desk` by these rules write that
+-- shuts the desk at its end, or does not
+abbrev pub DeskWrites : Rules → List ℕ → List ℕ → ℕ → Bool → List ℕ → Type 0
+DeskWrites rules bytes rows clerks shuts text =
+    (e : ElectionView) × StandsFor (records_of bytes) e × IsServed (admission_on rules e) e clerks shuts (records_of rows) text
 
 -- what refuses an election in a run of `desk`: the script's first fault; or the number of clerks
-abbrev pub DeskRefuses : List ℕ → ℕ → ElectionView → AppFault → Type 0
-DeskRefuses rows clerks e (Script fault) = IsServeFault clerks (records_of rows) (serve.Script fault)
-DeskRefuses rows clerks e ClerkCount = IsServeFault clerks (records_of rows) serve.ClerkCount
-DeskRefuses rows clerks e fault = ⊥
+abbrev pub DeskRefuses : Rules → List ℕ → ℕ → ElectionView → AppFault → Type 0
+DeskRefuses rules rows clerks e (Script fault) = IsServeFault (admission_on rules e) clerks (records_of rows) (serve.Script fault)
+DeskRefuses rules rows clerks e ClerkCount = IsServeFault (admission_on rules e) clerks (records_of rows) serve.ClerkCount
+DeskRefuses rules rows clerks e fault = ⊥

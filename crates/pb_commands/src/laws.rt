@@ -12,12 +12,14 @@ ghost use Rattle.pb_rows.specs.Writing.{text_of_row};
 ghost use Rattle.pb_rounds.specs.Counted.{IsCountOf};
 ghost use Rattle.pb_rounds.specs.Outcome.{OutcomeView};
 ghost use Rattle.pb_rounds.specs.declared.options.CountOptions.{CountOptions};
-ghost use Rattle.pb_script.specs.Script.{IsScript, ScriptRowView};
+ghost use Rattle.pb_script.specs.Script.{ScriptRowView};
+ghost use Rattle.pb_script.specs.Scripts.{IsScript};
 ghost use Rattle.pb_script.specs.Serving.{program_room};
 ghost use Rattle.pb_faults.specs.DeskRow.{entries_row};
 ghost use Rattle.pb_commands.specs.Audited.{AuditWrites, IsDeskOf, IsTextOf};
 ghost use Rattle.pb_commands.specs.Counted.{CountWrites};
-ghost use Rattle.pb_commands.specs.DeskRun.{DeskWrites};
+ghost use Rattle.pb_commands.specs.DeskRun.{DeskWrites, admission_on};
+ghost use Rattle.pb_commands.specs.declared.run_desk.Rules.{Rules};
 ghost use Rattle.pb_commands.specs.Report.{report_of};
 
 use pb_core::answer::Answer;
@@ -46,10 +48,11 @@ pub fn journals_recount()
 
     // What `desk` wrote is a desk's: each clerk's entries ask what its rows in the script do, in their order, and no
     // other entries stand there, but where the run shuts the desk one last entry by clerk 0, which shuts it.
-    ensures written { (bytes rows : List ℕ) (clerks : ℕ) (shuts : Bool) (journal : List ℕ)
-        → DeskWrites bytes rows clerks shuts journal
+    ensures written { (rules : Rules) (bytes rows : List ℕ) (clerks : ℕ) (shuts : Bool) (journal : List ℕ)
+        → DeskWrites rules bytes rows clerks shuts journal
         → (d : DeskView) × (script : List ScriptRowView) × (served : List EntryView)
-        × IsDeskOf bytes journal d × IsScript clerks (records_of rows) script
+        × IsDeskOf bytes journal d
+        × IsScript (admission_on rules d.opening.election) clerks (records_of rows) script
         × ((clerk : ℕ) → clerk < clerks → map (λ x. x.request) (filter (λ x. x.clerk == clerk) served)
         ≡ map (λ x. x.request) (filter (λ x. x.clerk == clerk) script))
         × All (λ x. x.clerk < clerks) served

@@ -1,19 +1,33 @@
 //! The command `desk`: a script's requests, served by the clerks of one desk.
 
-ghost use Rattle.std.specs.Prelude.{◌≡◌, ◌≢◌, IfErr, IfSome, OnOk};
-ghost use Rattle.pb_commands.specs.DeskRun.{DeskRefuses, DeskWrites};
+ghost use Rattle.std.specs.Prelude.{◌≡◌, ◌≢◌, IfErr, IfOk, IfSome, OnOk};
+ghost use Rattle.pb_commands.specs.DeskRun.{DeskRefuses, DeskWrites, admission_on, open_rules};
 ghost use Rattle.pb_commands.specs.Inner.DeskRun.{unserved};
 ghost use Rattle.pb_commands.specs.Ends.{Accepts, FailsBy, HasWritten, IfBothKnown, JudgesFile};
 ghost use Rattle.pb_faults.specs.Fault.{merged};
 
+use pb_core::election::Election;
 use pb_core::gate::Gate;
+use pb_core::no_memory::NoMemory;
 use pb_faults::{AppFault, write_out};
-use pb_read::read_pb;
-use pb_script::ServeFault;
-use pb_script::serve_script::serve_script;
+use pb_ids::IdTable;
+use pb_read::{ProjectIds, read_pb};
+use pb_script::serve_script::serve_admitted;
+use pb_script::{Admission, NoNotice, Notice, ServeFault};
 use std::alloc::Global;
 use std::io::{Read, Write};
 use std::thread::Threads;
+
+/// Which requests a desk admits, and how their rows name projects.
+#[derive(Drop)]
+pub struct Rules {
+    /// Rows name projects by their ids, and not by their places.
+    pub by_id: bool,
+    /// The voters' roll; with none a request may be for anybody.
+    pub roll: Option<IdTable>,
+    /// How many projects a ballot has at least.
+    pub least: u32,
+}
 
 /// Reads a .pb file and a script, lets this many clerks serve the script's requests on one desk, side by
 /// side, and writes the desk's journal.
@@ -41,15 +55,66 @@ pub fn run_desk<T: Threads + Sync, P: Read + Drop, S: Read + Drop, G: Gate, W: W
     // clerks allow,
     ensures ok { OnOk result (IfBothKnown (P.remaining file) (S.remaining script)
         (λ bytes rows.
-        HasWritten (DeskWrites bytes rows clerks shuts) (W.contents writer.old) (W.contents writer.new))) }
+        HasWritten (DeskWrites open_rules bytes rows clerks shuts) (W.contents writer.old) (W.contents writer.new))) }
 
     // and they decide which fault comes.
     ensures fault { IfErr result (λ fault. IfBothKnown (P.remaining file) (S.remaining script)
-        (λ bytes rows. FailsBy (DeskRefuses rows clerks) (DeskWrites bytes rows clerks shuts) bytes fault)) }
+        (λ bytes rows. FailsBy (DeskRefuses open_rules rows clerks) (DeskWrites open_rules bytes rows clerks shuts) bytes fault)) }
 
     // A file and a script that have a journal get one, unless a device fails or memory is refused.
     ensures accepts { IfBothKnown (P.remaining file) (S.remaining script)
-        (λ bytes rows. Accepts (DeskWrites bytes rows clerks shuts) result) }
+        (λ bytes rows. Accepts (DeskWrites open_rules bytes rows clerks shuts) result) }
+
+    // The file is judged first, whatever is known of the script.
+    ensures file { IfSome (P.remaining file) (λ bytes. JudgesFile bytes result) }
+
+    // A fault writes nothing, unless it is the writer's.
+    ensures unchanged { IfErr result (λ fault. fault ≢ AppFault.Write → writer.new ≡ writer.old) }
+
+    // Out of memory is one fault.
+    ensures merged { IfErr result (λ fault. merged fault ≡ fault) }
+{
+    let open = Rules {
+        by_id: false,
+        roll: None,
+        least: 0,
+    };
+    run_admitted_desk(rt, alloc, file, script, clerks, shuts, gate, open, &NoNotice, writer)
+}
+
+/// The same, of the requests that these rules admit. A row that they refuse refuses the script, and is told to `notice`.
+pub fn run_admitted_desk<
+    T: Threads + Sync,
+    P: Read + Drop,
+    S: Read + Drop,
+    G: Gate,
+    N: Notice,
+    W: Write,
+>(
+    rt: &T,
+    alloc: Global,
+    file: P,
+    script: S,
+    clerks: u32,
+    shuts: bool,
+    gate: &G,
+    rules: Rules,
+    notice: &N,
+    writer: &mut W,
+) -> Result<(), AppFault>
+    // Where the bytes of both readers are known, what is written is a journal that they and the number of
+    // clerks allow,
+    ensures ok { OnOk result (IfBothKnown (P.remaining file) (S.remaining script)
+        (λ bytes rows.
+        HasWritten (DeskWrites rules bytes rows clerks shuts) (W.contents writer.old) (W.contents writer.new))) }
+
+    // and they decide which fault comes.
+    ensures fault { IfErr result (λ fault. IfBothKnown (P.remaining file) (S.remaining script)
+        (λ bytes rows. FailsBy (DeskRefuses rules rows clerks) (DeskWrites rules bytes rows clerks shuts) bytes fault)) }
+
+    // A file and a script that have a journal get one, unless a device fails or memory is refused.
+    ensures accepts { IfBothKnown (P.remaining file) (S.remaining script)
+        (λ bytes rows. Accepts (DeskWrites rules bytes rows clerks shuts) result) }
 
     // The file is judged first, whatever is known of the script.
     ensures file { IfSome (P.remaining file) (λ bytes. JudgesFile bytes result) }
@@ -61,11 +126,39 @@ pub fn run_desk<T: Threads + Sync, P: Read + Drop, S: Read + Drop, G: Gate, W: W
     ensures merged { IfErr result (λ fault. merged fault ≡ fault) }
 {
     let election = read_pb(alloc, file)?;
-    let text = match serve_script(rt, alloc, election, script, clerks, shuts, gate) {
+    let admission = admission_of(alloc, rules, &election)?;
+    let served = serve_admitted(
+        rt, alloc, election, script, clerks, shuts, gate, &admission, notice,
+    );
+    drop(admission);
+    let text = match served {
         Ok(text) => text,
         Err(fault) => return Err(unserved(fault)),
     };
     write_out(writer, text.as_slice(), AppFault::Write)
+}
+
+/// What these rules admit on the desk of this election.
+pub fn admission_of(
+    alloc: Global,
+    rules: Rules,
+    election: &Election,
+) -> Result<Admission, NoMemory>
+    ensures { IfOk result (λ admission. admission ≡ admission_on rules election.now) }
+{
+    let Rules { by_id, roll, least } = rules;
+    let ids = if by_id {
+        match ProjectIds::of(alloc, election) {
+            Ok(ids) => Some(ids),
+            Err(refused) => {
+                drop(roll);
+                return Err(refused);
+            }
+        }
+    } else {
+        None
+    };
+    Ok(Admission { ids, roll, least })
 }
 
 /// A script that is not served, as a run answers it.

@@ -10,10 +10,13 @@ use Rattle.pb_read.specs.declared.fault.ReadKind.{ReadKind}
 use Rattle.pb_read.specs.declared.fault.ReadKind.TheVariants as read
 use Rattle.pb_rounds.specs.CountFault.{numbered_name as of_count}
 use Rattle.pb_rounds.specs.declared.count_fault.CountFault.TheVariants as count
+use Rattle.pb_script.specs.Roll.{named as of_roll}
+use Rattle.pb_script.specs.declared.roll.RollFault.{RollFault}
+use Rattle.pb_script.specs.declared.roll.RollFault.TheVariants as roll
 use Rattle.pb_script.specs.ScriptFault.{numbered_name as of_script}
 use Rattle.pb_script.specs.declared.script_fault.ScriptFault.TheVariants as script
 use Rattle.pb_faults.specs.declared.fault.AppFault.{AppFault}
-use Rattle.pb_faults.specs.declared.fault.AppFault.TheVariants.{Read, Script, ClerkCount, Audit, OtherFile, OpenDesk, Count, Export, Open, Write, Memory, Warned}
+use Rattle.pb_faults.specs.declared.fault.AppFault.TheVariants.{Read, Script, ClerkCount, Audit, OtherFile, OpenDesk, Count, Export, Open, Write, Memory, Warned, Roll}
 
 -- the same fault, in which out of memory is one case, whichever crate met it
 abbrev pub merged : AppFault → AppFault
@@ -26,12 +29,17 @@ merged (Script script.NoMemory) = Memory
 merged (Audit audit.NoMemory) = Memory
 merged (Count count.NoMemory) = Memory
 merged (Export export.NoMemory) = Memory
+merged (Roll roll.NoMemory) = Memory
 merged fault = fault
 
 -- what is told of a file, a script or a journal that has the fault with this number and name in this record or
 -- row; fault 1 is a reader that failed
 abbrev pub told_at : List ℕ → ℕ → List ℕ → ℕ → ℕ × List (List ℕ)
 told_at what number name at = (if number == 1 then 3 else 1, what ∷ decimal number ∷ name ∷ decimal at ∷ [])
+
+-- the fields of a line of a roll
+abbrev pub roll_fields : RollFault → List (List ℕ)
+roll_fields fault = codes "roll" ∷ (of_roll fault).0 ∷ decimal (of_roll fault).1 ∷ []
 
 -- What is told of a merged fault: the status that the program ends with, and the fields of its line. The status
 -- is 3 where a device failed or memory was refused; 2 where the arguments are refused, the options of a count
@@ -51,6 +59,8 @@ told (Open number) = (3, codes "open" ∷ decimal number ∷ [])
 told Write = (3, codes "write" ∷ [])
 told Memory = (3, codes "memory" ∷ [])
 told (Warned warning) = (1, codes "warning" ∷ name_of warning.oddity ∷ decimal warning.at ∷ [])
+told (Roll (roll.ReadFailed row)) = (3, roll_fields (roll.ReadFailed row))
+told (Roll fault) = (1, roll_fields fault)
 
 -- the line of these fields: a `;` stands before each
 abbrev pub line : List (List ℕ) → List ℕ

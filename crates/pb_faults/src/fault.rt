@@ -5,7 +5,7 @@ use pb_desk::AuditFault;
 use pb_export::ExportFault;
 use pb_read::{ReadFault, ReadKind, Warning};
 use pb_rounds::count_fault::CountFault;
-use pb_script::ScriptFault;
+use pb_script::{RollFault, ScriptFault};
 use std::alloc::AllocError;
 use thiserror::Error;
 
@@ -48,6 +48,9 @@ pub enum AppFault {
     /// The file is accepted, and refused for a warning.
     #[error("a warning of the file")]
     Warned(Warning),
+    /// The voters' roll is refused, or could not be read.
+    #[error("roll: {0}")]
+    Roll(RollFault),
 }
 
 impl AppFault {
@@ -68,7 +71,8 @@ impl AppFault {
             | AppFault::Script(ScriptFault::NoMemory)
             | AppFault::Audit(AuditFault::NoMemory)
             | AppFault::Count(CountFault::NoMemory)
-            | AppFault::Export(ExportFault::NoMemory) => AppFault::Memory,
+            | AppFault::Export(ExportFault::NoMemory)
+            | AppFault::Roll(RollFault::NoMemory) => AppFault::Memory,
             fault => fault,
         }
     }
@@ -119,6 +123,18 @@ impl From<ExportFault> for AppFault {
 
     fn from(fault: ExportFault) -> AppFault {
         AppFault::Export(fault).merged()
+    }
+}
+
+impl From<RollFault> for AppFault {
+    ghost use Rattle.std.specs.Prelude.{◌≡◌};
+    ghost use Rattle.pb_faults.specs.Fault.{merged};
+    ghost use Rattle.pb_faults.specs.declared.fault.AppFault.TheVariants.{Roll};
+
+    ghost from_gives = { λ fault app. app ≡ merged (Roll fault) };
+
+    fn from(fault: RollFault) -> AppFault {
+        AppFault::Roll(fault).merged()
     }
 }
 

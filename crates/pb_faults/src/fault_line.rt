@@ -3,11 +3,12 @@
 ghost use Rattle.std.specs.Prelude.{◌≡◌, ◌++◌, ◌∷◌, ◌==◌, [], OnOk, codes, decimal, if◌then◌else◌, map};
 ghost use Rattle.std.specs.Io.KnownBytes.{Appends};
 ghost use Rattle.pb_faults.specs.Fault.{line, merged, told, told_at};
-ghost use Rattle.pb_script.specs.declared.script_fault.ScriptFault.TheVariants.{BadRow};
+ghost use Rattle.pb_script.specs.ScriptReading.{fault_of_row};
 
 use crate::fault::AppFault;
 use itoa::Buffer;
 use pb_rounds::count_fault::CountFault;
+use pb_script::{RollFault, RowRefusal};
 use std::io;
 use std::io::Write;
 
@@ -53,6 +54,9 @@ impl AppFault {
             AppFault::Warned(warning) => {
                 write_named(writer, "warning", warning.oddity.name(), warning.at)
             }
+            AppFault::Roll(fault) => {
+                write_named(writer, "roll", fault.name(), u64::from(fault.at()))
+            }
         }
     }
 
@@ -72,6 +76,8 @@ impl AppFault {
             | AppFault::Export(_)
             | AppFault::Warned(_) => REFUSED,
             AppFault::Count(_) => BAD_ARGUMENTS,
+            AppFault::Roll(RollFault::ReadFailed(_)) => NO_DEVICE,
+            AppFault::Roll(_) => REFUSED,
             AppFault::Open(_) | AppFault::Write | AppFault::Memory => NO_DEVICE,
         }
     }
@@ -84,12 +90,18 @@ fn read_status(number: u32) -> u8
     if number == 1 { NO_DEVICE } else { REFUSED }
 }
 
-/// Writes the line of a row of a script that has not the form. The rows have their numbers from 1.
-pub fn write_bad_row<W: Write>(writer: &mut W, row: u64) -> io::Result<()>
+/// Writes the line of a row of a script that is refused for this. The rows have their numbers from 1.
+pub fn write_refused_row<W: Write>(writer: &mut W, why: RowRefusal, row: u64) -> io::Result<()>
     ensures { OnOk result (Appends (W.contents writer.old) (W.contents writer.new)
-        (line (told (AppFault.Script (BadRow row))).1)) }
+        (line (told (AppFault.Script (fault_of_row why row))).1)) }
 {
-    write_at(writer, "script", 2, "BadRow", row)
+    let (number, name) = match why {
+        RowRefusal::Bad => (2, "BadRow"),
+        RowRefusal::UnknownId => (5, "UnknownId"),
+        RowRefusal::NotOnRoll => (6, "NotOnRoll"),
+        RowRefusal::TooFew => (7, "TooFew"),
+    };
+    write_at(writer, "script", number, name, row)
 }
 
 /// Writes the line of the fault with this number and name in this record or row.

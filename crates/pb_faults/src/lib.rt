@@ -9,5 +9,5 @@ mod writing;
 
 pub use desk_row::put_entries;
 pub use fault::AppFault;
-pub use fault_line::{BAD_ARGUMENTS, write_bad_row};
+pub use fault_line::{BAD_ARGUMENTS, write_refused_row};
 pub use writing::write_out;

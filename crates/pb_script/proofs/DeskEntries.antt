@@ -21,7 +21,10 @@ use Rattle.pb_desk.specs.Step.{answer_of, has_ballot, is_too_long, open_answer_o
 use Rattle.pb_rows.specs.Numbers.{AreNumbers}
 use Rattle.pb_rows.specs.Reading.{Fields}
 use Rattle.pb_shared.specs.Clerk.{entries_by}
-use Rattle.pb_script.specs.Script.{IsScript, IsScriptRow, ScriptRowView}
+use Rattle.pb_script.specs.Admission.{Admits}
+use Rattle.pb_script.specs.Script.{ScriptRowView}
+use Rattle.pb_script.specs.Scripts.{IsScript}
+use Rattle.pb_script.specs.declared.admission.Admission.{Admission}
 use Rattle.pb_script.specs.Inner.Script.{AreAsked}
 use Rattle.pb_shared.specs.Clerk.{AreClerks}
 use Rattle.pb_script.specs.Inner.Serving.{ServesAll, ServesScript, ShutAtEnd, requests_of}
@@ -64,12 +67,12 @@ legal_entries o s (x ∷ xs) legal can =
     All-cons IsEntry x xs entry (legal_entries o (step o s x.request) xs legal.1 (All-tail (λ (y : EntryView). IsRequest y.request) x xs can))
 
 -- each row of a script asks what can be asked
-requests_can_be : (clerks : ℕ) (records : List Fields) (script : List ScriptRowView) → AllZip (IsScriptRow clerks) records script → All (λ x. IsRequest x.request) script
-requests_can_be clerks [] [] rows = All-nil (λ (x : ScriptRowView). IsRequest x.request)
-requests_can_be clerks [] (x ∷ xs) rows = absurd rows
-requests_can_be clerks (r ∷ rs) [] rows = absurd rows
-requests_can_be clerks (r ∷ rs) (x ∷ xs) rows =
-    All-cons (λ (y : ScriptRowView). IsRequest y.request) x xs rows.0.row_asks.2.can_be (requests_can_be clerks rs xs rows.1)
+requests_can_be : (a : Admission) (clerks : ℕ) (records : List Fields) (script : List ScriptRowView) → AllZip (Admits a clerks) records script → All (λ x. IsRequest x.request) script
+requests_can_be a clerks [] [] rows = All-nil (λ (x : ScriptRowView). IsRequest x.request)
+requests_can_be a clerks [] (x ∷ xs) rows = absurd rows
+requests_can_be a clerks (r ∷ rs) [] rows = absurd rows
+requests_can_be a clerks (r ∷ rs) (x ∷ xs) rows =
+    All-cons (λ (y : ScriptRowView). IsRequest y.request) x xs rows.0.says.row_asks.2.can_be (requests_can_be a clerks rs xs rows.1)
 
 -- what is true of all that each clerk asked is true of all entries of the clerks
 entries_by_clerk : (P : RequestView → Type 0) (clerks : ℕ) (journal : List EntryView) → All (λ x. x.clerk < clerks) journal →
@@ -88,28 +91,28 @@ entries_by_clerk P clerks (x ∷ xs) by each =
     later false rest all = all
 
 -- what stands in a journal that serves a script can be asked
-served_requests : (clerks : ℕ) (records : List Fields) (script : List ScriptRowView) (journal : List EntryView) → IsScript clerks records script →
+served_requests : (a : Admission) (clerks : ℕ) (records : List Fields) (script : List ScriptRowView) (journal : List EntryView) → IsScript a clerks records script →
     ServesScript clerks script journal → All (λ x. IsRequest x.request) journal
-served_requests clerks records script journal is serves =
-    let can = requests_can_be clerks records script is.rows in
+served_requests a clerks records script journal is serves =
+    let can = requests_can_be a clerks records script is.rows in
     let asked = λ (k : ℕ). All-map IsRequest (λ (x : ScriptRowView). x.request) (filter (λ (x : ScriptRowView). x.clerk == k) script)
     (All-filter (λ (x : ScriptRowView). x.clerk == k) (λ (x : ScriptRowView). IsRequest x.request) script can) in
     entries_by_clerk IsRequest clerks journal serves.by_clerks (λ k below. let P : List RequestView → Type 0 = All IsRequest in subst P (sym (serves.in_order k below)) (asked k))
 
-ended_requests : (shuts : Bool) (clerks : ℕ) (records : List Fields) (script : List ScriptRowView) (journal : List EntryView) → IsScript clerks records script →
+ended_requests : (a : Admission) (shuts : Bool) (clerks : ℕ) (records : List Fields) (script : List ScriptRowView) (journal : List EntryView) → IsScript a clerks records script →
     ShutAtEnd shuts (ServesScript clerks script) journal → All (λ x. IsRequest x.request) journal
-ended_requests false clerks records script journal is serves = served_requests clerks records script journal is serves
-ended_requests true clerks records script journal is serves =
+ended_requests a false clerks records script journal is serves = served_requests a clerks records script journal is serves
+ended_requests a true clerks records script journal is serves =
     let P : EntryView → Type 0 = λ x. IsRequest x.request in
     let last : EntryView = record { clerk = 0; request = Shut; answer = serves.1 } in
     let Q : List EntryView → Type 0 = All P in
-    subst Q (sym serves.3) (All-append P serves.0 (last ∷ []) (served_requests clerks records script serves.0 is serves.2) (All-cons P last [] (can_be_asked Shut tt) (All-nil P)))
+    subst Q (sym serves.3) (All-append P serves.0 (last ∷ []) (served_requests a clerks records script serves.0 is serves.2) (All-cons P last [] (can_be_asked Shut tt) (All-nil P)))
 
 -- the journal of a run that serves a script can be written
-pub served_entries : (shuts : Bool) (o : OpeningView) (clerks : ℕ) (records : List Fields) (script : List ScriptRowView) (journal : List EntryView) → IsScript clerks records script →
+pub served_entries : (a : Admission) (shuts : Bool) (o : OpeningView) (clerks : ℕ) (records : List Fields) (script : List ScriptRowView) (journal : List EntryView) → IsScript a clerks records script →
     ShutAtEnd shuts (ServesScript clerks script) journal → IsLegal o journal → All IsEntry journal
-served_entries shuts o clerks records script journal is serves legal =
-    legal_entries o (opened o.election) journal (entry_by_entry o journal legal) (ended_requests shuts clerks records script journal is serves)
+served_entries a shuts o clerks records script journal is serves legal =
+    legal_entries o (opened o.election) journal (entry_by_entry o journal legal) (ended_requests a shuts clerks records script journal is serves)
 
 -- lists that are the rows of a script, served, are the script, served
 script_served : (clerks : ℕ) (script : List ScriptRowView) (lists : List (List RequestView)) (journal : List EntryView) → AreClerks clerks → AreAsked clerks script lists →

@@ -1,4 +1,5 @@
 -- The lemmas that the proofs of this crate share.
+pub mod Requests
 pub mod ScriptForms
 pub mod Scripts
 pub mod Servings

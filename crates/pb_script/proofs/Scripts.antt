@@ -8,9 +8,13 @@ use Rattle.std.proofs.lemmas.List.Elements.{All-cons, All-nil, filter-append}
 use Rattle.std.proofs.lemmas.List.Sums.{count_by-le-length, length-filter}
 use Rattle.pb_core.specs.Request.{RequestView}
 use Rattle.pb_rows.specs.Reading.{Fields, IsNext}
-use Rattle.pb_script.specs.Script.{HasScriptForm, IsScriptRow, ScriptRowView, most_rows}
+use Rattle.pb_script.specs.Admission.{Admits, Refuses}
+use Rattle.pb_script.specs.Script.{ScriptRowView, most_rows}
+use Rattle.pb_script.specs.declared.admission.Admission.{Admission}
+use Rattle.pb_script.specs.declared.admission.RowRefusal.{RowRefusal}
+use Rattle.pb_script.specs.declared.admission.RowRefusal.TheVariants as refusal
 use Rattle.pb_script.specs.Inner.Script.{AreAsked, clerks_within, asked_by}
-use Rattle.pb_script.specs.ScriptReading.{IsFaultOfScript, IsNextScriptFault}
+use Rattle.pb_script.specs.ScriptReading.{IsAdmitted, IsFaultOfScript, IsNextScriptFault, fault_of_row}
 use Rattle.pb_script.specs.Inner.ScriptReading.{HaveAsked, HaveGone, NoneLeft, SplitsScript, TakesScriptRow}
 use Rattle.pb_script.specs.declared.script_fault.ScriptFault.{ScriptFault}
 use Rattle.pb_script.specs.declared.script_fault.ScriptFault.TheVariants.{NoMemory}
@@ -54,8 +58,8 @@ AreAsked-more clerks script x lists new are within is = record {
 }
 
 -- before the first row
-pub HaveAsked-start : (clerks : ℕ) (all : Option (List Fields)) (lists : List (List RequestView)) → lists ≡ replicate (clerks_within clerks) [] → HaveAsked clerks all all 0 lists
-HaveAsked-start clerks all lists is = record {
+pub HaveAsked-start : (a : Admission) (clerks : ℕ) (all : Option (List Fields)) (lists : List (List RequestView)) → lists ≡ replicate (clerks_within clerks) [] → HaveAsked a clerks all all 0 lists
+HaveAsked-start a clerks all lists is = record {
   gone = [];
   script = [];
   have_gone = none_gone all;
@@ -72,19 +76,19 @@ HaveAsked-start clerks all lists is = record {
     none_gone (Some rows) = refl
 
 -- one row more
-pub HaveAsked-more : (clerks : ℕ) (all left after : Option (List Fields)) (count : ℕ) (x : ScriptRowView) (lists new : List (List RequestView)) →
-    HaveAsked clerks all left count lists → TakesScriptRow clerks left after x → new ≡ set lists x.clerk (get_or lists x.clerk [] ++ x.request ∷ []) →
-    HaveAsked clerks all after (count + 1) new
-HaveAsked-more clerks all left after count x lists new have takes is =
+pub HaveAsked-more : (a : Admission) (clerks : ℕ) (all left after : Option (List Fields)) (count : ℕ) (x : ScriptRowView) (lists new : List (List RequestView)) →
+    HaveAsked a clerks all left count lists → TakesScriptRow a clerks left after x → new ≡ set lists x.clerk (get_or lists x.clerk [] ++ x.request ∷ []) →
+    HaveAsked a clerks all after (count + 1) new
+HaveAsked-more a clerks all left after count x lists new have takes is =
     let size = length-append have.gone (takes.fields ∷ []) in
     let counted = have.count_is in
     record {
       gone = have.gone ++ takes.fields ∷ [];
       script = have.script ++ x ∷ [];
       have_gone = one_more all left after have.gone takes.fields have.have_gone takes.next;
-      rows = AllZip-push (IsScriptRow clerks) have.gone have.script takes.fields x have.rows takes.row;
+      rows = AllZip-push (Admits a clerks) have.gone have.script takes.fields x have.rows takes.row;
       count_is = omega arith;
-      lists_are = AreAsked-more clerks have.script x lists new have.lists_are (let by = takes.row.by_clerk in omega (arith, by.0, by.1)) is;
+      lists_are = AreAsked-more clerks have.script x lists new have.lists_are (let by = takes.row.says.by_clerk in omega (arith, by.0, by.1)) is;
     }
   where
     one_more : (all left after : Option (List Fields)) (gone : List Fields) (fields : Fields) → HaveGone all gone left → IsNext left after true fields → HaveGone all (gone ++ fields ∷ []) after
@@ -95,11 +99,11 @@ HaveAsked-more clerks all left after count x lists new have takes is =
         rw next.2 (have ∙ ap (λ r. gone ++ r ∷ rest) (sym next.1) ∙ sym (append_assoc gone (fields ∷ []) rest))
 
 -- no row is left
-pub HaveAsked-end : (clerks : ℕ) (all left : Option (List Fields)) (count : ℕ) (lists : List (List RequestView)) → HaveAsked clerks all left count lists → NoneLeft left → count ≤ most_rows →
-    IfSome all (λ rows. SplitsScript clerks rows lists)
-HaveAsked-end clerks None left count lists have none few = tt
-HaveAsked-end clerks (Some rows) left count lists have none few =
-    (have.script, record { few = let counted = have.count_is in omega (arith, ap length all_gone); rows = let P : List Fields → Type 0 = λ all. AllZip (IsScriptRow clerks) all have.script in subst P (sym all_gone) have.rows }, have.lists_are)
+pub HaveAsked-end : (a : Admission) (clerks : ℕ) (all left : Option (List Fields)) (count : ℕ) (lists : List (List RequestView)) → HaveAsked a clerks all left count lists → NoneLeft left → count ≤ most_rows →
+    IfSome all (λ rows. SplitsScript a clerks rows lists)
+HaveAsked-end a clerks None left count lists have none few = tt
+HaveAsked-end a clerks (Some rows) left count lists have none few =
+    (have.script, record { few = let counted = have.count_is in omega (arith, ap length all_gone); rows = let P : List Fields → Type 0 = λ all. AllZip (Admits a clerks) all have.script in subst P (sym all_gone) have.rows }, have.lists_are)
   where
     gone_is : (left : Option (List Fields)) → HaveGone (Some rows) have.gone left → NoneLeft left → rows ≡ have.gone
     gone_is None is none = absurd is
@@ -109,55 +113,68 @@ HaveAsked-end clerks (Some rows) left count lists have none few =
     all_gone = gone_is left have.have_gone none
 
 -- the rows of a script have its form
-of_form : (clerks : ℕ) (records : List Fields) (script : List ScriptRowView) → AllZip (IsScriptRow clerks) records script → All (HasScriptForm clerks) records
-of_form clerks [] [] rows = All-nil (HasScriptForm clerks)
-of_form clerks [] (x ∷ xs) rows = absurd rows
-of_form clerks (r ∷ rs) [] rows = absurd rows
-of_form clerks (r ∷ rs) (x ∷ xs) rows = All-cons (HasScriptForm clerks) r rs (x, rows.0) (of_form clerks rs xs rows.1)
+of_form : (a : Admission) (clerks : ℕ) (records : List Fields) (script : List ScriptRowView) → AllZip (Admits a clerks) records script → All (IsAdmitted a clerks) records
+of_form a clerks [] [] rows = All-nil (IsAdmitted a clerks)
+of_form a clerks [] (x ∷ xs) rows = absurd rows
+of_form a clerks (r ∷ rs) [] rows = absurd rows
+of_form a clerks (r ∷ rs) (x ∷ xs) rows = All-cons (IsAdmitted a clerks) r rs (x, rows.0) (of_form a clerks rs xs rows.1)
 
 -- the next row has a fault
-pub HaveAsked-fault : (clerks : ℕ) (all left : Option (List Fields)) (count : ℕ) (lists : List (List RequestView)) (fault : ScriptFault) → HaveAsked clerks all left count lists →
-    IfSome left (λ left. IsNextScriptFault clerks count left fault) → IfSome all (λ rows. IsFaultOfScript clerks rows fault)
-HaveAsked-fault clerks None left count lists fault have next = tt
-HaveAsked-fault clerks (Some rows) None count lists fault have next = absurd have.have_gone
-HaveAsked-fault clerks (Some rows) (Some rest) count lists fault have next = (
+pub HaveAsked-fault : (a : Admission) (clerks : ℕ) (all left : Option (List Fields)) (count : ℕ) (lists : List (List RequestView)) (fault : ScriptFault) → HaveAsked a clerks all left count lists →
+    IfSome left (λ left. IsNextScriptFault a clerks count left fault) → IfSome all (λ rows. IsFaultOfScript a clerks rows fault)
+HaveAsked-fault a clerks None left count lists fault have next = tt
+HaveAsked-fault a clerks (Some rows) None count lists fault have next = absurd have.have_gone
+HaveAsked-fault a clerks (Some rows) (Some rest) count lists fault have next = (
   have.gone,
   rest,
   have.have_gone,
-  of_form clerks have.gone have.script have.rows,
-  (let P : ℕ → Type 0 = λ n. IsNextScriptFault clerks n rest fault in subst P (sym have.count_is) next),
+  of_form a clerks have.gone have.script have.rows,
+  (let P : ℕ → Type 0 = λ n. IsNextScriptFault a clerks n rest fault in subst P (sym have.count_is) next),
 )
 
 -- refused memory is no fault of the rows
-pub memory_fault : (clerks : ℕ) (all : Option (List Fields)) → IfSome all (λ rows. IsFaultOfScript clerks rows NoMemory)
-memory_fault clerks None = tt
-memory_fault clerks (Some rows) = ([], rows, refl, All-nil (HasScriptForm clerks), no_memory rows)
+pub memory_fault : (a : Admission) (clerks : ℕ) (all : Option (List Fields)) → IfSome all (λ rows. IsFaultOfScript a clerks rows NoMemory)
+memory_fault a clerks None = tt
+memory_fault a clerks (Some rows) = ([], rows, refl, All-nil (IsAdmitted a clerks), no_memory rows)
   where
-    no_memory : (left : List Fields) → IsNextScriptFault clerks 0 left NoMemory
-    no_memory [] = refl
-    no_memory (fields ∷ rest) = refl
+    no_memory : (left : List Fields) → IsNextScriptFault a clerks 0 left NoMemory
+    no_memory [] = tt
+    no_memory (fields ∷ rest) = tt
 
-pub error_of_memory : {A : Type 0} (clerks : ℕ) (all : Option (List Fields)) (r : Result A ScriptFault) → IsErrAnd r (λ fault. fault ≡ NoMemory) →
-    IfErr r (λ fault. IfSome all (λ rows. IsFaultOfScript clerks rows fault))
-error_of_memory clerks all (Ok done) is = tt
-error_of_memory clerks all (Err fault) is = let P : ScriptFault → Type 0 = λ f. IfSome all (λ rows. IsFaultOfScript clerks rows f) in subst P (sym is) (memory_fault clerks all)
+pub error_of_memory : {A : Type 0} (a : Admission) (clerks : ℕ) (all : Option (List Fields)) (r : Result A ScriptFault) → IsErrAnd r (λ fault. fault ≡ NoMemory) →
+    IfErr r (λ fault. IfSome all (λ rows. IsFaultOfScript a clerks rows fault))
+error_of_memory a clerks all (Ok done) is = tt
+error_of_memory a clerks all (Err fault) is = let P : ScriptFault → Type 0 = λ f. IfSome all (λ rows. IsFaultOfScript a clerks rows f) in subst P (sym is) (memory_fault a clerks all)
 
 -- a script has as many records as rows
-records_are_rows : (clerks : ℕ) (records : List Fields) (script : List ScriptRowView) → AllZip (IsScriptRow clerks) records script → length script ≡ length records
-records_are_rows clerks [] [] rows = refl
-records_are_rows clerks [] (x ∷ xs) rows = absurd rows
-records_are_rows clerks (r ∷ rs) [] rows = absurd rows
-records_are_rows clerks (r ∷ rs) (x ∷ xs) rows = let more = records_are_rows clerks rs xs rows.1 in omega arith
+records_are_rows : (a : Admission) (clerks : ℕ) (records : List Fields) (script : List ScriptRowView) → AllZip (Admits a clerks) records script → length script ≡ length records
+records_are_rows a clerks [] [] rows = refl
+records_are_rows a clerks [] (x ∷ xs) rows = absurd rows
+records_are_rows a clerks (r ∷ rs) [] rows = absurd rows
+records_are_rows a clerks (r ∷ rs) (x ∷ xs) rows = let more = records_are_rows a clerks rs xs rows.1 in omega arith
 
 -- no clerk asks more than a script has rows
-pub HaveAsked-few : (clerks : ℕ) (all left : Option (List Fields)) (count : ℕ) (lists : List (List RequestView)) → HaveAsked clerks all left count lists → count ≤ most_rows →
+pub HaveAsked-few : (a : Admission) (clerks : ℕ) (all left : Option (List Fields)) (count : ℕ) (lists : List (List RequestView)) → HaveAsked a clerks all left count lists → count ≤ most_rows →
     All (λ list. length list ≤ most_rows) lists
-HaveAsked-few clerks all left count lists have few = λ k d below.
+HaveAsked-few a clerks all left count lists have few = λ k d below.
     let are = have.lists_are in
     let size = are.one_each in
     let list = get_or_default lists k d [] below ∙ are.asked k (omega arith) in
     let kept = filter (λ (x : ScriptRowView). x.clerk == k) have.script in
     let mapped = length-map kept (λ (x : ScriptRowView). x.request) in
-    let rows = records_are_rows clerks have.gone have.script have.rows in
+    let rows = records_are_rows a clerks have.gone have.script have.rows in
     let counted = have.count_is in
     omega (arith, ap length list, length-filter {X = ScriptRowView}, count_by-le-length {X = ScriptRowView})
+
+-- the next row is refused
+pub refused_next : (a : Admission) (clerks before : ℕ) (left after : Option (List Fields)) (fields : Fields) (why : RowRefusal) → IsNext left after true fields → before + 1 ≤ most_rows → Refuses a clerks fields why →
+    IfSome left (λ left. IsNextScriptFault a clerks before left (fault_of_row why (before + 1)))
+refused_next a clerks before None after fields why next few refuses = tt
+refused_next a clerks before (Some []) after fields why next few refuses = cc next
+refused_next a clerks before (Some (row ∷ rest)) after fields why next few refuses = by why (subst (λ (r : Fields). Refuses a clerks r why) (sym next.1) refuses)
+  where
+    by : (why : RowRefusal) → Refuses a clerks row why → IsNextScriptFault a clerks before (row ∷ rest) (fault_of_row why (before + 1))
+    by refusal.Bad is = (refusal.Bad, refl, few, is)
+    by refusal.UnknownId is = (refusal.UnknownId, refl, few, is)
+    by refusal.NotOnRoll is = (refusal.NotOnRoll, refl, few, is)
+    by refusal.TooFew is = (refusal.TooFew, refl, few, is)

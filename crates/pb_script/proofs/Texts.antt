@@ -12,6 +12,7 @@ use Rattle.pb_desk.specs.Replay.{IsLegal}
 use Rattle.pb_desk.specs.Rows.{journal_text}
 use Rattle.pb_rows.specs.Reading.{Fields, records_of}
 use Rattle.pb_script.specs.Inner.ScriptReading.{SplitsScript}
+use Rattle.pb_script.specs.declared.admission.Admission.{Admission}
 use Rattle.pb_script.specs.Served.{IsServeFault, IsServed}
 use Rattle.pb_shared.specs.Clerk.{AreClerks}
 use Rattle.pb_script.specs.Script.{ScriptRowView}
@@ -65,15 +66,15 @@ parts true clerks script journal serves =
     }
 
 -- the text of a desk's journal that has what each clerk asked serves the script
-text_served : (e : ElectionView) (clerks : ℕ) (shuts : Bool) (records : List Fields) (lists : List (List RequestView)) (d : DeskView) (text : List ℕ) → SplitsScript clerks records lists
-    → IsServedBy e clerks shuts lists d → IsWritten d text → IsServed e clerks shuts records text
-text_served e clerks shuts records lists d text split served written =
+text_served : (a : Admission) (e : ElectionView) (clerks : ℕ) (shuts : Bool) (records : List Fields) (lists : List (List RequestView)) (d : DeskView) (text : List ℕ) → SplitsScript a clerks records lists
+    → IsServedBy e clerks shuts lists d → IsWritten d text → IsServed a e clerks shuts records text
+text_served a e clerks shuts records lists d text split served written =
     let serves = script_ended shuts clerks split.0 lists d.journal served.in_range split.2 served.serves in
     let o = opening_of e in
     let P : OpeningView → Type 0 = λ o. IsLegal o d.journal in
     let legal = subst P served.opening written.legal in
     let sound : IsSound o program_room d.journal =
-    record { legal = legal; fits = rw served.room at written.fits; entries = served_entries shuts o clerks records split.0 d.journal split.1 serves legal } in
+    record { legal = legal; fits = rw served.room at written.fits; entries = served_entries a shuts o clerks records split.0 d.journal split.1 serves legal } in
     let both = parts shuts clerks split.0 d.journal serves in
     record {
       script = split.0;
@@ -88,19 +89,19 @@ text_served e clerks shuts records lists d text split served written =
       text_is = written.text_is ∙ ap (λ (o : OpeningView). journal_text o.version d.journal) served.opening ∙ ap (journal_text o.version) both.journal_is;
     }
 
-fault_of_serving : (clerks : ℕ) (records : List Fields) (lists : List (List RequestView)) (fault : ServeFault) → SplitsScript clerks records lists → IsServingFault clerks fault
-    → IsServeFault clerks records fault
-fault_of_serving clerks records lists ClerkCount split fails = (split.0, split.1, fails)
-fault_of_serving clerks records lists (Script script.NoMemory) split fails = memory_fault clerks (Some records)
-fault_of_serving clerks records lists (Script fault) split fails = absurd fails
+fault_of_serving : (a : Admission) (clerks : ℕ) (records : List Fields) (lists : List (List RequestView)) (fault : ServeFault) → SplitsScript a clerks records lists → IsServingFault clerks fault
+    → IsServeFault a clerks records fault
+fault_of_serving a clerks records lists ClerkCount split fails = (split.0, split.1, fails)
+fault_of_serving a clerks records lists (Script script.NoMemory) split fails = memory_fault a clerks (Some records)
+fault_of_serving a clerks records lists (Script fault) split fails = absurd fails
 
-module _ (clerks : ℕ) (lists : List (List RequestView)) where
-  pub script_text : (shuts : Bool) (e : ElectionView) (scripts : Option (List ℕ)) (d : DeskView) (text : List ℕ) → IfSome scripts (λ bytes. SplitsScript clerks (records_of bytes) lists)
-      → IsServedBy e clerks shuts lists d → IsWritten d text → IfSome scripts (λ bytes. IsServed e clerks shuts (records_of bytes) text)
+module _ (a : Admission) (clerks : ℕ) (lists : List (List RequestView)) where
+  pub script_text : (shuts : Bool) (e : ElectionView) (scripts : Option (List ℕ)) (d : DeskView) (text : List ℕ) → IfSome scripts (λ bytes. SplitsScript a clerks (records_of bytes) lists)
+      → IsServedBy e clerks shuts lists d → IsWritten d text → IfSome scripts (λ bytes. IsServed a e clerks shuts (records_of bytes) text)
   script_text shuts e None d text splits served written = tt
-  script_text shuts e (Some bytes) d text splits served written = text_served e clerks shuts (records_of bytes) lists d text splits served written
+  script_text shuts e (Some bytes) d text splits served written = text_served a e clerks shuts (records_of bytes) lists d text splits served written
 
-  pub script_unserved : (scripts : Option (List ℕ)) (fault : ServeFault) → IfSome scripts (λ bytes. SplitsScript clerks (records_of bytes) lists)
-      → IsServingFault clerks fault → IfSome scripts (λ bytes. IsServeFault clerks (records_of bytes) fault)
+  pub script_unserved : (scripts : Option (List ℕ)) (fault : ServeFault) → IfSome scripts (λ bytes. SplitsScript a clerks (records_of bytes) lists)
+      → IsServingFault clerks fault → IfSome scripts (λ bytes. IsServeFault a clerks (records_of bytes) fault)
   script_unserved None fault splits fails = tt
-  script_unserved (Some bytes) fault splits fails = fault_of_serving clerks (records_of bytes) lists fault splits fails
+  script_unserved (Some bytes) fault splits fails = fault_of_serving a clerks (records_of bytes) lists fault splits fails

@@ -1,8 +1,11 @@
 -- The words that public contracts reach, a notion a file.
 pub mod Script
+pub mod Admission
+pub mod Scripts
 pub mod ScriptFault
 pub mod ScriptReading
 pub mod RequestRows
 pub mod Serving
 pub mod Served
+pub mod Roll
 pub mod Inner

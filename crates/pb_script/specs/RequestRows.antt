@@ -2,11 +2,12 @@
 use Rattle.pb_core.specs.Request.{asked}
 use Rattle.pb_desk.specs.Replay.{most_clerks}
 use Rattle.pb_rows.specs.Reading.{Fields}
-use Rattle.pb_script.specs.Script.{HasScriptForm, IsScriptRow}
+use Rattle.pb_script.specs.Admission.{Admits, Refuses}
+use Rattle.pb_script.specs.declared.admission.Admission.{Admission}
 use Rattle.pb_script.specs.declared.request_rows.RequestRow.{RequestRow}
-use Rattle.pb_script.specs.declared.request_rows.RequestRow.TheVariants.{Asks, Bad}
+use Rattle.pb_script.specs.declared.request_rows.RequestRow.TheVariants.{Asks, Refused}
 
--- the record is that of a row that asks this, for 64 clerks; or it is that of no such row
-abbrev pub IsRequestRow : Fields → RequestRow → Type 0
-IsRequestRow fields (Asks clerk request) = IsScriptRow most_clerks fields (record { clerk = clerk; request = asked request })
-IsRequestRow fields Bad = ¬ HasScriptForm most_clerks fields
+-- the record is that of a row that asks this, for 64 clerks, and is admitted; or it is refused for this
+abbrev pub IsRequestRow : Admission → Fields → RequestRow → Type 0
+IsRequestRow a fields (Asks clerk request) = Admits a most_clerks fields (record { clerk = clerk; request = asked request })
+IsRequestRow a fields (Refused why) = Refuses a most_clerks fields why

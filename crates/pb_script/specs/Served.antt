@@ -7,19 +7,21 @@ use Rattle.pb_desk.specs.Rows.{journal_text}
 use Rattle.pb_desk.specs.declared.version.Version.TheVariants.{Two}
 use Rattle.pb_rows.specs.Reading.{Fields}
 use Rattle.pb_shared.specs.Clerk.{AreClerks, entries_by}
-use Rattle.pb_script.specs.Script.{IsScript, ScriptRowView}
+use Rattle.pb_script.specs.Script.{ScriptRowView}
+use Rattle.pb_script.specs.Scripts.{IsScript}
 use Rattle.pb_script.specs.ScriptReading.{IsFaultOfScript}
 use Rattle.pb_script.specs.Serving.{program_room}
+use Rattle.pb_script.specs.declared.admission.Admission.{Admission}
 use Rattle.pb_script.specs.declared.serve_fault.ServeFault.{ServeFault}
 use Rattle.pb_script.specs.declared.serve_fault.ServeFault.TheVariants.{Script, ClerkCount}
 
--- The records are a script for this many clerks, 1 to 64, and the text is that of a journal that is legal for the
+-- The records are a script for this many clerks, 1 to 64, whose rows are admitted, and the text is that of a journal that is legal for the
 -- election. First each clerk asks in it what its rows say, in their order, and nobody asks anything else; at its
 -- end clerk 0 asks to shut the desk, where the run does, and nothing else.
-pub record IsServed (e : ElectionView) (clerks : ℕ) (shuts : Bool) (records : List Fields) (text : List ℕ)
-    : Type 0 where
+pub record IsServed (a : Admission) (e : ElectionView) (clerks : ℕ) (shuts : Bool) (records : List Fields)
+    (text : List ℕ) : Type 0 where
   pub script : List ScriptRowView
-  pub is_script : IsScript clerks records script
+  pub is_script : IsScript a clerks records script
   pub in_range : AreClerks clerks
   pub served : List EntryView
   pub last : List EntryView
@@ -31,6 +33,6 @@ pub record IsServed (e : ElectionView) (clerks : ℕ) (shuts : Bool) (records : 
   pub text_is : text ≡ journal_text Two (served ++ last)
 
 -- why there is none: the script's first fault; or the number of clerks
-abbrev pub IsServeFault : ℕ → List Fields → ServeFault → Type 0
-IsServeFault clerks rows (Script fault) = IsFaultOfScript clerks rows fault
-IsServeFault clerks rows ClerkCount = (s : List ScriptRowView) × IsScript clerks rows s × ¬ AreClerks clerks
+abbrev pub IsServeFault : Admission → ℕ → List Fields → ServeFault → Type 0
+IsServeFault a clerks rows (Script fault) = IsFaultOfScript a clerks rows fault
+IsServeFault a clerks rows ClerkCount = (s : List ScriptRowView) × IsScript a clerks rows s × ¬ AreClerks clerks

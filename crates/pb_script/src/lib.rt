@@ -2,14 +2,18 @@
 //! the text of its journal. The same rows are read one at a time where they are served as they come in.
 #![tactic(auto)]
 
+pub mod admission;
 pub mod request_rows;
 mod requests;
+pub mod roll;
 mod script;
 pub mod script_fault;
 pub mod serve_fault;
 pub mod serve_script;
 
+pub use admission::{Admission, NoNotice, Notice, RowRefusal};
 pub use request_rows::{RequestRow, RequestRows, RowsFault};
+pub use roll::{RollFault, read_roll};
 pub use script_fault::ScriptFault;
 pub use serve_fault::ServeFault;
 pub use serve_script::ROOM;

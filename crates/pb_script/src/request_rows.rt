@@ -4,6 +4,7 @@ ghost use Rattle.std.specs.Prelude.{◌≡◌, [], option_map, true, IfOk, IfSom
 ghost use Rattle.pb_rows.specs.Reading.{records_of, Fields, IsNext};
 ghost use Rattle.pb_script.specs.RequestRows.{IsRequestRow};
 
+use crate::admission::{Admission, Notice, RowRefusal};
 use crate::script::read_row;
 use csv::{ByteRecord, StringRecord};
 use pb_core::no_memory::NoMemory;
@@ -20,8 +21,8 @@ use thiserror::Error;
 pub enum RequestRow {
     /// This clerk, below 64, asks this.
     Asks(u32, Request),
-    /// The row has not the form of a script's row for 64 clerks.
-    Bad,
+    /// The row is refused for this.
+    Refused(RowRefusal),
 }
 
 /// Why there is no next row.
@@ -52,6 +53,8 @@ impl From<NoMemory> for RowsFault {
 pub struct RequestRows<R: Read> {
     records: Records<R>,
     places: Vec<u32>,
+    /// How many rows were read.
+    count: u64,
 }
 
 impl<R: Read> Model for RequestRows<R> {
@@ -70,13 +73,19 @@ impl<R: Read> RequestRows<R> {
         RequestRows {
             records: Records::new(alloc, reader),
             places: Vec::new(alloc),
+            count: 0,
         }
     }
 
     /// The next row, if there is one. Stop at the first fault.
-    pub fn next(&mut self, alloc: Global) -> Result<Option<RequestRow>, RowsFault>
+    pub fn next<N: Notice>(
+        &mut self,
+        alloc: Global,
+        admission: &Admission,
+        notice: &N,
+    ) -> Result<Option<RequestRow>, RowsFault>
         ensures next { IfOk result (λ next. MatchOption next (IfSome self.old.left (λ left. left ≡ []))
-            (λ row. (fields : Fields) × IsNext self.old.left self.new.left true fields × IsRequestRow fields row)) }
+            (λ row. (fields : Fields) × IsNext self.old.left self.new.left true fields × IsRequestRow admission.now fields row)) }
         ensures blame { IsErrOf result RowsFault.ReadFailed → IsSome self.new.fault }
     {
         let mut row = ByteRecord::new(alloc);
@@ -86,14 +95,18 @@ impl<R: Read> RequestRows<R> {
             Err(RecordsFault::NoMemory) => return Err(RowsFault::NoMemory),
             Err(_) => return Err(RowsFault::ReadFailed),
         }
+        self.count = self.count.wrapping_add(1);
         let row = match StringRecord::from_byte_record(row) {
             Ok(row) => row,
             // A field is no text.
-            Err(_) => return Ok(Some(RequestRow::Bad)),
+            Err(_) => return Ok(Some(RequestRow::Refused(RowRefusal::Bad))),
         };
-        match read_row(alloc, &row, &mut self.places, MOST_CLERKS)? {
-            Some(said) => Ok(Some(RequestRow::Asks(said.clerk, said.request))),
-            None => Ok(Some(RequestRow::Bad)),
+        match read_row(alloc, &row, &mut self.places, MOST_CLERKS, admission)? {
+            Ok(said) => Ok(Some(RequestRow::Asks(said.clerk, said.request))),
+            Err(why) => {
+                notice.refused(self.count, why, admission.unknown_in(&row));
+                Ok(Some(RequestRow::Refused(why)))
+            }
         }
     }
 }

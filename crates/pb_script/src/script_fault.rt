@@ -23,6 +23,15 @@ pub enum ScriptFault {
     /// Memory was refused.
     #[error("out of memory")]
     NoMemory,
+    /// This row names an id that no project has.
+    #[error("row {0} names an id that no project has")]
+    UnknownId(u32),
+    /// The voter of this row is not on the roll.
+    #[error("the voter of row {0} is not on the roll")]
+    NotOnRoll(u32),
+    /// The ballot of this row has too few projects.
+    #[error("the ballot of row {0} has too few projects")]
+    TooFew(u32),
 }
 
 impl From<NoMemory> for ScriptFault {
@@ -57,6 +66,9 @@ impl ScriptFault {
             ScriptFault::BadRow(_) => 2,
             ScriptFault::TooManyRows => 3,
             ScriptFault::NoMemory => 4,
+            ScriptFault::UnknownId(_) => 5,
+            ScriptFault::NotOnRoll(_) => 6,
+            ScriptFault::TooFew(_) => 7,
         }
     }
 
@@ -69,6 +81,9 @@ impl ScriptFault {
             ScriptFault::BadRow(_) => "BadRow",
             ScriptFault::TooManyRows => "TooManyRows",
             ScriptFault::NoMemory => "NoMemory",
+            ScriptFault::UnknownId(_) => "UnknownId",
+            ScriptFault::NotOnRoll(_) => "NotOnRoll",
+            ScriptFault::TooFew(_) => "TooFew",
         }
     }
 
@@ -77,8 +92,11 @@ impl ScriptFault {
         ensures { result ≡ (numbered_name self.now).2 }
     {
         match self {
-            ScriptFault::ReadFailed(row) => *row,
-            ScriptFault::BadRow(row) => *row,
+            ScriptFault::ReadFailed(row)
+            | ScriptFault::BadRow(row)
+            | ScriptFault::UnknownId(row)
+            | ScriptFault::NotOnRoll(row)
+            | ScriptFault::TooFew(row) => *row,
             ScriptFault::TooManyRows => MOST_ROWS + 1,
             ScriptFault::NoMemory => 0,
         }

@@ -1,6 +1,6 @@
 //! The clerks of a script at work: each serves its own requests, side by side with the others.
 
-ghost use Rattle.std.specs.Prelude.{◌≡◌, ◌+◌, ◌<◌, ◌≤◌, [], All, length, map, IfErr, IfOk, IfSome, OnOk};
+ghost use Rattle.std.specs.Prelude.{◌≡◌, ◌+◌, ◌<◌, ◌≤◌, [], None, All, length, map, IfErr, IfOk, IfSome, OnOk};
 ghost use Rattle.pb_shared.specs.Inner.Desk.{desk_with};
 ghost use Rattle.pb_core.specs.Request.{asked};
 ghost use Rattle.pb_desk.specs.Replay.{IsLegal, most_clerks};
@@ -13,6 +13,7 @@ ghost use Rattle.pb_script.specs.Serving.{program_room};
 ghost use Rattle.pb_script.specs.Inner.Script.{clerks_within};
 ghost use Rattle.pb_script.specs.Inner.Serving.{AppendsFor, AreCounts, HasServed, ServesAll, ServesUpTo, AreBack, IsServingFault, list_of, opening_of, unshared, ShutAtEnd};
 
+use crate::admission::{Admission, NoNotice, Notice};
 use crate::requests::Requests;
 use crate::script::read_script;
 use crate::script_fault::ScriptFault;
@@ -340,13 +341,41 @@ pub fn serve_script<T: Threads + Sync, S: Read + Drop, G: Gate>(
 ) -> Result<Vec<u8>, ServeFault>
     // Where the script's bytes are known, the text is that of a journal that they and the number of clerks allow,
     ensures ok { IfOk result (λ text. IfSome (S.remaining script) (λ bytes.
-        IsServed election clerks shuts (records_of bytes) text.items)) }
+        IsServed (record { ids = None; roll = None; least = 0 }) election clerks shuts (records_of bytes) text.items)) }
 
     // and they decide which fault comes.
     ensures fault { IfErr result (λ fault. IfSome (S.remaining script) (λ bytes.
-        IsServeFault clerks (records_of bytes) fault)) }
+        IsServeFault (record { ids = None; roll = None; least = 0 }) clerks (records_of bytes) fault)) }
 {
-    let lists = match read_script(alloc, script, clerks) {
+    let open = Admission::open();
+    let text = serve_admitted(
+        rt, alloc, election, script, clerks, shuts, gate, &open, &NoNotice,
+    );
+    drop(open);
+    text
+}
+
+/// The same, of the requests that are admitted. A row that is refused refuses the script.
+pub fn serve_admitted<T: Threads + Sync, S: Read + Drop, G: Gate, N: Notice>(
+    rt: &T,
+    alloc: Global,
+    election: Election,
+    script: S,
+    clerks: u32,
+    shuts: bool,
+    gate: &G,
+    admission: &Admission,
+    notice: &N,
+) -> Result<Vec<u8>, ServeFault>
+    // Where the script's bytes are known, the text is that of a journal that they and the number of clerks allow,
+    ensures ok { IfOk result (λ text. IfSome (S.remaining script) (λ bytes.
+        IsServed admission.now election clerks shuts (records_of bytes) text.items)) }
+
+    // and they decide which fault comes.
+    ensures fault { IfErr result (λ fault. IfSome (S.remaining script) (λ bytes.
+        IsServeFault admission.now clerks (records_of bytes) fault)) }
+{
+    let lists = match read_script(alloc, script, clerks, admission, notice) {
         Ok(lists) => lists,
         Err(fault) => {
             drop(election);

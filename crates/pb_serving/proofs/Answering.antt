@@ -15,16 +15,18 @@ use Rattle.pb_durable.specs.declared.asked.Asked.{Asked}
 use Rattle.pb_rows.proofs.RowsText.{text_of_rows-append}
 use Rattle.pb_rows.specs.Reading.{Fields}
 use Rattle.pb_rows.specs.Writing.{text_of_row, text_of_rows}
-use Rattle.pb_script.specs.Script.{HasScriptForm}
+use Rattle.pb_script.specs.Admission.{Refuses}
+use Rattle.pb_script.specs.ScriptReading.{fault_of_row}
+use Rattle.pb_script.specs.declared.admission.Admission.{Admission}
+use Rattle.pb_script.specs.declared.admission.RowRefusal.{RowRefusal}
 use Rattle.pb_script.specs.Inner.ScriptReading.{HaveGone, NoneLeft}
-use Rattle.pb_script.specs.declared.script_fault.ScriptFault.TheVariants.{BadRow}
 use Rattle.pb_faults.specs.Fault.{line, told}
 use Rattle.pb_faults.specs.declared.fault.AppFault.TheVariants.{Script}
-use Rattle.pb_serving.specs.Answered.{answers_from, Answers, Becomes}
+use Rattle.pb_serving.specs.Answered.{answers_from, Answers, Becomes, entry_in, Outcome}
 use Rattle.pb_serving.specs.Inner.Batch.{IsRowAsking}
 
-abbrev pub added : List (Option EntryView) → List EntryView
-added became = filter_map (λ x. x) became
+abbrev pub added : List Outcome → List EntryView
+added became = filter_map entry_in became
 
 rows_from-append : (n : ℕ) (a b : List EntryView) → rows_from n (a ++ b) ≡ rows_from n a ++ rows_from (n + length a) b
 unfolding rows_from
@@ -44,31 +46,31 @@ said_rows before after more rows n count grown is =
     front : take n after ≡ before
     front = ap (λ (l : List EntryView). take n l) grown ∙ take_at before more n (sym count)
 
-added-some : (entries : List EntryView) → added (map Some entries) ≡ entries
+added-some : (entries : List EntryView) → added (map Ok entries) ≡ entries
 added-some [] = refl
 added-some (x ∷ entries) = ap (λ (l : List EntryView). x ∷ l) (added-some entries)
 
-answers-some : (entry row : ℕ) (entries : List EntryView) → answers_from entry row (map Some entries) ≡ text_of_rows (rows_from entry entries)
+answers-some : (entry row : ℕ) (entries : List EntryView) → answers_from entry row (map Ok entries) ≡ text_of_rows (rows_from entry entries)
 unfolding rows_from text_of_rows
 answers-some entry row [] = refl
 answers-some entry row (x ∷ entries) = ap (λ (l : List ℕ). text_of_row (row_of entry x) ++ l) (answers-some (suc entry) (suc row) entries)
 
-answers-append : (entry row : ℕ) (a b : List (Option EntryView)) → answers_from entry row (a ++ b) ≡ answers_from entry row a ++ answers_from (entry + length (added a)) (row + length a) b
+answers-append : (entry row : ℕ) (a b : List Outcome) → answers_from entry row (a ++ b) ≡ answers_from entry row a ++ answers_from (entry + length (added a)) (row + length a) b
 answers-append entry row [] b = let same : entry + 0 ≡ entry = omega arith in let here : row + 0 ≡ row = omega arith in rw (same, here) refl
-answers-append entry row (None ∷ a) b =
-    let said = line (told (Script (BadRow row))).1 in
-    let at : suc row + length a ≡ row + length (None ∷ a) = omega arith in
+answers-append entry row (Err why ∷ a) b =
+    let said = line (told (Script (fault_of_row why row))).1 in
+    let at : suc row + length a ≡ row + length (Err why ∷ a) = omega arith in
     ap (λ (l : List ℕ). said ++ l) (answers-append entry (suc row) a b)
     ∙ sym (append_assoc said (answers_from entry (suc row) a) (answers_from (entry + length (added a)) (suc row + length a) b))
     ∙ ap (λ (k : ℕ). (said ++ answers_from entry (suc row) a) ++ answers_from (entry + length (added a)) k b) at
-answers-append entry row (Some x ∷ a) b =
+answers-append entry row (Ok x ∷ a) b =
     let said = text_of_row (row_of entry x) in
-    let at : suc row + length a ≡ row + length (Some x ∷ a) = omega arith in
+    let at : suc row + length a ≡ row + length (Ok x ∷ a) = omega arith in
     let next : suc entry + length (added a) ≡ entry + length (x ∷ added a) = omega arith in
     ap (λ (l : List ℕ). said ++ l) (answers-append (suc entry) (suc row) a b)
     ∙ sym (append_assoc said (answers_from (suc entry) (suc row) a) (answers_from (suc entry + length (added a)) (suc row + length a) b))
     ∙ ap (λ (k : ℕ). (said ++ answers_from (suc entry) (suc row) a) ++ answers_from (suc entry + length (added a)) k b) at
-    ∙ ap (λ (k : ℕ). (said ++ answers_from (suc entry) (suc row) a) ++ answers_from k (row + length (Some x ∷ a)) b) next
+    ∙ ap (λ (k : ℕ). (said ++ answers_from (suc entry) (suc row) a) ++ answers_from k (row + length (Ok x ∷ a)) b) next
 
 zip-append : {X Y : Type 0} (R : X → Y → Type 0) (xs more : List X) (ys others : List Y) → AllZip R xs ys → AllZip R more others → AllZip R (xs ++ more) (ys ++ others)
 zip-append R [] more [] others f g = g
@@ -83,12 +85,12 @@ zip-length R (x ∷ xs) [] f = absurd f
 zip-length R (x ∷ xs) (y ∷ ys) f = ap suc (zip-length R xs ys f.1)
 
 -- rows that ask this become its entries
-pub asks_become : (rows : List Fields) (asks : List Asked) (answers : List Answer) → AllZip IsRowAsking rows asks → length answers ≡ length asks → AllZip Becomes rows (map Some (entries_of asks answers))
-asks_become [] [] answers each same = tt
-asks_become [] (a ∷ asks) answers each same = absurd each
-asks_become (row ∷ rows) [] answers each same = absurd each
-asks_become (row ∷ rows) (a ∷ asks) [] each same = absurd (omega (arith, same))
-asks_become (row ∷ rows) (a ∷ asks) (x ∷ answers) each same = (each.0, asks_become rows asks answers each.1 (omega (arith, same)))
+pub asks_become : (ad : Admission) (rows : List Fields) (asks : List Asked) (answers : List Answer) → AllZip (IsRowAsking ad) rows asks → length answers ≡ length asks → AllZip (Becomes ad) rows (map Ok (entries_of asks answers))
+asks_become ad [] [] answers each same = tt
+asks_become ad [] (a ∷ asks) answers each same = absurd each
+asks_become ad (row ∷ rows) [] answers each same = absurd each
+asks_become ad (row ∷ rows) (a ∷ asks) [] each same = absurd (omega (arith, same))
+asks_become ad (row ∷ rows) (a ∷ asks) (x ∷ answers) each same = (each.0, asks_become ad rows asks answers each.1 (omega (arith, same)))
 
 pub length-entries : (requests : List Asked) (answers : List Answer) → length answers ≡ length requests → length (entries_of requests answers) ≡ length requests
 length-entries [] answers same = refl
@@ -110,11 +112,11 @@ gone_mid (Some all) None rows row gone = absurd gone
 gone_mid (Some all) (Some rest) rows row gone = (Some (row ∷ rest), gone ∙ append_assoc rows (row ∷ []) rest, refl)
 
 -- how far a run has come: these rows were read and answered
-pub record Progress (all left : Option (List Fields)) (old now : List EntryView) (before after : Option (List ℕ)) (row bad : ℕ) : Type 0 where
+pub record Progress (ad : Admission) (all left : Option (List Fields)) (old now : List EntryView) (before after : Option (List ℕ)) (row bad : ℕ) : Type 0 where
   pub gone : List Fields
-  pub became : List (Option EntryView)
+  pub became : List Outcome
   pub have_gone : HaveGone all gone left
-  pub each : AllZip Becomes gone became
+  pub each : AllZip (Becomes ad) gone became
   pub journal : now ≡ old ++ added became
   pub said : Appends before after (answers_from (length old + 1) 1 became)
   pub row_is : length became ≡ row
@@ -124,8 +126,8 @@ none_gone : (all : Option (List Fields)) → HaveGone all [] all
 none_gone None = tt
 none_gone (Some rows) = refl
 
-pub started : (all : Option (List Fields)) (old : List EntryView) (before : Option (List ℕ)) → Progress all all old old before before 0 0
-started all old before = record {
+pub started : (ad : Admission) (all : Option (List Fields)) (old : List EntryView) (before : Option (List ℕ)) → Progress ad all all old old before before 0 0
+started ad all old before = record {
   gone = [];
   became = [];
   have_gone = none_gone all;
@@ -137,90 +139,90 @@ started all old before = record {
 }
 
 -- a batch more
-module _ (all left mid : Option (List Fields)) (old journal now : List EntryView) (before after later : Option (List ℕ)) (row bad : ℕ) where
-  pub batch_more : (rows : List Fields) (asks : List Asked) (answers : List Answer) → Progress all left old journal before after row bad → HaveGone left rows mid → AllZip IsRowAsking rows asks
+module _ (ad : Admission) (all left mid : Option (List Fields)) (old journal now : List EntryView) (before after later : Option (List ℕ)) (row bad : ℕ) where
+  pub batch_more : (rows : List Fields) (asks : List Asked) (answers : List Answer) → Progress ad all left old journal before after row bad → HaveGone left rows mid → AllZip (IsRowAsking ad) rows asks
       → length answers ≡ length asks → now ≡ journal ++ entries_of asks answers → Appends after later (text_of_rows (rows_from (length journal + 1) (entries_of asks answers)))
-      → Progress all mid old now before later (row + length asks) bad
+      → Progress ad all mid old now before later (row + length asks) bad
   batch_more rows asks answers p goes each same grown said =
       let entries = entries_of asks answers in
       let size = ap length p.journal ∙ length-append old (added p.became) in
       let entry : length old + 1 + length (added p.became) ≡ length journal + 1 = omega (arith, size) in
       let count = length-entries asks answers same in
-      let text : answers_from (length old + 1) 1 p.became ++ text_of_rows (rows_from (length journal + 1) entries) ≡ answers_from (length old + 1) 1 (p.became ++ map Some entries) =
-      ap (λ (l : List ℕ). answers_from (length old + 1) 1 p.became ++ l) (sym (answers-some (length journal + 1) (1 + length p.became) entries) ∙ ap (λ (k : ℕ). answers_from k (1 + length p.became) (map Some entries)) (sym entry))
-      ∙ sym (answers-append (length old + 1) 1 p.became (map Some entries)) in
+      let text : answers_from (length old + 1) 1 p.became ++ text_of_rows (rows_from (length journal + 1) entries) ≡ answers_from (length old + 1) 1 (p.became ++ map Ok entries) =
+      ap (λ (l : List ℕ). answers_from (length old + 1) 1 p.became ++ l) (sym (answers-some (length journal + 1) (1 + length p.became) entries) ∙ ap (λ (k : ℕ). answers_from k (1 + length p.became) (map Ok entries)) (sym entry))
+      ∙ sym (answers-append (length old + 1) 1 p.became (map Ok entries)) in
       let grows = ap length grown ∙ length-append journal entries in
       let known = p.row_is in
       let sums = p.bad_is in
       record {
         gone = p.gone ++ rows;
-        became = p.became ++ map Some entries;
+        became = p.became ++ map Ok entries;
         have_gone = gone-append all left mid p.gone rows p.have_gone goes;
-        each = zip-append Becomes p.gone rows p.became (map Some entries) p.each (asks_become rows asks answers each same);
+        each = zip-append (Becomes ad) p.gone rows p.became (map Ok entries) p.each (asks_become ad rows asks answers each same);
         journal = grown ∙ ap (λ (l : List EntryView). l ++ entries) p.journal ∙ append_assoc old (added p.became) entries
-            ∙ ap (λ (l : List EntryView). old ++ (added p.became ++ l)) (sym (added-some entries)) ∙ ap (λ (l : List EntryView). old ++ l) (sym (filter_map-append (λ (x : Option EntryView). x) p.became (map Some entries)));
+            ∙ ap (λ (l : List EntryView). old ++ (added p.became ++ l)) (sym (added-some entries)) ∙ ap (λ (l : List EntryView). old ++ l) (sym (filter_map-append entry_in p.became (map Ok entries)));
         said = subst (Appends before later) text (Appends-trans before after later _ _ p.said said);
-        row_is = length-append p.became (map Some entries) ∙ omega (arith, known, count, sizes entries);
+        row_is = length-append p.became (map Ok entries) ∙ omega (arith, known, count, sizes entries);
         bad_is = omega (arith, sums, grows, count);
       }
     where
-      sizes : (l : List EntryView) → length (map Some l) ≡ length l
+      sizes : (l : List EntryView) → length (map Ok l) ≡ length l
       sizes [] = refl
       sizes (x ∷ l) = ap suc (sizes l)
 
-  -- a row that has not the form
-  pub bad_more : (fields : Fields) → Progress all left old journal before after row bad → HaveGone left (fields ∷ []) mid → ¬ HasScriptForm most_clerks fields
-      → Appends after later (line (told (Script (BadRow (row + 1)))).1) → Progress all mid old journal before later (row + 1) (bad + 1)
-  bad_more fields p goes none said =
+  -- a row that is refused
+  pub bad_more : (fields : Fields) (why : RowRefusal) → Progress ad all left old journal before after row bad → HaveGone left (fields ∷ []) mid → Refuses ad most_clerks fields why
+      → Appends after later (line (told (Script (fault_of_row why (row + 1)))).1) → Progress ad all mid old journal before later (row + 1) (bad + 1)
+  bad_more fields why p goes none said =
       let known = p.row_is in
       let sums = p.bad_is in
       let here : 1 + length p.became ≡ row + 1 = omega (arith, known) in
-      let alone : answers_from (length old + 1 + length (added p.became)) (row + 1) (None ∷ []) ≡ line (told (Script (BadRow (row + 1)))).1 = append-nil _ in
-      let text : answers_from (length old + 1) 1 p.became ++ line (told (Script (BadRow (row + 1)))).1 ≡ answers_from (length old + 1) 1 (p.became ++ None ∷ []) =
-      ap (λ (l : List ℕ). answers_from (length old + 1) 1 p.became ++ l) (sym alone ∙ ap (λ (k : ℕ). answers_from (length old + 1 + length (added p.became)) k (None ∷ [])) (sym here))
-      ∙ sym (answers-append (length old + 1) 1 p.became (None ∷ [])) in
+      let alone : answers_from (length old + 1 + length (added p.became)) (row + 1) (Err why ∷ []) ≡ line (told (Script (fault_of_row why (row + 1)))).1 = append-nil _ in
+      let text : answers_from (length old + 1) 1 p.became ++ line (told (Script (fault_of_row why (row + 1)))).1 ≡ answers_from (length old + 1) 1 (p.became ++ Err why ∷ []) =
+      ap (λ (l : List ℕ). answers_from (length old + 1) 1 p.became ++ l) (sym alone ∙ ap (λ (k : ℕ). answers_from (length old + 1 + length (added p.became)) k (Err why ∷ [])) (sym here))
+      ∙ sym (answers-append (length old + 1) 1 p.became (Err why ∷ [])) in
       record {
         gone = p.gone ++ fields ∷ [];
-        became = p.became ++ None ∷ [];
+        became = p.became ++ Err why ∷ [];
         have_gone = gone-append all left mid p.gone (fields ∷ []) p.have_gone goes;
-        each = zip-append Becomes p.gone (fields ∷ []) p.became (None ∷ []) p.each (none, tt);
-        journal = p.journal ∙ ap (λ (l : List EntryView). old ++ l) (sym (append-nil (added p.became)) ∙ sym (filter_map-append (λ (x : Option EntryView). x) p.became (None ∷ [])));
+        each = zip-append (Becomes ad) p.gone (fields ∷ []) p.became (Err why ∷ []) p.each (none, tt);
+        journal = p.journal ∙ ap (λ (l : List EntryView). old ++ l) (sym (append-nil (added p.became)) ∙ sym (filter_map-append entry_in p.became (Err why ∷ [])));
         said = subst (Appends before later) text (Appends-trans before after later _ _ p.said said);
-        row_is = length-append p.became (None ∷ []) ∙ omega (arith, known);
+        row_is = length-append p.became (Err why ∷ []) ∙ omega (arith, known);
         bad_is = omega (arith, sums);
       }
 
 -- the same, by other names
-pub moved : (all left : Option (List Fields)) (old now : List EntryView) (before after later : Option (List ℕ)) (row bad row_now bad_now : ℕ) → later ≡ after → row_now ≡ row → bad_now ≡ bad
-    → Progress all left old now before after row bad → Progress all left old now before later row_now bad_now
-moved all left old now before after later row bad row_now bad_now writer rows bads p =
-    subst (λ (w : Option (List ℕ)). Progress all left old now before w row_now bad_now) (sym writer)
-    (subst (λ (r : ℕ). Progress all left old now before after r bad_now) (sym rows) (subst (λ (b : ℕ). Progress all left old now before after row b) (sym bads) p))
+pub moved : (ad : Admission) (all left : Option (List Fields)) (old now : List EntryView) (before after later : Option (List ℕ)) (row bad row_now bad_now : ℕ) → later ≡ after → row_now ≡ row → bad_now ≡ bad
+    → Progress ad all left old now before after row bad → Progress ad all left old now before later row_now bad_now
+moved ad all left old now before after later row bad row_now bad_now writer rows bads p =
+    subst (λ (w : Option (List ℕ)). Progress ad all left old now before w row_now bad_now) (sym writer)
+    (subst (λ (r : ℕ). Progress ad all left old now before after r bad_now) (sym rows) (subst (λ (b : ℕ). Progress ad all left old now before after row b) (sym bads) p))
 
 -- all rows were answered
-pub done : (all left : Option (List Fields)) (old now : List EntryView) (before after : Option (List ℕ)) (row bad : ℕ) → Progress all left old now before after row bad → NoneLeft left
-    → IfSome all (λ records. (text : List ℕ) × Answers records old now text × Appends before after text × (bad + length now ≡ length records + length old))
-done None left old now before after row bad p none = tt
-done (Some records) None old now before after row bad p none = absurd p.have_gone
-done (Some records) (Some (fields ∷ rest)) old now before after row bad p none = cc none
-done (Some records) (Some []) old now before after row bad p none =
+pub done : (ad : Admission) (all left : Option (List Fields)) (old now : List EntryView) (before after : Option (List ℕ)) (row bad : ℕ) → Progress ad all left old now before after row bad → NoneLeft left
+    → IfSome all (λ records. (text : List ℕ) × Answers ad records old now text × Appends before after text × (bad + length now ≡ length records + length old))
+done ad None left old now before after row bad p none = tt
+done ad (Some records) None old now before after row bad p none = absurd p.have_gone
+done ad (Some records) (Some (fields ∷ rest)) old now before after row bad p none = cc none
+done ad (Some records) (Some []) old now before after row bad p none =
     let all : records ≡ p.gone = p.have_gone ∙ append-nil p.gone in
     let sums = p.bad_is in
     let known = p.row_is in
-    let size = zip-length Becomes p.gone p.became p.each in (
+    let size = zip-length (Becomes ad) p.gone p.became p.each in (
       answers_from (length old + 1) 1 p.became,
-      record { became = p.became; each = subst (λ (r : List Fields). AllZip Becomes r p.became) (sym all) p.each; journal = p.journal; text_is = refl },
+      record { became = p.became; each = subst (λ (r : List Fields). AllZip (Becomes ad) r p.became) (sym all) p.each; journal = p.journal; text_is = refl },
       p.said,
       omega (arith, sums, known, size, ap length all),
     )
 
 -- the first rows were answered
-pub halted : (B : List Fields → Type 0) (X : List EntryView → Type 0) (all left : Option (List Fields)) (old now : List EntryView) (before after : Option (List ℕ)) (row bad : ℕ)
-    → Progress all left old now before after row bad → ((gone : List Fields) → length gone ≡ row → B gone) → X now
-    → IfSome all (λ records. (first rest : List Fields) × (text : List ℕ) × (kept : List EntryView) × (records ≡ first ++ rest) × Answers first old kept text × Appends before after text × B first × X kept)
-halted B X None left old now before after row bad p behind here = tt
-halted B X (Some records) None old now before after row bad p behind here = absurd p.have_gone
-halted B X (Some records) (Some rest) old now before after row bad p behind here = (
+pub halted : (ad : Admission) (B : List Fields → Type 0) (X : List EntryView → Type 0) (all left : Option (List Fields)) (old now : List EntryView) (before after : Option (List ℕ)) (row bad : ℕ)
+    → Progress ad all left old now before after row bad → ((gone : List Fields) → length gone ≡ row → B gone) → X now
+    → IfSome all (λ records. (first rest : List Fields) × (text : List ℕ) × (kept : List EntryView) × (records ≡ first ++ rest) × Answers ad first old kept text × Appends before after text × B first × X kept)
+halted ad B X None left old now before after row bad p behind here = tt
+halted ad B X (Some records) None old now before after row bad p behind here = absurd p.have_gone
+halted ad B X (Some records) (Some rest) old now before after row bad p behind here = (
   p.gone,
   rest,
   answers_from (length old + 1) 1 p.became,
@@ -228,7 +230,7 @@ halted B X (Some records) (Some rest) old now before after row bad p behind here
   p.have_gone,
   record { became = p.became; each = p.each; journal = p.journal; text_is = refl },
   p.said,
-  behind p.gone (zip-length Becomes p.gone p.became p.each ∙ p.row_is),
+  behind p.gone (zip-length (Becomes ad) p.gone p.became p.each ∙ p.row_is),
   here,
 )
 

@@ -1,25 +1,34 @@
 -- How a batch grows by a row.
-use Rattle.std.proofs.Common.{◌≡◌, ◌∙◌, zero, suc, ◌<◌, List, [], ◌∷◌, ◌++◌, true, Option, Some, None, refl, sym, ap, subst, arith, append_assoc}
+use Rattle.std.proofs.Common.{◌≡◌, ◌∙◌, zero, suc, ◌<◌, List, [], ◌∷◌, ◌++◌, Bool, true, false, Option, Some, None, refl, sym, ap, subst, arith, append_assoc}
 use Rattle.std.specs.List.{All, AllZip}
 use Rattle.std.specs.Prelude.{MatchOption}
+use Rattle.std.proofs.lemmas.List.{append-nil}
+use Rattle.std.proofs.lemmas.List.Elements.{All-append, All-cons, All-nil}
+use Rattle.pb_core.specs.Request.{EntryView, asked}
+use Rattle.pb_core.specs.declared.answer.Answer.{Answer}
+use Rattle.pb_durable.specs.DurableDesk.{entries_of}
+use Rattle.pb_read.specs.Rows.{field}
+use Rattle.pb_script.specs.Admission.{has_enough, is_on_roll, knows_ids, refusal_from}
+use Rattle.pb_serving.specs.Answered.{AddsOnRoll}
 use Rattle.pb_desk.specs.Replay.{most_clerks}
 use Rattle.pb_rows.specs.Reading.{Fields, IsNext}
 use Rattle.pb_script.specs.RequestRows.{IsRequestRow}
 use Rattle.pb_script.specs.Inner.ScriptReading.{HaveGone, NoneLeft}
+use Rattle.pb_script.specs.declared.admission.Admission.{Admission}
 use Rattle.pb_script.specs.declared.request_rows.RequestRow.{RequestRow}
 use Rattle.pb_script.specs.declared.request_rows.RequestRow.TheVariants as row
 use Rattle.pb_durable.specs.declared.asked.Asked.{Asked}
 use Rattle.pb_serving.specs.Inner.Batch.{IsRowAsking}
 
 -- these records were read, and ask this
-pub record HasRows (left after : Option (List Fields)) (asks : List Asked) : Type 0 where
+pub record HasRows (ad : Admission) (left after : Option (List Fields)) (asks : List Asked) : Type 0 where
   pub rows : List Fields
-  pub each : AllZip IsRowAsking rows asks
+  pub each : AllZip (IsRowAsking ad) rows asks
   pub gone : HaveGone left rows after
 
-pub no_rows : (left : Option (List Fields)) → HasRows left left []
-no_rows None = record { rows = []; each = tt; gone = tt }
-no_rows (Some all) = record { rows = []; each = tt; gone = refl }
+pub no_rows : (ad : Admission) (left : Option (List Fields)) → HasRows ad left left []
+no_rows ad None = record { rows = []; each = tt; gone = tt }
+no_rows ad (Some all) = record { rows = []; each = tt; gone = refl }
 
 pub gone-more : (left mid after : Option (List Fields)) (rows : List Fields) (fields : Fields) → HaveGone left rows mid → IsNext mid after true fields → HaveGone left (rows ++ fields ∷ []) after
 gone-more None mid after rows fields gone next = tt
@@ -28,35 +37,62 @@ gone-more (Some all) (Some []) after rows fields gone next = cc next
 gone-more (Some all) (Some (row ∷ rest)) after rows fields gone next =
     rw next.2 (gone ∙ ap (λ r. rows ++ r ∷ rest) (sym next.1) ∙ sym (append_assoc rows (fields ∷ []) rest))
 
-zip-push : (rows : List Fields) (asks : List Asked) (row : Fields) (a : Asked) → AllZip IsRowAsking rows asks → IsRowAsking row a → AllZip IsRowAsking (rows ++ row ∷ []) (asks ++ a ∷ [])
-zip-push [] [] row a f r = (r, tt)
-zip-push [] (b ∷ asks) row a f r = absurd f
-zip-push (x ∷ rows) [] row a f r = absurd f
-zip-push (x ∷ rows) (b ∷ asks) row a f r = (f.0, zip-push rows asks row a f.1 r)
+zip-push : (ad : Admission) (rows : List Fields) (asks : List Asked) (row : Fields) (a : Asked) → AllZip (IsRowAsking ad) rows asks → IsRowAsking ad row a → AllZip (IsRowAsking ad) (rows ++ row ∷ []) (asks ++ a ∷ [])
+zip-push ad [] [] row a f r = (r, tt)
+zip-push ad [] (b ∷ asks) row a f r = absurd f
+zip-push ad (x ∷ rows) [] row a f r = absurd f
+zip-push ad (x ∷ rows) (b ∷ asks) row a f r = (f.0, zip-push ad rows asks row a f.1 r)
 
-pub row_more : (left mid after : Option (List Fields)) (asks : List Asked) (a : Asked) (fields : Fields) → HasRows left mid asks → IsNext mid after true fields → IsRowAsking fields a
-    → HasRows left after (asks ++ a ∷ [])
-row_more left mid after asks a fields h next asked = record {
+pub row_more : (ad : Admission) (left mid after : Option (List Fields)) (asks : List Asked) (a : Asked) (fields : Fields) → HasRows ad left mid asks → IsNext mid after true fields → IsRowAsking ad fields a
+    → HasRows ad left after (asks ++ a ∷ [])
+row_more ad left mid after asks a fields h next asked = record {
   rows = h.rows ++ fields ∷ [];
-  each = zip-push h.rows asks fields a h.each asked;
+  each = zip-push ad h.rows asks fields a h.each asked;
   gone = gone-more left mid after h.rows fields h.gone next;
 }
 
 -- the next record is that of this row
-abbrev Takes : Option (List Fields) → Option (List Fields) → RequestRow → Type 0
-Takes left after row = (fields : Fields) × IsNext left after true fields × IsRequestRow fields row
+abbrev Takes : Admission → Option (List Fields) → Option (List Fields) → RequestRow → Type 0
+Takes ad left after row = (fields : Fields) × IsNext left after true fields × IsRequestRow ad fields row
 
 -- the next row asks this
-pub asks_more : (left mid after : Option (List Fields)) (asks : List Asked) (next : Option RequestRow) (a : Asked) → next ≡ Some (row.Asks a.clerk a.request)
-    → MatchOption next (NoneLeft mid) (Takes mid after) → HasRows left mid asks → HasRows left after (asks ++ a ∷ [])
-asks_more left mid after asks next a is takes h =
-    let t : Takes mid after (row.Asks a.clerk a.request) = subst (λ (n : Option RequestRow). MatchOption n (NoneLeft mid) (Takes mid after)) is takes in
-    row_more left mid after asks a t.0 h t.1 t.2
+pub asks_more : (ad : Admission) (left mid after : Option (List Fields)) (asks : List Asked) (next : Option RequestRow) (a : Asked) → next ≡ Some (row.Asks a.clerk a.request)
+    → MatchOption next (NoneLeft mid) (Takes ad mid after) → HasRows ad left mid asks → HasRows ad left after (asks ++ a ∷ [])
+asks_more ad left mid after asks next a is takes h =
+    let t : Takes ad mid after (row.Asks a.clerk a.request) = subst (λ (n : Option RequestRow). MatchOption n (NoneLeft mid) (Takes ad mid after)) is takes in
+    row_more ad left mid after asks a t.0 h t.1 t.2
 
 -- the clerks of a batch are of this run
-pub asks_clerks : (rows : List Fields) (asks : List Asked) → AllZip IsRowAsking rows asks → All (λ (a : Asked). a.clerk < most_clerks) asks
-asks_clerks [] [] each k d below = absurd (omega (arith, below))
-asks_clerks [] (a ∷ asks) each k d below = absurd each
-asks_clerks (row ∷ rows) [] each k d below = absurd (omega (arith, below))
-asks_clerks (row ∷ rows) (a ∷ asks) each zero d below = let is = each.0.by_clerk in omega (arith, is.0)
-asks_clerks (row ∷ rows) (a ∷ asks) each (suc k) d below = asks_clerks rows asks each.1 k d (omega (arith, below))
+pub asks_clerks : (ad : Admission) (rows : List Fields) (asks : List Asked) → AllZip (IsRowAsking ad) rows asks → All (λ (a : Asked). a.clerk < most_clerks) asks
+asks_clerks ad [] [] each k d below = absurd (omega (arith, below))
+asks_clerks ad [] (a ∷ asks) each k d below = absurd each
+asks_clerks ad (row ∷ rows) [] each k d below = absurd (omega (arith, below))
+asks_clerks ad (row ∷ rows) (a ∷ asks) each zero d below = let is = each.0.says.by_clerk in omega (arith, is.0)
+asks_clerks ad (row ∷ rows) (a ∷ asks) each (suc k) d below = asks_clerks ad rows asks each.1 k d (omega (arith, below))
+
+-- what is admitted is for a voter of the roll
+on_roll : (known on_roll enough : Bool) → refusal_from known on_roll enough ≡ None → on_roll ≡ true
+on_roll false b c e = cc
+on_roll true false c e = cc
+on_roll true true c e = refl
+
+pub entries_on_roll : (ad : Admission) (rows : List Fields) (asks : List Asked) (answers : List Answer) → AllZip (IsRowAsking ad) rows asks
+    → All (λ (x : EntryView). is_on_roll ad.roll x.request ≡ true) (entries_of asks answers)
+entries_on_roll ad [] [] answers each = All-nil (λ (x : EntryView). is_on_roll ad.roll x.request ≡ true)
+entries_on_roll ad [] (a ∷ asks) answers each = absurd each
+entries_on_roll ad (row ∷ rows) [] answers each = absurd each
+entries_on_roll ad (row ∷ rows) (a ∷ asks) [] each = All-nil (λ (x : EntryView). is_on_roll ad.roll x.request ≡ true)
+entries_on_roll ad (row ∷ rows) (a ∷ asks) (x ∷ answers) each =
+    All-cons (λ (x : EntryView). is_on_roll ad.roll x.request ≡ true) _ _ (on_roll (knows_ids ad.ids (field row 3)) (is_on_roll ad.roll (asked a.request)) (has_enough ad.least (asked a.request)) each.0.admitted)
+    (entries_on_roll ad rows asks answers each.1)
+
+-- the journal with them has more entries of that kind
+pub adds_more : (ad : Admission) (old mid new entries : List EntryView) → AddsOnRoll ad old mid → new ≡ mid ++ entries → All (λ (x : EntryView). is_on_roll ad.roll x.request ≡ true) entries → AddsOnRoll ad old new
+adds_more ad old mid new entries adds grown on_roll = (
+  adds.0 ++ entries,
+  grown ∙ ap (λ (j : List EntryView). j ++ entries) adds.1 ∙ append_assoc old adds.0 entries,
+  All-append (λ (x : EntryView). is_on_roll ad.roll x.request ≡ true) adds.0 entries adds.2 on_roll,
+)
+
+pub adds_none : (ad : Admission) (journal : List EntryView) → AddsOnRoll ad journal journal
+adds_none ad journal = ([], sym (append-nil journal), All-nil (λ (x : EntryView). is_on_roll ad.roll x.request ≡ true))

@@ -1,5 +1,5 @@
 -- What a run of `serve` says.
-use Rattle.std.specs.Prelude.{◌≡◌, ◌⊎◌, ◌<◌, ◌≤◌, ℕ, ⊤, suc, ◌+◌, ◌-◌, ◌^◌, ◌++◌, ◌==◌, min, List, [], ◌∷◌, Option, Some, None, codes, decimal, filter_map, length, if◌then◌else◌}
+use Rattle.std.specs.Prelude.{◌≡◌, ◌⊎◌, ◌<◌, ◌≤◌, ℕ, ⊤, suc, ◌+◌, ◌-◌, ◌^◌, ◌++◌, ◌==◌, min, List, [], ◌∷◌, Option, Some, None, Result, Ok, Err, All, true, codes, decimal, filter_map, length, if◌then◌else◌}
 use Rattle.std.specs.List.{AllZip}
 use Rattle.pb_core.specs.Request.{EntryView}
 use Rattle.pb_desk.specs.Desk.{DeskView}
@@ -9,8 +9,11 @@ use Rattle.pb_desk.specs.declared.version.Version.{Version}
 use Rattle.pb_durable.specs.JournalFile.{StandsForText}
 use Rattle.pb_rows.specs.Reading.{Fields}
 use Rattle.pb_rows.specs.Writing.{text_of_row}
-use Rattle.pb_script.specs.Script.{HasScriptForm, IsScriptRow}
-use Rattle.pb_script.specs.declared.script_fault.ScriptFault.TheVariants.{BadRow, ReadFailed, TooManyRows}
+use Rattle.pb_script.specs.Admission.{Admits, Refuses, is_on_roll}
+use Rattle.pb_script.specs.ScriptReading.{fault_of_row}
+use Rattle.pb_script.specs.declared.admission.Admission.{Admission}
+use Rattle.pb_script.specs.declared.admission.RowRefusal.{RowRefusal}
+use Rattle.pb_script.specs.declared.script_fault.ScriptFault.TheVariants.{ReadFailed, TooManyRows}
 use Rattle.pb_faults.specs.DeskRow.{entries_row}
 use Rattle.pb_faults.specs.Fault.{line, told}
 use Rattle.pb_faults.specs.declared.fault.AppFault.TheVariants.{Script, Memory, Write}
@@ -22,23 +25,38 @@ abbrev pub heading : ℕ → DeskView → List ℕ
 heading torn d =
     (if torn == 0 then [] else text_of_row (codes "torn" ∷ decimal torn ∷ [])) ++ text_of_row (entries_row d)
 
--- a row of the input asks what this entry has; or it has not the form
-abbrev pub Becomes : Fields → Option EntryView → Type 0
-Becomes row None = ¬ HasScriptForm most_clerks row
-Becomes row (Some x) = IsScriptRow most_clerks row (record { clerk = x.clerk; request = x.request })
+-- what a row of the input becomes: an entry, or why it is refused
+abbrev pub Outcome : Type 0
+Outcome = Result EntryView RowRefusal
+
+-- a row is admitted, and asks what this entry has; or it is refused for this
+abbrev pub Becomes : Admission → Fields → Outcome → Type 0
+Becomes a row (Ok x) = Admits a most_clerks row (record { clerk = x.clerk; request = x.request })
+Becomes a row (Err why) = Refuses a most_clerks row why
+
+-- the entry that a row became, where it became one
+abbrev pub entry_in : Outcome → Option EntryView
+entry_in (Ok x) = Some x
+entry_in (Err why) = None
 
 -- what is said to the rows that became these, where the next entry and the next row have these numbers
-abbrev pub answers_from : ℕ → ℕ → List (Option EntryView) → List ℕ
+abbrev pub answers_from : ℕ → ℕ → List Outcome → List ℕ
 answers_from entry row [] = []
-answers_from entry row (None ∷ more) = line (told (Script (BadRow row))).1 ++ answers_from entry (suc row) more
-answers_from entry row (Some x ∷ more) = text_of_row (row_of entry x) ++ answers_from (suc entry) (suc row) more
+answers_from entry row (Err why ∷ more) =
+    line (told (Script (fault_of_row why row))).1 ++ answers_from entry (suc row) more
+answers_from entry row (Ok x ∷ more) = text_of_row (row_of entry x) ++ answers_from (suc entry) (suc row) more
 
 -- these rows of the input were answered by this text, and their entries came to the journal
-pub record Answers (rows : List Fields) (before after : List EntryView) (text : List ℕ) : Type 0 where
-  pub became : List (Option EntryView)
-  pub each : AllZip Becomes rows became
-  pub journal : after ≡ before ++ filter_map (λ x. x) became
+pub record Answers (a : Admission) (rows : List Fields) (before after : List EntryView) (text : List ℕ) : Type 0 where
+  pub became : List Outcome
+  pub each : AllZip (Becomes a) rows became
+  pub journal : after ≡ before ++ filter_map entry_in became
   pub text_is : text ≡ answers_from (length before + 1) 1 became
+
+-- all entries that came to the journal are for voters of the roll, or shut the desk
+abbrev pub AddsOnRoll : Admission → List EntryView → List EntryView → Type 0
+AddsOnRoll a before after = (more : List EntryView) × (after ≡ before ++ more)
+    × All (λ x. is_on_roll a.roll x.request ≡ true) more
 
 -- the file stands for a journal that begins with the first of these journals, and is a first part of the second
 pub record StandsWithin (version : Version) (first last : List EntryView) (file : List ℕ) : Type 0 where

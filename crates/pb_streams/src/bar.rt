@@ -54,13 +54,18 @@ fn text_of<'a, R: Files>(rt: &R, task: &Task<'a>, target: FileId) -> Result<Opti
     if target.has_text(rt, &file)? {
         return Ok(Some(file));
     }
-    match second {
-        Some(text) => {
-            let is_read = target.has_text(rt, &text)?;
-            Ok(if is_read { Some(text) } else { None })
+    if let Some(text) = second {
+        if target.has_text(rt, &text)? {
+            return Ok(Some(text));
         }
-        None => Ok(None),
     }
+    if let Some(path) = task.roll() {
+        let roll = Source::File(path);
+        if target.has_text(rt, &roll)? {
+            return Ok(Some(roll));
+        }
+    }
+    Ok(None)
 }
 
 /// What bars the result of a task from the file with this path, which may be a journal.

@@ -30,6 +30,7 @@ mod quote;
 mod read_rules;
 pub mod read_words;
 mod records;
+pub mod refused_words;
 mod result_oddities;
 mod row_form;
 pub mod script_words;

@@ -70,6 +70,9 @@ fn what_and_remedy(fault: ScriptFault) -> &'static str {
         ScriptFault::NoMemory => {
             ": memory was refused.\nRun again on a machine with more memory.\n"
         }
+        ScriptFault::UnknownId(_) => ": no project has one of the ids.\n",
+        ScriptFault::NotOnRoll(_) => ": the voter is not on the roll.\n",
+        ScriptFault::TooFew(_) => ": the ballot has too few projects.\n",
     }
 }
 

@@ -5,7 +5,10 @@ use Rattle.pb_core.specs.Request.{RequestView}
 use Rattle.pb_rows.specs.Reading.{Fields, IsNext}
 use Rattle.pb_rows.specs.declared.fault.RecordsFault.{RecordsFault}
 use Rattle.pb_rows.specs.declared.fault.RecordsFault.TheVariants as stop
-use Rattle.pb_script.specs.Script.{IsScript, IsScriptRow, ScriptRowView}
+use Rattle.pb_script.specs.Admission.{Admits}
+use Rattle.pb_script.specs.Script.{ScriptRowView}
+use Rattle.pb_script.specs.Scripts.{IsScript}
+use Rattle.pb_script.specs.declared.admission.Admission.{Admission}
 use Rattle.pb_script.specs.Inner.Script.{AreAsked}
 use Rattle.pb_script.specs.declared.script_fault.ScriptFault.{ScriptFault}
 use Rattle.pb_script.specs.declared.script_fault.ScriptFault.TheVariants.{ReadFailed}
@@ -15,9 +18,9 @@ abbrev pub NoneLeft : Option (List Fields) → Type 0
 NoneLeft left = IfSome left (λ records. records ≡ [])
 
 -- the records are a script for this many clerks, in which each asks this
-abbrev pub SplitsScript : ℕ → List Fields → List (List RequestView) → Type 0
-SplitsScript clerks records lists =
-    (script : List ScriptRowView) × IsScript clerks records script × AreAsked clerks script lists
+abbrev pub SplitsScript : Admission → ℕ → List Fields → List (List RequestView) → Type 0
+SplitsScript a clerks records lists =
+    (script : List ScriptRowView) × IsScript a clerks records script × AreAsked clerks script lists
 
 -- where it is known which records there were, they are those that were read, and those that are left
 abbrev pub HaveGone : Option (List Fields) → List Fields → Option (List Fields) → Type 0
@@ -26,18 +29,18 @@ HaveGone (Some all) gone None = ⊥
 HaveGone (Some all) gone (Some rest) = all ≡ gone ++ rest
 
 -- the next record is this one, and says this
-pub record TakesScriptRow (clerks : ℕ) (left after : Option (List Fields)) (x : ScriptRowView) : Type 0 where
+pub record TakesScriptRow (a : Admission) (clerks : ℕ) (left after : Option (List Fields)) (x : ScriptRowView) : Type 0 where
   pub fields : Fields
   pub next : IsNext left after true fields
-  pub row : IsScriptRow clerks fields x
+  pub row : Admits a clerks fields x
 
 -- this many records were read, and in them each clerk asked this
-pub record HaveAsked (clerks : ℕ) (all left : Option (List Fields)) (count : ℕ)
+pub record HaveAsked (a : Admission) (clerks : ℕ) (all left : Option (List Fields)) (count : ℕ)
     (lists : List (List RequestView)) : Type 0 where
   pub gone : List Fields
   pub script : List ScriptRowView
   pub have_gone : HaveGone all gone left
-  pub rows : AllZip (IsScriptRow clerks) gone script
+  pub rows : AllZip (Admits a clerks) gone script
   pub count_is : length gone ≡ count
   pub lists_are : AreAsked clerks script lists
 

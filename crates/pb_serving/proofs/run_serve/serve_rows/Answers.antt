@@ -1,4 +1,4 @@
-use Rattle.std.proofs.Common.{◌≡◌, ◌∙◌, ◌≤◌, ◌<◌, ◌+◌, ℕ, List, [], ◌++◌, length, Option, Err, IsErrAnd, refl, sym, ap, subst, arith, append_assoc}
+use Rattle.std.proofs.Common.{◌≡◌, ◌∙◌, ◌≤◌, ◌<◌, ◌+◌, ℕ, List, [], ◌++◌, length, true, Option, Err, IsErrAnd, refl, sym, ap, subst, arith, append_assoc}
 use Rattle.std.proofs.lemmas.List.{append-nil}
 use Rattle.std.specs.List.{All}
 use Rattle.std.specs.Io.KnownBytes.{Appends}
@@ -9,20 +9,22 @@ use Rattle.pb_durable.proofs.Openings.{if_err}
 use Rattle.pb_durable.specs.DurableDesk.{entries_of}
 use Rattle.pb_durable.specs.declared.asked.Asked.{Asked}
 use Rattle.pb_rows.specs.Writing.{text_of_rows}
-use Rattle.pb_serving.specs.Answered.{IsBehind, StandsWithin}
+use Rattle.pb_serving.specs.Answered.{AddsOnRoll, IsBehind, StandsWithin}
 use Rattle.pb_serving.specs.declared.serving_fault.ServingFault.{ServingFault}
 use Rattle.pb_serving.specs.declared.serving_fault.ServingFault.TheVariants.{App}
 use Rattle.pb_serving.specs.Inner.Batch.{EndsBy}
 use Rattle.pb_serving.specs.declared.batch.BatchEnd.{BatchEnd}
 use Rattle.pb_serving.specs.declared.batch.BatchEnd.TheVariants as end
 use Rattle.pb_serving.proofs.Answering.{bad_more, batch_more, done, gone_mid, halted, moved, started, Progress}
-use Rattle.pb_serving.proofs.Batches.{asks_clerks}
+use Rattle.pb_serving.proofs.Batches.{adds_more, adds_none, asks_clerks, entries_on_roll}
 use Rattle.pb_serving.proofs.Causes.{err_is, has_cause, not_failed}
 use Rattle.pb_serving.proofs.Standings.{begins, goes_on, kept_all, kept_first}
-use Rattle.pb_script.specs.declared.script_fault.ScriptFault.TheVariants.{BadRow, TooManyRows}
+use Rattle.pb_script.specs.declared.script_fault.ScriptFault.TheVariants.{TooManyRows}
+use Rattle.pb_script.specs.Admission.{is_on_roll}
+use Rattle.pb_script.specs.ScriptReading.{fault_of_row}
 use Rattle.pb_faults.specs.Fault.{line, told}
 use Rattle.pb_faults.specs.declared.fault.AppFault.TheVariants.{Memory, Script, Write}
-use Rattle.pb_serving.proofs.run_serve.serve_rows.Goals.{in-More, in-Bad+in_ok-say_bad_row-in-Bad}
+use Rattle.pb_serving.proofs.run_serve.serve_rows.Goals.{in-More, in-Refused+in_ok-say_refused-in-Refused}
 use Rattle.pb_serving.proofs.run_serve.serve_rows.Goals as goal
 
 pub loop-init : goal.loop-init
@@ -33,15 +35,15 @@ loop-init g c = record {
   failures = λ tells. refl;
   opening = refl;
   durable = c.requires;
-  grown = ([], sym (append-nil c.args.desk.now.desk.journal));
-  progress = started c.args.rows.now.left c.args.desk.now.desk.journal (g.W.Write.contents c.args.writer.now);
+  grown = adds_none c.args.admission.now c.args.desk.now.desk.journal;
+  progress = started c.args.admission.now c.args.rows.now.left c.args.desk.now.desk.journal (g.W.Write.contents c.args.writer.now);
   any_moment = λ tells. begins g.D.Device.moment g.D.Device.left_since g.D.Device.seen g.D.Device.may_leave (g.met.D.Device.only_now) c.args.desk.now (c.requires tells);
 }
 
 pub answer-requires-clause-clerks : goal.answer-requires-clause-clerks
 answer-requires-clause-clerks g c =
     let batch = c.next_batch-end.ensures.batch in
-    subst (λ (asks : List Asked). All (λ (a : Asked). a.clerk < most_clerks) asks) (sym c.as_slice.ensures.value) (asks_clerks batch.rows _ batch.each)
+    subst (λ (asks : List Asked). All (λ (a : Asked). a.clerk < most_clerks) asks) (sym c.as_slice.ensures.value) (asks_clerks c.args.admission.now batch.rows _ batch.each)
 
 pub returns-in_err-answer-clause-stopped : goal.returns-in_err-answer-clause-stopped
 returns-in_err-answer-clause-stopped g c =
@@ -52,9 +54,9 @@ returns-in_err-answer-clause-stopped g c =
     let asked = c.answer.ensures.asked in
     if_err c.from_residual.result c.in_err-answer.field-0.0 _ c.from_residual.ensures.1 (λ other.
     let same : g.W.Write.contents c.answer.new.writer ≡ g.W.Write.contents c.loop.writer = c.in_err-answer.ensures.unsaid other in
-    let so_far = subst (λ (w : Option (List ℕ)). Progress c.args.rows.now.left c.loop.rows.left old.desk.journal mid.desk.journal (g.W.Write.contents c.args.writer.now) w c.loop.row c.loop.bad_rows) (sym same) inv.progress in
-    halted (λ gone. IsBehind c.in_err-answer.field-0.0 gone) (λ kept. g.D.Device.tells → (f : List ℕ) → g.D.Device.may_leave new.file.device f → StandsWithin new.desk.opening.version kept new.desk.journal f)
-    c.args.rows.now.left c.loop.rows.left old.desk.journal mid.desk.journal (g.W.Write.contents c.args.writer.now) (g.W.Write.contents c.answer.new.writer) c.loop.row c.loop.bad_rows so_far
+    let so_far = subst (λ (w : Option (List ℕ)). Progress c.args.admission.now c.args.rows.now.left c.loop.rows.left old.desk.journal mid.desk.journal (g.W.Write.contents c.args.writer.now) w c.loop.row c.loop.refused) (sym same) inv.progress in
+    halted c.args.admission.now (λ gone. IsBehind c.in_err-answer.field-0.0 gone) (λ kept. g.D.Device.tells → (f : List ℕ) → g.D.Device.may_leave new.file.device f → StandsWithin new.desk.opening.version kept new.desk.journal f)
+    c.args.rows.now.left c.loop.rows.left old.desk.journal mid.desk.journal (g.W.Write.contents c.args.writer.now) (g.W.Write.contents c.answer.new.writer) c.loop.row c.loop.refused so_far
     (λ gone count. c.in_err-answer.ensures.other gone) (λ tells f left. kept_first g.D.Device.moment g.D.Device.left_since g.D.Device.seen g.D.Device.may_leave g.met.D.Device.counts_now mid new (entries_of c.as_slice.result.now asked.0) c.answer.ensures.opening asked.1 (c.answer.ensures.any_moment tells) f left))
 
 pub returns-in_err-answer-clause-any_moment : goal.returns-in_err-answer-clause-any_moment
@@ -89,8 +91,8 @@ returns-in-NoMemory-clause-any_moment g c = λ tells.
     let asked = c.answer.ensures.asked in
     goes_on g.D.Device.moment g.D.Device.left_since g.D.Device.seen g.D.Device.may_leave old mid c.answer.new.desk inv.grown.0 (entries_of c.as_slice.result.now asked.0) inv.opening inv.grown.1 asked.1 (inv.any_moment tells) (c.answer.ensures.any_moment tells)
 
-pub returns-in_err-say_bad_row-in-Bad-clause-any_moment : goal.returns-in_err-say_bad_row-in-Bad-clause-any_moment
-returns-in_err-say_bad_row-in-Bad-clause-any_moment g c = λ tells.
+pub returns-in_err-say_refused-in-Refused-clause-any_moment : goal.returns-in_err-say_refused-in-Refused-clause-any_moment
+returns-in_err-say_refused-in-Refused-clause-any_moment g c = λ tells.
     let inv = c.loop.invariant in
     let old = c.args.desk.now in
     let mid = c.loop.desk in
@@ -109,10 +111,10 @@ returns-in-Over-clause-answered g c =
     let grown : c.answer.new.desk.desk.journal ≡ mid.desk.journal ++ entries_of asks said.0 = said.2 ∙ ap (λ (a : List Asked). mid.desk.journal ++ entries_of a said.0) value in
     let count : length said.0 ≡ length asks = said.1 ∙ ap length value in
     let text = subst (λ (a : List Asked). Appends (g.W.Write.contents c.loop.writer) (g.W.Write.contents c.answer.new.writer) (text_of_rows (rows_from (length mid.desk.journal + 1) (entries_of a said.0)))) value said.3 in
-    let ends = subst (λ (e : BatchEnd). EndsBy e c.loop.rows.left batch.rows c.next_batch-end.new.rows.left) c.in-Over.is batch.goes_on in
-    done c.args.rows.now.left ends.0 old.desk.journal c.answer.new.desk.desk.journal (g.W.Write.contents c.args.writer.now) (g.W.Write.contents c.answer.new.writer) (c.loop.row + length asks) c.loop.bad_rows
-    (batch_more c.args.rows.now.left c.loop.rows.left ends.0 old.desk.journal mid.desk.journal c.answer.new.desk.desk.journal
-    (g.W.Write.contents c.args.writer.now) (g.W.Write.contents c.loop.writer) (g.W.Write.contents c.answer.new.writer) c.loop.row c.loop.bad_rows
+    let ends = subst (λ (e : BatchEnd). EndsBy c.args.admission.now e c.loop.rows.left batch.rows c.next_batch-end.new.rows.left) c.in-Over.is batch.goes_on in
+    done c.args.admission.now c.args.rows.now.left ends.0 old.desk.journal c.answer.new.desk.desk.journal (g.W.Write.contents c.args.writer.now) (g.W.Write.contents c.answer.new.writer) (c.loop.row + length asks) c.loop.refused
+    (batch_more c.args.admission.now c.args.rows.now.left c.loop.rows.left ends.0 old.desk.journal mid.desk.journal c.answer.new.desk.desk.journal
+    (g.W.Write.contents c.args.writer.now) (g.W.Write.contents c.loop.writer) (g.W.Write.contents c.answer.new.writer) c.loop.row c.loop.refused
     batch.rows asks said.0 inv.progress ends.1 batch.each count grown text) ends.2
 
 pub returns-in-ReadFailed-clause-stopped : goal.returns-in-ReadFailed-clause-stopped
@@ -129,12 +131,12 @@ returns-in-ReadFailed-clause-stopped g c = λ other.
     let text = subst (λ (a : List Asked). Appends (g.W.Write.contents c.loop.writer) (g.W.Write.contents c.answer.new.writer) (text_of_rows (rows_from (length mid.desk.journal + 1) (entries_of a said.0)))) value said.3 in
     let size : c.len.result ≡ length asks = c.len.ensures ∙ c.next_batch-end.new.asks.ok.0 in
     let new = c.answer.new.desk in
-    let ends = subst (λ (e : BatchEnd). EndsBy e c.loop.rows.left batch.rows c.next_batch-end.new.rows.left) c.in-ReadFailed.is batch.goes_on in
-    let so_far = batch_more c.args.rows.now.left c.loop.rows.left ends.0 old.desk.journal mid.desk.journal c.answer.new.desk.desk.journal
-    (g.W.Write.contents c.args.writer.now) (g.W.Write.contents c.loop.writer) (g.W.Write.contents c.answer.new.writer) c.loop.row c.loop.bad_rows
+    let ends = subst (λ (e : BatchEnd). EndsBy c.args.admission.now e c.loop.rows.left batch.rows c.next_batch-end.new.rows.left) c.in-ReadFailed.is batch.goes_on in
+    let so_far = batch_more c.args.admission.now c.args.rows.now.left c.loop.rows.left ends.0 old.desk.journal mid.desk.journal c.answer.new.desk.desk.journal
+    (g.W.Write.contents c.args.writer.now) (g.W.Write.contents c.loop.writer) (g.W.Write.contents c.answer.new.writer) c.loop.row c.loop.refused
     batch.rows asks said.0 inv.progress ends.1 batch.each count grown text in
-    halted (λ gone. IsBehind c.read_failed.result gone) (λ kept. g.D.Device.tells → (f : List ℕ) → g.D.Device.may_leave new.file.device f → StandsWithin new.desk.opening.version kept new.desk.journal f)
-    c.args.rows.now.left ends.0 old.desk.journal new.desk.journal (g.W.Write.contents c.args.writer.now) (g.W.Write.contents c.answer.new.writer) (c.loop.row + length asks) c.loop.bad_rows so_far
+    halted c.args.admission.now (λ gone. IsBehind c.read_failed.result gone) (λ kept. g.D.Device.tells → (f : List ℕ) → g.D.Device.may_leave new.file.device f → StandsWithin new.desk.opening.version kept new.desk.journal f)
+    c.args.rows.now.left ends.0 old.desk.journal new.desk.journal (g.W.Write.contents c.args.writer.now) (g.W.Write.contents c.answer.new.writer) (c.loop.row + length asks) c.loop.refused so_far
     (λ gone count. subst (λ (fault : ServingFault). IsBehind fault gone) (sym c.read_failed.ensures) (omega (arith, size, count)))
     (λ tells f left. kept_all g.D.Device.moment g.D.Device.left_since g.D.Device.seen g.D.Device.may_leave new (c.in_ok-answer.ensures.durable tells) f left)
 
@@ -151,12 +153,12 @@ returns-in-NoMemory-clause-stopped g c = λ other.
     let count : length said.0 ≡ length asks = said.1 ∙ ap length value in
     let text = subst (λ (a : List Asked). Appends (g.W.Write.contents c.loop.writer) (g.W.Write.contents c.answer.new.writer) (text_of_rows (rows_from (length mid.desk.journal + 1) (entries_of a said.0)))) value said.3 in
     let new = c.answer.new.desk in
-    let ends = subst (λ (e : BatchEnd). EndsBy e c.loop.rows.left batch.rows c.next_batch-end.new.rows.left) c.in-NoMemory.is batch.goes_on in
-    let so_far = batch_more c.args.rows.now.left c.loop.rows.left ends.0 old.desk.journal mid.desk.journal c.answer.new.desk.desk.journal
-    (g.W.Write.contents c.args.writer.now) (g.W.Write.contents c.loop.writer) (g.W.Write.contents c.answer.new.writer) c.loop.row c.loop.bad_rows
+    let ends = subst (λ (e : BatchEnd). EndsBy c.args.admission.now e c.loop.rows.left batch.rows c.next_batch-end.new.rows.left) c.in-NoMemory.is batch.goes_on in
+    let so_far = batch_more c.args.admission.now c.args.rows.now.left c.loop.rows.left ends.0 old.desk.journal mid.desk.journal c.answer.new.desk.desk.journal
+    (g.W.Write.contents c.args.writer.now) (g.W.Write.contents c.loop.writer) (g.W.Write.contents c.answer.new.writer) c.loop.row c.loop.refused
     batch.rows asks said.0 inv.progress ends.1 batch.each count grown text in
-    halted (λ gone. IsBehind (App Memory) gone) (λ kept. g.D.Device.tells → (f : List ℕ) → g.D.Device.may_leave new.file.device f → StandsWithin new.desk.opening.version kept new.desk.journal f)
-    c.args.rows.now.left ends.0 old.desk.journal new.desk.journal (g.W.Write.contents c.args.writer.now) (g.W.Write.contents c.answer.new.writer) (c.loop.row + length asks) c.loop.bad_rows so_far
+    halted c.args.admission.now (λ gone. IsBehind (App Memory) gone) (λ kept. g.D.Device.tells → (f : List ℕ) → g.D.Device.may_leave new.file.device f → StandsWithin new.desk.opening.version kept new.desk.journal f)
+    c.args.rows.now.left ends.0 old.desk.journal new.desk.journal (g.W.Write.contents c.args.writer.now) (g.W.Write.contents c.answer.new.writer) (c.loop.row + length asks) c.loop.refused so_far
     (λ gone count. tt) (λ tells f left. kept_all g.D.Device.moment g.D.Device.left_since g.D.Device.seen g.D.Device.may_leave new (c.in_ok-answer.ensures.durable tells) f left)
 
 pub loop-preserved : goal.loop-preserved
@@ -183,18 +185,16 @@ loop-preserved g c =
     let left = c.loop.rows.left in
     let after = c.next_batch-end.new.rows.left in
     let start = contents c.args.writer.now in
-    let ends : (e : BatchEnd) → c.next_batch-end.result ≡ e → EndsBy e left batch.rows after = λ e is. subst (λ (x : BatchEnd). EndsBy x left batch.rows after) is batch.goes_on in
+    let ends : (e : BatchEnd) → c.next_batch-end.result ≡ e → EndsBy c.args.admission.now e left batch.rows after = λ e is. subst (λ (x : BatchEnd). EndsBy c.args.admission.now x left batch.rows after) is batch.goes_on in
     let opening = c.answer.ensures.opening ∙ inv.opening in
     let failures : g.D.Device.tells → g.D.Device.failures new.file.device ≡ g.D.Device.failures old.file.device = λ tells.
     not_failed (g.D.Device.failures mid.file.device) (g.D.Device.failures new.file.device) (c.answer.ensures.steady tells) (λ rise. cc (c.in_ok-answer.ensures.told tells rise)) ∙ inv.failures tells in
-    let entries : (x : List EntryView) × (new.desk.journal ≡ old.desk.journal ++ x) = (
-      inv.grown.0 ++ entries_of asks said.0,
-      grown ∙ ap (λ (j : List EntryView). j ++ entries_of asks said.0) inv.grown.1 ∙ append_assoc old.desk.journal inv.grown.0 (entries_of asks said.0),
-    ) in
+    let on_roll = entries_on_roll c.args.admission.now batch.rows asks said.0 batch.each in
+    let entries : AddsOnRoll c.args.admission.now old.desk.journal new.desk.journal = adds_more c.args.admission.now old.desk.journal mid.desk.journal new.desk.journal (entries_of asks said.0) inv.grown grown on_roll in
     elim c.match-end.branch [
       | in-More w ↦
           let row = w.row-is in
-          let bad = w.bad_rows-is in
+          let bad = w.refused-is in
           let some = c.next_batch-end.ensures.some w.in-More.is in
           record {
             few = omega (arith, row, size, few, before);
@@ -204,19 +204,19 @@ loop-preserved g c =
             opening = opening;
             durable = λ tells. c.in_ok-answer.ensures.durable tells;
             grown = entries;
-            progress = moved all after old.desk.journal new.desk.journal start (contents c.answer.new.writer) (contents c.match-end.writer) (c.loop.row + length asks) c.loop.bad_rows c.match-end.row c.match-end.bad_rows
+            progress = moved c.args.admission.now all after old.desk.journal new.desk.journal start (contents c.answer.new.writer) (contents c.match-end.writer) (c.loop.row + length asks) c.loop.refused c.match-end.row c.match-end.refused
                 (ap contents w.writer-is) (omega (arith, row, size)) bad
-                (batch_more all left after old.desk.journal mid.desk.journal new.desk.journal start (contents c.loop.writer) (contents c.answer.new.writer) c.loop.row c.loop.bad_rows
+                (batch_more c.args.admission.now all left after old.desk.journal mid.desk.journal new.desk.journal start (contents c.loop.writer) (contents c.answer.new.writer) c.loop.row c.loop.refused
                 batch.rows asks said.0 inv.progress (ends end.More w.in-More.is) batch.each count grown text);
             any_moment = λ tells. goes_on g.D.Device.moment g.D.Device.left_since g.D.Device.seen g.D.Device.may_leave old mid new inv.grown.0 (entries_of c.as_slice.result.now asked.0) inv.opening inv.grown.1 asked.1 (inv.any_moment tells) (c.answer.ensures.any_moment tells);
           }
-      | in-Bad+in_ok-say_bad_row-in-Bad w ↦
+      | in-Refused+in_ok-say_refused-in-Refused w ↦
           let row = w.row-is in
-          let bad = w.bad_rows-is in
-          let here = ends end.Bad w.in-Bad.is in
+          let bad = w.refused-is in
+          let here = ends (end.Refused w.in-Refused.why) w.in-Refused.is in
           let between = gone_mid left after batch.rows here.0 here.2 in
           let at : c.loop.row + c.len.result + 1 ≡ c.loop.row + length asks + 1 = omega (arith, size) in
-          let line_is = subst (λ (n : ℕ). Appends (contents c.answer.new.writer) (contents w.say_bad_row.new.writer) (line (told (Script (BadRow n))).1)) at w.in_ok-say_bad_row-in-Bad.ensures.ok in
+          let line_is = subst (λ (n : ℕ). Appends (contents c.answer.new.writer) (contents w.say_refused.new.writer) (line (told (Script (fault_of_row w.in-Refused.why n))).1)) at w.in_ok-say_refused-in-Refused.ensures.ok in
           record {
             few = omega (arith, row, size, few, before);
             many = omega (arith, row, size, many);
@@ -225,11 +225,11 @@ loop-preserved g c =
             opening = opening;
             durable = λ tells. c.in_ok-answer.ensures.durable tells;
             grown = entries;
-            progress = moved all after old.desk.journal new.desk.journal start (contents w.say_bad_row.new.writer) (contents c.match-end.writer) (c.loop.row + length asks + 1) (c.loop.bad_rows + 1) c.match-end.row c.match-end.bad_rows
+            progress = moved c.args.admission.now all after old.desk.journal new.desk.journal start (contents w.say_refused.new.writer) (contents c.match-end.writer) (c.loop.row + length asks + 1) (c.loop.refused + 1) c.match-end.row c.match-end.refused
                 (ap contents w.writer-is) (omega (arith, row, size)) bad
-                (bad_more all between.0 after old.desk.journal new.desk.journal new.desk.journal start (contents c.answer.new.writer) (contents w.say_bad_row.new.writer) (c.loop.row + length asks) c.loop.bad_rows
-                here.0
-                (batch_more all left between.0 old.desk.journal mid.desk.journal new.desk.journal start (contents c.loop.writer) (contents c.answer.new.writer) c.loop.row c.loop.bad_rows
+                (bad_more c.args.admission.now all between.0 after old.desk.journal new.desk.journal new.desk.journal start (contents c.answer.new.writer) (contents w.say_refused.new.writer) (c.loop.row + length asks) c.loop.refused
+                here.0 w.in-Refused.why
+                (batch_more c.args.admission.now all left between.0 old.desk.journal mid.desk.journal new.desk.journal start (contents c.loop.writer) (contents c.answer.new.writer) c.loop.row c.loop.refused
                 batch.rows asks said.0 inv.progress between.1 batch.each count grown text)
                 between.2 here.1 line_is);
             any_moment = λ tells. goes_on g.D.Device.moment g.D.Device.left_since g.D.Device.seen g.D.Device.may_leave old mid new inv.grown.0 (entries_of c.as_slice.result.now asked.0) inv.opening inv.grown.1 asked.1 (inv.any_moment tells) (c.answer.ensures.any_moment tells);
@@ -241,17 +241,59 @@ returns-clause-stopped g c = λ other.
     let inv = c.loop.invariant in
     let old = c.args.desk.now in
     let mid = c.loop.desk in
-    halted (λ gone. IsBehind (App (Script TooManyRows)) gone) (λ kept. g.D.Device.tells → (f : List ℕ) → g.D.Device.may_leave mid.file.device f → StandsWithin mid.desk.opening.version kept mid.desk.journal f)
-    c.args.rows.now.left c.loop.rows.left old.desk.journal mid.desk.journal (g.W.Write.contents c.args.writer.now) (g.W.Write.contents c.loop.writer) c.loop.row c.loop.bad_rows inv.progress
+    halted c.args.admission.now (λ gone. IsBehind (App (Script TooManyRows)) gone) (λ kept. g.D.Device.tells → (f : List ℕ) → g.D.Device.may_leave mid.file.device f → StandsWithin mid.desk.opening.version kept mid.desk.journal f)
+    c.args.rows.now.left c.loop.rows.left old.desk.journal mid.desk.journal (g.W.Write.contents c.args.writer.now) (g.W.Write.contents c.loop.writer) c.loop.row c.loop.refused inv.progress
     (λ gone count. let many = inv.many in omega (arith, count, many, c.loop-test.false)) (λ tells f left. kept_all g.D.Device.moment g.D.Device.left_since g.D.Device.seen g.D.Device.may_leave mid (inv.durable tells) f left)
+
+pub returns-in_err-answer-clause-grown : goal.returns-in_err-answer-clause-grown
+returns-in_err-answer-clause-grown g c =
+    let inv = c.loop.invariant in
+    let batch = c.next_batch-end.ensures.batch in
+    let asked = c.answer.ensures.asked in
+    let value = c.as_slice.ensures.value in
+    adds_more c.args.admission.now c.args.desk.now.desk.journal c.loop.desk.desk.journal c.answer.new.desk.desk.journal (entries_of c.as_slice.result.now asked.0) inv.grown asked.1
+    (subst (λ (a : List Asked). All (λ (x : EntryView). is_on_roll c.args.admission.now.roll x.request ≡ true) (entries_of a asked.0)) (sym value)
+    (entries_on_roll c.args.admission.now batch.rows c.next_batch-end.new.asks.items asked.0 batch.each))
 
 pub returns-in-Over-clause-grown : goal.returns-in-Over-clause-grown
 returns-in-Over-clause-grown g c =
     let inv = c.loop.invariant in
-    let old = c.args.desk.now in
+    let batch = c.next_batch-end.ensures.batch in
     let asked = c.answer.ensures.asked in
-    let entries = entries_of c.as_slice.result.now asked.0 in
-    (inv.grown.0 ++ entries, asked.1 ∙ ap (λ (j : List EntryView). j ++ entries) inv.grown.1 ∙ append_assoc old.desk.journal inv.grown.0 entries)
+    let value = c.as_slice.ensures.value in
+    adds_more c.args.admission.now c.args.desk.now.desk.journal c.loop.desk.desk.journal c.answer.new.desk.desk.journal (entries_of c.as_slice.result.now asked.0) inv.grown asked.1
+    (subst (λ (a : List Asked). All (λ (x : EntryView). is_on_roll c.args.admission.now.roll x.request ≡ true) (entries_of a asked.0)) (sym value)
+    (entries_on_roll c.args.admission.now batch.rows c.next_batch-end.new.asks.items asked.0 batch.each))
+
+pub returns-in-ReadFailed-clause-grown : goal.returns-in-ReadFailed-clause-grown
+returns-in-ReadFailed-clause-grown g c =
+    let inv = c.loop.invariant in
+    let batch = c.next_batch-end.ensures.batch in
+    let asked = c.answer.ensures.asked in
+    let value = c.as_slice.ensures.value in
+    adds_more c.args.admission.now c.args.desk.now.desk.journal c.loop.desk.desk.journal c.answer.new.desk.desk.journal (entries_of c.as_slice.result.now asked.0) inv.grown asked.1
+    (subst (λ (a : List Asked). All (λ (x : EntryView). is_on_roll c.args.admission.now.roll x.request ≡ true) (entries_of a asked.0)) (sym value)
+    (entries_on_roll c.args.admission.now batch.rows c.next_batch-end.new.asks.items asked.0 batch.each))
+
+pub returns-in-NoMemory-clause-grown : goal.returns-in-NoMemory-clause-grown
+returns-in-NoMemory-clause-grown g c =
+    let inv = c.loop.invariant in
+    let batch = c.next_batch-end.ensures.batch in
+    let asked = c.answer.ensures.asked in
+    let value = c.as_slice.ensures.value in
+    adds_more c.args.admission.now c.args.desk.now.desk.journal c.loop.desk.desk.journal c.answer.new.desk.desk.journal (entries_of c.as_slice.result.now asked.0) inv.grown asked.1
+    (subst (λ (a : List Asked). All (λ (x : EntryView). is_on_roll c.args.admission.now.roll x.request ≡ true) (entries_of a asked.0)) (sym value)
+    (entries_on_roll c.args.admission.now batch.rows c.next_batch-end.new.asks.items asked.0 batch.each))
+
+pub returns-in_err-say_refused-in-Refused-clause-grown : goal.returns-in_err-say_refused-in-Refused-clause-grown
+returns-in_err-say_refused-in-Refused-clause-grown g c =
+    let inv = c.loop.invariant in
+    let batch = c.next_batch-end.ensures.batch in
+    let asked = c.answer.ensures.asked in
+    let value = c.as_slice.ensures.value in
+    adds_more c.args.admission.now c.args.desk.now.desk.journal c.loop.desk.desk.journal c.answer.new.desk.desk.journal (entries_of c.as_slice.result.now asked.0) inv.grown asked.1
+    (subst (λ (a : List Asked). All (λ (x : EntryView). is_on_roll c.args.admission.now.roll x.request ≡ true) (entries_of a asked.0)) (sym value)
+    (entries_on_roll c.args.admission.now batch.rows c.next_batch-end.new.asks.items asked.0 batch.each))
 
 pub returns-in_err-answer-clause-write : goal.returns-in_err-answer-clause-write
 returns-in_err-answer-clause-write g c = λ tells said.

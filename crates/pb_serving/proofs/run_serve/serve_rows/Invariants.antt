@@ -2,7 +2,7 @@ use Rattle.std.proofs.Common.{◌≡◌, ◌≤◌, ◌*◌, ◌++◌, List}
 use Rattle.pb_core.specs.Request.{EntryView}
 use Rattle.pb_durable.specs.Device.{LeavesOnly}
 use Rattle.pb_durable.specs.DurableDesk.{IsDurable}
-use Rattle.pb_serving.specs.Answered.{StandsWithin}
+use Rattle.pb_serving.specs.Answered.{AddsOnRoll, StandsWithin}
 use Rattle.pb_serving.proofs.Answering.{Progress}
 use Rattle.pb_serving.proofs.run_serve.serve_rows.Given as goal
 
@@ -10,13 +10,13 @@ abbrev pub invariant-loop : goal.invariant-loop
 invariant-loop g l = record {
   few : l.row ≤ 4097 * l.counter;
   many : l.counter ≤ l.row;
-  fewer : l.bad_rows ≤ l.row;
+  fewer : l.refused ≤ l.row;
   failures : g.D.Device.tells → g.D.Device.failures l.desk.file.device ≡ g.D.Device.failures l.initial.desk.file.device;
   opening : l.desk.desk.opening ≡ l.initial.desk.desk.opening;
   durable : g.D.Device.tells → IsDurable g.D.Device.seen g.D.Device.may_leave l.desk;
-  grown : (more : List EntryView) × (l.desk.desk.journal ≡ l.initial.desk.desk.journal ++ more);
-  progress : Progress l.initial.rows.left l.rows.left l.initial.desk.desk.journal l.desk.desk.journal
-      (g.W.Write.contents l.initial.writer) (g.W.Write.contents l.writer) l.row l.bad_rows;
+  grown : AddsOnRoll l.admission l.initial.desk.desk.journal l.desk.desk.journal;
+  progress : Progress l.admission l.initial.rows.left l.rows.left l.initial.desk.desk.journal l.desk.desk.journal
+      (g.W.Write.contents l.initial.writer) (g.W.Write.contents l.writer) l.row l.refused;
   any_moment : g.D.Device.tells → LeavesOnly g.D.Device.moment g.D.Device.left_since l.initial.desk.file.device l.desk.file.device
       (StandsWithin l.initial.desk.desk.opening.version l.initial.desk.desk.journal l.desk.desk.journal);
 }

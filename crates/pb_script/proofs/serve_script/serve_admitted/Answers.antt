@@ -5,7 +5,7 @@ use Rattle.pb_script.specs.Inner.Serving.{ServesAll}
 use Rattle.pb_script.proofs.DeskEntries.{ended_serves}
 use Rattle.pb_script.proofs.Rooms.{room_for_last}
 use Rattle.pb_script.proofs.Texts.{script_text}
-use Rattle.pb_script.proofs.serve_script.serve_script.Goals as goal
+use Rattle.pb_script.proofs.serve_script.serve_admitted.Goals as goal
 
 pub ended-requires : goal.ended-requires
 ended-requires g c =
@@ -25,7 +25,7 @@ returns-clause-ok g c =
     let text = c.in_ok-written.ensures in
     let P : List (List RequestView) → Type 0 = λ lists. ServesAll lists served.field-0.journal in
     let serves = subst P c.as_slice.ensures.value served.ensures.serves in
-    script_text c.args.clerks lists c.args.shuts c.args.election _ ended.desk c.in_ok-written.field-0.items c.in-Ok.ensures.script
+    script_text c.args.admission.now c.args.clerks lists c.args.shuts c.args.election _ ended.desk c.in_ok-written.field-0.items c.in-Ok.ensures.script
     (record {
       in_range = served.ensures.clerks;
       opening = ended.ensures.opening ∙ served.ensures.opening;

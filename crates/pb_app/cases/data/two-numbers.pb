@@ -1,0 +1,11 @@
+META
+key;value
+budget;100
+vote_type;approval
+PROJECTS
+project_id;cost
+1;30
+2;60
+VOTES
+voter_id;vote
+v1;1

@@ -1,0 +1,86 @@
+//! Which requests the desk admits, and what is said of those that it does not.
+
+use crate::words;
+use pb_command_line::Admits;
+use pb_commands::AppFault;
+use pb_commands::run_desk::Rules;
+use pb_ids::IdTable;
+use pb_script::{Notice, RowRefusal, read_roll};
+use pb_streams::open_file;
+use std::cell::Cell;
+use std::rt::Files;
+
+/// The number on the command line of the voters' roll.
+const ROLL: u32 = 3;
+
+/// Says on standard error why a row is refused, and counts the rows that the rules refuse.
+#[derive(Drop)]
+pub(crate) struct Told<'a, R> {
+    rt: &'a R,
+    /// How many projects a ballot has at least.
+    least: u32,
+    /// Whether a row that is refused refuses the script.
+    refuses_script: bool,
+    by_rules: Cell<u64>,
+}
+
+impl<'a, R> Told<'a, R> {
+    /// Says it of rows that are answered one by one.
+    pub(crate) fn rows(rt: &'a R, admits: &Admits<'_>) -> Told<'a, R> {
+        Told {
+            rt,
+            least: admits.least,
+            refuses_script: false,
+            by_rules: Cell::new(0),
+        }
+    }
+
+    /// Says it of a row that refuses its script.
+    pub(crate) fn script(rt: &'a R, admits: &Admits<'_>) -> Told<'a, R> {
+        Told {
+            rt,
+            least: admits.least,
+            refuses_script: true,
+            by_rules: Cell::new(0),
+        }
+    }
+
+    /// How many rows the rules have refused.
+    pub(crate) fn by_rules(&self) -> u64 {
+        self.by_rules.get()
+    }
+}
+
+impl<R: Eprint + AllocGlobal> Notice for Told<'_, R> {
+    fn refused(&self, row: u64, why: RowRefusal, unknown: &str) {
+        if why == RowRefusal::Bad {
+            return;
+        }
+        self.by_rules.set(self.by_rules.get().saturating_add(1));
+        words::say_refused_row(self.rt, row, why, unknown, self.least, self.refuses_script);
+    }
+}
+
+/// The rules that the command line gives; a voters' roll is read.
+pub(crate) fn rules_of<R: Files + AllocGlobal>(
+    rt: &R,
+    admits: &Admits<'_>,
+) -> Result<Rules, AppFault> {
+    Ok(Rules {
+        by_id: admits.by_id,
+        roll: roll_of(rt, admits.roll)?,
+        least: admits.least,
+    })
+}
+
+/// The voters' roll with this path.
+fn roll_of<R: Files + AllocGlobal>(
+    rt: &R,
+    path: Option<&str>,
+) -> Result<Option<IdTable>, AppFault> {
+    let Some(path) = path else {
+        return Ok(None);
+    };
+    let file = open_file(rt, path, ROLL)?;
+    Ok(Some(read_roll(rt.alloc(), file)?))
+}

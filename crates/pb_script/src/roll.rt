@@ -1,0 +1,161 @@
+//! The reader of a voters' roll: the ids of those who may vote, one a row.
+
+ghost use Rattle.std.specs.Prelude.{◌≡◌, ◌<◌, List, true, length, IfErr, IfOk, IfSome, OnOk};
+ghost use Rattle.std.specs.FinMap as map;
+ghost use Rattle.csv.specs.Records.{AllText, fields_of};
+ghost use Rattle.pb_rows.specs.Reading.{Fields, IsNext, records_of};
+ghost use Rattle.pb_script.specs.Roll.{IsNextRollFault, IsRoll, IsRollFault, ids_of, most_ids, named};
+
+use csv::StringRecord;
+use pb_core::no_memory::NoMemory;
+use pb_ids::IdTable;
+use pb_rows::{Records, RecordsFault};
+use std::alloc::{AllocError, Global};
+use std::io::Read;
+use thiserror::Error;
+
+/// The most ids that a roll has.
+pub const MOST_IDS: u32 = 2_000_000;
+
+/// Why a roll is not accepted. The first faulty row decides. Rows have their numbers from 1.
+#[derive(Clone, Copy, Debug, PartialEq, Eq, Error)]
+pub enum RollFault {
+    /// The reader failed at this row.
+    #[error("the reader failed at row {0}")]
+    ReadFailed(u32),
+    /// This row is not UTF-8.
+    #[error("row {0} is no text")]
+    NotText(u32),
+    /// This row has an id beyond the 2,000,000th.
+    #[error("row {0} has an id too many")]
+    TooManyIds(u32),
+    /// Memory was refused.
+    #[error("out of memory")]
+    NoMemory,
+}
+
+impl From<NoMemory> for RollFault {
+    ghost use Rattle.std.specs.Prelude.{◌≡◌};
+    ghost use Rattle.pb_script.specs.declared.roll.RollFault.TheVariants as fault;
+
+    ghost from_gives = { λ _ e. e ≡ fault.NoMemory };
+
+    fn from(_refused: NoMemory) -> RollFault {
+        RollFault::NoMemory
+    }
+}
+
+impl From<AllocError> for RollFault {
+    ghost use Rattle.std.specs.Prelude.{◌≡◌};
+    ghost use Rattle.pb_script.specs.declared.roll.RollFault.TheVariants as fault;
+
+    ghost from_gives = { λ _ e. e ≡ fault.NoMemory };
+
+    fn from(_refused: AllocError) -> RollFault {
+        RollFault::NoMemory
+    }
+}
+
+impl RollFault {
+    /// The fault's name.
+    pub fn name(&self) -> &'static str
+        ensures { result.now ≡ (named self.now).0 }
+    {
+        match self {
+            RollFault::ReadFailed(_) => "ReadFailed",
+            RollFault::NotText(_) => "NotText",
+            RollFault::TooManyIds(_) => "TooManyIds",
+            RollFault::NoMemory => "NoMemory",
+        }
+    }
+
+    /// The number of the row, from 1; 0 where memory was refused, which is the fault of no row.
+    pub fn at(&self) -> u32
+        ensures { result ≡ (named self.now).1 }
+    {
+        match self {
+            RollFault::ReadFailed(row) | RollFault::NotText(row) | RollFault::TooManyIds(row) => {
+                *row
+            }
+            RollFault::NoMemory => 0,
+        }
+    }
+}
+
+/// Reads the ids of a roll, the first field of each row, without white space at its ends. A first row that begins with
+/// `voter_id` is a header.
+///
+/// The first faulty row decides; within a row a reader that fails comes first, then what is no text, then the limit of
+/// 2,000,000 ids.
+pub fn read_roll<R: Read + Drop>(alloc: Global, reader: R) -> Result<IdTable, RollFault>
+    ensures roll { IfOk result (λ roll. IfSome (R.remaining reader) (λ bytes. IsRoll (records_of bytes) roll)) }
+    ensures fault { IfErr result (λ fault. IfSome (R.remaining reader) (λ bytes.
+        IsRollFault (records_of bytes) fault)) }
+{
+    let mut records = Records::new(alloc, reader);
+    let mut roll = IdTable::new(alloc);
+    let read = read_ids(alloc, &mut records, &mut roll);
+    drop(records);
+    match read {
+        Ok(()) => Ok(roll),
+        Err(fault) => {
+            drop(roll);
+            Err(fault)
+        }
+    }
+}
+
+/// Reads the rows that are left into this table, of a roll of which none was read so far.
+fn read_ids<R: Read>(
+    alloc: Global,
+    records: &mut Records<R>,
+    roll: &mut IdTable,
+) -> Result<(), RollFault>
+    requires { roll.old ≡ map.empty }
+    ensures roll { OnOk result (IfSome records.old.left (λ rows. IsRoll rows roll.new)) }
+    ensures fault { IfErr result (λ fault. IfSome records.old.left (λ rows. IsRollFault rows fault)) }
+{
+    let mut row = StringRecord::new(alloc);
+    let mut rows = 0u32;
+    let mut ids = 0u32;
+    'rows: loop {
+        match next_id(records, &mut row, rows, ids) {
+            Ok(true) => {}
+            Ok(false) => return Ok(()),
+            Err(fault) => return Err(fault),
+        }
+        let id = row.get(0).unwrap_or("").trim();
+        let is_header = rows == 0 && id == "voter_id";
+        rows += 1;
+        if !is_header {
+            roll.insert(alloc, id, 0)?;
+            ids += 1;
+        }
+    }
+}
+
+/// Reads the next row, where this many came before it with this many ids, and answers whether there was one.
+fn next_id<R: Read>(
+    records: &mut Records<R>,
+    row: &mut StringRecord,
+    rows: u32,
+    ids: u32,
+) -> Result<bool, RollFault>
+    ensures next { IfOk result (λ found. IsNext records.old.left records.new.left found (fields_of row.new)) }
+    ensures text { OnOk result (AllText (fields_of row.new)) }
+    ensures few { IfOk result (λ found. found ≡ true → ids < most_ids) }
+    ensures fault { IfErr result (λ fault. IfSome records.old.left (λ left. (before : List Fields)
+        → length before ≡ rows → length (ids_of before) ≡ ids → IsNextRollFault before left fault)) }
+{
+    match records.read(row) {
+        Ok(true) => {}
+        Ok(false) => return Ok(false),
+        Err(RecordsFault::ReadFailed) => return Err(RollFault::ReadFailed(rows + 1)),
+        Err(RecordsFault::NotText) => return Err(RollFault::NotText(rows + 1)),
+        Err(RecordsFault::NoMemory) => return Err(RollFault::NoMemory),
+    }
+    if ids >= MOST_IDS {
+        return Err(RollFault::TooManyIds(rows + 1));
+    }
+    Ok(true)
+}
