@@ -3,7 +3,7 @@
 ghost use Rattle.std.specs.Prelude.{◌≡◌, ◌++◌, ◌∷◌, ◌==◌, [], OnOk, codes, decimal, if◌then◌else◌, map};
 ghost use Rattle.std.specs.Io.KnownBytes.{Appends};
 ghost use Rattle.pb_faults.specs.Fault.{line, merged, told, told_at};
-ghost use Rattle.pb_script.specs.ScriptReading.{fault_of_row};
+ghost use Rattle.pb_script.specs.declared.script_fault.ScriptFault.TheVariants.{Refused};
 
 use crate::fault::AppFault;
 use itoa::Buffer;
@@ -54,9 +54,7 @@ impl AppFault {
             AppFault::Warned(warning) => {
                 write_named(writer, "warning", warning.oddity.name(), warning.at)
             }
-            AppFault::Roll(fault) => {
-                write_named(writer, "roll", fault.name(), u64::from(fault.at()))
-            }
+            AppFault::Roll(fault) => write_roll(writer, fault),
         }
     }
 
@@ -76,9 +74,8 @@ impl AppFault {
             | AppFault::Export(_)
             | AppFault::Warned(_) => REFUSED,
             AppFault::Count(_) => BAD_ARGUMENTS,
-            AppFault::Roll(RollFault::ReadFailed(_)) => NO_DEVICE,
-            AppFault::Roll(_) => REFUSED,
-            AppFault::Open(_) | AppFault::Write | AppFault::Memory => NO_DEVICE,
+            AppFault::Roll(RollFault::NotText(_) | RollFault::TooManyIds(_)) => REFUSED,
+            AppFault::Roll(_) | AppFault::Open(_) | AppFault::Write | AppFault::Memory => NO_DEVICE,
         }
     }
 }
@@ -93,7 +90,7 @@ fn read_status(number: u32) -> u8
 /// Writes the line of a row of a script that is refused for this. The rows have their numbers from 1.
 pub fn write_refused_row<W: Write>(writer: &mut W, why: RowRefusal, row: u64) -> io::Result<()>
     ensures { OnOk result (Appends (W.contents writer.old) (W.contents writer.new)
-        (line (told (AppFault.Script (fault_of_row why row))).1)) }
+        (line (told (AppFault.Script (Refused why row))).1)) }
 {
     let (number, name) = match why {
         RowRefusal::Bad => (2, "BadRow"),
@@ -128,6 +125,19 @@ fn write_numbered<W: Write>(writer: &mut W, what: &str, number: u32, name: &str)
 {
     let mut digits = Buffer::new();
     write_fields(writer, &[what, digits.format(number), name])
+}
+
+/// Writes the line of a voters' roll with this fault.
+fn write_roll<W: Write>(writer: &mut W, fault: RollFault) -> io::Result<()>
+    ensures { OnOk result (Appends (W.contents writer.old) (W.contents writer.new)
+        (line (told (AppFault.Roll fault)).1)) }
+{
+    match fault {
+        RollFault::ReadFailed(row) => write_named(writer, "roll", "ReadFailed", u64::from(row)),
+        RollFault::NotText(row) => write_named(writer, "roll", "NotText", u64::from(row)),
+        RollFault::TooManyIds(row) => write_named(writer, "roll", "TooManyIds", u64::from(row)),
+        RollFault::NoMemory => write_fields(writer, &["memory"]),
+    }
 }
 
 /// Writes the line of the file with this number on the command line, which could not be opened.

@@ -1,16 +1,16 @@
 //! Which requests are admitted, and how their rows name projects.
 
-ghost use Rattle.std.specs.Prelude.{◌≡◌, None};
+ghost use Rattle.std.specs.Prelude.{◌≡◌, Some};
 ghost use Rattle.pb_core.specs.Request.{asked};
 ghost use Rattle.pb_rows.specs.Reading.{Fields};
-ghost use Rattle.pb_script.specs.Admission.{has_enough, is_on_roll, knows_ids, refusal_of};
-ghost use Rattle.pb_script.specs.ScriptReading.{fault_of_row};
+ghost use Rattle.pb_script.specs.Admission.{has_enough, is_on_roll, open_to_all, refusal_of};
+ghost use Rattle.pb_script.specs.Inner.Admission.{knows_ids};
 
-use crate::script_fault::ScriptFault;
 use csv::StringRecord;
 use pb_core::request::Request;
 use pb_ids::IdTable;
 use pb_read::ProjectIds;
+use thiserror::Error;
 
 /// Which requests are admitted, and how their rows name projects.
 #[derive(Drop)]
@@ -24,30 +24,20 @@ pub struct Admission {
 }
 
 /// Why a row is refused, and changes nothing.
-#[derive(Clone, Copy, Debug, PartialEq, Eq)]
+#[derive(Clone, Copy, Debug, PartialEq, Eq, Error)]
 pub enum RowRefusal {
     /// It has not the form of a script's row, or its clerk is none of this run.
+    #[error("has not the form of a request by a clerk of this run")]
     Bad,
     /// It names an id that no project has.
+    #[error("names an id that no project has")]
     UnknownId,
     /// Its voter is not on the roll.
+    #[error("is of a voter who is not on the roll")]
     NotOnRoll,
     /// Its ballot has too few projects.
+    #[error("has a ballot of too few projects")]
     TooFew,
-}
-
-impl RowRefusal {
-    /// The fault of a script with this row, from 1.
-    pub fn of_row(self, row: u32) -> ScriptFault
-        ensures { result ≡ fault_of_row self row }
-    {
-        match self {
-            RowRefusal::Bad => ScriptFault::BadRow(row),
-            RowRefusal::UnknownId => ScriptFault::UnknownId(row),
-            RowRefusal::NotOnRoll => ScriptFault::NotOnRoll(row),
-            RowRefusal::TooFew => ScriptFault::TooFew(row),
-        }
-    }
 }
 
 /// Whoever hears of the rows that are refused.
@@ -67,12 +57,29 @@ impl Notice for NoNotice {
 impl Admission {
     /// All requests are admitted, and name projects by their places.
     pub fn open() -> Admission
-        ensures { result ≡ record { ids = None; roll = None; least = 0 } }
+        ensures { result ≡ open_to_all }
     {
         Admission {
             ids: None,
             roll: None,
             least: 0,
+        }
+    }
+
+    /// The same requests are admitted, and name projects by these ids.
+    pub fn by_ids(self, ids: ProjectIds) -> Admission
+        ensures { result ≡ record self { ids = Some ids } }
+    {
+        let Admission {
+            ids: before,
+            roll,
+            least,
+        } = self;
+        drop(before);
+        Admission {
+            ids: Some(ids),
+            roll,
+            least,
         }
     }
 
@@ -102,7 +109,7 @@ impl Admission {
 
     /// Whether a request is for a voter of the roll, or shuts the desk.
     fn is_on_roll(&self, request: &Request) -> bool
-        ensures { result ≡ is_on_roll self.now.roll (asked request.now) }
+        ensures { result ≡ is_on_roll self.now (asked request.now) }
     {
         let Some(roll) = &self.roll else {
             return true;

@@ -4,7 +4,8 @@ ghost use Rattle.std.specs.Prelude.{◌≡◌, ◌<◌, List, true, length, IfEr
 ghost use Rattle.std.specs.FinMap as map;
 ghost use Rattle.csv.specs.Records.{AllText, fields_of};
 ghost use Rattle.pb_rows.specs.Reading.{Fields, IsNext, records_of};
-ghost use Rattle.pb_script.specs.Roll.{IsNextRollFault, IsRoll, IsRollFault, ids_of, most_ids, named};
+ghost use Rattle.pb_script.specs.Roll.{AreRoll, IsNextRollFault, IsRoll, IsRollFault, ids_of};
+ghost use Rattle.pb_script.specs.Script.{most_rows};
 
 use csv::StringRecord;
 use pb_core::no_memory::NoMemory;
@@ -53,32 +54,6 @@ impl From<AllocError> for RollFault {
 
     fn from(_refused: AllocError) -> RollFault {
         RollFault::NoMemory
-    }
-}
-
-impl RollFault {
-    /// The fault's name.
-    pub fn name(&self) -> &'static str
-        ensures { result.now ≡ (named self.now).0 }
-    {
-        match self {
-            RollFault::ReadFailed(_) => "ReadFailed",
-            RollFault::NotText(_) => "NotText",
-            RollFault::TooManyIds(_) => "TooManyIds",
-            RollFault::NoMemory => "NoMemory",
-        }
-    }
-
-    /// The number of the row, from 1; 0 where memory was refused, which is the fault of no row.
-    pub fn at(&self) -> u32
-        ensures { result ≡ (named self.now).1 }
-    {
-        match self {
-            RollFault::ReadFailed(row) | RollFault::NotText(row) | RollFault::TooManyIds(row) => {
-                *row
-            }
-            RollFault::NoMemory => 0,
-        }
     }
 }
 
@@ -142,10 +117,10 @@ fn next_id<R: Read>(
     ids: u32,
 ) -> Result<bool, RollFault>
     ensures next { IfOk result (λ found. IsNext records.old.left records.new.left found (fields_of row.new)) }
-    ensures text { OnOk result (AllText (fields_of row.new)) }
-    ensures few { IfOk result (λ found. found ≡ true → ids < most_ids) }
+    ensures text { IfOk result (λ found. found ≡ true → AllText (fields_of row.new)) }
+    ensures few { IfOk result (λ found. found ≡ true → ids < most_rows) }
     ensures fault { IfErr result (λ fault. IfSome records.old.left (λ left. (before : List Fields)
-        → length before ≡ rows → length (ids_of before) ≡ ids → IsNextRollFault before left fault)) }
+        → length before ≡ rows → length (ids_of before) ≡ ids → ids ≤ most_rows → IsNextRollFault before left fault)) }
 {
     match records.read(row) {
         Ok(true) => {}
