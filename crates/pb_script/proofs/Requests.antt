@@ -7,10 +7,10 @@ use Rattle.pb_desk.proofs.Asking.{asked_numbers}
 use Rattle.pb_desk.specs.Rows.{Asks, word_of}
 use Rattle.pb_desk.specs.Step.{places_of, voter_of}
 use Rattle.pb_desk.specs.declared.request_fields.Strictness.{Strictness}
-use Rattle.pb_read.proofs.Ballots.{same_pairs}
 use Rattle.pb_rows.proofs.PlacesText.{places_text-injective}
 use Rattle.pb_rows.specs.Numbers.{places_text}
 use Rattle.pb_rows.specs.Reading.{Fields}
+use Rattle.pb_script.proofs.Rising.{same_pairs}
 
 -- requests of the same kind, voter and places
 same_parts : (r t : RequestView) → word_of r ≡ word_of t → voter_of r ≡ voter_of t → places_of r ≡ places_of t → r ≡ t
