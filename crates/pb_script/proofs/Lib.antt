@@ -1,6 +1,6 @@
 -- The lemmas that the proofs of this crate share.
 pub mod PlacesTexts
-pub mod Requests
+pub mod OneRequest
 pub mod Rising
 pub mod Rolls
 pub mod ScriptForms

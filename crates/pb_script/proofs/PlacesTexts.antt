@@ -23,4 +23,4 @@ places_are_text places are = IsUtf8-from_ascii (join_with_byte 44 (map decimal p
 -- four fields are text with another text in the place of the last
 pub four_text : (c w v p q : List ℕ) → AllText (c ∷ w ∷ v ∷ p ∷ []) → IsUtf8 q → AllText (c ∷ w ∷ v ∷ q ∷ [])
 unfolding AllText
-four_text c w v p q are is = (are.0, are.1.0, are.1.1.0, is, are.1.1.1.1)
+four_text c w v p q are is = (are.0, (are.1.0, (are.1.1.0, (is, are.1.1.1.1))))

@@ -1,8 +1,10 @@
 -- Rising lists.
-use Rattle.std.proofs.Common.{◌≡◌, ◌≢◌, ◌<◌, ◌≤◌, ℕ, zero, suc, List, [], ◌∷◌, length, Contains, refl, sym, ◌∙◌, get_or, arith}
+use Rattle.std.proofs.Common.{◌≡◌, ◌≢◌, ◌<◌, ◌≤◌, ◌^◌, ℕ, zero, suc, List, [], ◌∷◌, length, Contains, refl, sym, ◌∙◌, get_or, arith}
 use Rattle.std.specs.List.{AllPairs}
+use Rattle.std.proofs.lemmas.List.Elements.{All-contains, Contains-get_or}
 use Rattle.pb_core.specs.Ballot.{HasSameMembers}
 use Rattle.pb_read.proofs.ListFacts.{Contains-cons}
+use Rattle.pb_rows.specs.Numbers.{AreNumbers}
 
 Contains-tail : (x z : ℕ) (xs : List ℕ) → Contains (x ∷ xs) z → x ≢ z → Contains xs z
 Contains-tail x z xs c other = go c.0 c.1 c.2
@@ -42,3 +44,10 @@ same_pairs (x ∷ xs) (y ∷ ys) fx fy same =
       λ c. Contains-tail x z xs ((same z).1 (Contains-cons y ys z c)) (λ e. above_head y z ys fy c (sym heads ∙ e)),
     )) in
     cc
+
+pub members_back : (l m : List ℕ) → HasSameMembers l m → HasSameMembers m l
+members_back l m same = λ x. ((same x).1, (same x).0)
+
+-- what has the members of a list of numbers is one
+pub members_numbers : (l m : List ℕ) → AreNumbers l → HasSameMembers l m → AreNumbers m
+members_numbers l m are same = λ k d below. All-contains (λ (n : ℕ). n < 2 ^ 32) l _ are ((same _).1 (Contains-get_or m k d below))

@@ -1,13 +1,13 @@
 -- How a voters' roll is read, row by row.
-use Rattle.std.proofs.Common.{◌≡◌, ◌∙◌, ℕ, ◌+◌, ◌<◌, ◌≤◌, suc, Bool, true, false, List, [], ◌∷◌, ◌++◌, length, map, codes, Option, Some, None, refl, sym, ap, subst, arith, length-append, if◌then◌else◌}
-use Rattle.std.specs.Prelude.{All, IfErr, IfSome, IsErrAnd, Result, Ok, Err, is_some, drop, ◌||◌, slice_get}
+use Rattle.std.proofs.Common.{◌≡◌, ◌∙◌, ℕ, ◌+◌, ◌<◌, ◌≤◌, zero, suc, Bool, true, false, List, [], ◌∷◌, ◌++◌, length, map, codes, Option, Some, None, refl, sym, ap, subst, arith, length-append, if◌then◌else◌}
+use Rattle.std.specs.Prelude.{All, IfErr, IfSome, IsErrAnd, Result, Ok, Err, is_some, drop, ◌||◌, ◌==◌, option_map, slice_get, unwrap_or}
 use Rattle.std.specs.Str.{bytes_eq, trim}
 use Rattle.std.specs.FinMap.{empty, get, insert}
 use Rattle.std.proofs.lemmas.List.{append-nil, append_assoc, map-append}
 use Rattle.std.proofs.lemmas.List.Elements.{All-nil, All-push}
 use Rattle.std.proofs.lemmas.List.Folds.{list_any-append}
 use Rattle.std.proofs.lemmas.Slice.Eq.{bytes_eq-Decides}
-use Rattle.csv.specs.Records.{AllText}
+use Rattle.csv.specs.Records.{AllText, field_at}
 use Rattle.pb_ids.specs.Inner.Places.{Places, get_inserted, get_none}
 use Rattle.pb_read.specs.Rows.{field}
 use Rattle.pb_read.specs.Voting.{is_among}
@@ -27,6 +27,14 @@ bytes_eq-sym x y = by (bytes_eq x y) (bytes_eq y x) refl refl
     by true false p q = sym ((bytes_eq-Decides y x).1 (sym ((bytes_eq-Decides x y).0 p))) ∙ q
     by false true p q = sym p ∙ (bytes_eq-Decides x y).1 (sym ((bytes_eq-Decides y x).0 q))
     by false false p q = refl
+
+-- the first field of a row, where there is one
+pub first_is : {A : Type 0} (f : A → List ℕ) (got : Option A) (d : A) (row : Fields) → option_map f got ≡ field_at row 0 → f d ≡ [] → f (unwrap_or got d) ≡ field row 0
+unfolding field_at
+first_is f None d [] is none = none
+first_is f None d (x ∷ row) is none = cc is
+first_is f (Some a) d [] is none = cc is
+first_is f (Some a) d (x ∷ row) is none = cc is
 
 -- a table with an id more
 has_more : (roll : Places) (id : List ℕ) (ids : List (List ℕ)) → ((voter : List ℕ) → is_some (get roll voter) ≡ is_among ids voter) →
@@ -122,6 +130,22 @@ HaveIds-more all left after rows ids roll new fields is_first false have next te
       has = λ voter. ap (λ (r : Places). is_some (get r voter)) header.2 ∙ have.has voter ∙ ap (λ (l : List (List ℕ)). is_among l voter) (sym same);
     }
 
+first_is_zero : (n : ℕ) → ((n == 0) ≡ true → n ≡ 0) × (n ≡ 0 → (n == 0) ≡ true)
+first_is_zero zero = (λ e. refl, λ e. refl)
+first_is_zero (suc n) = (λ e. cc, λ e. absurd (omega (arith, e)))
+
+-- one row more, of a roll with few ids
+pub rows_more : (all left after : Option (List Fields)) (rows ids more : ℕ) (roll new : Places) (fields : Fields) (has_id : Bool) →
+    (ids ≤ most_rows) × (rows ≤ ids + 1) × HaveIds all left rows ids roll → IsNext left after true fields → AllText fields → ids < most_rows →
+    PutsId fields (rows == 0) has_id roll new → more ≡ (if has_id then ids + 1 else ids) → (more ≤ most_rows) × (rows + 1 ≤ more + 1) × HaveIds all after (rows + 1) more new
+rows_more all left after rows ids more roll new fields true have next text few puts is =
+    let longer = HaveIds-more all left after rows ids roll new fields (rows == 0) true have.2 next text (first_is_zero rows) puts in
+    (omega (arith, is, few), omega (arith, is, have.1), subst (λ (n : ℕ). HaveIds all after (rows + 1) n new) (sym is) longer)
+rows_more all left after rows ids more roll new fields false have next text few puts is =
+    let longer = HaveIds-more all left after rows ids roll new fields (rows == 0) false have.2 next text (first_is_zero rows) puts in
+    let none = (first_is_zero rows).0 (puts.header refl).0 in
+    (omega (arith, is, few), omega (arith, none), subst (λ (n : ℕ). HaveIds all after (rows + 1) n new) (sym is) longer)
+
 -- no row is left
 pub HaveIds-end : (all left after : Option (List Fields)) (rows ids : ℕ) (roll : Places) (fields : Fields) → HaveIds all left rows ids roll → ids ≤ most_rows → IsNext left after false fields →
     IfSome all (λ rows. IsRoll rows roll)
@@ -132,7 +156,7 @@ HaveIds-end (Some all) left after rows ids roll fields have few next =
     all_gone : (left : Option (List Fields)) → HaveGone (Some all) have.gone left → IsNext left after false fields → all ≡ have.gone
     all_gone None is next = absurd is
     all_gone (Some []) is next = is ∙ append-nil have.gone
-    all_gone (Some (row ∷ rest)) is next = cc next
+    all_gone (Some (row ∷ rest)) is next = let never : false ≡ true = next.0 in cc
 
 -- the next row has a fault
 pub HaveIds-fault : (all left : Option (List Fields)) (rows ids : ℕ) (roll : Places) (fault : RollFault) → HaveIds all left rows ids roll → ids ≤ most_rows →
