@@ -1,5 +1,5 @@
 -- A row asks one request at most.
-use Rattle.std.proofs.Common.{◌≡◌, ◌∙◌, ℕ, List, [], ◌∷◌, Contains, get_or, refl, sym, ap, subst, arith}
+use Rattle.std.proofs.Common.{◌≡◌, ◌∙◌, [], ◌∷◌, Contains, get_or, refl, sym, ap, subst, arith}
 use Rattle.std.specs.Str.{trim}
 use Rattle.std.proofs.lemmas.List.Kept.{AllPairs-from_increasing}
 use Rattle.pb_core.specs.Request.{RequestView, Cast, Replace, Withdraw, Shut}

@@ -1,8 +1,9 @@
 -- How a voters' roll is read, row by row.
-use Rattle.std.proofs.Common.{◌≡◌, ◌∙◌, ℕ, ◌+◌, ◌<◌, ◌≤◌, zero, suc, Bool, true, false, List, [], ◌∷◌, ◌++◌, length, map, codes, Option, Some, None, refl, sym, ap, subst, arith, length-append, if◌then◌else◌}
-use Rattle.std.specs.Prelude.{All, IfErr, IfSome, IsErrAnd, Result, Ok, Err, is_some, drop, ◌||◌, ◌==◌, option_map, slice_get, unwrap_or}
+use Rattle.std.proofs.Common.{◌≡◌, ◌∙◌, ℕ, ◌+◌, ◌<◌, ◌≤◌, Bool, true, false, List, [], ◌∷◌, ◌++◌, length, map, codes, Option, Some, None, inl, inr, refl, sym, ap, subst, arith, length-append, if◌then◌else◌}
+use Rattle.std.specs.Prelude.{IfErr, IfSome, IsErrAnd, Result, Ok, Err, is_some, drop, ◌||◌, ◌==◌, option_map, unwrap_or}
 use Rattle.std.specs.Str.{bytes_eq, trim}
 use Rattle.std.specs.FinMap.{empty, get, insert}
+use Rattle.std.proofs.lemmas.Bool.{cases_eq, eq-eqb, ne_eqb}
 use Rattle.std.proofs.lemmas.List.{append-nil, append_assoc, map-append}
 use Rattle.std.proofs.lemmas.List.Elements.{All-nil, All-push}
 use Rattle.std.proofs.lemmas.List.Folds.{list_any-append}
@@ -14,7 +15,7 @@ use Rattle.pb_read.specs.Voting.{is_among}
 use Rattle.pb_rows.specs.Reading.{Fields, IsNext, NextIsNoText}
 use Rattle.pb_script.specs.Inner.Roll.{HaveIds, IsFaultAfter, PutsId}
 use Rattle.pb_script.specs.Inner.ScriptReading.{HaveGone}
-use Rattle.pb_script.specs.Roll.{AreRoll, IsNextRollFault, IsRoll, IsRollFault, ids_of}
+use Rattle.pb_script.specs.Roll.{IsNextRollFault, IsRoll, IsRollFault, ids_of}
 use Rattle.pb_script.specs.Script.{most_rows}
 use Rattle.pb_script.specs.declared.roll.RollFault.{RollFault}
 use Rattle.pb_script.specs.declared.roll.RollFault.TheVariants.{ReadFailed, NotText, TooManyIds, NoMemory}
@@ -48,7 +49,6 @@ has_more roll id ids has voter =
     either true (Some place) = refl
     either false None = refl
     either false (Some place) = refl
-
 
 -- a first row that is a header
 ids_of-header : (row : Fields) → bytes_eq (trim (field row 0)) (codes "voter_id") ≡ true → ids_of (row ∷ []) ≡ []
@@ -131,8 +131,13 @@ HaveIds-more all left after rows ids roll new fields is_first false have next te
     }
 
 first_is_zero : (n : ℕ) → ((n == 0) ≡ true → n ≡ 0) × (n ≡ 0 → (n == 0) ≡ true)
-first_is_zero zero = (λ e. refl, λ e. refl)
-first_is_zero (suc n) = (λ e. cc, λ e. absurd (omega (arith, e)))
+first_is_zero n = (by, eq-eqb n 0)
+  where
+    by : (n == 0) ≡ true → n ≡ 0
+    by is = elim (cases_eq n 0) [
+      | inl same ↦ same
+      | inr other ↦ let never : true ≡ false = sym is ∙ ne_eqb n 0 other in cc
+    ]
 
 -- one row more, of a roll with few ids
 pub rows_more : (all left after : Option (List Fields)) (rows ids more : ℕ) (roll new : Places) (fields : Fields) (has_id : Bool) →

@@ -1,5 +1,5 @@
 -- How far a voters' roll was read.
-use Rattle.std.specs.Prelude.{◌≡◌, ℕ, ◌+◌, ◌≤◌, Bool, true, false, List, [], ◌∷◌, All, Option, codes, is_some, length, if◌then◌else◌}
+use Rattle.std.specs.Prelude.{◌≡◌, ℕ, ◌≤◌, Bool, true, false, List, All, Option, codes, is_some, length}
 use Rattle.std.specs.Cmp.Lexicographic.{slice_cmp}
 use Rattle.std.specs.FinMap.{FinMap, get, insert}
 use Rattle.std.specs.Ordering.{nat_cmp}
@@ -9,7 +9,7 @@ use Rattle.pb_read.specs.Rows.{field}
 use Rattle.pb_read.specs.Voting.{is_among}
 use Rattle.pb_rows.specs.Reading.{Fields}
 use Rattle.pb_script.specs.Inner.ScriptReading.{HaveGone}
-use Rattle.pb_script.specs.Roll.{AreRoll, IsNextRollFault, ids_of}
+use Rattle.pb_script.specs.Roll.{IsNextRollFault, ids_of}
 use Rattle.pb_script.specs.Script.{most_rows}
 use Rattle.pb_script.specs.declared.roll.RollFault.{RollFault}
 

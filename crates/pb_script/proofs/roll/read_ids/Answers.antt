@@ -1,4 +1,4 @@
-use Rattle.std.proofs.Common.{◌≡◌, ◌∙◌, ◌+◌, Bool, ap, arith, if◌then◌else◌, sym}
+use Rattle.std.proofs.Common.{◌∙◌, ◌+◌, Bool, ap, arith, if◌then◌else◌, sym}
 use Rattle.csv.specs.Records.{fields_of}
 use Rattle.pb_script.proofs.Rolls.{HaveIds-start, rows_more}
 use Rattle.pb_script.proofs.roll.read_ids.Goals as goal

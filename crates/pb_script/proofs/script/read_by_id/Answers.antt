@@ -1,9 +1,8 @@
-use Rattle.std.proofs.Common.{◌≡◌, ◌∙◌, ◌<◌, ◌^◌, ℕ, List, [], ◌∷◌, ◌++◌, ap, rules, subst, sym}
+use Rattle.std.proofs.Common.{◌≡◌, ◌∙◌, ℕ, List, [], ◌∷◌, ◌++◌, rules, subst, sym}
 use Rattle.pb_core.specs.Request.{RequestView, asked}
 use Rattle.pb_desk.specs.Rows.{Asks}
 use Rattle.pb_desk.specs.declared.request_fields.Strictness.TheVariants.{Lenient}
 use Rattle.pb_rows.specs.Numbers.{AreNumbers, places_text}
-use Rattle.pb_rows.specs.Reading.{Fields}
 use Rattle.pb_script.specs.Inner.Admission.{places_named}
 use Rattle.pb_script.proofs.Rising.{members_back, members_numbers}
 use Rattle.pb_script.proofs.ScriptForms.{asks_members}
@@ -15,9 +14,11 @@ returns-in-Some c =
     let places = c.read_ids.new.list.items in
     let are : AreNumbers places = search rules in
     let text_is : c.as_str.result.now ≡ places_text places = c.as_str.ensures.value ∙ c.in_ok-write_places.ensures.ok ∙ (λ i. c.new-text.ensures.bytes i ++ places_text (c.as_slice.ensures.value i)) in
-    let asks : Asks Lenient (f.word.now ∷ f.voter.now ∷ c.as_str.result.now ∷ []) (asked c.in-Some.request) = rw c.in-Some.is at c.in_ok-request.ensures in
-    (asks_members f.word.now f.voter.now places (places_named c.args.ids.now f.places.now) (asked c.in-Some.request) are c.in_ok-is_known.ensures.places
-    (subst (λ (t : List ℕ). Asks Lenient (f.word.now ∷ f.voter.now ∷ t ∷ []) (asked c.in-Some.request)) text_is asks), c.in_ok-is_known.ensures.known)
+    let asks : Asks Lenient (f.word.now ∷ f.voter.now ∷ c.as_str.result.now ∷ []) (asked c.in-Some.request) = rw c.in-Some.is at c.in_ok-request.ensures in (
+      asks_members f.word.now f.voter.now places (places_named c.args.ids.now f.places.now) (asked c.in-Some.request) are c.in_ok-is_known.ensures.places
+          (subst (λ (t : List ℕ). Asks Lenient (f.word.now ∷ f.voter.now ∷ t ∷ []) (asked c.in-Some.request)) text_is asks),
+      c.in_ok-is_known.ensures.known,
+    )
 
 pub returns : goal.returns
 returns c = λ other asks.

@@ -1,4 +1,4 @@
-use Rattle.std.proofs.Common.{◌≡◌, ℕ, List, [], ◌∷◌, Option, None, Some, subst, sym}
+use Rattle.std.proofs.Common.{◌≡◌, ℕ, List, [], ◌∷◌, Option, subst, sym}
 use Rattle.std.specs.Prelude.{IfOk, MatchOption}
 use Rattle.pb_core.specs.Request.{RequestView, asked}
 use Rattle.pb_desk.specs.Rows.{Asks}
