@@ -76,7 +76,9 @@ pub fn run_desk<T: Threads + Sync, P: Read + Drop, S: Read + Drop, G: Gate, W: W
         by_id: false,
         admission: Admission::open(),
     };
-    run_admitted_desk(rt, alloc, file, script, clerks, shuts, gate, open, &NoNotice, writer)
+    run_admitted_desk(
+        rt, alloc, file, script, clerks, shuts, gate, open, &NoNotice, writer,
+    )
 }
 
 /// The same, of the requests that these rules admit. A row that they refuse refuses the script, and is told to `notice`.
@@ -136,11 +138,7 @@ pub fn run_admitted_desk<
 }
 
 /// What these rules admit on the desk of this election.
-pub fn admission_of(
-    alloc: Global,
-    rules: Rules,
-    election: &Election,
-) -> Result<Admission, NoMemory>
+pub fn admission_of(alloc: Global, rules: Rules, election: &Election) -> Result<Admission, NoMemory>
     ensures { IfOk result (λ admission. admission ≡ admission_on rules election.now) }
 {
     let Rules { by_id, admission } = rules;

@@ -2,6 +2,7 @@
 
 ghost use Rattle.std.specs.Prelude.{◌≡◌, Some};
 ghost use Rattle.pb_core.specs.Request.{asked};
+ghost use Rattle.pb_read.specs.Rows.{field};
 ghost use Rattle.pb_rows.specs.Reading.{Fields};
 ghost use Rattle.pb_script.specs.Admission.{has_enough, is_on_roll, open_to_all, refusal_of};
 ghost use Rattle.pb_script.specs.Inner.Admission.{knows_ids};
@@ -83,17 +84,22 @@ impl Admission {
         }
     }
 
-    /// The first id of a row that no project has; empty where there is none.
-    pub(crate) fn unknown_in<'a>(&self, row: &'a StringRecord) -> &'a str {
-        match (&self.ids, row.get(3)) {
-            (Some(ids), Some(field)) => ids.unknown(field).unwrap_or(""),
-            _ => "",
+    /// The first id of a row that no project has; empty where there is none. It is looked up by way of `list`.
+    pub(crate) fn unknown_in<'a>(&self, row: &'a StringRecord, list: &mut Vec<u32>) -> &'a str {
+        let (Some(ids), Some(field)) = (&self.ids, row.get(3)) else {
+            return "";
+        };
+        for id in field.split(',') {
+            if let Ok(false) = ids.find_places(id, list) {
+                return id.trim();
+            }
         }
+        ""
     }
 
     /// Why a request is refused, where it is; `is_known` says whether each id that it names is a project's.
     pub(crate) fn refusal_of(&self, is_known: bool, request: &Request) -> Option<RowRefusal>
-        ensures { (row : Fields) → is_known ≡ knows_ids self.now.ids row
+        ensures { (row : Fields) → is_known ≡ knows_ids self.now.ids (field row 3)
             → result ≡ refusal_of self.now row (asked request.now) }
     {
         if !is_known {

@@ -104,7 +104,11 @@ impl<R: Read> RequestRows<R> {
         match read_row(alloc, &row, &mut self.places, MOST_CLERKS, admission)? {
             Ok(said) => Ok(Some(RequestRow::Asks(said.clerk, said.request))),
             Err(why) => {
-                notice.refused(self.count, why, admission.unknown_in(&row));
+                notice.refused(
+                    self.count,
+                    why,
+                    admission.unknown_in(&row, &mut self.places),
+                );
                 Ok(Some(RequestRow::Refused(why)))
             }
         }

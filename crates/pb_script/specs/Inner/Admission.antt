@@ -1,8 +1,8 @@
 -- How a row is judged, in parts.
-use Rattle.std.specs.Prelude.{ℕ, Bool, true, List, [], ◌∷◌, Option, Result, Ok, Err, if◌then◌else◌}
+use Rattle.std.specs.Prelude.{ℕ, Bool, true, List, [], ◌∷◌, Option, Some, None, Ok, Err, if◌then◌else◌}
 use Rattle.std.specs.Option.{option_map_or}
-use Rattle.pb_read.specs.Rows.{field}
 use Rattle.pb_read.specs.Voting.{ballot_of, names_only}
+use Rattle.pb_rows.specs.Numbers.{places_text}
 use Rattle.pb_rows.specs.Reading.{Fields}
 use Rattle.pb_script.specs.Admission.{Judges}
 use Rattle.pb_script.specs.Script.{ScriptRowView}
@@ -13,9 +13,14 @@ use Rattle.pb_script.specs.declared.admission.RowRefusal.{RowRefusal}
 abbrev pub places_named : List (List ℕ) → List ℕ → List ℕ
 places_named ids vote = if names_only ids vote then ballot_of ids vote else 0 ∷ []
 
--- each id that a row names is a project's
-abbrev pub knows_ids : Option (List (List ℕ)) → Fields → Bool
-knows_ids ids row = option_map_or (λ ids. names_only ids (field row 3)) ids true
+-- the last field of a row by places, for that of a row
+abbrev pub as_places : Option (List (List ℕ)) → List ℕ → List ℕ
+as_places None vote = vote
+as_places (Some ids) vote = places_text (places_named ids vote)
+
+-- each id that a field names is a project's
+abbrev pub knows_ids : Option (List (List ℕ)) → List ℕ → Bool
+knows_ids ids vote = option_map_or (λ ids. names_only ids vote) ids true
 
 -- a row says this, and is admitted
 abbrev pub Admits : Admission → ℕ → Fields → ScriptRowView → Type 0
