@@ -91,10 +91,9 @@ pub(crate) fn say_refusal<R: Files + Eprint + AllocGlobal>(
         Refusal::Fault(AppFault::Memory) => say(rt, NO_MEMORY),
         Refusal::Fault(AppFault::Warned(_)) => say(rt, STRICT),
         // It was said when the row was read.
-        Refusal::Fault(AppFault::Script(ScriptFault::Refused(
-            RowRefusal::UnknownId | RowRefusal::NotOnRoll | RowRefusal::TooFew,
-            _,
-        ))) => {}
+        Refusal::Fault(AppFault::Script(
+            ScriptFault::UnknownId(_) | ScriptFault::NotOnRoll(_) | ScriptFault::TooFew(_),
+        )) => {}
         Refusal::Fault(fault) => say_words(rt, words_of(rt, asked, fault, failure, audited)),
         Refusal::Unanswered => say_words(rt, unanswered_words(rt.alloc(), failure)),
         // Why each of the others was refused was said when it was read.

@@ -3,7 +3,7 @@
 ghost use Rattle.std.specs.Prelude.{◌≡◌, ◌++◌, ◌∷◌, ◌==◌, [], OnOk, codes, decimal, if◌then◌else◌, map};
 ghost use Rattle.std.specs.Io.KnownBytes.{Appends};
 ghost use Rattle.pb_faults.specs.Fault.{line, merged, told, told_at};
-ghost use Rattle.pb_script.specs.declared.script_fault.ScriptFault.TheVariants.{Refused};
+ghost use Rattle.pb_script.specs.ScriptReading.{fault_of_row};
 
 use crate::fault::AppFault;
 use itoa::Buffer;
@@ -90,15 +90,14 @@ fn read_status(number: u32) -> u8
 /// Writes the line of a row of a script that is refused for this. The rows have their numbers from 1.
 pub fn write_refused_row<W: Write>(writer: &mut W, why: RowRefusal, row: u64) -> io::Result<()>
     ensures { OnOk result (Appends (W.contents writer.old) (W.contents writer.new)
-        (line (told (AppFault.Script (Refused why row))).1)) }
+        (line (told (AppFault.Script (fault_of_row why row))).1)) }
 {
-    let (number, name) = match why {
-        RowRefusal::Bad => (2, "BadRow"),
-        RowRefusal::UnknownId => (5, "UnknownId"),
-        RowRefusal::NotOnRoll => (6, "NotOnRoll"),
-        RowRefusal::TooFew => (7, "TooFew"),
-    };
-    write_at(writer, "script", number, name, row)
+    match why {
+        RowRefusal::Bad => write_at(writer, "script", 2, "BadRow", row),
+        RowRefusal::UnknownId => write_at(writer, "script", 5, "UnknownId", row),
+        RowRefusal::NotOnRoll => write_at(writer, "script", 6, "NotOnRoll", row),
+        RowRefusal::TooFew => write_at(writer, "script", 7, "TooFew", row),
+    }
 }
 
 /// Writes the line of the fault with this number and name in this record or row.
