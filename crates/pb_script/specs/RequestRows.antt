@@ -10,5 +10,6 @@ use Rattle.pb_script.specs.declared.request_rows.RequestRow.TheVariants.{Asks, R
 
 -- the record is that of a row that asks this, for 64 clerks, and is admitted; or it is refused for this
 abbrev pub IsRequestRow : Admission → Fields → RequestRow → Type 0
-IsRequestRow a fields (Asks clerk request) = Judges a most_clerks fields (Ok (record { clerk = clerk; request = asked request }))
+IsRequestRow a fields (Asks clerk request) =
+    Judges a most_clerks fields (Ok (record { clerk = clerk; request = asked request }))
 IsRequestRow a fields (Refused why) = Judges a most_clerks fields (Err why)

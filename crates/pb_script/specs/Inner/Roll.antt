@@ -20,12 +20,14 @@ IsFaultAfter rows ids left fault = (before : List Fields) → length before ≡ 
 
 -- the id of this row has come to the table, or the row is a header
 pub record PutsId (row : Fields) (is_first has_id : Bool) (old new : FinMap (slice_cmp nat_cmp) ℕ) : Type 0 where
-  pub header : has_id ≡ false → (is_first ≡ true) × (bytes_eq (trim (field row 0)) (codes "voter_id") ≡ true) × (new ≡ old)
+  pub header : has_id ≡ false → (is_first ≡ true)
+      × (bytes_eq (trim (field row 0)) (codes "voter_id") ≡ true) × (new ≡ old)
   pub id : has_id ≡ true → (is_first ≡ true → bytes_eq (trim (field row 0)) (codes "voter_id") ≡ false)
       × (new ≡ insert old (trim (field row 0)) 0)
 
 -- this many rows were read, with this many ids, and the table has these
-pub record HaveIds (all left : Option (List Fields)) (rows ids : ℕ) (roll : FinMap (slice_cmp nat_cmp) ℕ) : Type 0 where
+pub record HaveIds (all left : Option (List Fields)) (rows ids : ℕ) (roll : FinMap (slice_cmp nat_cmp) ℕ)
+    : Type 0 where
   pub gone : List Fields
   pub have_gone : HaveGone all gone left
   pub text : All AllText gone

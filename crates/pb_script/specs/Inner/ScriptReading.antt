@@ -29,7 +29,8 @@ HaveGone (Some all) gone None = ⊥
 HaveGone (Some all) gone (Some rest) = all ≡ gone ++ rest
 
 -- the next record is this one, and says this
-pub record TakesScriptRow (a : Admission) (clerks : ℕ) (left after : Option (List Fields)) (x : ScriptRowView) : Type 0 where
+pub record TakesScriptRow (a : Admission) (clerks : ℕ) (left after : Option (List Fields)) (x : ScriptRowView)
+    : Type 0 where
   pub fields : Fields
   pub next : IsNext left after true fields
   pub row : Judges a clerks fields (Ok x)
