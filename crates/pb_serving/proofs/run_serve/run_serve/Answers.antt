@@ -11,7 +11,7 @@ returns-clause-stopped g c =
     let old = c.args.desk.now in
     let new = c.run_admitted-ended.new.desk in
     subst (λ (a : Admission). IfErr c.run_admitted-ended.result (λ fault. fault ≢ Output
-      → IfSome (g.R.Read.remaining c.args.incoming.input) (λ bytes. HasStopped a (IsBehind fault)
-      (λ kept. g.D.Device.tells → (f : List ℕ) → g.D.Device.may_leave new.file.device f → StandsWithin new.desk.opening.version kept new.desk.journal f)
-      old.desk.journal (g.W.Write.contents c.args.writer.now) (g.W.Write.contents c.run_admitted-ended.new.writer) (heading c.args.torn old.desk) (records_of bytes))))
+    → IfSome (g.R.Read.remaining c.args.incoming.input) (λ bytes. HasStopped a (IsBehind fault)
+    (λ kept. g.D.Device.tells → (f : List ℕ) → g.D.Device.may_leave new.file.device f → StandsWithin new.desk.opening.version kept new.desk.journal f)
+    old.desk.journal (g.W.Write.contents c.args.writer.now) (g.W.Write.contents c.run_admitted-ended.new.writer) (heading c.args.torn old.desk) (records_of bytes))))
     c.open-open.ensures c.run_admitted-ended.ensures.stopped
