@@ -92,13 +92,12 @@ pub fn write_refused_row<W: Write>(writer: &mut W, why: RowRefusal, row: u64) ->
     ensures { OnOk result (Appends (W.contents writer.old) (W.contents writer.new)
         (line (told (AppFault.Script (Refused why row))).1)) }
 {
-    let (number, name) = match why {
-        RowRefusal::Bad => (2, "BadRow"),
-        RowRefusal::UnknownId => (5, "UnknownId"),
-        RowRefusal::NotOnRoll => (6, "NotOnRoll"),
-        RowRefusal::TooFew => (7, "TooFew"),
-    };
-    write_at(writer, "script", number, name, row)
+    match why {
+        RowRefusal::Bad => write_at(writer, "script", 2, "BadRow", row),
+        RowRefusal::UnknownId => write_at(writer, "script", 5, "UnknownId", row),
+        RowRefusal::NotOnRoll => write_at(writer, "script", 6, "NotOnRoll", row),
+        RowRefusal::TooFew => write_at(writer, "script", 7, "TooFew", row),
+    }
 }
 
 /// Writes the line of the fault with this number and name in this record or row.
