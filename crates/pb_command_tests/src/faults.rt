@@ -10,7 +10,7 @@ use pb_desk::AuditFault;
 use pb_read::{ReadFault, ReadKind};
 use pb_rounds::count_fault::CountFault;
 use pb_rounds::options::CountOptions;
-use pb_script::{RowRefusal, ScriptFault, ServeFault};
+use pb_script::{ScriptFault, ServeFault};
 use std::alloc::Global;
 use std::fmt::Display;
 use std::io;
@@ -67,7 +67,7 @@ const FAULTS: &[(ScriptFault, &str)] = &[
         "1 ReadFailed: the reader failed at row 7",
     ),
     (
-        ScriptFault::Refused(RowRefusal::Bad, 7),
+        ScriptFault::BadRow(7),
         "2 BadRow: row 7 has not the form of a request by a clerk of this run",
     ),
     (
@@ -76,16 +76,16 @@ const FAULTS: &[(ScriptFault, &str)] = &[
     ),
     (ScriptFault::NoMemory, "4 NoMemory: out of memory"),
     (
-        ScriptFault::Refused(RowRefusal::UnknownId, 7),
+        ScriptFault::UnknownId(7),
         "5 UnknownId: row 7 names an id that no project has",
     ),
     (
-        ScriptFault::Refused(RowRefusal::NotOnRoll, 7),
-        "6 NotOnRoll: row 7 is of a voter who is not on the roll",
+        ScriptFault::NotOnRoll(7),
+        "6 NotOnRoll: the voter of row 7 is not on the roll",
     ),
     (
-        ScriptFault::Refused(RowRefusal::TooFew, 7),
-        "7 TooFew: row 7 has a ballot of too few projects",
+        ScriptFault::TooFew(7),
+        "7 TooFew: the ballot of row 7 has too few projects",
     ),
 ];
 

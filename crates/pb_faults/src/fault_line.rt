@@ -3,7 +3,7 @@
 ghost use Rattle.std.specs.Prelude.{◌≡◌, ◌++◌, ◌∷◌, ◌==◌, [], OnOk, codes, decimal, if◌then◌else◌, map};
 ghost use Rattle.std.specs.Io.KnownBytes.{Appends};
 ghost use Rattle.pb_faults.specs.Fault.{line, merged, told, told_at};
-ghost use Rattle.pb_script.specs.declared.script_fault.ScriptFault.TheVariants.{Refused};
+ghost use Rattle.pb_script.specs.ScriptReading.{fault_of_row};
 
 use crate::fault::AppFault;
 use itoa::Buffer;
@@ -90,7 +90,7 @@ fn read_status(number: u32) -> u8
 /// Writes the line of a row of a script that is refused for this. The rows have their numbers from 1.
 pub fn write_refused_row<W: Write>(writer: &mut W, why: RowRefusal, row: u64) -> io::Result<()>
     ensures { OnOk result (Appends (W.contents writer.old) (W.contents writer.new)
-        (line (told (AppFault.Script (Refused why row))).1)) }
+        (line (told (AppFault.Script (fault_of_row why row))).1)) }
 {
     match why {
         RowRefusal::Bad => write_at(writer, "script", 2, "BadRow", row),

@@ -12,11 +12,12 @@ use Rattle.pb_script.specs.Inner.Admission.{Admits, IsAdmitted, Refuses}
 use Rattle.pb_script.specs.Script.{ScriptRowView, most_rows}
 use Rattle.pb_script.specs.declared.admission.Admission.{Admission}
 use Rattle.pb_script.specs.declared.admission.RowRefusal.{RowRefusal}
+use Rattle.pb_script.specs.declared.admission.RowRefusal.TheVariants as refusal
 use Rattle.pb_script.specs.Inner.Script.{AreAsked, clerks_within, asked_by}
-use Rattle.pb_script.specs.ScriptReading.{IsFaultOfScript, IsNextScriptFault}
+use Rattle.pb_script.specs.ScriptReading.{IsFaultOfScript, IsNextScriptFault, fault_of_row}
 use Rattle.pb_script.specs.Inner.ScriptReading.{HaveAsked, HaveGone, NoneLeft, SplitsScript, TakesScriptRow}
 use Rattle.pb_script.specs.declared.script_fault.ScriptFault.{ScriptFault}
-use Rattle.pb_script.specs.declared.script_fault.ScriptFault.TheVariants.{NoMemory, Refused}
+use Rattle.pb_script.specs.declared.script_fault.ScriptFault.TheVariants.{NoMemory}
 
 -- one more of each
 AllZip-push : {X Y : Type 0} (R : X → Y → Type 0) (xs : List X) (ys : List Y) (x : X) (y : Y) → AllZip R xs ys → R x y → AllZip R (xs ++ x ∷ []) (ys ++ y ∷ [])
@@ -137,8 +138,8 @@ memory_fault a clerks None = tt
 memory_fault a clerks (Some rows) = ([], rows, refl, All-nil (IsAdmitted a clerks), no_memory rows)
   where
     no_memory : (left : List Fields) → IsNextScriptFault a clerks 0 left NoMemory
-    no_memory [] = refl
-    no_memory (fields ∷ rest) = refl
+    no_memory [] = tt
+    no_memory (fields ∷ rest) = tt
 
 pub error_of_memory : {A : Type 0} (a : Admission) (clerks : ℕ) (all : Option (List Fields)) (r : Result A ScriptFault) → IsErrAnd r (λ fault. fault ≡ NoMemory) →
     IfErr r (λ fault. IfSome all (λ rows. IsFaultOfScript a clerks rows fault))
@@ -167,7 +168,13 @@ HaveAsked-few a clerks all left count lists have few = λ k d below.
 
 -- the next row is refused
 pub refused_next : (a : Admission) (clerks before : ℕ) (left after : Option (List Fields)) (fields : Fields) (why : RowRefusal) → IsNext left after true fields → before + 1 ≤ most_rows → Refuses a clerks fields why →
-    IfSome left (λ left. IsNextScriptFault a clerks before left (Refused why (before + 1)))
+    IfSome left (λ left. IsNextScriptFault a clerks before left (fault_of_row why (before + 1)))
 refused_next a clerks before None after fields why next few refuses = tt
 refused_next a clerks before (Some []) after fields why next few refuses = cc next
-refused_next a clerks before (Some (row ∷ rest)) after fields why next few refuses = (refl, few, subst (λ (r : Fields). Refuses a clerks r why) next.1 refuses)
+refused_next a clerks before (Some (row ∷ rest)) after fields why next few refuses = by why (subst (λ (r : Fields). Refuses a clerks r why) next.1 refuses)
+  where
+    by : (why : RowRefusal) → Refuses a clerks row why → IsNextScriptFault a clerks before (row ∷ rest) (fault_of_row why (before + 1))
+    by refusal.Bad is = (refusal.Bad, refl, few, is)
+    by refusal.UnknownId is = (refusal.UnknownId, refl, few, is)
+    by refusal.NotOnRoll is = (refusal.NotOnRoll, refl, few, is)
+    by refusal.TooFew is = (refusal.TooFew, refl, few, is)

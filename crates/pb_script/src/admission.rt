@@ -6,12 +6,13 @@ ghost use Rattle.pb_read.specs.Rows.{field};
 ghost use Rattle.pb_rows.specs.Reading.{Fields};
 ghost use Rattle.pb_script.specs.Admission.{has_enough, is_on_roll, open_to_all, refusal_of};
 ghost use Rattle.pb_script.specs.Inner.Admission.{knows_ids};
+ghost use Rattle.pb_script.specs.ScriptReading.{fault_of_row};
 
+use crate::script_fault::ScriptFault;
 use csv::StringRecord;
 use pb_core::request::Request;
 use pb_ids::IdTable;
 use pb_read::ProjectIds;
-use thiserror::Error;
 
 /// Which requests are admitted, and how their rows name projects.
 #[derive(Drop)]
@@ -25,20 +26,30 @@ pub struct Admission {
 }
 
 /// Why a row is refused, and changes nothing.
-#[derive(Clone, Copy, Debug, PartialEq, Eq, Error)]
+#[derive(Clone, Copy, Debug, PartialEq, Eq)]
 pub enum RowRefusal {
     /// It has not the form of a script's row, or its clerk is none of this run.
-    #[error("has not the form of a request by a clerk of this run")]
     Bad,
     /// It names an id that no project has.
-    #[error("names an id that no project has")]
     UnknownId,
     /// Its voter is not on the roll.
-    #[error("is of a voter who is not on the roll")]
     NotOnRoll,
     /// Its ballot has too few projects.
-    #[error("has a ballot of too few projects")]
     TooFew,
+}
+
+impl RowRefusal {
+    /// The fault of a script with this row, from 1.
+    pub fn of_row(self, row: u32) -> ScriptFault
+        ensures { result ≡ fault_of_row self row }
+    {
+        match self {
+            RowRefusal::Bad => ScriptFault::BadRow(row),
+            RowRefusal::UnknownId => ScriptFault::UnknownId(row),
+            RowRefusal::NotOnRoll => ScriptFault::NotOnRoll(row),
+            RowRefusal::TooFew => ScriptFault::TooFew(row),
+        }
+    }
 }
 
 /// Whoever hears of the rows that are refused.

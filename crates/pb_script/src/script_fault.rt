@@ -3,7 +3,6 @@
 ghost use Rattle.std.specs.Prelude.{◌≡◌};
 ghost use Rattle.pb_script.specs.ScriptFault.{numbered_name};
 
-use crate::admission::RowRefusal;
 use crate::script::MOST_ROWS;
 use pb_core::no_memory::NoMemory;
 use std::alloc::AllocError;
@@ -15,15 +14,24 @@ pub enum ScriptFault {
     /// The reader failed at this row.
     #[error("the reader failed at row {0}")]
     ReadFailed(u32),
-    /// This row is refused, for this.
-    #[error("row {1} {0}")]
-    Refused(RowRefusal, u32),
+    /// This row has not the form of a script's row, or its clerk is none of this run.
+    #[error("row {0} has not the form of a request by a clerk of this run")]
+    BadRow(u32),
     /// There are more than 2,000,000 rows.
     #[error("there are too many rows")]
     TooManyRows,
     /// Memory was refused.
     #[error("out of memory")]
     NoMemory,
+    /// This row names an id that no project has.
+    #[error("row {0} names an id that no project has")]
+    UnknownId(u32),
+    /// The voter of this row is not on the roll.
+    #[error("the voter of row {0} is not on the roll")]
+    NotOnRoll(u32),
+    /// The ballot of this row has too few projects.
+    #[error("the ballot of row {0} has too few projects")]
+    TooFew(u32),
 }
 
 impl From<NoMemory> for ScriptFault {
@@ -55,12 +63,12 @@ impl ScriptFault {
     {
         match self {
             ScriptFault::ReadFailed(_) => 1,
-            ScriptFault::Refused(RowRefusal::Bad, _) => 2,
+            ScriptFault::BadRow(_) => 2,
             ScriptFault::TooManyRows => 3,
             ScriptFault::NoMemory => 4,
-            ScriptFault::Refused(RowRefusal::UnknownId, _) => 5,
-            ScriptFault::Refused(RowRefusal::NotOnRoll, _) => 6,
-            ScriptFault::Refused(RowRefusal::TooFew, _) => 7,
+            ScriptFault::UnknownId(_) => 5,
+            ScriptFault::NotOnRoll(_) => 6,
+            ScriptFault::TooFew(_) => 7,
         }
     }
 
@@ -70,12 +78,12 @@ impl ScriptFault {
     {
         match self {
             ScriptFault::ReadFailed(_) => "ReadFailed",
-            ScriptFault::Refused(RowRefusal::Bad, _) => "BadRow",
+            ScriptFault::BadRow(_) => "BadRow",
             ScriptFault::TooManyRows => "TooManyRows",
             ScriptFault::NoMemory => "NoMemory",
-            ScriptFault::Refused(RowRefusal::UnknownId, _) => "UnknownId",
-            ScriptFault::Refused(RowRefusal::NotOnRoll, _) => "NotOnRoll",
-            ScriptFault::Refused(RowRefusal::TooFew, _) => "TooFew",
+            ScriptFault::UnknownId(_) => "UnknownId",
+            ScriptFault::NotOnRoll(_) => "NotOnRoll",
+            ScriptFault::TooFew(_) => "TooFew",
         }
     }
 
@@ -84,7 +92,11 @@ impl ScriptFault {
         ensures { result ≡ (numbered_name self.now).2 }
     {
         match self {
-            ScriptFault::ReadFailed(row) | ScriptFault::Refused(_, row) => *row,
+            ScriptFault::ReadFailed(row)
+            | ScriptFault::BadRow(row)
+            | ScriptFault::UnknownId(row)
+            | ScriptFault::NotOnRoll(row)
+            | ScriptFault::TooFew(row) => *row,
             ScriptFault::TooManyRows => MOST_ROWS + 1,
             ScriptFault::NoMemory => 0,
         }

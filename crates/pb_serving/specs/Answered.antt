@@ -11,9 +11,10 @@ use Rattle.pb_durable.specs.JournalFile.{StandsForText}
 use Rattle.pb_rows.specs.Reading.{Fields}
 use Rattle.pb_rows.specs.Writing.{text_of_row}
 use Rattle.pb_script.specs.Admission.{Judges, is_on_roll}
+use Rattle.pb_script.specs.ScriptReading.{fault_of_row}
 use Rattle.pb_script.specs.declared.admission.Admission.{Admission}
 use Rattle.pb_script.specs.declared.admission.RowRefusal.{RowRefusal}
-use Rattle.pb_script.specs.declared.script_fault.ScriptFault.TheVariants.{ReadFailed, Refused, TooManyRows}
+use Rattle.pb_script.specs.declared.script_fault.ScriptFault.TheVariants.{ReadFailed, TooManyRows}
 use Rattle.pb_faults.specs.DeskRow.{entries_row}
 use Rattle.pb_faults.specs.Fault.{line, told}
 use Rattle.pb_faults.specs.declared.fault.AppFault.TheVariants.{Script, Memory, Write}
@@ -34,7 +35,7 @@ Becomes a row (Err why) = Judges a most_clerks row (Err why)
 abbrev pub answers_from : ℕ → ℕ → List (Result EntryView RowRefusal) → List ℕ
 answers_from entry row [] = []
 answers_from entry row (Err why ∷ more) =
-    line (told (Script (Refused why row))).1 ++ answers_from entry (suc row) more
+    line (told (Script (fault_of_row why row))).1 ++ answers_from entry (suc row) more
 answers_from entry row (Ok x ∷ more) = text_of_row (row_of entry x) ++ answers_from (suc entry) (suc row) more
 
 -- these rows of the input were answered by this text, and their entries came to the journal

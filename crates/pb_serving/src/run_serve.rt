@@ -11,8 +11,9 @@ ghost use Rattle.pb_durable.specs.DurableDesk.{entries_of, IsDurable};
 ghost use Rattle.pb_durable.specs.Inner.Either.{StandsForEither};
 ghost use Rattle.pb_rows.specs.Reading.{records_of, Fields};
 ghost use Rattle.pb_rows.specs.Writing.{text_of_rows};
-ghost use Rattle.pb_script.specs.declared.script_fault.ScriptFault.TheVariants.{ReadFailed, Refused};
+ghost use Rattle.pb_script.specs.declared.script_fault.ScriptFault.TheVariants.{ReadFailed};
 ghost use Rattle.pb_script.specs.Admission.{open_to_all};
+ghost use Rattle.pb_script.specs.ScriptReading.{fault_of_row};
 ghost use Rattle.pb_faults.specs.Fault.{line, told};
 ghost use Rattle.pb_serving.specs.Answered.{heading, AddsOnRoll, Answers, HasNoRoom, IsBehind, StandsWithin};
 
@@ -301,7 +302,7 @@ fn answer<D: Device, W: Write>(
 /// Says why this row, from 1, is refused.
 fn say_refused<W: Write>(writer: &mut W, why: RowRefusal, row: u64) -> Result<(), ServingFault>
     ensures ok { OnOk result (Appends (W.contents writer.old) (W.contents writer.new)
-        (line (told (AppFault.Script (Refused why row))).1)) }
+        (line (told (AppFault.Script (fault_of_row why row))).1)) }
     ensures fault { IfErr result (λ fault. fault ≡ ServingFault.Output) }
 {
     if write_refused_row(writer, why, row).is_err() || writer.flush().is_err() {

@@ -12,7 +12,7 @@ use crate::text::Text;
 use crate::words::Words;
 use csv::ByteRecord;
 use pb_rows::read_number;
-use pb_script::{RowRefusal, ScriptFault};
+use pb_script::ScriptFault;
 use std::alloc::{AllocError, Global};
 use std::rt::Files;
 
@@ -46,7 +46,7 @@ fn put_words<R: Files>(out: &mut Words, text: &Text<'_, R>, fault: ScriptFault, 
     let at = u64::from(fault.at());
     let is_put = match fault {
         ScriptFault::ReadFailed(_) => put_reading_failed(out, text, at),
-        ScriptFault::Refused(RowRefusal::Bad, _) => put_row(out, text, at, clerks),
+        ScriptFault::BadRow(_) => put_row(out, text, at, clerks),
         _ => false,
     };
     if !is_put {
@@ -61,7 +61,7 @@ fn what_and_remedy(fault: ScriptFault) -> &'static str {
         ScriptFault::ReadFailed(_) => {
             ": the script could not be read any further.\nCheck the disk or the connection, then run again.\n"
         }
-        ScriptFault::Refused(RowRefusal::Bad, _) => {
+        ScriptFault::BadRow(_) => {
             ": the row is not a request of a clerk of this run.\nCompare it with the form CLERK;REQUEST;VOTER;PLACES, and the clerk's number with `--clerks`.\n"
         }
         ScriptFault::TooManyRows => {
@@ -70,9 +70,9 @@ fn what_and_remedy(fault: ScriptFault) -> &'static str {
         ScriptFault::NoMemory => {
             ": memory was refused.\nRun again on a machine with more memory.\n"
         }
-        ScriptFault::Refused(RowRefusal::UnknownId, _) => ": no project has one of the ids.\n",
-        ScriptFault::Refused(RowRefusal::NotOnRoll, _) => ": the voter is not on the roll.\n",
-        ScriptFault::Refused(RowRefusal::TooFew, _) => ": the ballot has too few projects.\n",
+        ScriptFault::UnknownId(_) => ": no project has one of the ids.\n",
+        ScriptFault::NotOnRoll(_) => ": the voter is not on the roll.\n",
+        ScriptFault::TooFew(_) => ": the ballot has too few projects.\n",
     }
 }
 
