@@ -3,6 +3,9 @@
 //! when the answers of `serve` leave.
 //!
 //! These tests stand apart from those of `pb_tests`, which so need not wait for the proof of `pb_commands`.
+//!
+//! `MemoryDevice` is no test: it is proved to be a device as `pb_durable` speaks of them, so there is one that tells its
+//! bytes, and what a crash may leave.
 #![tactic(auto)]
 
 #[cfg(test)]
@@ -13,6 +16,7 @@ mod clerks;
 mod closing;
 #[cfg(test)]
 mod faults;
+mod memory_device;
 #[cfg(test)]
 mod raises;
 #[cfg(test)]

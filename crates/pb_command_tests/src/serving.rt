@@ -4,9 +4,10 @@
 ghost use Rattle.std.specs.Prelude.{[]};
 
 use crate::checks::{THREE_VOTERS, same};
+use crate::memory_device::MemoryDevice;
 use pb_commands::AppFault;
 use pb_core::devices::FailsAfter;
-use pb_durable::{Device, DeviceFault, DurableDesk, JournalFile, MemoryDevice, Opened, open};
+use pb_durable::{Device, DeviceFault, DurableDesk, JournalFile, Opened, open};
 use pb_read::read_pb;
 use pb_script::ScriptFault;
 use pb_serving::run_serve::run_serve;

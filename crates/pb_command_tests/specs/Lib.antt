@@ -1,0 +1,2 @@
+-- The words that only these tests speak of.
+pub mod Inner
