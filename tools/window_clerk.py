@@ -3,11 +3,13 @@ import csv, html, http.client, io, json, os, pathlib, pty, re, secrets, select, 
 
 TOP = pathlib.Path(__file__).resolve().parent.parent
 PYTHON = '/usr/bin/python3'
+# The Debian packages that the window needs.
+PACKAGES = ['python3-flask', 'python3-cheroot']
 RUN, CLERKS = TOP / 'window/run.py', TOP / 'window/clerks.py'
 sys.path.append(str(TOP / 'window'))
 import clerks
 # How many seconds anything here may take.
-LIMIT = 60
+LIMIT = 120
 
 
 def passphrase_of(name):
@@ -56,13 +58,13 @@ def make_clerks(path, names):
 class Window:
     """A window that runs. It goes on with the files of its folder."""
 
-    def __init__(self, program, folder, file='city.pb', options=()):
-        self.program, self.folder, self.options = program, folder, [str(it) for it in options]
+    def __init__(self, program, folder, file='city.pb', options=(), run=RUN):
+        self.program, self.folder, self.options, self.run = program, folder, [str(it) for it in options], run
         self.file, self.journal, self.port = folder / file, folder / 'city.journal', free_port()
         self.child = None
 
     def start(self, is_awaited=True):
-        words = [PYTHON, RUN, self.file, self.journal, '--clerks', self.folder / 'clerks.json', '--program', self.program,
+        words = [PYTHON, self.run, self.file, self.journal, '--clerks', self.folder / 'clerks.json', '--program', self.program,
                  '--listen', f'127.0.0.1:{self.port}', *self.options]
         self.child = subprocess.Popen([str(word) for word in words], cwd=self.folder, stdin=subprocess.DEVNULL,
                                       stdout=subprocess.PIPE, stderr=subprocess.STDOUT, text=True, start_new_session=True)

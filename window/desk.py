@@ -25,7 +25,7 @@ class Desk:
 
     def __init__(self, serve, file, journal, log, votes):
         self.command, self.files, self.words = [*serve, file, journal], (file, journal), opened(f'{journal}.words')
-        self.log, self.votes, self.sending = log, votes, threading.Lock()
+        self.log, self.votes, self.sending = log, votes, threading.RLock()
         self.waiting, self.busy, self.is_shut = collections.deque(), set(), False
         self.child = self.fault = self.marks = self.newest = None
         self.unknown = {form: Asked(form, it['clerk'], it['request'], it['voter'])
@@ -95,7 +95,7 @@ class Desk:
         try:
             for row in rows:
                 self.take(row)
-        except (csv.Error, ValueError, IndexError, TypeError) as why:
+        except (csv.Error, OSError, ValueError, IndexError, TypeError) as why:
             self.fault = f'pb_app serve cannot be followed: {type(why).__name__}'
             child.kill()
         child.wait()
@@ -132,19 +132,17 @@ class Desk:
     def keep_up(self, is_after_fault=False):
         """Starts the child again where it has died without a word; after a fault only the head clerk does."""
         with self.sending:
-            self.revive(is_after_fault)
-
-    def revive(self, is_after_fault=False):
-        if not (self.child or self.is_shut) and (is_after_fault or not self.fault):
-            try:
-                self.start()
-            except (Fault, OSError) as why:
-                self.fault = str(why)
-                self.log.write('not-started', fault=self.fault)
+            if not (self.child or self.is_shut) and (is_after_fault or not self.fault):
+                try:
+                    self.start()
+                except (Fault, OSError) as why:
+                    self.fault = str(why)
+                    self.log.write('not-started', fault=self.fault)
 
     def end(self):
-        """Ends the child in order: its input ends, and it leaves the journal at rest."""
-        with self.sending:
+        """Ends the child in order: its input ends, and it leaves the journal at rest, also where it had died before."""
+        self.keep_up()
+        with self.sending, contextlib.suppress(OSError):
             if self.child:
                 self.child.stdin.close()
         self.listener.join()
@@ -171,7 +169,7 @@ class Desk:
         asked, row = Asked(form, clerk, request, voter), io.StringIO()
         csv.writer(row, delimiter=';', lineterminator='\n').writerow([clerk, request, voter, ids])
         with self.sending:
-            self.revive()
+            self.keep_up()
             outcome = self.why_not(voter, seen)
             if outcome:
                 self.log.write('unsent', form=form, why=outcome.kind)
@@ -185,7 +183,8 @@ class Desk:
             self.unknown[form] = asked
         return asked.outcome
 
-    def settle(self, form):
-        """A clerk has looked what came of a request without an answer."""
-        if self.unknown.pop(form, None):
-            self.log.write('settled', form=form)
+    def settle(self, form, clerk):
+        """The clerk who asked, or the head clerk, has looked what came of a request without an answer."""
+        if form in self.unknown and clerk in (0, self.unknown[form].clerk):
+            self.unknown.pop(form, None)
+            self.log.write('settled', form=form, clerk=clerk)

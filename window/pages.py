@@ -8,7 +8,6 @@ from werkzeug.exceptions import HTTPException
 import election, sessions
 
 app = Flask(__name__)
-app.config['MAX_CONTENT_LENGTH'] = 65536
 app.jinja_env.trim_blocks = app.jinja_env.lstrip_blocks = True
 office = None       # The day, which run.py puts here.
 KEY = os.urandom(32)
@@ -21,10 +20,10 @@ ANSWERS = {'done': 'Recorded.', 'already-cast': 'Not recorded: this voter has a 
            'too-long': 'Not recorded: the ballot has more projects than the election allows.',
            'voter-limit': 'Not recorded: the desk has as many ballots as it can hold.',
            'desk-shut': 'Not recorded: the desk is shut.',
-           'UnknownId': 'Not recorded: no project has an id that the ballot names.',
+           'UnknownId': 'Not recorded: the ballot names an id that no project has.',
            'NotOnRoll': 'Not recorded: this voter is not on the roll.',
-           'TooFew': 'Not recorded: the ballot has fewer projects than the election asks for.'}
-STALE = 'This form is not from this page as it is now, or you were signed out. Nothing was sent to the desk. Begin again.'
+           'TooFew': 'Not recorded: the ballot has fewer projects than the office asks for.'}
+STALE = 'The form is too old, or you were signed out. Nothing was sent to the desk just now. Look up the voter to see what is recorded.'
 
 
 def token_of(cookie):
@@ -95,6 +94,8 @@ def failed(why):
     """Says in the log where the window failed, and nothing of what was sent."""
     if isinstance(why, HTTPException):
         return say(why.name, 'Nothing was sent to the desk.', why.code)
+    if isinstance(why, election.Fault):
+        return say('The program refused', str(why), 500)
     place = traceback.extract_tb(why.__traceback__)[-1]
     office.log.write('failed', kind=type(why).__name__, file=os.path.basename(place.filename), line=place.lineno)
     return say('The window failed', 'Look at the voter again: it is not known whether anything was recorded.', 500)
@@ -104,8 +105,8 @@ def failed(why):
 def start():
     if g.session:
         office.desk.keep_up()
-        missed = [it for it in list(office.desk.unknown.values()) if it.clerk == g.clerk]
-        return render_template('start.html', title='Next voter', missed=missed)
+        return render_template('start.html', title='Next voter',
+                               missed=[it for it in list(office.desk.unknown.values()) if it.clerk == g.clerk])
     g.fresh = cookie('sign-in') or secrets.token_urlsafe(32)
     return keep(render_template('sign_in.html', title='Sign in'), 'sign-in', g.fresh)
 
@@ -137,7 +138,7 @@ def asked_voter():
     """The voter's id of a form, trimmed as the desk does."""
     voter = request.form.get('voter', '').strip(election.SPACE)
     if not voter or any(unicodedata.category(it) == 'Cc' for it in voter):
-        abort(make_response(say('No such id', 'An id has a character at least, and no control characters. Type it again.', 400)))
+        abort(make_response(say('No such id', 'A voter’s id has at least one character, and no control characters. Type it again.', 400)))
     return voter
 
 
@@ -157,12 +158,12 @@ def show(voter, ids=None, is_asked_for=False):
 @app.post('/voter')
 def voter():
     form = g.session.forms.get(request.form.get('form'))
-    return show(form.voter, form.ids) if form else show(asked_voter())
+    return show(form.voter, form.ids if form.request != 'withdraw' else None) if form else show(asked_voter())
 
 
 @app.post('/show')
 def show_ballot():
-    office.log.write('looked', clerk=g.clerk, voter=asked_voter())
+    office.log.write('looked', is_synced=True, clerk=g.clerk, voter=asked_voter())
     return show(asked_voter(), is_asked_for=True)
 
 
@@ -174,7 +175,7 @@ def look():
         abort(400)
     ids = election.ids_of(','.join(request.form.getlist('id'))) if wanted != 'withdraw' else []
     form = g.session.add(sessions.Form(wanted, asked_voter(), ids, int(seen)))
-    return render_template('look.html', title='Look once more', form=form, chosen=office.election.chosen(ids))
+    return render_template('look.html', title='Check before you record', form=form, chosen=office.election.chosen(ids))
 
 
 @app.post('/record')
@@ -188,14 +189,13 @@ def record():
 
 def answer(form):
     outcome = form.send(office.desk, g.clerk)
-    if outcome.kind == 'entry' and outcome.value[2::3] == ('shut', 'done'):
-        office.end()
-    return render_template('start.html', title='Answer', outcome=outcome, form=form, last=office.desk.last.get(form.voter))
+    words = office.end() if outcome.kind == 'entry' and outcome.value[2::3] == ('shut', 'done') else None
+    return render_template('start.html', title='Answer', outcome=outcome, form=form, last=office.desk.last.get(form.voter), words=words)
 
 
 @app.post('/settle')
 def settle():
-    office.desk.settle(request.form.get('form'))
+    office.desk.settle(request.form.get('form'), g.clerk)
     return show(asked_voter()) if request.form.get('voter') else redirect('/', 303)
 
 
@@ -213,7 +213,7 @@ def again():
 @app.post('/shut')
 def shut():
     is_typed = request.form.get('word', '').strip() == 'shut'
-    return answer(sessions.Form('shut')) if is_typed else head('The desk is not shut. Type the word shut.', 400)
+    return answer(sessions.Form('shut')) if is_typed else head('The desk is not shut. Type the word “shut”.', 400)
 
 
 @app.get('/result')

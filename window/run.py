@@ -63,20 +63,24 @@ class Day:
             self.desk.end()
 
     def end(self):
-        """Ends the child in order, and copies the journal that it leaves, with its digest."""
+        """Ends the child in order, and copies the journal that it leaves, with its digest. Answers in words what failed."""
         with self.ending:
             self.desk.end()
-            with open(self.given.journal, 'rb') as file:
-                text = file.read()
-            digest, entries = hashlib.sha256(text).hexdigest(), self.desk.newest.number if self.desk.newest else 0
-            name = f'{os.path.basename(self.given.journal)}.{datetime.datetime.utcnow():%Y%m%dT%H%M%S%fZ}'
-            for end, data in (('', text), ('.sha256', f'{digest}  {name}\n'.encode())) if self.given.backup else ():
-                with open(os.path.join(self.given.backup, name + end), 'xb') as file:
-                    file.write(data)
-                    file.flush()
-                    os.fsync(file.fileno())
-            self.log.write('ended', entries=entries, digest=digest)
-            print(f'{entries} entries, sha256 {digest}: write both down', flush=True)
+            try:
+                with open(self.given.journal, 'rb') as file:
+                    text = file.read()
+                digest, entries = hashlib.sha256(text).hexdigest(), self.desk.newest.number if self.desk.newest else 0
+                self.log.write('ended', entries=entries, digest=digest)
+                print(f'{entries} entries, sha256 {digest}: write both down', flush=True)
+                name = f'{os.path.basename(self.given.journal)}.{datetime.datetime.now(datetime.timezone.utc):%Y%m%dT%H%M%S%fZ}'
+                for end, data in (('', text), ('.sha256', f'{digest}  {name}\n'.encode())) if self.given.backup else ():
+                    with open(os.path.join(self.given.backup, name + end), 'xb') as file:
+                        file.write(data)
+                        file.flush()
+                        os.fsync(file.fileno())
+            except OSError as why:
+                self.log.write('not-copied', why=str(why))
+                return f'The journal was not copied: {why}. Copy it by hand.'
 
     def result(self):
         """The report of the shut desk with its digests, and the page of the result."""
@@ -105,7 +109,7 @@ def main():
         web.stop()
     except OSError as why:
         print(f'run.py: {why}', file=sys.stderr)
-    day.end()
+    sys.exit(day.end())
 
 
 if __name__ == '__main__':

@@ -25,7 +25,7 @@ if (form) {
     event.preventDefault();
     const wanted = plain(search.value.trim()), exact = left().filter(it => it.id === wanted);
     const found = exact.length === 1 ? exact : left();
-    if (found.length !== 1) return void (count.textContent = `${found.length || 'No'} projects fit. Type more, or something else.`);
+    if (found.length !== 1) return void (count.textContent = `${found.length || 'No'} projects match. Type more, or something else.`);
     found[0].box.checked = !found[0].box.checked;
     search.value = '';
     find();
