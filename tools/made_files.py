@@ -39,6 +39,11 @@ def two_clerks(is_script):
     return ''.join(['journal;2\n'] + rows).encode()
 
 
+def roll(ids):
+    """A voters' roll without a header: so many ids, from 1."""
+    return ''.join(f'{voter}\n' for voter in range(1, ids + 1)).encode()
+
+
 def many_faults():
     """The three voters, 1,001 further votes of v1, and 102 voters who vote for nothing: of the faults 1,000 are listed, of
     the empty ballots 100."""
@@ -61,6 +66,9 @@ MADE = {
     'records-and-one.pb': lambda: three_voters(['k;v'] * 1_999_988),
     # rows of 2,001 fields and more, one of 100,000
     'wide.pb': lambda: three_voters(['k' + ';' * 99_999], 1_999),
+    # as many ids as a roll may have, below a header, and one more
+    'full.roll': lambda: b'voter_id\n' + roll(2_000_000),
+    'full-and-one.roll': lambda: roll(2_000_001),
     'faulty.pb': many_faults,
     'faulty.rows': listed_faults,
     'two-clerks.script': lambda: two_clerks(True),
@@ -68,4 +76,4 @@ MADE = {
 }
 
 # Those that `rt try` would be slow on: it copies each file for each case, and runs with checks.
-LARGE = {'large.pb', 'largest.pb', 'records.pb', 'records-and-one.pb'}
+LARGE = {'large.pb', 'largest.pb', 'records.pb', 'records-and-one.pb', 'full.roll', 'full-and-one.roll'}

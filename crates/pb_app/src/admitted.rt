@@ -5,7 +5,7 @@ use pb_command_line::Admits;
 use pb_commands::AppFault;
 use pb_commands::run_desk::Rules;
 use pb_ids::IdTable;
-use pb_script::{Notice, RowRefusal, read_roll};
+use pb_script::{Admission, Notice, RowRefusal, read_roll};
 use pb_streams::open_file;
 use std::cell::Cell;
 use std::rt::Files;
@@ -68,8 +68,11 @@ pub(crate) fn rules_of<R: Files + AllocGlobal>(
 ) -> Result<Rules, AppFault> {
     Ok(Rules {
         by_id: admits.by_id,
-        roll: roll_of(rt, admits.roll)?,
-        least: admits.least,
+        admission: Admission {
+            ids: None,
+            roll: roll_of(rt, admits.roll)?,
+            least: admits.least,
+        },
     })
 }
 

@@ -102,7 +102,15 @@ where
                 told: Told::rows(rt, &asked.admits),
                 typing,
             };
-            serve_device(rt, election, device, asked.journal, kinship, &hearing, writer)
+            serve_device(
+                rt,
+                election,
+                device,
+                asked.journal,
+                kinship,
+                &hearing,
+                writer,
+            )
         }
         Err(fault) => {
             drop(election);

@@ -10,6 +10,7 @@ use pb_durable::moved::kept_path;
 use pb_export::ExportFault;
 use pb_read::ReadFault;
 use pb_rounds::count_fault::CountFault;
+use pb_script::{RowRefusal, ScriptFault};
 use pb_streams::{Bar, Output, Progress};
 use pb_words::belonging_words::{adopted_words, other_file_words, unread_file_words};
 use pb_words::count_words::{count_words, spent_words};
@@ -18,7 +19,6 @@ use pb_words::output_words::{
     beside_output_words, journal_output_words, read_output_words, served_output_words,
 };
 use pb_words::read_words::{list_words, read_words};
-use pb_script::{RowRefusal, ScriptFault};
 use pb_words::refused_words::{
     like_a_place_words, not_on_roll_words, roll_words, too_few_words, unknown_id_words,
 };
@@ -91,9 +91,11 @@ pub(crate) fn say_refusal<R: Files + Eprint + AllocGlobal>(
         Refusal::Fault(AppFault::Memory) => say(rt, NO_MEMORY),
         Refusal::Fault(AppFault::Warned(_)) => say(rt, STRICT),
         // It was said when the row was read.
-        Refusal::Fault(AppFault::Script(
-            ScriptFault::UnknownId(_) | ScriptFault::NotOnRoll(_) | ScriptFault::TooFew(_),
-        )) => {}
+        Refusal::Fault(
+            AppFault::Script(
+                ScriptFault::UnknownId(_) | ScriptFault::NotOnRoll(_) | ScriptFault::TooFew(_),
+            ),
+        ) => {}
         Refusal::Fault(fault) => say_words(rt, words_of(rt, asked, fault, failure, audited)),
         Refusal::Unanswered => say_words(rt, unanswered_words(rt.alloc(), failure)),
         // Why each of the others was refused was said when it was read.

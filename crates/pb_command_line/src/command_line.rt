@@ -1,8 +1,6 @@
 //! The commands and options that the program knows, and what parsed arguments ask for.
 
-use crate::task::{
-    Admits, Asked, AuditRun, Ballots, DeskRun, PageRun, ServeRun, Source, Task,
-};
+use crate::task::{Admits, Asked, AuditRun, Ballots, DeskRun, PageRun, ServeRun, Source, Task};
 use clap::{Arg, ArgAction, ArgMatches, Command, value_parser};
 use pb_core::money::Money;
 use pb_rounds::measure::Measure;
@@ -377,9 +375,7 @@ const COMMANDS: &[CommandForm] = &[
         name: "serve",
         notes: AFTER_SERVE,
         about: "Serves standard input's requests on the desk of a .pb file, whose journal stands in a file",
-        arguments: &[
-            SERVED, DURABLE, OTHER_FILE, BY_ID, ROLL, LEAST, QUIET_SERVE,
-        ],
+        arguments: &[SERVED, DURABLE, OTHER_FILE, BY_ID, ROLL, LEAST, QUIET_SERVE],
     },
 ];
 

@@ -65,12 +65,15 @@ fn needs_path(task: &Task<'_>) -> Option<&'static str> {
     match task {
         Task::Serve(ServeRun { file: "-", .. }) => Some("FILE"),
         Task::Serve(ServeRun { journal: "-", .. }) => Some("JOURNAL"),
-        Task::Serve(ServeRun {
-            admits: Admits {
-                roll: Some("-"), ..
+        Task::Serve(
+            ServeRun {
+                admits: Admits {
+                    roll: Some("-"),
+                    ..
+                },
+                ..
             },
-            ..
-        }) => Some("ROLL"),
+        ) => Some("ROLL"),
         _ => None,
     }
 }

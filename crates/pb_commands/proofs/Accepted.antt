@@ -25,10 +25,12 @@ use Rattle.pb_commands.specs.Counted.{CountRefuses, CountWrites, IsReportOf}
 use Rattle.pb_commands.specs.Ends.{Accepts, FailsBy, IfBothKnown, IsOutsideFault}
 use Rattle.pb_faults.specs.Fault.{merged}
 use Rattle.pb_commands.specs.Report.{report_of}
+use Rattle.pb_script.specs.declared.roll.RollFault.{RollFault}
+use Rattle.pb_script.specs.declared.roll.RollFault.TheVariants as roll
 use Rattle.pb_script.specs.declared.script_fault.ScriptFault.{ScriptFault}
 use Rattle.pb_script.specs.declared.script_fault.ScriptFault.TheVariants as script
 use Rattle.pb_faults.specs.declared.fault.AppFault.{AppFault}
-use Rattle.pb_faults.specs.declared.fault.AppFault.TheVariants.{Read, Script, ClerkCount, Audit, OtherFile, OpenDesk, Count, Export, Open, Write, Memory, Warned}
+use Rattle.pb_faults.specs.declared.fault.AppFault.TheVariants.{Read, Script, ClerkCount, Audit, OtherFile, OpenDesk, Count, Export, Open, Write, Memory, Warned, Roll}
 
 pub read_from_outside : (kind : ReadKind) (at : ℕ) → IsFromOutside kind → IsOutsideFault (merged (Read (record { kind = kind; at = at })))
 read_from_outside kind at (inl is) = rw is refl
@@ -60,6 +62,10 @@ export_again : (fault : ExportFault) → merged (merged (Export fault)) ≡ merg
 export_again export.NoMemory = refl
 export_again fault = refl
 
+roll_again : (fault : RollFault) → merged (merged (Roll fault)) ≡ merged (Roll fault)
+roll_again roll.NoMemory = refl
+roll_again fault = refl
+
 pub merged_again : (fault : AppFault) → merged (merged fault) ≡ merged fault
 merged_again (Read fault) = read_again fault.kind fault.at
 merged_again (Script fault) = script_again fault
@@ -73,6 +79,7 @@ merged_again (Open number) = refl
 merged_again Write = refl
 merged_again Memory = refl
 merged_again (Warned warning) = refl
+merged_again (Roll fault) = roll_again fault
 
 pub stays_merged : {T : Type 0} (fault : AppFault) (r : Result T AppFault) → IsErrAnd r (λ app. app ≡ merged fault) → IfErr r (λ app. merged app ≡ app)
 stays_merged fault r is = given_fault (λ app. merged app ≡ app) r (merged fault) is (merged_again fault)

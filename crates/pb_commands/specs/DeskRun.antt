@@ -1,5 +1,5 @@
 -- What a run of `desk` writes, and what it refuses.
-use Rattle.std.specs.Prelude.{ℕ, Bool, false, List, None, Some, if◌then◌else◌}
+use Rattle.std.specs.Prelude.{ℕ, Bool, List, Some, if◌then◌else◌}
 use Rattle.pb_core.specs.Election.{ElectionView, project_ids}
 use Rattle.pb_read.specs.StandsFor.{StandsFor}
 use Rattle.pb_rows.specs.Reading.{records_of}
@@ -12,15 +12,7 @@ use Rattle.pb_faults.specs.declared.fault.AppFault.TheVariants.{Script, ClerkCou
 
 -- which requests these rules admit on the desk of an election
 abbrev pub admission_on : Rules → ElectionView → Admission
-admission_on rules e = record {
-  ids = if rules.by_id then Some (project_ids e) else None;
-  roll = rules.roll;
-  least = rules.least;
-}
-
--- all requests are admitted, and name projects by their places
-abbrev pub open_rules : Rules
-open_rules = record { by_id = false; roll = None; least = 0 }
+admission_on rules e = if rules.by_id then record rules.admission { ids = Some (project_ids e) } else rules.admission
 
 -- what these bytes, as a file and as a script for this many clerks, make a run of `desk` by these rules write that
 -- shuts the desk at its end, or does not

@@ -1,7 +1,8 @@
 //! The command `desk`: a script's requests, served by the clerks of one desk.
 
-ghost use Rattle.std.specs.Prelude.{◌≡◌, ◌≢◌, IfErr, IfOk, IfSome, OnOk};
-ghost use Rattle.pb_commands.specs.DeskRun.{DeskRefuses, DeskWrites, admission_on, open_rules};
+ghost use Rattle.std.specs.Prelude.{◌≡◌, ◌≢◌, false, IfErr, IfOk, IfSome, OnOk};
+ghost use Rattle.pb_script.specs.Admission.{open_to_all};
+ghost use Rattle.pb_commands.specs.DeskRun.{DeskRefuses, DeskWrites, admission_on};
 ghost use Rattle.pb_commands.specs.Inner.DeskRun.{unserved};
 ghost use Rattle.pb_commands.specs.Ends.{Accepts, FailsBy, HasWritten, IfBothKnown, JudgesFile};
 ghost use Rattle.pb_faults.specs.Fault.{merged};
@@ -10,7 +11,6 @@ use pb_core::election::Election;
 use pb_core::gate::Gate;
 use pb_core::no_memory::NoMemory;
 use pb_faults::{AppFault, write_out};
-use pb_ids::IdTable;
 use pb_read::{ProjectIds, read_pb};
 use pb_script::serve_script::serve_admitted;
 use pb_script::{Admission, NoNotice, Notice, ServeFault};
@@ -18,15 +18,13 @@ use std::alloc::Global;
 use std::io::{Read, Write};
 use std::thread::Threads;
 
-/// Which requests a desk admits, and how their rows name projects.
+/// Which requests a desk admits, before its election is known.
 #[derive(Drop)]
 pub struct Rules {
-    /// Rows name projects by their ids, and not by their places.
+    /// Rows name projects by the ids of the election's projects.
     pub by_id: bool,
-    /// The voters' roll; with none a request may be for anybody.
-    pub roll: Option<IdTable>,
-    /// How many projects a ballot has at least.
-    pub least: u32,
+    /// What is admitted but for that.
+    pub admission: Admission,
 }
 
 /// Reads a .pb file and a script, lets this many clerks serve the script's requests on one desk, side by
@@ -55,15 +53,15 @@ pub fn run_desk<T: Threads + Sync, P: Read + Drop, S: Read + Drop, G: Gate, W: W
     // clerks allow,
     ensures ok { OnOk result (IfBothKnown (P.remaining file) (S.remaining script)
         (λ bytes rows.
-        HasWritten (DeskWrites open_rules bytes rows clerks shuts) (W.contents writer.old) (W.contents writer.new))) }
+        HasWritten (DeskWrites (record { by_id = false; admission = open_to_all }) bytes rows clerks shuts) (W.contents writer.old) (W.contents writer.new))) }
 
     // and they decide which fault comes.
     ensures fault { IfErr result (λ fault. IfBothKnown (P.remaining file) (S.remaining script)
-        (λ bytes rows. FailsBy (DeskRefuses open_rules rows clerks) (DeskWrites open_rules bytes rows clerks shuts) bytes fault)) }
+        (λ bytes rows. FailsBy (DeskRefuses (record { by_id = false; admission = open_to_all }) rows clerks) (DeskWrites (record { by_id = false; admission = open_to_all }) bytes rows clerks shuts) bytes fault)) }
 
     // A file and a script that have a journal get one, unless a device fails or memory is refused.
     ensures accepts { IfBothKnown (P.remaining file) (S.remaining script)
-        (λ bytes rows. Accepts (DeskWrites open_rules bytes rows clerks shuts) result) }
+        (λ bytes rows. Accepts (DeskWrites (record { by_id = false; admission = open_to_all }) bytes rows clerks shuts) result) }
 
     // The file is judged first, whatever is known of the script.
     ensures file { IfSome (P.remaining file) (λ bytes. JudgesFile bytes result) }
@@ -76,10 +74,11 @@ pub fn run_desk<T: Threads + Sync, P: Read + Drop, S: Read + Drop, G: Gate, W: W
 {
     let open = Rules {
         by_id: false,
-        roll: None,
-        least: 0,
+        admission: Admission::open(),
     };
-    run_admitted_desk(rt, alloc, file, script, clerks, shuts, gate, open, &NoNotice, writer)
+    run_admitted_desk(
+        rt, alloc, file, script, clerks, shuts, gate, open, &NoNotice, writer,
+    )
 }
 
 /// The same, of the requests that these rules admit. A row that they refuse refuses the script, and is told to `notice`.
@@ -139,26 +138,20 @@ pub fn run_admitted_desk<
 }
 
 /// What these rules admit on the desk of this election.
-pub fn admission_of(
-    alloc: Global,
-    rules: Rules,
-    election: &Election,
-) -> Result<Admission, NoMemory>
+pub fn admission_of(alloc: Global, rules: Rules, election: &Election) -> Result<Admission, NoMemory>
     ensures { IfOk result (λ admission. admission ≡ admission_on rules election.now) }
 {
-    let Rules { by_id, roll, least } = rules;
-    let ids = if by_id {
-        match ProjectIds::of(alloc, election) {
-            Ok(ids) => Some(ids),
-            Err(refused) => {
-                drop(roll);
-                return Err(refused);
-            }
+    let Rules { by_id, admission } = rules;
+    if !by_id {
+        return Ok(admission);
+    }
+    match ProjectIds::of(alloc, election) {
+        Ok(ids) => Ok(admission.by_ids(ids)),
+        Err(refused) => {
+            drop(admission);
+            Err(refused)
         }
-    } else {
-        None
-    };
-    Ok(Admission { ids, roll, least })
+    }
 }
 
 /// A script that is not served, as a run answers it.

@@ -10,8 +10,6 @@ use Rattle.pb_read.specs.declared.fault.ReadKind.{ReadKind}
 use Rattle.pb_read.specs.declared.fault.ReadKind.TheVariants as read
 use Rattle.pb_rounds.specs.CountFault.{numbered_name as of_count}
 use Rattle.pb_rounds.specs.declared.count_fault.CountFault.TheVariants as count
-use Rattle.pb_script.specs.Roll.{named as of_roll}
-use Rattle.pb_script.specs.declared.roll.RollFault.{RollFault}
 use Rattle.pb_script.specs.declared.roll.RollFault.TheVariants as roll
 use Rattle.pb_script.specs.ScriptFault.{numbered_name as of_script}
 use Rattle.pb_script.specs.declared.script_fault.ScriptFault.TheVariants as script
@@ -37,10 +35,6 @@ merged fault = fault
 abbrev pub told_at : List ℕ → ℕ → List ℕ → ℕ → ℕ × List (List ℕ)
 told_at what number name at = (if number == 1 then 3 else 1, what ∷ decimal number ∷ name ∷ decimal at ∷ [])
 
--- the fields of a line of a roll
-abbrev pub roll_fields : RollFault → List (List ℕ)
-roll_fields fault = codes "roll" ∷ (of_roll fault).0 ∷ decimal (of_roll fault).1 ∷ []
-
 -- What is told of a merged fault: the status that the program ends with, and the fields of its line. The status
 -- is 3 where a device failed or memory was refused; 2 where the arguments are refused, the options of a count
 -- among them; 1 where what was read is, or its count. Options in range can still be too few raises for a file.
@@ -59,8 +53,10 @@ told (Open number) = (3, codes "open" ∷ decimal number ∷ [])
 told Write = (3, codes "write" ∷ [])
 told Memory = (3, codes "memory" ∷ [])
 told (Warned warning) = (1, codes "warning" ∷ name_of warning.oddity ∷ decimal warning.at ∷ [])
-told (Roll (roll.ReadFailed row)) = (3, roll_fields (roll.ReadFailed row))
-told (Roll fault) = (1, roll_fields fault)
+told (Roll (roll.ReadFailed row)) = (3, codes "roll" ∷ codes "ReadFailed" ∷ decimal row ∷ [])
+told (Roll (roll.NotText row)) = (1, codes "roll" ∷ codes "NotText" ∷ decimal row ∷ [])
+told (Roll (roll.TooManyIds row)) = (1, codes "roll" ∷ codes "TooManyIds" ∷ decimal row ∷ [])
+told (Roll roll.NoMemory) = (3, codes "memory" ∷ [])
 
 -- the line of these fields: a `;` stands before each
 abbrev pub line : List (List ℕ) → List ℕ

@@ -54,9 +54,7 @@ impl AppFault {
             AppFault::Warned(warning) => {
                 write_named(writer, "warning", warning.oddity.name(), warning.at)
             }
-            AppFault::Roll(fault) => {
-                write_named(writer, "roll", fault.name(), u64::from(fault.at()))
-            }
+            AppFault::Roll(fault) => write_roll(writer, fault),
         }
     }
 
@@ -76,9 +74,8 @@ impl AppFault {
             | AppFault::Export(_)
             | AppFault::Warned(_) => REFUSED,
             AppFault::Count(_) => BAD_ARGUMENTS,
-            AppFault::Roll(RollFault::ReadFailed(_)) => NO_DEVICE,
-            AppFault::Roll(_) => REFUSED,
-            AppFault::Open(_) | AppFault::Write | AppFault::Memory => NO_DEVICE,
+            AppFault::Roll(RollFault::NotText(_) | RollFault::TooManyIds(_)) => REFUSED,
+            AppFault::Roll(_) | AppFault::Open(_) | AppFault::Write | AppFault::Memory => NO_DEVICE,
         }
     }
 }
@@ -95,13 +92,12 @@ pub fn write_refused_row<W: Write>(writer: &mut W, why: RowRefusal, row: u64) ->
     ensures { OnOk result (Appends (W.contents writer.old) (W.contents writer.new)
         (line (told (AppFault.Script (fault_of_row why row))).1)) }
 {
-    let (number, name) = match why {
-        RowRefusal::Bad => (2, "BadRow"),
-        RowRefusal::UnknownId => (5, "UnknownId"),
-        RowRefusal::NotOnRoll => (6, "NotOnRoll"),
-        RowRefusal::TooFew => (7, "TooFew"),
-    };
-    write_at(writer, "script", number, name, row)
+    match why {
+        RowRefusal::Bad => write_at(writer, "script", 2, "BadRow", row),
+        RowRefusal::UnknownId => write_at(writer, "script", 5, "UnknownId", row),
+        RowRefusal::NotOnRoll => write_at(writer, "script", 6, "NotOnRoll", row),
+        RowRefusal::TooFew => write_at(writer, "script", 7, "TooFew", row),
+    }
 }
 
 /// Writes the line of the fault with this number and name in this record or row.
@@ -128,6 +124,19 @@ fn write_numbered<W: Write>(writer: &mut W, what: &str, number: u32, name: &str)
 {
     let mut digits = Buffer::new();
     write_fields(writer, &[what, digits.format(number), name])
+}
+
+/// Writes the line of a voters' roll with this fault.
+fn write_roll<W: Write>(writer: &mut W, fault: RollFault) -> io::Result<()>
+    ensures { OnOk result (Appends (W.contents writer.old) (W.contents writer.new)
+        (line (told (AppFault.Roll fault)).1)) }
+{
+    match fault {
+        RollFault::ReadFailed(row) => write_named(writer, "roll", "ReadFailed", u64::from(row)),
+        RollFault::NotText(row) => write_named(writer, "roll", "NotText", u64::from(row)),
+        RollFault::TooManyIds(row) => write_named(writer, "roll", "TooManyIds", u64::from(row)),
+        RollFault::NoMemory => write_fields(writer, &["memory"]),
+    }
 }
 
 /// Writes the line of the file with this number on the command line, which could not be opened.

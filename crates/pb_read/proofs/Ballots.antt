@@ -42,7 +42,7 @@ above_head : (x z : ℕ) (xs : List ℕ) → AllPairs (λ a b. a < b) (x ∷ xs)
 above_head x z xs rising c same = let above : x < get_or xs c.0 z = rising 0 (suc c.0) z (omega arith) (omega (arith, c.1)) in absurd (omega (arith, above, c.2, same))
 
 -- two rising lists with the same members are the same
-pub same_pairs : (xs ys : List ℕ) → AllPairs (λ a b. a < b) xs → AllPairs (λ a b. a < b) ys → HasSameMembers xs ys → xs ≡ ys
+same_pairs : (xs ys : List ℕ) → AllPairs (λ a b. a < b) xs → AllPairs (λ a b. a < b) ys → HasSameMembers xs ys → xs ≡ ys
 same_pairs [] [] fx fy same = refl
 same_pairs [] (y ∷ ys) fx fy same = let c = (same y).1 (Contains-head y ys) in absurd (omega (arith, c.1))
 same_pairs (x ∷ xs) [] fx fy same = let c = (same x).0 (Contains-head x xs) in absurd (omega (arith, c.1))

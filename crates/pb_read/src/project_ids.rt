@@ -55,15 +55,4 @@ impl ProjectIds {
     {
         find_places(&self.table, vote, places)
     }
-
-    /// The first id of a vote that no project has.
-    pub fn unknown<'a>(&self, vote: &'a str) -> Option<&'a str> {
-        for piece in vote.split(',') {
-            let id = piece.trim();
-            if !id.is_empty() && self.table.get(id).is_none() {
-                return Some(id);
-            }
-        }
-        None
-    }
 }

@@ -21,7 +21,7 @@ use Rattle.pb_desk.specs.Step.{answer_of, has_ballot, is_too_long, open_answer_o
 use Rattle.pb_rows.specs.Numbers.{AreNumbers}
 use Rattle.pb_rows.specs.Reading.{Fields}
 use Rattle.pb_shared.specs.Clerk.{entries_by}
-use Rattle.pb_script.specs.Admission.{Admits}
+use Rattle.pb_script.specs.Inner.Admission.{Admits}
 use Rattle.pb_script.specs.Script.{ScriptRowView}
 use Rattle.pb_script.specs.Scripts.{IsScript}
 use Rattle.pb_script.specs.declared.admission.Admission.{Admission}
@@ -72,7 +72,7 @@ requests_can_be a clerks [] [] rows = All-nil (λ (x : ScriptRowView). IsRequest
 requests_can_be a clerks [] (x ∷ xs) rows = absurd rows
 requests_can_be a clerks (r ∷ rs) [] rows = absurd rows
 requests_can_be a clerks (r ∷ rs) (x ∷ xs) rows =
-    All-cons (λ (y : ScriptRowView). IsRequest y.request) x xs rows.0.says.row_asks.2.can_be (requests_can_be a clerks rs xs rows.1)
+    All-cons (λ (y : ScriptRowView). IsRequest y.request) x xs rows.0.0.1.row_asks.2.can_be (requests_can_be a clerks rs xs rows.1)
 
 -- what is true of all that each clerk asked is true of all entries of the clerks
 entries_by_clerk : (P : RequestView → Type 0) (clerks : ℕ) (journal : List EntryView) → All (λ x. x.clerk < clerks) journal →

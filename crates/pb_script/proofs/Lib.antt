@@ -1,5 +1,8 @@
 -- The lemmas that the proofs of this crate share.
-pub mod Requests
+pub mod PlacesTexts
+pub mod OneRequest
+pub mod Rising
+pub mod Rolls
 pub mod ScriptForms
 pub mod Scripts
 pub mod Servings

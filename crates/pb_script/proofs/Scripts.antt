@@ -8,13 +8,13 @@ use Rattle.std.proofs.lemmas.List.Elements.{All-cons, All-nil, filter-append}
 use Rattle.std.proofs.lemmas.List.Sums.{count_by-le-length, length-filter}
 use Rattle.pb_core.specs.Request.{RequestView}
 use Rattle.pb_rows.specs.Reading.{Fields, IsNext}
-use Rattle.pb_script.specs.Admission.{Admits, Refuses}
+use Rattle.pb_script.specs.Inner.Admission.{Admits, IsAdmitted, Refuses}
 use Rattle.pb_script.specs.Script.{ScriptRowView, most_rows}
 use Rattle.pb_script.specs.declared.admission.Admission.{Admission}
 use Rattle.pb_script.specs.declared.admission.RowRefusal.{RowRefusal}
 use Rattle.pb_script.specs.declared.admission.RowRefusal.TheVariants as refusal
 use Rattle.pb_script.specs.Inner.Script.{AreAsked, clerks_within, asked_by}
-use Rattle.pb_script.specs.ScriptReading.{IsAdmitted, IsFaultOfScript, IsNextScriptFault, fault_of_row}
+use Rattle.pb_script.specs.ScriptReading.{IsFaultOfScript, IsNextScriptFault, fault_of_row}
 use Rattle.pb_script.specs.Inner.ScriptReading.{HaveAsked, HaveGone, NoneLeft, SplitsScript, TakesScriptRow}
 use Rattle.pb_script.specs.declared.script_fault.ScriptFault.{ScriptFault}
 use Rattle.pb_script.specs.declared.script_fault.ScriptFault.TheVariants.{NoMemory}
@@ -88,7 +88,7 @@ HaveAsked-more a clerks all left after count x lists new have takes is =
       have_gone = one_more all left after have.gone takes.fields have.have_gone takes.next;
       rows = AllZip-push (Admits a clerks) have.gone have.script takes.fields x have.rows takes.row;
       count_is = omega arith;
-      lists_are = AreAsked-more clerks have.script x lists new have.lists_are (let by = takes.row.says.by_clerk in omega (arith, by.0, by.1)) is;
+      lists_are = AreAsked-more clerks have.script x lists new have.lists_are (let by = takes.row.0.1.by_clerk in omega (arith, by.0, by.1)) is;
     }
   where
     one_more : (all left after : Option (List Fields)) (gone : List Fields) (fields : Fields) → HaveGone all gone left → IsNext left after true fields → HaveGone all (gone ++ fields ∷ []) after
@@ -171,7 +171,7 @@ pub refused_next : (a : Admission) (clerks before : ℕ) (left after : Option (L
     IfSome left (λ left. IsNextScriptFault a clerks before left (fault_of_row why (before + 1)))
 refused_next a clerks before None after fields why next few refuses = tt
 refused_next a clerks before (Some []) after fields why next few refuses = cc next
-refused_next a clerks before (Some (row ∷ rest)) after fields why next few refuses = by why (subst (λ (r : Fields). Refuses a clerks r why) (sym next.1) refuses)
+refused_next a clerks before (Some (row ∷ rest)) after fields why next few refuses = by why (subst (λ (r : Fields). Refuses a clerks r why) next.1 refuses)
   where
     by : (why : RowRefusal) → Refuses a clerks row why → IsNextScriptFault a clerks before (row ∷ rest) (fault_of_row why (before + 1))
     by refusal.Bad is = (refusal.Bad, refl, few, is)

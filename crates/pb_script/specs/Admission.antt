@@ -1,10 +1,10 @@
 -- Which rows a desk admits, and how they name projects.
-use Rattle.std.specs.Prelude.{◌≡◌, ℕ, Bool, true, not, is_some, nat_le, List, [], ◌∷◌, length, Option, Some, None, if◌then◌else◌}
+use Rattle.std.specs.Prelude.{◌≡◌, ℕ, Bool, true, not, is_some, nat_le, List, [], ◌∷◌, length, Option, Some, None, Result, Ok, Err, if◌then◌else◌}
 use Rattle.std.specs.FinMap.{get}
+use Rattle.std.specs.Option.{option_map_or}
 use Rattle.csv.specs.Records.{AllText}
-use Rattle.pb_core.specs.Request.{RequestView, Cast, Replace, Shut}
-use Rattle.pb_desk.specs.Step.{voter_of}
-use Rattle.pb_ids.specs.Inner.Places.{Places}
+use Rattle.pb_core.specs.Request.{RequestView, Withdraw, Shut}
+use Rattle.pb_desk.specs.Step.{places_of, voter_of}
 use Rattle.pb_read.specs.Rows.{field}
 use Rattle.pb_read.specs.Voting.{ballot_of, names_only}
 use Rattle.pb_rows.specs.Numbers.{places_text}
@@ -14,50 +14,42 @@ use Rattle.pb_script.specs.declared.admission.Admission.{Admission}
 use Rattle.pb_script.specs.declared.admission.RowRefusal.{RowRefusal}
 use Rattle.pb_script.specs.declared.admission.RowRefusal.TheVariants.{Bad, UnknownId, NotOnRoll, TooFew}
 
--- the places of the ids that a field names, as a vote does in a file; place 0 where it names anything else, so that the
--- rest of its row can be judged
-abbrev pub places_named : List (List ℕ) → List ℕ → List ℕ
-places_named ids vote = if names_only ids vote then ballot_of ids vote else 0 ∷ []
+-- every request is admitted, and rows name projects by their places
+abbrev pub open_to_all : Admission
+open_to_all = record { ids = None; roll = None; least = 0 }
 
--- the row by places that a row stands for: itself, or where rows name projects by these ids, that of their places
+-- The row by places that a row stands for: itself, or where rows name projects by these ids, that of the places of
+-- the ids in its last field, which is read as a vote of a file. Place 0 stands for a field with anything else, so that
+-- the rest of its row can be judged.
 abbrev pub by_places : Option (List (List ℕ)) → Fields → Fields
 by_places (Some ids) (clerk ∷ word ∷ voter ∷ vote ∷ []) =
-    clerk ∷ word ∷ voter ∷ places_text (places_named ids vote) ∷ []
+    clerk ∷ word ∷ voter ∷ places_text (if names_only ids vote then ballot_of ids vote else 0 ∷ []) ∷ []
 by_places ids row = row
 
--- the row of a script for this many clerks, all of it text, that says what the row by places does
+-- the row of a script for this many clerks, all of it text, that says what its row by places does
 abbrev pub Says : Admission → ℕ → Fields → ScriptRowView → Type 0
 Says a clerks row x = AllText row × IsScriptRow clerks (by_places a.ids row) x
 
--- each id that a row names is a project's
-abbrev pub knows_ids : Option (List (List ℕ)) → Fields → Bool
-knows_ids None row = true
-knows_ids (Some ids) row = names_only ids (field row 3)
+-- a request shuts the desk, or is for a voter of the roll; without a roll it is for anybody
+abbrev pub is_on_roll : Admission → RequestView → Bool
+is_on_roll a Shut = true
+is_on_roll a request = option_map_or (λ roll. is_some (get roll (voter_of request))) a.roll true
 
--- a request is for a voter of the roll, or shuts the desk
-abbrev pub is_on_roll : Option Places → RequestView → Bool
-is_on_roll None request = true
-is_on_roll (Some roll) Shut = true
-is_on_roll (Some roll) request = is_some (get roll (voter_of request))
-
--- a ballot that is cast or replaced has so many projects at least
+-- a ballot that is cast, or replaces another, has this many projects at least
 abbrev pub has_enough : ℕ → RequestView → Bool
-has_enough least (Cast voter ballot) = nat_le least (length ballot)
-has_enough least (Replace voter ballot) = nat_le least (length ballot)
-has_enough least request = true
+has_enough least (Withdraw voter) = true
+has_enough least Shut = true
+has_enough least request = nat_le least (length (places_of request))
 
--- the first reason why what a row asks is not admitted
+-- the first reason to refuse what a row asks: one of its ids is no project's, its voter, its ballot
 abbrev pub refusal_of : Admission → Fields → RequestView → Option RowRefusal
 refusal_of a row request =
-    if not (knows_ids a.ids row) then Some UnknownId
-    else if not (is_on_roll a.roll request) then Some NotOnRoll
+    if not (option_map_or (λ ids. names_only ids (field row 3)) a.ids true) then Some UnknownId
+    else if not (is_on_roll a request) then Some NotOnRoll
     else if has_enough a.least request then None else Some TooFew
 
--- a row says this, and is admitted
-abbrev pub Admits : Admission → ℕ → Fields → ScriptRowView → Type 0
-Admits a clerks row x = Says a clerks row x × (refusal_of a row x.request ≡ None)
-
--- a row is refused for this
-abbrev pub Refuses : Admission → ℕ → Fields → RowRefusal → Type 0
-Refuses a clerks row Bad = (x : ScriptRowView) → ¬ Says a clerks row x
-Refuses a clerks row why = (x : ScriptRowView) × Says a clerks row x × (refusal_of a row x.request ≡ Some why)
+-- a row says this, and is admitted; or it says nothing; or it says something that is refused for this
+abbrev pub Judges : Admission → ℕ → Fields → Result ScriptRowView RowRefusal → Type 0
+Judges a clerks row (Ok x) = Says a clerks row x × (refusal_of a row x.request ≡ None)
+Judges a clerks row (Err Bad) = (x : ScriptRowView) → ¬ Says a clerks row x
+Judges a clerks row (Err why) = (x : ScriptRowView) × Says a clerks row x × (refusal_of a row x.request ≡ Some why)

@@ -1,7 +1,7 @@
 -- Why the records of a script are not accepted.
-use Rattle.std.specs.Prelude.{◌≡◌, ℕ, ⊤, ◌+◌, ◌≤◌, ◌++◌, List, [], ◌∷◌, length, All}
+use Rattle.std.specs.Prelude.{◌≡◌, ℕ, ⊤, ◌+◌, ◌≤◌, ◌++◌, List, [], ◌∷◌, length, All, Ok, Err}
 use Rattle.pb_rows.specs.Reading.{Fields}
-use Rattle.pb_script.specs.Admission.{Admits, Refuses}
+use Rattle.pb_script.specs.Admission.{Judges}
 use Rattle.pb_script.specs.Script.{ScriptRowView, most_rows}
 use Rattle.pb_script.specs.declared.admission.Admission.{Admission}
 use Rattle.pb_script.specs.declared.admission.RowRefusal.{RowRefusal}
@@ -9,11 +9,7 @@ use Rattle.pb_script.specs.declared.admission.RowRefusal.TheVariants as row
 use Rattle.pb_script.specs.declared.script_fault.ScriptFault.{ScriptFault}
 use Rattle.pb_script.specs.declared.script_fault.ScriptFault.TheVariants.{ReadFailed, BadRow, TooManyRows, NoMemory, UnknownId, NotOnRoll, TooFew}
 
--- a row is admitted: it says something
-abbrev pub IsAdmitted : Admission → ℕ → Fields → Type 0
-IsAdmitted a clerks row = (x : ScriptRowView) × Admits a clerks row x
-
--- the fault of a script with this row, from 1, where that is refused for this
+-- the fault of a script whose row of this number is refused for this
 abbrev pub fault_of_row : RowRefusal → ℕ → ScriptFault
 fault_of_row row.Bad at = BadRow at
 fault_of_row row.UnknownId at = UnknownId at
@@ -23,15 +19,15 @@ fault_of_row row.TooFew at = TooFew at
 -- the fault of the next record, where this many came before it: within a record a reader that fails comes
 -- first, then the limit, then why the row is refused
 abbrev pub IsNextScriptFault : Admission → ℕ → ℕ → List Fields → ScriptFault → Type 0
-IsNextScriptFault a clerks before left (ReadFailed at) = (at ≡ before + 1) × (before ≤ most_rows)
+IsNextScriptFault a clerks before left (ReadFailed row) = (row ≡ before + 1) × (before ≤ most_rows)
 IsNextScriptFault a clerks before left NoMemory = ⊤
 IsNextScriptFault a clerks before [] fault = ⊥
 IsNextScriptFault a clerks before (fields ∷ rest) TooManyRows = before ≡ most_rows
 IsNextScriptFault a clerks before (fields ∷ rest) fault = (why : RowRefusal)
-    × (fault ≡ fault_of_row why (before + 1)) × (before + 1 ≤ most_rows) × Refuses a clerks fields why
+    × (fault ≡ fault_of_row why (before + 1)) × (before + 1 ≤ most_rows) × Judges a clerks fields (Err why)
 
 -- the first fault of the records: those before it are admitted
 abbrev pub IsFaultOfScript : Admission → ℕ → List Fields → ScriptFault → Type 0
 IsFaultOfScript a clerks records fault = (before : List Fields) × (left : List Fields)
-    × (records ≡ before ++ left) × All (IsAdmitted a clerks) before
+    × (records ≡ before ++ left) × All (λ row. (x : ScriptRowView) × Judges a clerks row (Ok x)) before
     × IsNextScriptFault a clerks (length before) left fault

@@ -1,9 +1,11 @@
 //! Which requests are admitted, and how their rows name projects.
 
-ghost use Rattle.std.specs.Prelude.{◌≡◌, None};
+ghost use Rattle.std.specs.Prelude.{◌≡◌, Some};
 ghost use Rattle.pb_core.specs.Request.{asked};
+ghost use Rattle.pb_read.specs.Rows.{field};
 ghost use Rattle.pb_rows.specs.Reading.{Fields};
-ghost use Rattle.pb_script.specs.Admission.{has_enough, is_on_roll, knows_ids, refusal_of};
+ghost use Rattle.pb_script.specs.Admission.{has_enough, is_on_roll, open_to_all, refusal_of};
+ghost use Rattle.pb_script.specs.Inner.Admission.{knows_ids};
 ghost use Rattle.pb_script.specs.ScriptReading.{fault_of_row};
 
 use crate::script_fault::ScriptFault;
@@ -67,7 +69,7 @@ impl Notice for NoNotice {
 impl Admission {
     /// All requests are admitted, and name projects by their places.
     pub fn open() -> Admission
-        ensures { result ≡ record { ids = None; roll = None; least = 0 } }
+        ensures { result ≡ open_to_all }
     {
         Admission {
             ids: None,
@@ -76,17 +78,39 @@ impl Admission {
         }
     }
 
-    /// The first id of a row that no project has; empty where there is none.
-    pub(crate) fn unknown_in<'a>(&self, row: &'a StringRecord) -> &'a str {
-        match (&self.ids, row.get(3)) {
-            (Some(ids), Some(field)) => ids.unknown(field).unwrap_or(""),
-            _ => "",
+    /// The same requests are admitted, and name projects by these ids.
+    pub fn by_ids(self, ids: ProjectIds) -> Admission
+        ensures { result ≡ record self { ids = Some ids } }
+    {
+        let Admission {
+            ids: before,
+            roll,
+            least,
+        } = self;
+        drop(before);
+        Admission {
+            ids: Some(ids),
+            roll,
+            least,
         }
+    }
+
+    /// The first id of a row that no project has; empty where there is none. It is looked up by way of `list`.
+    pub(crate) fn unknown_in<'a>(&self, row: &'a StringRecord, list: &mut Vec<u32>) -> &'a str {
+        let (Some(ids), Some(field)) = (&self.ids, row.get(3)) else {
+            return "";
+        };
+        for id in field.split(',') {
+            if let Ok(false) = ids.find_places(id, list) {
+                return id.trim();
+            }
+        }
+        ""
     }
 
     /// Why a request is refused, where it is; `is_known` says whether each id that it names is a project's.
     pub(crate) fn refusal_of(&self, is_known: bool, request: &Request) -> Option<RowRefusal>
-        ensures { (row : Fields) → is_known ≡ knows_ids self.now.ids row
+        ensures { (row : Fields) → is_known ≡ knows_ids self.now.ids (field row 3)
             → result ≡ refusal_of self.now row (asked request.now) }
     {
         if !is_known {
@@ -102,7 +126,7 @@ impl Admission {
 
     /// Whether a request is for a voter of the roll, or shuts the desk.
     fn is_on_roll(&self, request: &Request) -> bool
-        ensures { result ≡ is_on_roll self.now.roll (asked request.now) }
+        ensures { result ≡ is_on_roll self.now (asked request.now) }
     {
         let Some(roll) = &self.roll else {
             return true;

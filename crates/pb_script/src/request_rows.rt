@@ -47,7 +47,7 @@ impl From<NoMemory> for RowsFault {
     }
 }
 
-/// The rows of requests that a reader gives, for 64 clerks, read one at a time. One that has not the form stops
+/// The rows of requests that a reader gives, for 64 clerks, read one at a time. One that is refused stops
 /// nothing. A contract sees `left`, the records that are still to come, as it does for `Records`.
 #[derive(Drop)]
 pub struct RequestRows<R: Read> {
@@ -85,7 +85,8 @@ impl<R: Read> RequestRows<R> {
         notice: &N,
     ) -> Result<Option<RequestRow>, RowsFault>
         ensures next { IfOk result (λ next. MatchOption next (IfSome self.old.left (λ left. left ≡ []))
-            (λ row. (fields : Fields) × IsNext self.old.left self.new.left true fields × IsRequestRow admission.now fields row)) }
+            (λ row. (fields : Fields) × IsNext self.old.left self.new.left true fields
+            × IsRequestRow admission.now fields row)) }
         ensures blame { IsErrOf result RowsFault.ReadFailed → IsSome self.new.fault }
     {
         let mut row = ByteRecord::new(alloc);
@@ -104,7 +105,11 @@ impl<R: Read> RequestRows<R> {
         match read_row(alloc, &row, &mut self.places, MOST_CLERKS, admission)? {
             Ok(said) => Ok(Some(RequestRow::Asks(said.clerk, said.request))),
             Err(why) => {
-                notice.refused(self.count, why, admission.unknown_in(&row));
+                notice.refused(
+                    self.count,
+                    why,
+                    admission.unknown_in(&row, &mut self.places),
+                );
                 Ok(Some(RequestRow::Refused(why)))
             }
         }

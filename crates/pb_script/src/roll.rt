@@ -1,10 +1,14 @@
 //! The reader of a voters' roll: the ids of those who may vote, one a row.
 
-ghost use Rattle.std.specs.Prelude.{◌≡◌, ◌<◌, List, true, length, IfErr, IfOk, IfSome, OnOk};
+ghost use Rattle.std.specs.Prelude.{◌≡◌, ◌<◌, ◌≤◌, ◌+◌, [], Some, false, true, IfErr, IfOk, IfSome, OnOk};
 ghost use Rattle.std.specs.FinMap as map;
+ghost use Rattle.std.specs.Str.{trim};
 ghost use Rattle.csv.specs.Records.{AllText, fields_of};
-ghost use Rattle.pb_rows.specs.Reading.{Fields, IsNext, records_of};
-ghost use Rattle.pb_script.specs.Roll.{IsNextRollFault, IsRoll, IsRollFault, ids_of, most_ids, named};
+ghost use Rattle.pb_read.specs.Rows.{field};
+ghost use Rattle.pb_rows.specs.Reading.{IsNext, records_of};
+ghost use Rattle.pb_script.specs.Roll.{IsRoll, IsRollFault};
+ghost use Rattle.pb_script.specs.Inner.Roll.{IsFaultAfter, PutsId};
+ghost use Rattle.pb_script.specs.Script.{most_rows};
 
 use csv::StringRecord;
 use pb_core::no_memory::NoMemory;
@@ -56,32 +60,6 @@ impl From<AllocError> for RollFault {
     }
 }
 
-impl RollFault {
-    /// The fault's name.
-    pub fn name(&self) -> &'static str
-        ensures { result.now ≡ (named self.now).0 }
-    {
-        match self {
-            RollFault::ReadFailed(_) => "ReadFailed",
-            RollFault::NotText(_) => "NotText",
-            RollFault::TooManyIds(_) => "TooManyIds",
-            RollFault::NoMemory => "NoMemory",
-        }
-    }
-
-    /// The number of the row, from 1; 0 where memory was refused, which is the fault of no row.
-    pub fn at(&self) -> u32
-        ensures { result ≡ (named self.now).1 }
-    {
-        match self {
-            RollFault::ReadFailed(row) | RollFault::NotText(row) | RollFault::TooManyIds(row) => {
-                *row
-            }
-            RollFault::NoMemory => 0,
-        }
-    }
-}
-
 /// Reads the ids of a roll, the first field of each row, without white space at its ends. A first row that begins with
 /// `voter_id` is a header.
 ///
@@ -119,33 +97,31 @@ fn read_ids<R: Read>(
     let mut rows = 0u32;
     let mut ids = 0u32;
     'rows: loop {
-        match next_id(records, &mut row, rows, ids) {
+        match next_row(records, &mut row, rows, ids) {
             Ok(true) => {}
             Ok(false) => return Ok(()),
             Err(fault) => return Err(fault),
         }
-        let id = row.get(0).unwrap_or("").trim();
-        let is_header = rows == 0 && id == "voter_id";
-        rows += 1;
-        if !is_header {
-            roll.insert(alloc, id, 0)?;
+        if put_id(alloc, roll, &row, rows == 0)? {
             ids += 1;
         }
+        rows += 1;
     }
 }
 
 /// Reads the next row, where this many came before it with this many ids, and answers whether there was one.
-fn next_id<R: Read>(
+fn next_row<R: Read>(
     records: &mut Records<R>,
     row: &mut StringRecord,
     rows: u32,
     ids: u32,
 ) -> Result<bool, RollFault>
+    requires { rows ≤ most_rows + 1 }
     ensures next { IfOk result (λ found. IsNext records.old.left records.new.left found (fields_of row.new)) }
+    ensures end { IfOk result (λ found. found ≡ false → records.new.left ≡ Some []) }
     ensures text { OnOk result (AllText (fields_of row.new)) }
-    ensures few { IfOk result (λ found. found ≡ true → ids < most_ids) }
-    ensures fault { IfErr result (λ fault. IfSome records.old.left (λ left. (before : List Fields)
-        → length before ≡ rows → length (ids_of before) ≡ ids → IsNextRollFault before left fault)) }
+    ensures few { IfOk result (λ found. found ≡ true → ids < most_rows) }
+    ensures fault { IfErr result (λ fault. IfSome records.old.left (λ left. IsFaultAfter rows ids left fault)) }
 {
     match records.read(row) {
         Ok(true) => {}
@@ -158,4 +134,28 @@ fn next_id<R: Read>(
         return Err(RollFault::TooManyIds(rows + 1));
     }
     Ok(true)
+}
+
+/// Puts the id of a row into the table, and answers whether it has one: a header has none.
+fn put_id(
+    alloc: Global,
+    roll: &mut IdTable,
+    row: &StringRecord,
+    is_first: bool,
+) -> Result<bool, AllocError>
+    ensures ok { IfOk result (λ has_id. PutsId (fields_of row.now) is_first has_id roll.old roll.new) }
+{
+    let id = id_of(row);
+    if is_first && id == "voter_id" {
+        return Ok(false);
+    }
+    roll.insert(alloc, id, 0)?;
+    Ok(true)
+}
+
+/// The first field of a row, without white space at its ends.
+fn id_of(row: &StringRecord) -> &str
+    ensures { result.now ≡ trim (field (fields_of row.now) 0) }
+{
+    row.get(0).unwrap_or("").trim()
 }

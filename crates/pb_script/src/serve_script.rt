@@ -8,6 +8,7 @@ ghost use Rattle.pb_desk.specs.Rows.{journal_text};
 ghost use Rattle.pb_rows.specs.Reading.{records_of};
 ghost use Rattle.pb_shared.specs.Clerk.{AreClerks, AreNewcomers};
 ghost use Rattle.pb_script.specs.Script.{most_rows};
+ghost use Rattle.pb_script.specs.Admission.{open_to_all};
 ghost use Rattle.pb_script.specs.Served.{IsServeFault, IsServed};
 ghost use Rattle.pb_script.specs.Serving.{program_room};
 ghost use Rattle.pb_script.specs.Inner.Script.{clerks_within};
@@ -341,11 +342,11 @@ pub fn serve_script<T: Threads + Sync, S: Read + Drop, G: Gate>(
 ) -> Result<Vec<u8>, ServeFault>
     // Where the script's bytes are known, the text is that of a journal that they and the number of clerks allow,
     ensures ok { IfOk result (λ text. IfSome (S.remaining script) (λ bytes.
-        IsServed (record { ids = None; roll = None; least = 0 }) election clerks shuts (records_of bytes) text.items)) }
+        IsServed open_to_all election clerks shuts (records_of bytes) text.items)) }
 
     // and they decide which fault comes.
     ensures fault { IfErr result (λ fault. IfSome (S.remaining script) (λ bytes.
-        IsServeFault (record { ids = None; roll = None; least = 0 }) clerks (records_of bytes) fault)) }
+        IsServeFault open_to_all clerks (records_of bytes) fault)) }
 {
     let open = Admission::open();
     let text = serve_admitted(

@@ -1,6 +1,7 @@
 -- The answers to rows of the input, batch by batch.
 use Rattle.std.proofs.Common.{◌≡◌, ◌∙◌, ℕ, suc, ◌+◌, List, [], ◌∷◌, ◌++◌, length, map, take, Option, Some, None, IfSome, IfErr, OnOk, Result, Ok, Err, refl, sym, ap, subst, arith, append_assoc, length-append}
 use Rattle.std.specs.List.{AllZip, filter_map}
+use Rattle.std.specs.Result.{result_ok}
 use Rattle.std.specs.Io.KnownBytes.{Appends}
 use Rattle.std.proofs.KnownBytes.{Appends-nil, Appends-trans}
 use Rattle.std.proofs.lemmas.List.{append-nil, append_cancel_left, take_at}
@@ -15,18 +16,21 @@ use Rattle.pb_durable.specs.declared.asked.Asked.{Asked}
 use Rattle.pb_rows.proofs.RowsText.{text_of_rows-append}
 use Rattle.pb_rows.specs.Reading.{Fields}
 use Rattle.pb_rows.specs.Writing.{text_of_row, text_of_rows}
-use Rattle.pb_script.specs.Admission.{Refuses}
+use Rattle.pb_script.specs.Admission.{Judges}
 use Rattle.pb_script.specs.ScriptReading.{fault_of_row}
 use Rattle.pb_script.specs.declared.admission.Admission.{Admission}
 use Rattle.pb_script.specs.declared.admission.RowRefusal.{RowRefusal}
 use Rattle.pb_script.specs.Inner.ScriptReading.{HaveGone, NoneLeft}
 use Rattle.pb_faults.specs.Fault.{line, told}
 use Rattle.pb_faults.specs.declared.fault.AppFault.TheVariants.{Script}
-use Rattle.pb_serving.specs.Answered.{answers_from, Answers, Becomes, entry_in, Outcome}
+use Rattle.pb_serving.specs.Answered.{answers_from, Answers, Becomes}
 use Rattle.pb_serving.specs.Inner.Batch.{IsRowAsking}
 
+abbrev pub Outcome : Type 0
+Outcome = Result EntryView RowRefusal
+
 abbrev pub added : List Outcome → List EntryView
-added became = filter_map entry_in became
+added became = filter_map result_ok became
 
 rows_from-append : (n : ℕ) (a b : List EntryView) → rows_from n (a ++ b) ≡ rows_from n a ++ rows_from (n + length a) b
 unfolding rows_from
@@ -160,18 +164,18 @@ module _ (ad : Admission) (all left mid : Option (List Fields)) (old journal now
         have_gone = gone-append all left mid p.gone rows p.have_gone goes;
         each = zip-append (Becomes ad) p.gone rows p.became (map Ok entries) p.each (asks_become ad rows asks answers each same);
         journal = grown ∙ ap (λ (l : List EntryView). l ++ entries) p.journal ∙ append_assoc old (added p.became) entries
-            ∙ ap (λ (l : List EntryView). old ++ (added p.became ++ l)) (sym (added-some entries)) ∙ ap (λ (l : List EntryView). old ++ l) (sym (filter_map-append entry_in p.became (map Ok entries)));
+            ∙ ap (λ (l : List EntryView). old ++ (added p.became ++ l)) (sym (added-some entries)) ∙ ap (λ (l : List EntryView). old ++ l) (sym (filter_map-append result_ok p.became (map Ok entries)));
         said = subst (Appends before later) text (Appends-trans before after later _ _ p.said said);
         row_is = length-append p.became (map Ok entries) ∙ omega (arith, known, count, sizes entries);
         bad_is = omega (arith, sums, grows, count);
       }
     where
-      sizes : (l : List EntryView) → length (map Ok l) ≡ length l
+      sizes : (l : List EntryView) → (let done : List Outcome = map Ok l in length done ≡ length l)
       sizes [] = refl
       sizes (x ∷ l) = ap suc (sizes l)
 
   -- a row that is refused
-  pub bad_more : (fields : Fields) (why : RowRefusal) → Progress ad all left old journal before after row bad → HaveGone left (fields ∷ []) mid → Refuses ad most_clerks fields why
+  pub bad_more : (fields : Fields) (why : RowRefusal) → Progress ad all left old journal before after row bad → HaveGone left (fields ∷ []) mid → Judges ad most_clerks fields (Err why)
       → Appends after later (line (told (Script (fault_of_row why (row + 1)))).1) → Progress ad all mid old journal before later (row + 1) (bad + 1)
   bad_more fields why p goes none said =
       let known = p.row_is in
@@ -186,7 +190,7 @@ module _ (ad : Admission) (all left mid : Option (List Fields)) (old journal now
         became = p.became ++ Err why ∷ [];
         have_gone = gone-append all left mid p.gone (fields ∷ []) p.have_gone goes;
         each = zip-append (Becomes ad) p.gone (fields ∷ []) p.became (Err why ∷ []) p.each (none, tt);
-        journal = p.journal ∙ ap (λ (l : List EntryView). old ++ l) (sym (append-nil (added p.became)) ∙ sym (filter_map-append entry_in p.became (Err why ∷ [])));
+        journal = p.journal ∙ ap (λ (l : List EntryView). old ++ l) (sym (append-nil (added p.became)) ∙ sym (filter_map-append result_ok p.became (Err why ∷ [])));
         said = subst (Appends before later) text (Appends-trans before after later _ _ p.said said);
         row_is = length-append p.became (Err why ∷ []) ∙ omega (arith, known);
         bad_is = omega (arith, sums);

@@ -1,6 +1,7 @@
 -- What a run of `serve` says.
-use Rattle.std.specs.Prelude.{◌≡◌, ◌⊎◌, ◌<◌, ◌≤◌, ℕ, ⊤, suc, ◌+◌, ◌-◌, ◌^◌, ◌++◌, ◌==◌, min, List, [], ◌∷◌, Option, Some, None, Result, Ok, Err, All, true, codes, decimal, filter_map, length, if◌then◌else◌}
+use Rattle.std.specs.Prelude.{◌≡◌, ◌⊎◌, ◌<◌, ◌≤◌, ℕ, ⊤, suc, ◌+◌, ◌-◌, ◌^◌, ◌++◌, ◌==◌, min, List, [], ◌∷◌, Result, Ok, Err, All, true, codes, decimal, filter_map, length, if◌then◌else◌}
 use Rattle.std.specs.List.{AllZip}
+use Rattle.std.specs.Result.{result_ok}
 use Rattle.pb_core.specs.Request.{EntryView}
 use Rattle.pb_desk.specs.Desk.{DeskView}
 use Rattle.pb_desk.specs.Replay.{most_clerks}
@@ -9,7 +10,7 @@ use Rattle.pb_desk.specs.declared.version.Version.{Version}
 use Rattle.pb_durable.specs.JournalFile.{StandsForText}
 use Rattle.pb_rows.specs.Reading.{Fields}
 use Rattle.pb_rows.specs.Writing.{text_of_row}
-use Rattle.pb_script.specs.Admission.{Admits, Refuses, is_on_roll}
+use Rattle.pb_script.specs.Admission.{Judges, is_on_roll}
 use Rattle.pb_script.specs.ScriptReading.{fault_of_row}
 use Rattle.pb_script.specs.declared.admission.Admission.{Admission}
 use Rattle.pb_script.specs.declared.admission.RowRefusal.{RowRefusal}
@@ -25,22 +26,13 @@ abbrev pub heading : ℕ → DeskView → List ℕ
 heading torn d =
     (if torn == 0 then [] else text_of_row (codes "torn" ∷ decimal torn ∷ [])) ++ text_of_row (entries_row d)
 
--- what a row of the input becomes: an entry, or why it is refused
-abbrev pub Outcome : Type 0
-Outcome = Result EntryView RowRefusal
-
 -- a row is admitted, and asks what this entry has; or it is refused for this
-abbrev pub Becomes : Admission → Fields → Outcome → Type 0
-Becomes a row (Ok x) = Admits a most_clerks row (record { clerk = x.clerk; request = x.request })
-Becomes a row (Err why) = Refuses a most_clerks row why
-
--- the entry that a row became, where it became one
-abbrev pub entry_in : Outcome → Option EntryView
-entry_in (Ok x) = Some x
-entry_in (Err why) = None
+abbrev pub Becomes : Admission → Fields → Result EntryView RowRefusal → Type 0
+Becomes a row (Ok x) = Judges a most_clerks row (Ok (record { clerk = x.clerk; request = x.request }))
+Becomes a row (Err why) = Judges a most_clerks row (Err why)
 
 -- what is said to the rows that became these, where the next entry and the next row have these numbers
-abbrev pub answers_from : ℕ → ℕ → List Outcome → List ℕ
+abbrev pub answers_from : ℕ → ℕ → List (Result EntryView RowRefusal) → List ℕ
 answers_from entry row [] = []
 answers_from entry row (Err why ∷ more) =
     line (told (Script (fault_of_row why row))).1 ++ answers_from entry (suc row) more
@@ -48,15 +40,15 @@ answers_from entry row (Ok x ∷ more) = text_of_row (row_of entry x) ++ answers
 
 -- these rows of the input were answered by this text, and their entries came to the journal
 pub record Answers (a : Admission) (rows : List Fields) (before after : List EntryView) (text : List ℕ) : Type 0 where
-  pub became : List Outcome
+  pub became : List (Result EntryView RowRefusal)
   pub each : AllZip (Becomes a) rows became
-  pub journal : after ≡ before ++ filter_map entry_in became
+  pub journal : after ≡ before ++ filter_map result_ok became
   pub text_is : text ≡ answers_from (length before + 1) 1 became
 
 -- all entries that came to the journal are for voters of the roll, or shut the desk
 abbrev pub AddsOnRoll : Admission → List EntryView → List EntryView → Type 0
 AddsOnRoll a before after = (more : List EntryView) × (after ≡ before ++ more)
-    × All (λ x. is_on_roll a.roll x.request ≡ true) more
+    × All (λ x. is_on_roll a x.request ≡ true) more
 
 -- the file stands for a journal that begins with the first of these journals, and is a first part of the second
 pub record StandsWithin (version : Version) (first last : List EntryView) (file : List ℕ) : Type 0 where

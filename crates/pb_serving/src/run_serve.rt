@@ -1,6 +1,6 @@
 //! The command `serve`, once its journal is open.
 
-ghost use Rattle.std.specs.Prelude.{◌≡◌, ◌≢◌, ◌⊎◌, ◌+◌, ◌-◌, ◌^◌, ◌<◌, ◌≤◌, ◌++◌, ℕ, List, [], All, None, Option, length, min, IfErr, IfOk, IfSome, IsErrOf, IsSome, OnOk, option_map};
+ghost use Rattle.std.specs.Prelude.{◌≡◌, ◌≢◌, ◌⊎◌, ◌+◌, ◌-◌, ◌^◌, ◌<◌, ◌≤◌, ◌++◌, ℕ, List, [], All, Option, length, min, IfErr, IfOk, IfSome, IsErrOf, IsSome, OnOk, option_map};
 ghost use Rattle.std.specs.Io.KnownBytes.{Appends};
 ghost use Rattle.pb_core.specs.Request.{EntryView};
 ghost use Rattle.pb_core.specs.declared.answer.Answer.{Answer};
@@ -12,6 +12,7 @@ ghost use Rattle.pb_durable.specs.Inner.Either.{StandsForEither};
 ghost use Rattle.pb_rows.specs.Reading.{records_of, Fields};
 ghost use Rattle.pb_rows.specs.Writing.{text_of_rows};
 ghost use Rattle.pb_script.specs.declared.script_fault.ScriptFault.TheVariants.{ReadFailed};
+ghost use Rattle.pb_script.specs.Admission.{open_to_all};
 ghost use Rattle.pb_script.specs.ScriptReading.{fault_of_row};
 ghost use Rattle.pb_faults.specs.Fault.{line, told};
 ghost use Rattle.pb_serving.specs.Answered.{heading, AddsOnRoll, Answers, HasNoRoom, IsBehind, StandsWithin};
@@ -48,7 +49,7 @@ pub fn run_serve<D: Device, R: Read + Drop, P: Pace, W: Write>(
 
     // Where the bytes of the input are known, each row has its answer, and they alone decide the text.
     ensures answered { IfOk result (λ bad. IfSome (R.remaining incoming.entry.input) (λ bytes. (text : List ℕ)
-        × Answers (record { ids = None; roll = None; least = 0 }) (records_of bytes) desk.old.desk.journal desk.new.desk.journal text
+        × Answers open_to_all (records_of bytes) desk.old.desk.journal desk.new.desk.journal text
         × Appends (W.contents writer.old) (W.contents writer.new) (heading torn desk.old.desk ++ text)
         × (bad + length desk.new.desk.journal ≡ length (records_of bytes) + length desk.old.desk.journal))) }
     ensures legal { IsLegal desk.new.desk.opening desk.new.desk.journal }
@@ -62,7 +63,7 @@ pub fn run_serve<D: Device, R: Read + Drop, P: Pace, W: Write>(
     ensures stopped { IfErr result (λ fault. fault ≢ ServingFault.Output
         → IfSome (R.remaining incoming.entry.input) (λ bytes.
         (rows rest : List Fields) × (text said left : List ℕ) × (kept : List EntryView)
-        × (records_of bytes ≡ rows ++ rest) × Answers (record { ids = None; roll = None; least = 0 }) rows desk.old.desk.journal kept text
+        × (records_of bytes ≡ rows ++ rest) × Answers open_to_all rows desk.old.desk.journal kept text
         × Appends (W.contents writer.old) (W.contents writer.new) said
         × (said ++ left ≡ heading torn desk.old.desk ++ text) × IsBehind fault rows
         × (D.tells → (c : List ℕ) → D.may_leave desk.new.file.device c

@@ -72,21 +72,25 @@ pub fn like_a_place_words(alloc: Global, id: &str) -> Result<String, AllocError>
 
 /// Words for a fault of the voters' roll with this path.
 pub fn roll_words(alloc: Global, path: &str, fault: RollFault) -> Result<String, AllocError> {
-    let form = match fault {
-        RollFault::ReadFailed(_) => {
-            "{}, row {}: the roll could not be read any further.\nCheck the disk or the connection, then run again.\n"
-        }
-        RollFault::NotText(_) => {
-            "{}, row {}: the row is not UTF-8.\nSave the roll as UTF-8, then run again.\n"
-        }
-        RollFault::TooManyIds(_) => {
-            "{}, row {}: the roll has more than 2,000,000 ids.\nA longer roll cannot be used.\n"
-        }
-        RollFault::NoMemory => {
-            "{}, row {}: memory was refused.\nRun again on a machine with more memory.\n"
-        }
+    let (row, form) = match fault {
+        RollFault::ReadFailed(row) => (
+            row,
+            "{}, row {}: the roll could not be read any further.\nCheck the disk or the connection, then run again.\n",
+        ),
+        RollFault::NotText(row) => (
+            row,
+            "{}, row {}: the row is not UTF-8.\nSave the roll as UTF-8, then run again.\n",
+        ),
+        RollFault::TooManyIds(row) => (
+            row,
+            "{}, row {}: the roll has more than 2,000,000 ids.\nA longer roll cannot be used.\n",
+        ),
+        RollFault::NoMemory => (
+            0,
+            "{}: memory was refused.\nRun again on a machine with more memory.\n",
+        ),
     };
     let mut out = Words::new(alloc);
-    out.fill(form, &[Name(Some(path)), Number(u64::from(fault.at()))]);
+    out.fill(form, &[Name(Some(path)), Number(u64::from(row))]);
     out.finish()
 }

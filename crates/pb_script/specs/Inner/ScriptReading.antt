@@ -1,11 +1,11 @@
 -- How far a script was read.
-use Rattle.std.specs.Prelude.{◌≡◌, ℕ, ◌++◌, ⊤, true, List, [], length, Option, None, Some, IfSome}
+use Rattle.std.specs.Prelude.{◌≡◌, ℕ, ◌++◌, ⊤, true, List, [], length, Option, None, Some, IfSome, Ok}
 use Rattle.std.specs.List.{AllZip}
 use Rattle.pb_core.specs.Request.{RequestView}
 use Rattle.pb_rows.specs.Reading.{Fields, IsNext}
 use Rattle.pb_rows.specs.declared.fault.RecordsFault.{RecordsFault}
 use Rattle.pb_rows.specs.declared.fault.RecordsFault.TheVariants as stop
-use Rattle.pb_script.specs.Admission.{Admits}
+use Rattle.pb_script.specs.Admission.{Judges}
 use Rattle.pb_script.specs.Script.{ScriptRowView}
 use Rattle.pb_script.specs.Scripts.{IsScript}
 use Rattle.pb_script.specs.declared.admission.Admission.{Admission}
@@ -29,10 +29,11 @@ HaveGone (Some all) gone None = ⊥
 HaveGone (Some all) gone (Some rest) = all ≡ gone ++ rest
 
 -- the next record is this one, and says this
-pub record TakesScriptRow (a : Admission) (clerks : ℕ) (left after : Option (List Fields)) (x : ScriptRowView) : Type 0 where
+pub record TakesScriptRow (a : Admission) (clerks : ℕ) (left after : Option (List Fields)) (x : ScriptRowView)
+    : Type 0 where
   pub fields : Fields
   pub next : IsNext left after true fields
-  pub row : Admits a clerks fields x
+  pub row : Judges a clerks fields (Ok x)
 
 -- this many records were read, and in them each clerk asked this
 pub record HaveAsked (a : Admission) (clerks : ℕ) (all left : Option (List Fields)) (count : ℕ)
@@ -40,7 +41,7 @@ pub record HaveAsked (a : Admission) (clerks : ℕ) (all left : Option (List Fie
   pub gone : List Fields
   pub script : List ScriptRowView
   pub have_gone : HaveGone all gone left
-  pub rows : AllZip (Admits a clerks) gone script
+  pub rows : AllZip (λ row x. Judges a clerks row (Ok x)) gone script
   pub count_is : length gone ≡ count
   pub lists_are : AreAsked clerks script lists
 

@@ -1,10 +1,10 @@
 -- The rows of the input that are served together.
-use Rattle.std.specs.Prelude.{List, Option, [], ◌∷◌, ◌++◌}
+use Rattle.std.specs.Prelude.{List, Option, Ok, Err, [], ◌∷◌, ◌++◌}
 use Rattle.std.specs.List.{AllZip}
 use Rattle.pb_core.specs.Request.{asked}
 use Rattle.pb_desk.specs.Replay.{most_clerks}
 use Rattle.pb_rows.specs.Reading.{Fields}
-use Rattle.pb_script.specs.Admission.{Admits, Refuses}
+use Rattle.pb_script.specs.Admission.{Judges}
 use Rattle.pb_script.specs.declared.admission.Admission.{Admission}
 use Rattle.pb_script.specs.Inner.ScriptReading.{HaveGone, NoneLeft}
 use Rattle.pb_durable.specs.declared.asked.Asked.{Asked}
@@ -13,13 +13,13 @@ use Rattle.pb_serving.specs.declared.batch.BatchEnd.TheVariants.{More, Refused, 
 
 -- the row asks this
 abbrev pub IsRowAsking : Admission → Fields → Asked → Type 0
-IsRowAsking a row x = Admits a most_clerks row (record { clerk = x.clerk; request = asked x.request })
+IsRowAsking a row x = Judges a most_clerks row (Ok (record { clerk = x.clerk; request = asked x.request }))
 
 -- how the records go on behind these rows, of which it was known what was left before and is now
 abbrev pub EndsBy : Admission → BatchEnd → Option (List Fields) → List Fields → Option (List Fields) → Type 0
 EndsBy a More left rows after = HaveGone left rows after
 EndsBy a (Refused why) left rows after =
-    (row : Fields) × Refuses a most_clerks row why × HaveGone left (rows ++ row ∷ []) after
+    (row : Fields) × Judges a most_clerks row (Err why) × HaveGone left (rows ++ row ∷ []) after
 EndsBy a Over left rows after = (mid : Option (List Fields)) × HaveGone left rows mid × NoneLeft mid
 EndsBy a ReadFailed left rows after = (mid : Option (List Fields)) × HaveGone left rows mid
 EndsBy a NoMemory left rows after = (mid : Option (List Fields)) × HaveGone left rows mid

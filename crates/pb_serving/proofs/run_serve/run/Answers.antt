@@ -1,12 +1,13 @@
-use Rattle.std.proofs.Common.{◌≡◌, ◌∙◌, ℕ, List, IfSome, ap, sym, subst}
+use Rattle.std.proofs.Common.{◌≡◌, ◌∙◌, ℕ, List, IfSome, Err, IsErrAnd, ap, sym, subst}
 use Rattle.std.specs.Io.KnownBytes.{Appends}
 use Rattle.pb_desk.specs.Desk.{DeskView}
 use Rattle.pb_durable.proofs.Openings.{if_err}
 use Rattle.pb_durable.specs.Device.{LeavesOnly}
 use Rattle.pb_serving.specs.Answered.{heading, IsBehind, StandsWithin}
 use Rattle.pb_serving.specs.Fault.{of_device}
+use Rattle.pb_serving.specs.declared.serving_fault.ServingFault.{ServingFault}
 use Rattle.pb_serving.specs.declared.serving_fault.ServingFault.TheVariants.{App}
-use Rattle.pb_faults.specs.declared.fault.AppFault.TheVariants.{Memory}
+use Rattle.pb_faults.specs.declared.fault.AppFault.TheVariants.{Memory, Write}
 use Rattle.pb_serving.proofs.Batches.{adds_none}
 use Rattle.pb_serving.proofs.Causes.{behind_device}
 use Rattle.pb_serving.proofs.Saying.{all_said, answered, stopped, unsaid, HasAnswered}
@@ -96,3 +97,8 @@ returns-in_err-opened-clause-on_roll g c = adds_none c.args.admission.now c.args
 
 pub returns-in_err-write_out-clause-on_roll : goal.returns-in_err-write_out-clause-on_roll
 returns-in_err-write_out-clause-on_roll g c = adds_none c.args.admission.now c.args.desk.now.desk.journal
+
+pub returns-in_err-bad_rows-clause-write : goal.returns-in_err-bad_rows-clause-write
+returns-in_err-bad_rows-clause-write g c = λ tells said.
+    let is : App Write ≡ c.in_err-bad_rows.field-0.0 = subst (λ r. IsErrAnd r (λ x. x ≡ c.in_err-bad_rows.field-0.0)) said c.from_residual-in_err-bad_rows.ensures.1 in
+    c.serve_rows-served.ensures.write tells (c.in_err-bad_rows.was ∙ ap (λ (f : ServingFault). Err f) (sym is))

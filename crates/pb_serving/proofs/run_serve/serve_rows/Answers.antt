@@ -252,7 +252,7 @@ returns-in_err-answer-clause-grown g c =
     let asked = c.answer.ensures.asked in
     let value = c.as_slice.ensures.value in
     adds_more c.args.admission.now c.args.desk.now.desk.journal c.loop.desk.desk.journal c.answer.new.desk.desk.journal (entries_of c.as_slice.result.now asked.0) inv.grown asked.1
-    (subst (λ (a : List Asked). All (λ (x : EntryView). is_on_roll c.args.admission.now.roll x.request ≡ true) (entries_of a asked.0)) (sym value)
+    (subst (λ (a : List Asked). All (λ (x : EntryView). is_on_roll c.args.admission.now x.request ≡ true) (entries_of a asked.0)) (sym value)
     (entries_on_roll c.args.admission.now batch.rows c.next_batch-end.new.asks.items asked.0 batch.each))
 
 pub returns-in-Over-clause-grown : goal.returns-in-Over-clause-grown
@@ -262,7 +262,7 @@ returns-in-Over-clause-grown g c =
     let asked = c.answer.ensures.asked in
     let value = c.as_slice.ensures.value in
     adds_more c.args.admission.now c.args.desk.now.desk.journal c.loop.desk.desk.journal c.answer.new.desk.desk.journal (entries_of c.as_slice.result.now asked.0) inv.grown asked.1
-    (subst (λ (a : List Asked). All (λ (x : EntryView). is_on_roll c.args.admission.now.roll x.request ≡ true) (entries_of a asked.0)) (sym value)
+    (subst (λ (a : List Asked). All (λ (x : EntryView). is_on_roll c.args.admission.now x.request ≡ true) (entries_of a asked.0)) (sym value)
     (entries_on_roll c.args.admission.now batch.rows c.next_batch-end.new.asks.items asked.0 batch.each))
 
 pub returns-in-ReadFailed-clause-grown : goal.returns-in-ReadFailed-clause-grown
@@ -272,7 +272,7 @@ returns-in-ReadFailed-clause-grown g c =
     let asked = c.answer.ensures.asked in
     let value = c.as_slice.ensures.value in
     adds_more c.args.admission.now c.args.desk.now.desk.journal c.loop.desk.desk.journal c.answer.new.desk.desk.journal (entries_of c.as_slice.result.now asked.0) inv.grown asked.1
-    (subst (λ (a : List Asked). All (λ (x : EntryView). is_on_roll c.args.admission.now.roll x.request ≡ true) (entries_of a asked.0)) (sym value)
+    (subst (λ (a : List Asked). All (λ (x : EntryView). is_on_roll c.args.admission.now x.request ≡ true) (entries_of a asked.0)) (sym value)
     (entries_on_roll c.args.admission.now batch.rows c.next_batch-end.new.asks.items asked.0 batch.each))
 
 pub returns-in-NoMemory-clause-grown : goal.returns-in-NoMemory-clause-grown
@@ -282,7 +282,7 @@ returns-in-NoMemory-clause-grown g c =
     let asked = c.answer.ensures.asked in
     let value = c.as_slice.ensures.value in
     adds_more c.args.admission.now c.args.desk.now.desk.journal c.loop.desk.desk.journal c.answer.new.desk.desk.journal (entries_of c.as_slice.result.now asked.0) inv.grown asked.1
-    (subst (λ (a : List Asked). All (λ (x : EntryView). is_on_roll c.args.admission.now.roll x.request ≡ true) (entries_of a asked.0)) (sym value)
+    (subst (λ (a : List Asked). All (λ (x : EntryView). is_on_roll c.args.admission.now x.request ≡ true) (entries_of a asked.0)) (sym value)
     (entries_on_roll c.args.admission.now batch.rows c.next_batch-end.new.asks.items asked.0 batch.each))
 
 pub returns-in_err-say_refused-in-Refused-clause-grown : goal.returns-in_err-say_refused-in-Refused-clause-grown
@@ -292,7 +292,7 @@ returns-in_err-say_refused-in-Refused-clause-grown g c =
     let asked = c.answer.ensures.asked in
     let value = c.as_slice.ensures.value in
     adds_more c.args.admission.now c.args.desk.now.desk.journal c.loop.desk.desk.journal c.answer.new.desk.desk.journal (entries_of c.as_slice.result.now asked.0) inv.grown asked.1
-    (subst (λ (a : List Asked). All (λ (x : EntryView). is_on_roll c.args.admission.now.roll x.request ≡ true) (entries_of a asked.0)) (sym value)
+    (subst (λ (a : List Asked). All (λ (x : EntryView). is_on_roll c.args.admission.now x.request ≡ true) (entries_of a asked.0)) (sym value)
     (entries_on_roll c.args.admission.now batch.rows c.next_batch-end.new.asks.items asked.0 batch.each))
 
 pub returns-in_err-answer-clause-write : goal.returns-in_err-answer-clause-write

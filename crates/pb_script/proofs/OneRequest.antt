@@ -1,16 +1,15 @@
 -- A row asks one request at most.
-use Rattle.std.proofs.Common.{◌≡◌, ◌∙◌, ℕ, List, [], ◌∷◌, Contains, get_or, refl, sym, ap, subst, arith}
+use Rattle.std.proofs.Common.{◌≡◌, ◌∙◌, [], ◌∷◌, Contains, get_or, refl, sym, ap, subst, arith}
 use Rattle.std.specs.Str.{trim}
 use Rattle.std.proofs.lemmas.List.Kept.{AllPairs-from_increasing}
 use Rattle.pb_core.specs.Request.{RequestView, Cast, Replace, Withdraw, Shut}
-use Rattle.pb_desk.proofs.Asking.{asked_numbers}
 use Rattle.pb_desk.specs.Rows.{Asks, word_of}
 use Rattle.pb_desk.specs.Step.{places_of, voter_of}
 use Rattle.pb_desk.specs.declared.request_fields.Strictness.{Strictness}
-use Rattle.pb_read.proofs.Ballots.{same_pairs}
 use Rattle.pb_rows.proofs.PlacesText.{places_text-injective}
-use Rattle.pb_rows.specs.Numbers.{places_text}
+use Rattle.pb_rows.specs.Numbers.{AreNumbers, places_text}
 use Rattle.pb_rows.specs.Reading.{Fields}
+use Rattle.pb_script.proofs.Rising.{members_back, members_numbers, same_pairs}
 
 -- requests of the same kind, voter and places
 same_parts : (r t : RequestView) → word_of r ≡ word_of t → voter_of r ≡ voter_of t → places_of r ≡ places_of t → r ≡ t
@@ -30,6 +29,10 @@ same_parts Shut (Cast w d) words ids ballots = absurd (omega (arith, ap (λ l. g
 same_parts Shut (Replace w d) words ids ballots = absurd (omega (arith, ap (λ l. get_or l 0 0) words))
 same_parts Shut (Withdraw w) words ids ballots = absurd (omega (arith, ap (λ l. get_or l 0 0) words))
 same_parts Shut Shut words ids ballots = refl
+
+-- the places that a row names are numbers
+pub asked_numbers : (s : Strictness) (fields : Fields) (r : RequestView) (a : Asks s fields r) → AreNumbers a.places
+asked_numbers s fields r a = members_numbers (places_of r) a.places a.can_be.ballot.1 (members_back a.places (places_of r) a.leniently.1)
 
 pub one_request : (s : Strictness) (fields : Fields) (r t : RequestView) → Asks s fields r → Asks s fields t → r ≡ t
 one_request s fields r t a b =
