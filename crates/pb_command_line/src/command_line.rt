@@ -290,8 +290,8 @@ const RECOUNT: Argument = Argument {
 /// What a page is about where it is not said.
 const NO_TITLE: &str = "Participatory budgeting";
 
-/// The commands that the program knows.
-const COMMANDS: &[CommandForm] = &[
+/// The commands that read a .pb file, and count its ballots or those of a journal.
+const COUNTS: &[CommandForm] = &[
     CommandForm {
         name: "count",
         notes: "Manual pages: man pb_app-election, man pb_app-report, man pb_app-counting.",
@@ -336,6 +336,10 @@ const COMMANDS: &[CommandForm] = &[
             QUIET, PROGRESS,
         ],
     },
+];
+
+/// The commands that check a .pb file, or take its ballots on a desk.
+const DESKS: &[CommandForm] = &[
     CommandForm {
         name: "check",
         notes: "Manual pages: man pb_app-election, man pb_app-faults.",
@@ -382,16 +386,24 @@ const COMMANDS: &[CommandForm] = &[
 /// The command line that the program reads.
 pub(crate) fn command_line<'a>(alloc: Global) -> Result<Command<'a>, AllocError> {
     let program = Command::new(alloc, "pb_app").bin_name("pb_app")?;
-    with_commands(
-        alloc,
-        program.version(VERSION).about(ABOUT).after_help(AFTER_HELP),
-    )
+    let program = program.version(VERSION).about(ABOUT).after_help(AFTER_HELP);
+    let program = with_counts(alloc, program)?;
+    with_desks(alloc, program)
 }
 
-/// The program with the commands that it knows.
-fn with_commands<'a>(alloc: Global, program: Command<'a>) -> Result<Command<'a>, AllocError> {
+/// The program with the commands that count.
+fn with_counts<'a>(alloc: Global, program: Command<'a>) -> Result<Command<'a>, AllocError> {
     let mut program = program;
-    for form in COMMANDS {
+    for form in COUNTS {
+        program = with_command(alloc, program, form)?;
+    }
+    Ok(program)
+}
+
+/// The program with the commands that check a file or run a desk.
+fn with_desks<'a>(alloc: Global, program: Command<'a>) -> Result<Command<'a>, AllocError> {
+    let mut program = program;
+    for form in DESKS {
         program = with_command(alloc, program, form)?;
     }
     Ok(program)

@@ -22,7 +22,7 @@ use Rattle.pb_commands.specs.Closed.{ClosedRefuses, Leaves}
 use Rattle.pb_commands.specs.Ends.{FailsBy, IfBothKnown, IsOutsideFault, JudgesFile}
 use Rattle.pb_faults.specs.Fault.{merged}
 use Rattle.pb_faults.specs.declared.fault.AppFault.{AppFault}
-use Rattle.pb_faults.specs.declared.fault.AppFault.TheVariants.{Read, Script, ClerkCount, Audit, OtherFile, OpenDesk, Count, Export, Open, Write, Memory, Warned}
+use Rattle.pb_faults.specs.declared.fault.AppFault.TheVariants.{Read, Script, ClerkCount, Audit, OtherFile, OpenDesk, Count, Export, Open, Write, Memory, Warned, Roll}
 
 -- the fault is what refuses these bytes before anything is written
 abbrev pub Fails : List ℕ → List ℕ → AppFault → Type 0
@@ -47,6 +47,7 @@ fails_more Refuses IsText bytes (Count fault) fails = fails
 fails_more Refuses IsText bytes (Export fault) fails = fails
 fails_more Refuses IsText bytes (Open number) fails = fails
 fails_more Refuses IsText bytes (Warned warning) fails = fails
+fails_more Refuses IsText bytes (Roll fault) fails = fails
 
 -- the bytes leave one election at most
 pub one_left : (bytes rows : List ℕ) (a b : ElectionView) → Leaves bytes rows a → Leaves bytes rows b → a ≡ b

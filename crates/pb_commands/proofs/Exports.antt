@@ -24,7 +24,7 @@ use Rattle.pb_commands.specs.Exported.{ClosedExportRefuses, ExportWrites, IsExpo
 use Rattle.pb_commands.specs.Inner.Exporting.{IsStopped}
 use Rattle.pb_faults.specs.Fault.{merged}
 use Rattle.pb_faults.specs.declared.fault.AppFault.{AppFault}
-use Rattle.pb_faults.specs.declared.fault.AppFault.TheVariants.{Read, Script, ClerkCount, Audit, OtherFile, OpenDesk, Count, Export, Open, Write, Memory, Warned}
+use Rattle.pb_faults.specs.declared.fault.AppFault.TheVariants.{Read, Script, ClerkCount, Audit, OtherFile, OpenDesk, Count, Export, Open, Write, Memory, Warned, Roll}
 
 -- one value more, for the next place
 pub one_put : {X : Type 0} (f : ℕ → X) (n : ℕ) (old new : List X) (x : X) → old ≡ map f (range_with_len 0 n) → new ≡ old ++ x ∷ [] → x ≡ f n → new ≡ map f (range_with_len 0 (n + 1))
@@ -54,6 +54,7 @@ module _ (options : CountOptions) where
   from_outside e text writes (Open number) stopped is = absurd stopped
   from_outside e text writes Write stopped is = absurd stopped
   from_outside e text writes (Warned warning) stopped is = absurd stopped
+  from_outside e text writes (Roll fault) stopped is = absurd stopped
 
   pub accepted_by_reader : (files : Option (List ℕ)) (fault : ReadFault) (r : Result (Unit {0}) AppFault) → IsErrAnd r (λ app. app ≡ merged (Read fault))
       → IfSome files (λ bytes. (e : ElectionView) → StandsFor (records_of bytes) e → IsFromOutside fault.kind)
@@ -82,6 +83,7 @@ module _ (options : CountOptions) where
   early bytes rows IsText Write fails = absurd fails.1
   early bytes rows IsText Memory fails = fails
   early bytes rows IsText (Warned warning) fails = fails
+  early bytes rows IsText (Roll fault) fails = fails
 
   pub refused_early : (files journals : Option (List ℕ)) (fault : AppFault) → IfBothKnown files journals (λ bytes rows. Fails bytes rows fault)
       → IfBothKnown files journals (λ bytes rows. FailsBy (ClosedExportRefuses bytes rows options) (ExportWrites options (Leaves bytes rows)) bytes fault)
@@ -110,6 +112,7 @@ module _ (options : CountOptions) where
     stopped_fails bytes rows IsText (Open number) leaves stopped = absurd stopped
     stopped_fails bytes rows IsText Write leaves stopped = absurd stopped
     stopped_fails bytes rows IsText (Warned warning) leaves stopped = absurd stopped
+    stopped_fails bytes rows IsText (Roll fault) leaves stopped = absurd stopped
 
     pub refused_late : (files journals : Option (List ℕ)) (fault : AppFault) → IfBothKnown files journals (λ bytes rows. Leaves bytes rows e) → IsStopped options e fault
         → IfBothKnown files journals (λ bytes rows. FailsBy (ClosedExportRefuses bytes rows options) (ExportWrites options (Leaves bytes rows)) bytes fault)
