@@ -11,14 +11,14 @@ def installed():
     return next((path for path in map(shutil.which, NAMES) if path), None)
 
 
-def install():
-    """Installs a browser of the distribution, where this runs as root and apt-get is there."""
+def install(*more):
+    """Installs a browser of the distribution, and more packages, where this runs as root and apt-get is there."""
     if os.geteuid() != 0 or not shutil.which('apt-get'):
         return
     environment = {**os.environ, 'DEBIAN_FRONTEND': 'noninteractive'}
     for words in ('update', 'install -y --no-install-recommends chromium fonts-dejavu-core'):
         try:
-            subprocess.run(['apt-get', '-qq', *words.split()], env=environment, stdin=subprocess.DEVNULL,
+            subprocess.run(['apt-get', '-qq', *words.split(), *(more if words != 'update' else [])], env=environment, stdin=subprocess.DEVNULL,
                            stdout=subprocess.DEVNULL, stderr=subprocess.DEVNULL, timeout=INSTALLS)
         except subprocess.TimeoutExpired:
             return

@@ -13,12 +13,12 @@ def missing(programs):
     return [package for program, package in programs.items() if not shutil.which(program)]
 
 
-def install():
-    """Installs what is missing, where this runs as root and apt-get is there."""
+def install(*more):
+    """Installs what is missing, and more packages, where this runs as root and apt-get is there."""
     if os.geteuid() != 0 or not shutil.which('apt-get'):
         return
     environment = {**os.environ, 'DEBIAN_FRONTEND': 'noninteractive'}
-    for words in (['update'], ['install', '-y', '--no-install-recommends', *missing(ALL)]):
+    for words in (['update'], ['install', '-y', '--no-install-recommends', *missing(ALL), *more]):
         try:
             subprocess.run(['apt-get', '-qq', *words], env=environment, stdin=subprocess.DEVNULL, stdout=subprocess.DEVNULL,
                            stderr=subprocess.DEVNULL, timeout=INSTALLS)

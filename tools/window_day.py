@@ -1,0 +1,239 @@
+"""Tries the clerks' window in a browser: a day of three clerks by the keyboard alone, and each page looked at."""
+import os, signal, threading, time
+
+import browser
+from browser_tab import Tab
+from window_clerk import TOP, Window, passphrase_of
+from window_seen import MARKUP, NAMES, new_folder, see
+
+LOOK = (TOP / 'tools/look_at_window.js').read_text()
+
+
+def look_at(tab, name, pictures):
+    """Looks at the page that a tab shows, at two widths, in light and dark colours, and for who uses a keyboard alone."""
+    soft = {'a', 'bdi', 'button', 'caption', 'fieldset', 'form', 'h1', 'h2', 'header', 'input', 'label', 'legend', 'li', 'main', 'nav', 'p',
+            'pre', 'section', 'span', 'strong', 'table', 'tbody', 'td', 'th', 'thead', 'tr', 'ul', 'div'}
+    wanted = {'language': 'en', 'title': True, 'unlabelled': [], 'unnamed': [], 'twice': [], 'faint': [], 'edges': [], 'small': [],
+              'wide': False, 'leaving': [], 'handlers': 0, 'landmarks': 1}
+    for width, dark in ((1280, False), (1280, True), (360, False), (360, True)):
+        tab.look(width, dark)
+        seen = tab.ask(LOOK)
+        at = f"{name} at {width} pixels, {'dark' if dark else 'light'}"
+        for key, value in wanted.items():
+            see(seen[key] == value, f'{at}: {key}', seen[key])
+        see(seen['headings'][:1] == [1] and all(b <= a + 1 for a, b in zip(seen['headings'], seen['headings'][1:])), f'{at}: headings', seen['headings'])
+        see(set(seen['elements']) <= soft, f'{at}: elements', set(seen['elements']) - soft)
+        if pictures:
+            tab.picture(pictures / f"{name}-{width}{'-dark' if dark else ''}.png")
+    see(not tab.complaints(), f'{name}: the browser complains', tab.complaints())
+    tab.look(1280)
+
+
+def focusable(tab):
+    """Goes once around a page by Tab: gives each element that has the focus, and whether one sees that."""
+    found = []
+    tab.run('document.querySelector("a, button, input:not([type=hidden])").focus()')
+    for _ in range(60):
+        here = tab.run("""(() => { const it = document.activeElement, style = getComputedStyle(it), size = it.getBoundingClientRect();
+            return [it === document.body ? '' : it.outerHTML.slice(0, 120), style.outlineStyle !== 'none' && parseFloat(style.outlineWidth) >= 2,
+              size.bottom > 0 && size.top < innerHeight]; })()""")
+        if not here[0] or here in found:
+            break
+        found.append(here)
+        tab.press('Tab')
+    return found
+
+
+def sign_in(tab, window, name):
+    """Signs in by the keyboard alone."""
+    tab.open(f'http://127.0.0.1:{window.port}/')
+    tab.type(name)
+    tab.press('Tab')
+    tab.type(passphrase_of(name))
+    tab.enter()
+
+
+def try_pages(program, work, pictures):
+    """A day of three clerks at once, by the keyboard alone, and each page looked at."""
+    folder = new_folder(work, 'pages')
+    with Window(program, folder).start() as window, browser.Browser(browser.installed()) as led:
+        ann, ben, head = (Tab(led) for _ in range(3))
+        ann.open(f'http://127.0.0.1:{window.port}/')
+        look_at(ann, 'sign-in', pictures)
+        ann.type('Ann')
+        ann.press('Tab')
+        ann.type('wrong')
+        ann.enter()
+        see('The name or the passphrase is wrong.' in ann.text(), 'a wrong passphrase in a browser', ann.text())
+        look_at(ann, 'wrong', pictures)
+        time.sleep(1)
+        for tab, name in ((ann, 'Ann'), (ben, NAMES[2]), (head, 'Head')):
+            sign_in(tab, window, name)
+            see(f'{name}, clerk {NAMES.index(name)}' in tab.text(), f'{name} signs in', tab.text())
+        look_at(ann, 'start', pictures)
+        try_day(window, ann, ben, head, pictures)
+        try_deaths_in_browser(window, ann, ben, head, pictures)
+        ann.open(f'http://127.0.0.1:{window.port}/nowhere')
+        look_at(ann, 'nowhere', pictures)
+        ben.press('Escape', loads=True)
+        ben.type('late one')
+        ben.enter()
+        ben.type('12')
+        ben.enter(loads=False)
+        ben.enter()
+        head.open(f'http://127.0.0.1:{window.port}/head')
+        look_at(head, 'head', pictures)
+        entries = len(window.entries())
+        head.tab_to('word')
+        head.type('no')
+        head.enter()
+        see('Type the word “shut”' in head.text() and len(window.entries()) == entries, 'shutting needs its word', head.text())
+        head.tab_to('word')
+        head.type('shut')
+        head.enter()
+        see(f'Entry {entries + 1} of the journal: shut' in head.text(), 'the desk is shut', head.text())
+        look_at(head, 'shut', pictures)
+        ben.enter()
+        see('it is shut' in ben.text() and len(window.entries()) == entries + 1, 'a late ballot is not sent', ben.text())
+        look_at(ben, 'late', pictures)
+        head.open(f'http://127.0.0.1:{window.port}/result')
+        see('elected;' in head.text() and 'digest;journal;sha256;' in head.text(), 'the report is shown', head.text())
+        look_at(head, 'result', pictures)
+        for tab in (ann, ben, head):
+            see(not tab.fetched(window), 'nothing is fetched from elsewhere, and no address has an id', tab.fetched(window))
+        window.end()
+    see(window.audit('--require-shut').returncode == 0, 'the journal of the day is audited', window.audit())
+
+
+def try_day(window, ann, ben, head, pictures):
+    """Ballots by three clerks, a voter twice, markup, a ballot in between, a second sending; each answer in the journal."""
+    entry = lambda: window.entries()[-1]
+    ann.type('ann 1')
+    ann.enter()
+    see('This voter has no ballot.' in ann.text() and ann.focus() == 'search', 'a voter without a ballot', ann.text())
+    stops = focusable(ann)
+    see(len(stops) >= 8 and all(is_seen for _, is_seen, _ in stops), 'each stop of the Tab key is seen', stops)
+    see(all(is_there for _, _, is_there in stops), 'and on the screen', stops)
+    look_at(ann, 'voter', pictures)
+    ann.run('document.getElementById("search").focus()')
+    for text in ('12', 'RIDE', 'lowen'):
+        ann.type(text)
+        ann.enter(loads=False)
+    see('3 of at most 3 chosen' in ann.text('#count'), 'three ticks by number and by name', ann.text('#count'))
+    ann.type('b,c')
+    ann.enter(loads=False)
+    see('No projects match' in ann.text('#count'), 'an id with a comma cannot be ticked', ann.text('#count'))
+    ann.run('document.getElementById("search").select()')
+    ann.type('99')
+    ann.enter(loads=False)
+    see('That is too many' in ann.text('#count'), 'the limit is counted', ann.text('#count'))
+    look_at(ann, 'ticked', pictures)
+    ann.run('document.getElementById("search").focus()')
+    ann.type('99')
+    ann.enter(loads=False)
+    ann.enter()
+    see('Library' in ann.text() and '3 projects' in ann.text() and not window.entries(), 'one look before anything is sent', ann.text())
+    look_at(ann, 'look', pictures)
+    # Meanwhile Ben sees the same voter, and casts first.
+    ben.type('ann 1')
+    ben.enter()
+    ben.type('7')
+    ben.enter(loads=False)
+    ben.enter()
+    see(ben.focus() == 'Record this', 'the button has the focus', ben.focus())
+    ben.enter()
+    see('Recorded.' in ben.text() and entry() == ['1', '2', 'cast', 'ann 1', '1', 'done'], "Ben's ballot is an entry", ben.text(), entry())
+    look_at(ben, 'answer', pictures)
+    ann.enter()
+    see('Nothing was sent' in ann.text() and 'entry 1, cast' in ann.text() and len(window.entries()) == 1, 'nothing is sent over it', ann.text())
+    look_at(ann, 'changed', pictures)
+    ann.enter()
+    see('This voter has a ballot: entry 1, taken by' in ann.text() and not ann.run('document.querySelectorAll(":checked").length'),
+        'the second clerk is told that a ballot stands, and not what it holds', ann.text())
+    look_at(ann, 'stands', pictures)
+    # The next voter in two keystrokes, and markup in names and ids.
+    ann.press('Escape', loads=True)
+    see(ann.focus() == 'voter', 'Escape leads to the next voter', ann.focus())
+    ann.type(MARKUP)
+    ann.enter()
+    see('it came with the file' in ann.text() and 'taken' not in ann.run('document.title'), 'a voter of markup', ann.text())
+    ann.type('<script>')
+    ann.enter(loads=False)
+    ann.press('Escape')
+    see('Press Escape once more' in ann.text('#count'), 'a tick is not lost by one key', ann.text('#count'))
+    ann.press('Escape', loads=True)
+    ann.type(MARKUP)
+    ann.enter()
+    ann.type('<script>')
+    ann.enter(loads=False)
+    ann.enter()
+    look_at(ann, 'markup', pictures)
+    ann.enter()
+    see(entry() == ['2', '1', 'replace', MARKUP, '2', 'done'] and 'taken' not in ann.run('document.title'), 'markup is recorded as text', entry())
+    see(not ann.run('document.querySelectorAll("main script, main img").length'), 'and is no element')
+    # A voter twice, and withdrawn.
+    see(ann.focus() == 'voter', 'the next voter can be typed at once', ann.focus())
+    ann.type('ann 2')
+    ann.enter()
+    ann.enter()
+    see('No project at all' in ann.text(), 'an empty ballot is told', ann.text())
+    ann.enter()
+    ann.type('ann 2')
+    ann.enter()
+    see('This voter has a ballot: entry 3, taken by Ann' in ann.text() and 'No project at all' in ann.text(), 'a voter twice', ann.text())
+    ann.press('Tab')
+    ann.press('Tab')
+    ann.enter()
+    look_at(ann, 'withdraw', pictures)
+    ann.enter()
+    see(entry() == ['4', '1', 'withdraw', 'ann 2', '', 'done'], 'a ballot is withdrawn by the keyboard', entry())
+    # A second sending: the page is loaded again, which sends its form again.
+    ann.reload()
+    see('Entry 4 of the journal: withdraw' in ann.text() and len(window.entries()) == 4, 'a page that is loaded again sends nothing new', ann.text())
+    # The head clerk looks, which is logged.
+    head.type('ann 1')
+    head.enter()
+    head.run('[...document.querySelectorAll("button")].find(it => it.textContent.includes("logged")).focus()')
+    head.enter()
+    see('Park & ride <img' in head.text('.ballot') and window.log()[-1]['what'] == 'looked', 'the head clerk looks, and that is logged', head.text())
+    head.press('Escape', loads=True)
+    # With the mouse, and without the script.
+    ben.call('Emulation.setScriptExecutionDisabled', value=True)
+    ben.type('no script')
+    ben.enter()
+    for key in ('Tab', 'Tab', ' '):
+        ben.press(key)
+    ben.press('Tab')
+    ben.press(' ')
+    ben.press_button('Cast the ballot')
+    ben.call('Emulation.setScriptExecutionDisabled', value=False)
+    ben.press_button('Record this')
+    see(entry()[:5] == ['5', '2', 'cast', 'no script', '0,1'], 'a ballot without the script', entry(), ben.text())
+
+
+def try_deaths_in_browser(window, ann, ben, head, pictures):
+    """serve is killed with a request under way, and the window is killed; the clerks go on."""
+    ann.open(f'http://127.0.0.1:{window.port}/')
+    ann.type('ann 3')
+    ann.enter()
+    ann.enter()
+    number = window.serve_id()
+    os.kill(number, signal.SIGSTOP)
+    threading.Thread(target=lambda: (window.await_asked('ann 3'), os.kill(number, signal.SIGKILL))).start()
+    ann.enter()
+    see('It is not known whether this was recorded.' in ann.text(), 'not known', ann.text())
+    look_at(ann, 'unknown', pictures)
+    ann.enter()
+    see('Is this what was asked for?' in ann.text() and 'The voter has no entry' in ann.text(), 'the last entry is shown', ann.text())
+    look_at(ann, 'asked', pictures)
+    ann.run('[...document.querySelectorAll("button")].find(it => it.textContent.includes("checked this")).focus()')
+    ann.enter()
+    ann.enter()
+    ann.enter()
+    see(window.entries()[-1][2:4] == ['cast', 'ann 3'], 'and asked once more', window.entries()[-1])
+    window.child.kill()
+    window.child.communicate()
+    window.start()
+    for tab, name in ((ann, 'Ann'), (ben, NAMES[2]), (head, 'Head')):
+        sign_in(tab, window, name)
+        see('clerk' in tab.text() and 'no answer came' not in tab.text(), f'{name} goes on after the window was killed', tab.text())

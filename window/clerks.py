@@ -1,0 +1,89 @@
+#!/usr/bin/python3
+"""Keeps the file of the clerks: their names and numbers, and what scrypt makes of their passphrases.
+
+usage: clerks.py add NAME           a new clerk, with the next number; the first one is the head clerk, 0
+       clerks.py passphrase NAME    another passphrase for a clerk
+       clerks.py close NAME         the clerk signs in no more; the number stays taken
+
+The file is clerks.json here, or the one that --clerks CLERKS names. A passphrase is typed at the terminal, twice, and has
+at least 12 characters.
+"""
+import argparse, getpass, hashlib, hmac, json, os, secrets, sys, unicodedata
+
+LEAST = 12
+
+
+def hashed(passphrase, salt):
+    """What scrypt makes of a passphrase, with 32 MiB and in about a tenth of a second."""
+    text = unicodedata.normalize('NFC', passphrase).encode()
+    return hashlib.scrypt(text, salt=bytes.fromhex(salt), n=2 ** 15, r=8, p=1, maxmem=2 ** 26, dklen=32).hex()
+
+
+# Stands in for a name that nobody has, so that it takes the same time.
+NOBODY = {'salt': secrets.token_hex(16), 'hash': secrets.token_hex(32)}
+
+
+def is_right(clerk, passphrase):
+    """Whether this is the clerk's passphrase."""
+    kept = clerk if clerk and clerk['hash'] else NOBODY
+    return hmac.compare_digest(hashed(passphrase, kept['salt']), kept['hash']) and kept is clerk
+
+
+def load(path):
+    """The clerks of a file: the one with number N stands at place N."""
+    try:
+        with open(path, encoding='utf-8') as file:
+            if os.fstat(file.fileno()).st_mode & 0o077:
+                raise ValueError(f'other accounts can read it: chmod 600 {path}')
+            clerks = json.load(file)
+        if [it['number'] for it in clerks] != list(range(len(clerks))) or not 0 < len(clerks) <= 64:
+            raise ValueError('its numbers are not 0, 1, 2 and so on, up to 63')
+        return clerks
+    except (OSError, ValueError, KeyError, TypeError) as why:
+        raise ValueError(f'{path} cannot be used as the file of clerks: {why}') from None
+
+
+def save(path, clerks):
+    """Puts a whole file in the place of the old one, for this account alone."""
+    with os.fdopen(os.open(f'{path}.new', os.O_WRONLY | os.O_CREAT | os.O_TRUNC, 0o600), 'w', encoding='utf-8') as file:
+        os.fchmod(file.fileno(), 0o600)
+        json.dump(clerks, file, indent=1, ensure_ascii=False)
+        file.flush()
+        os.fsync(file.fileno())
+    os.replace(f'{path}.new', path)
+
+
+def typed(name):
+    """A new passphrase, typed at the terminal."""
+    if not sys.stdin.isatty():
+        sys.exit('clerks.py: a passphrase is typed at a terminal')
+    passphrase = getpass.getpass(f'Passphrase for {name}: ')
+    if len(passphrase) < LEAST:
+        sys.exit(f'clerks.py: a passphrase has at least {LEAST} characters; nothing was changed')
+    if getpass.getpass('Once more: ') != passphrase:
+        sys.exit('clerks.py: the two differ; nothing was changed')
+    salt = secrets.token_hex(16)
+    return {'salt': salt, 'hash': hashed(passphrase, salt)}
+
+
+def main():
+    parser = argparse.ArgumentParser(prog='clerks.py', usage=__doc__.split('usage: ')[1].split('\n\n')[0])
+    parser.add_argument('--clerks', default='clerks.json')
+    parser.add_argument('what', choices=['add', 'passphrase', 'close'])
+    parser.add_argument('name')
+    given = parser.parse_args()
+    clerks = load(given.clerks) if os.path.exists(given.clerks) or given.what != 'add' else []
+    name = given.name.strip()
+    clerk = next((it for it in clerks if it['name'] == name), {'number': len(clerks), 'name': name})
+    if not name.isprintable() or not name or (given.what == 'add') != (clerk['number'] == len(clerks)) or len(clerks) == 64:
+        sys.exit('clerks.py: a new clerk has a name that nobody has, the others one of the file; there are 64 at most')
+    clerk.update({'salt': '', 'hash': ''} if given.what == 'close' else typed(name))
+    save(given.clerks, clerks[:clerk['number']] + [clerk] + clerks[clerk['number'] + 1:])
+    print(f"{name} is clerk {clerk['number']}{', the head clerk' if clerk['number'] == 0 else ''}")
+
+
+if __name__ == '__main__':
+    try:
+        main()
+    except ValueError as why:
+        sys.exit(f'clerks.py: {why}')

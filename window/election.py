@@ -1,0 +1,55 @@
+"""What the window shows of the city's file: as `pb_app export` tells it, so that no second program reads the format."""
+import collections, csv, io, subprocess, sys
+
+csv.field_size_limit(sys.maxsize)
+Project = collections.namedtuple('Project', 'id name cost')
+# The characters that pb_app trims off the ends of an id; Python would trim more.
+SPACE = '\t\n\v\f\r \x85\xa0\u1680\u2028\u2029\u202f\u205f\u3000' + ''.join(map(chr, range(0x2000, 0x200b)))
+
+
+class Fault(Exception):
+    """What pb_app said where it refused."""
+
+
+def told_by(*command):
+    """What a command of pb_app writes."""
+    done = subprocess.run(command, stdin=subprocess.DEVNULL, capture_output=True)
+    if done.returncode:
+        raise Fault((done.stdout + done.stderr).decode(errors='replace').strip())
+    return done.stdout
+
+
+def records(text):
+    """The records of a text of pb_app."""
+    return (row for row in csv.reader(text, delimiter=';') if row)
+
+
+def ids_of(text):
+    """The ids of a ballot as pb_app reads them: separated by commas, trimmed, each once."""
+    return list(dict.fromkeys(filter(None, (piece.strip(SPACE) for piece in text.split(',')))))
+
+
+class Election:
+    """The projects in the file's order, the most that a ballot may have or None, and the file's ballots by voter."""
+
+    def __init__(self, program, file):
+        self.projects, self.votes, self.longest, section = [], {}, None, None
+        rows = records(io.StringIO(told_by(program, 'export', file, '--plain').decode(), newline=''))
+        for row in rows:
+            if row in (['META'], ['PROJECTS'], ['VOTES']):
+                section, _ = row[0], next(rows)
+            elif section == 'PROJECTS':
+                self.projects.append(Project(row[0], row[3], row[1]))
+            elif section == 'VOTES':
+                self.votes[row[0]] = row[1]
+            elif row[0] == 'max_length':
+                self.longest = int(row[1])
+        self.by_id = {project.id: project for project in self.projects}
+
+    def chosen(self, ids):
+        """The projects of a ballot; an id that no project has stands there alone."""
+        return [self.by_id.get(it) or Project(it, 'No project has this id.', '') for it in ids]
+
+    def held(self, voter, entry):
+        """The ids of the ballot that an entry put there, or that came with the file."""
+        return [self.projects[int(it)].id for it in entry.places.split(',') if it] if entry else ids_of(self.votes[voter])

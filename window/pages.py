@@ -1,0 +1,229 @@
+"""The pages: what a clerk sees, and what comes of each form."""
+import hashlib, hmac, os, secrets, traceback, unicodedata
+
+from flask import Flask, Response, abort, g, make_response, redirect, render_template, request
+from markupsafe import Markup
+from werkzeug.exceptions import HTTPException
+
+import election, sessions
+
+app = Flask(__name__)
+app.jinja_env.trim_blocks = app.jinja_env.lstrip_blocks = True
+office = None       # The day, which run.py puts here.
+KEY = os.urandom(32)
+HEADERS = {'Cache-Control': 'no-store', 'Referrer-Policy': 'no-referrer', 'X-Content-Type-Options': 'nosniff',
+           'Content-Security-Policy': "default-src 'none'; frame-ancestors 'none'; base-uri 'none'; form-action 'self'; "
+                                      "style-src 'self'; script-src 'self'; img-src data:"}
+# What the desk answers, and after that why it takes a row for none.
+ANSWERS = {'done': 'Recorded.', 'already-cast': 'Not recorded: this voter has a ballot already.',
+           'no-ballot': 'Not recorded: this voter has no ballot.',
+           'too-long': 'Not recorded: the ballot has more projects than the election allows.',
+           'voter-limit': 'Not recorded: the desk has as many ballots as it can hold.',
+           'desk-shut': 'Not recorded: the desk is shut.',
+           'UnknownId': 'Not recorded: the ballot names an id that no project has.',
+           'NotOnRoll': 'Not recorded: this voter is not on the roll.',
+           'TooFew': 'Not recorded: the ballot has fewer projects than the office asks for.'}
+STALE = 'The form is too old, or you were signed out. Nothing was sent to the desk just now. Look up the voter to see what is recorded.'
+
+
+def token_of(cookie):
+    """What each form carries beside a cookie."""
+    return hmac.new(KEY, cookie.encode(), hashlib.sha256).hexdigest()
+
+
+def cookie_of(kind):
+    """The name of a cookie, by the port: cookies know no ports."""
+    return f"{'__Host-' if office.scheme == 'https' else ''}window-{office.port}-{kind}"
+
+
+def cookie(kind):
+    return request.cookies.get(cookie_of(kind), '')
+
+
+def keep(answer, kind, value, seconds=None):
+    answer = make_response(answer)
+    answer.set_cookie(cookie_of(kind), value, seconds, secure=office.scheme == 'https', httponly=True, samesite='Strict')
+    return answer
+
+
+def say(title, words, status=200):
+    return render_template('start.html', title=title, words=words), status
+
+
+@app.before_request
+def check():
+    """Lets through what comes from a page of this window, and from a clerk who is signed in."""
+    g.session = g.clerk = None
+    if request.headers.get('Host') not in office.hosts:
+        return say('Wrong address', 'The window does not go by this name.', 400)
+    g.session = office.sessions.find(cookie('session'), office.door.clerks())
+    g.clerk = g.session and g.session.clerk['number']
+    if request.method == 'POST':
+        # A page without a referrer sends its forms with the origin null; then Sec-Fetch-Site says whether they are ours.
+        origin, site = request.headers.get('Origin', 'null'), request.headers.get('Sec-Fetch-Site')
+        is_ours = origin == f'{office.scheme}://{request.host}' or (origin, site) == ('null', 'same-origin')
+        token, held = request.form.get('token', ''), cookie('session' if g.session else 'sign-in')
+        if not (is_ours and held and hmac.compare_digest(token.encode(), token_of(held).encode())):
+            office.log.write('refused', path=request.path, address=request.remote_addr, clerk=g.clerk)
+            return say('Not accepted', STALE, 403)
+    if g.session is None and request.endpoint not in ('start', 'sign_in', 'static', None):
+        return redirect('/', 303)
+    if g.clerk != 0 and request.endpoint in ('show_ballot', 'head', 'again', 'shut', 'result'):
+        office.log.write('refused', path=request.path, address=request.remote_addr, clerk=g.clerk)
+        return say('For the head clerk', 'Only the head clerk may do this. Nothing was sent to the desk.', 403)
+
+
+@app.context_processor
+def words():
+    """What each page knows."""
+    held = cookie('session') if g.session else g.get('fresh', cookie('sign-in'))
+    return {'clerk': g.clerk, 'desk': office.desk, 'longest': office.election.longest, 'answers': list(ANSWERS)[:6],
+            'said': lambda name: ANSWERS.get(name.split()[0], f'Not recorded: {name}.'),
+            'name_of': office.door.name_of, 'who': lambda it: f"{office.door.name_of(it)} (clerk {it}{', you' * (it == g.clerk)})",
+            'token': Markup('<input type="hidden" name="token" value="%s">') % token_of(held)}
+
+
+@app.after_request
+def close(answer):
+    answer.headers.update(HEADERS)
+    return answer
+
+
+@app.errorhandler(Exception)
+def failed(why):
+    """Says in the log where the window failed, and nothing of what was sent."""
+    if isinstance(why, HTTPException):
+        return say(why.name, 'Nothing was sent to the desk.', why.code)
+    if isinstance(why, election.Fault):
+        return say('The program refused', str(why), 500)
+    place = traceback.extract_tb(why.__traceback__)[-1]
+    office.log.write('failed', kind=type(why).__name__, file=os.path.basename(place.filename), line=place.lineno)
+    return say('The window failed', 'Look at the voter again: it is not known whether anything was recorded.', 500)
+
+
+@app.get('/')
+def start():
+    if g.session:
+        office.desk.keep_up()
+        return render_template('start.html', title='Next voter',
+                               missed=[it for it in list(office.desk.unknown.values()) if it.clerk == g.clerk])
+    g.fresh = cookie('sign-in') or secrets.token_urlsafe(32)
+    return keep(render_template('sign_in.html', title='Sign in'), 'sign-in', g.fresh)
+
+
+@app.post('/sign-in')
+def sign_in():
+    name, address = request.form.get('name', '').strip(), request.remote_addr
+    clerk, wait = office.door.judge(name, request.form.get('passphrase', ''), address, cookie('head'))
+    if not clerk:
+        office.log.write('not-signed-in', address=address, wait=round(wait))
+        why = f'Wait {int(wait) + 1} seconds, and try again.' if wait else 'The name or the passphrase is wrong.'
+        return render_template('sign_in.html', title='Sign in', words=why), 429 if wait else 403
+    office.log.write('signed-in', clerk=clerk['number'], address=address)
+    office.sessions.pop(cookie('session'), None)
+    answer = keep(redirect('/', 303), 'session', office.sessions.begin(clerk, office.door.clerks()))
+    if clerk['number'] == 0:
+        keep(answer, 'head', office.door.mark_of(secrets.token_hex(16)), 366 * 86400)
+    return answer
+
+
+@app.post('/sign-out')
+def sign_out():
+    office.sessions.pop(cookie('session'), None)
+    office.log.write('signed-out', clerk=g.clerk)
+    return keep(redirect('/', 303), 'session', '', 0)
+
+
+def asked_voter():
+    """The voter's id of a form, trimmed as the desk does."""
+    voter = request.form.get('voter', '').strip(election.SPACE)
+    if not voter or any(unicodedata.category(it) == 'Cc' for it in voter):
+        abort(make_response(say('No such id', 'A voter’s id has at least one character, and no control characters. Type it again.', 400)))
+    return voter
+
+
+def show(voter, ids=None, is_asked_for=False):
+    """The page of a voter. A ballot is shown to the clerk who took it, and to the head clerk who asks for it."""
+    desk = office.desk
+    desk.keep_up()
+    entry, has_ballot = desk.standing.get(voter), desk.has_ballot(voter)
+    is_own = entry is not None and entry.clerk == g.clerk
+    held = office.election.held(voter, entry) if has_ballot and (is_own or is_asked_for) else None
+    ticked = ids if ids is not None else held if is_own else None
+    return render_template('voter.html', title='Voter', voter=voter, entry=entry, has_ballot=has_ballot, ticked=ticked or [],
+                           held=None if held is None else office.election.chosen(held), projects=office.election.projects,
+                           last=desk.last.get(voter), missed=[it for it in list(desk.unknown.values()) if it.voter == voter])
+
+
+@app.post('/voter')
+def voter():
+    form = g.session.forms.get(request.form.get('form'))
+    return show(form.voter, form.ids if form.request != 'withdraw' else None) if form else show(asked_voter())
+
+
+@app.post('/show')
+def show_ballot():
+    office.log.write('looked', is_synced=True, clerk=g.clerk, voter=asked_voter())
+    return show(asked_voter(), is_asked_for=True)
+
+
+@app.post('/look')
+def look():
+    """What will be recorded, before it is sent."""
+    wanted, seen = request.form.get('request'), request.form.get('seen', '')
+    if wanted not in ('cast', 'replace', 'withdraw') or not seen.isdecimal():
+        abort(400)
+    ids = election.ids_of(','.join(request.form.getlist('id'))) if wanted != 'withdraw' else []
+    form = g.session.add(sessions.Form(wanted, asked_voter(), ids, int(seen)))
+    return render_template('look.html', title='Check before you record', form=form, chosen=office.election.chosen(ids))
+
+
+@app.post('/record')
+def record():
+    """Sends what was looked at. A second sending gets the first one's answer."""
+    form = g.session.forms.get(request.form.get('form'))
+    if form is None or request.form.get('seen') != str(form.seen):
+        return say('Not sent', STALE, 409)
+    return answer(form)
+
+
+def answer(form):
+    outcome = form.send(office.desk, g.clerk)
+    words = office.end() if outcome.kind == 'entry' and outcome.value[2::3] == ('shut', 'done') else None
+    return render_template('start.html', title='Answer', outcome=outcome, form=form, last=office.desk.last.get(form.voter), words=words)
+
+
+@app.post('/settle')
+def settle():
+    office.desk.settle(request.form.get('form'), g.clerk)
+    return show(asked_voter()) if request.form.get('voter') else redirect('/', 303)
+
+
+@app.get('/head')
+def head(words='', status=200):
+    return render_template('head.html', title='The head clerk', words=words, counts=office.desk.counts.copy()), status
+
+
+@app.post('/again')
+def again():
+    office.desk.keep_up(is_after_fault=True)
+    return redirect('/head', 303)
+
+
+@app.post('/shut')
+def shut():
+    is_typed = request.form.get('word', '').strip() == 'shut'
+    return answer(sessions.Form('shut')) if is_typed else head('The desk is not shut. Type the word “shut”.', 400)
+
+
+@app.get('/result')
+@app.get('/result/<name>')
+def result(name=None):
+    """The report of the shut desk, or a file to be kept."""
+    if not office.desk.is_shut:
+        return say('No result yet', 'The desk is open.', 409)
+    report, page = office.result()
+    if name is None:
+        return render_template('result.html', title='The result', report=report.decode())
+    kept = {'report.txt': report, 'result.html': page}.get(name) or abort(404)
+    return Response(kept, mimetype='application/octet-stream', headers={'Content-Disposition': f'attachment; filename="{name}"'})

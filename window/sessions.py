@@ -1,0 +1,56 @@
+"""Sessions: who is signed in, and the forms that a clerk was shown."""
+import secrets, threading, time
+
+# After how many seconds without a request, and at the latest, a session ends; how many forms it remembers.
+IDLE, LONGEST, FORMS = 30 * 60, 12 * 3600, 100
+
+
+class Form:
+    """What a clerk has looked at and may send, once: a request, with the voter's last entry as it was shown."""
+
+    def __init__(self, request, voter='', ids='', seen=0):
+        self.id, self.lock, self.outcome = secrets.token_urlsafe(16), threading.Lock(), None
+        self.request, self.voter, self.ids, self.seen = request, voter, ids, seen
+
+    def send(self, desk, clerk):
+        """Sends it, or gives what the first sending came to."""
+        with self.lock:
+            self.outcome = self.outcome or desk.ask(self.id, clerk, self.request, self.voter, ','.join(self.ids), self.seen)
+            return self.outcome
+
+
+class Session:
+    """A clerk who is signed in."""
+
+    def __init__(self, clerk):
+        self.clerk, self.begun, self.used, self.forms = clerk, time.monotonic(), time.monotonic(), {}
+
+    def is_over(self, clerks):
+        """Whether it has ended by time, or since the clerk is closed or has another passphrase."""
+        now = time.monotonic()
+        return now - self.used > IDLE or now - self.begun > LONGEST or self.clerk not in clerks
+
+    def add(self, form):
+        self.forms[form.id] = form
+        if len(self.forms) > FORMS:
+            del self.forms[next(iter(self.forms))]
+        return form
+
+
+class Sessions(dict):
+    """The sessions, by what their cookies hold."""
+
+    def begin(self, clerk, clerks):
+        for key in [key for key, it in list(self.items()) if it.is_over(clerks)]:
+            self.pop(key, None)
+        key = secrets.token_urlsafe(32)
+        self[key] = Session(clerk)
+        return key
+
+    def find(self, key, clerks):
+        """The session of a cookie, if it goes on."""
+        session = self.get(key)
+        if session is None or session.is_over(clerks):
+            return self.pop(key, None) and None
+        session.used = time.monotonic()
+        return session
