@@ -60,12 +60,13 @@ class Tab:
     def reload(self):
         self.loaded(lambda: self.call('Page.reload'))
 
-    def press(self, key, loads=False):
-        """Presses a key and lets it go; it may lead to another page."""
-        code, text = KEYS[key]
+    def press(self, key, loads=False, **more):
+        """Presses a key and lets it go; it may lead to another page. A `timestamp` says when that is."""
+        code, text = KEYS.get(key) or (ord(key.upper()), key)
 
         def act():
-            self.call('Input.dispatchKeyEvent', type='keyDown', key=key, code=key, windowsVirtualKeyCode=code, text=text)
+            self.call('Input.dispatchKeyEvent', type='keyDown', key=key, code=key, windowsVirtualKeyCode=code,
+                      text=text, **more)
             try:
                 self.call('Input.dispatchKeyEvent', type='keyUp', key=key, code=key, windowsVirtualKeyCode=code)
             except SystemExit:

@@ -72,6 +72,8 @@ def try_pages(program, work, pictures):
             see(f'{name}, clerk {NAMES.index(name)}' in tab.text(), f'{name} signs in', tab.text())
         look_at(ann, 'start', pictures)
         try_day(window, ann, ben, head, pictures)
+        try_scanner(window, ben)
+        try_escape(window, ben)
         try_deaths_in_browser(window, ann, ben, head, pictures)
         ann.open(f'http://127.0.0.1:{window.port}/nowhere')
         look_at(ann, 'nowhere', pictures)
@@ -147,7 +149,8 @@ def try_day(window, ann, ben, head, pictures):
     ann.enter()
     see('Nothing was sent' in ann.text() and 'entry 1, cast' in ann.text() and len(window.entries()) == 1, 'nothing is sent over it', ann.text())
     look_at(ann, 'changed', pictures)
-    ann.enter()
+    see(ann.focus() == 'voter', 'the next id does not open the page of this voter', ann.focus())
+    ann.press_button('Look again')
     see('This voter has a ballot: entry 1, taken by' in ann.text() and not ann.run('document.querySelectorAll(":checked").length'),
         'the second clerk is told that a ballot stands, and not what it holds', ann.text())
     look_at(ann, 'stands', pictures)
@@ -211,6 +214,40 @@ def try_day(window, ann, ben, head, pictures):
     see(entry()[:5] == ['5', '2', 'cast', 'no script', '0,1'], 'a ballot without the script', entry(), ben.text())
 
 
+def try_scanner(window, tab):
+    """An id that is scanned on the check page records nothing; Enter by hand, 2 seconds later, does."""
+    count = len(window.entries())
+    tab.open(f'http://127.0.0.1:{window.port}/')
+    tab.type('scanned')
+    tab.enter()
+    tab.enter()
+    begun = time.time()     # The browser is told when each key came, so that it matters not how fast this runs.
+    for at, key in enumerate(['v', ' ', '8', 'Enter']):
+        tab.press(key, timestamp=begun + at / 100)
+    time.sleep(2)
+    see('Check before you record' in tab.text() and tab.focus() == 'Record this' and len(window.entries()) == count,
+        'a scanned id records nothing', tab.text(), tab.focus())
+    tab.enter()
+    see(f'Entry {count + 1} of the journal: cast, voter scanned' in tab.text(), 'Enter by hand does', tab.text())
+
+
+def try_escape(window, tab):
+    """Escape leads to the next voter from each page, and is not the browser's own, which would stop that."""
+    watch = "addEventListener('keydown', it => sessionStorage.setItem('escape', it.key + it.defaultPrevented))"
+    for number in range(6):
+        tab.open(f'http://127.0.0.1:{window.port}/')
+        tab.type(f'escape {number}')
+        tab.enter()
+        if number % 2:
+            tab.enter()
+        tab.run(watch)
+        tab.press('Escape', loads=True)
+        here = tab.focus(), tab.text('h1')
+        see(here == ('voter', 'Next voter'), 'Escape leads to the next voter, each time', number, here)
+        see(tab.run("sessionStorage.getItem('escape')") == 'Escapetrue', "it is not the browser's own", number)
+        tab.run("sessionStorage.removeItem('escape')")
+
+
 def try_deaths_in_browser(window, ann, ben, head, pictures):
     """serve is killed with a request under way, and the window is killed; the clerks go on."""
     ann.open(f'http://127.0.0.1:{window.port}/')
@@ -223,7 +260,8 @@ def try_deaths_in_browser(window, ann, ben, head, pictures):
     ann.enter()
     see('It is not known whether this was recorded.' in ann.text(), 'not known', ann.text())
     look_at(ann, 'unknown', pictures)
-    ann.enter()
+    see(ann.focus() == 'voter', 'here neither', ann.focus())
+    ann.press_button('Look again')
     see('Is this what was asked for?' in ann.text() and 'The voter has no entry' in ann.text(), 'the last entry is shown', ann.text())
     look_at(ann, 'asked', pictures)
     ann.run('[...document.querySelectorAll("button")].find(it => it.textContent.includes("checked this")).focus()')

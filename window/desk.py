@@ -7,6 +7,7 @@ from log import opened
 # How many seconds the start waits for a journal that another run has, and a clerk for an answer.
 LOCKED, ANSWERS = 10, 60
 Entry = collections.namedtuple('Entry', 'number clerk request voter places answer')
+NOTHING = Entry(0, 0, '', '', '', '')
 # How a request ended: with an 'entry'; 'refused', by this name; not sent, since the voter's last entry had 'changed' or the
 # desk had 'stopped'; or sent, and it is 'unknown' what came of it.
 Outcome = collections.namedtuple('Outcome', 'kind value', defaults=[None])
@@ -27,7 +28,7 @@ class Desk:
         self.command, self.files, self.words = [*serve, file, journal], (file, journal), opened(f'{journal}.words')
         self.log, self.votes, self.sending = log, votes, threading.RLock()
         self.waiting, self.busy, self.is_shut = collections.deque(), set(), False
-        self.child = self.fault = self.marks = self.newest = None
+        self.child, self.fault, self.marks, self.newest = None, None, None, NOTHING
         self.unknown = {form: Asked(form, it['clerk'], it['request'], it['voter'])
                         for form, it in log.without_answer().items()}
 
@@ -35,7 +36,12 @@ class Desk:
         """Starts the child and reads the journal as it stands. Where another run has it, it tries for some seconds."""
         if self.marks and self.marks != self.marks_of_files():
             raise Fault('FILE or JOURNAL is not the one that this window began with, so nothing was started')
-        until = time.monotonic() + LOCKED
+        journal, until = self.files[1], time.monotonic() + LOCKED
+        if os.path.exists(f'{journal}.kept'):
+            raise Fault(f'{journal}.kept is here, so somebody has moved or replaced {journal}. Copy both to another '
+                        f'folder. Give the one with more entries the name {journal}. Leave no .kept file here')
+        if self.log.entries and not os.path.exists(journal):
+            raise Fault(self.lacking(self.log.entries, 0))
         while True:
             # A session of its own: Ctrl-C at the window's terminal is no signal to the child.
             child = subprocess.Popen(self.command, stdin=subprocess.PIPE, stdout=subprocess.PIPE, stderr=self.words,
@@ -49,36 +55,39 @@ class Desk:
                 break
             child.communicate()
             if first[:2] != ['fault', 'locked'] or time.monotonic() > until:
-                raise Fault(f"{';'.join(first) or 'pb_app serve did not start'}; its words are in {self.files[1]}.words")
+                raise Fault(f"{';'.join(first) or 'pb_app serve did not start'}; its words are in {journal}.words")
             time.sleep(0.2)
-        if not self.read_journal(int(first[1])):
+        lacking = self.read_journal(int(first[1]))
+        if lacking:
             child.communicate()
-            raise Fault(f'the journal lacks entry {self.newest.number}, which was answered')
+            raise Fault(lacking)
         self.is_shut, self.marks, self.child, self.fault = first[2] == 'shut', self.marks_of_files(), child, None
         self.log.write('started', entries=int(first[1]), state=first[2])
         self.listener = threading.Thread(target=self.listen, args=(child, rows), daemon=True)
         self.listener.start()
 
     def marks_of_files(self):
-        """What says that both files are still the same ones; of the two only the journal may grow."""
-        try:
+        """What says that both files are still the same ones, or None; of the two only the journal may grow."""
+        with contextlib.suppress(OSError):
             file, journal = map(os.stat, self.files)
             return file.st_dev, file.st_ino, file.st_size, file.st_mtime_ns, journal.st_dev, journal.st_ino
-        except OSError:
-            return None
 
     def read_journal(self, count):
-        """Takes the entries of the journal. Whether the newest one that was answered before is among them."""
-        answered, self.newest = self.newest, None
+        """Takes the entries of the journal. Says so where the newest one that was answered before is not among them."""
+        before, self.newest = self.newest, NOTHING
         # The last entry of each voter, the one by which a ballot stands, and how many there are of each kind.
         self.last, self.standing, self.counts = {}, {}, collections.Counter()
         with open(self.files[1], encoding='utf-8', newline='') as text:
             rows = (row for row in records(text) if row[0] != 'journal')
-            for _ in range(count):
-                entry = self.note(next(rows))
-                answered = None if entry == answered else answered
-        self.newest = answered or self.newest
-        return not answered
+            entries = [NOTHING] + [self.note(next(rows)) for _ in range(count)]
+        if count < self.log.entries or before not in entries:
+            self.newest = before
+            return self.lacking(before.number or self.log.entries, count)
+
+    def lacking(self, number, count):
+        """What is wrong with a journal that has not all that was answered, and what to do."""
+        return (f'{self.files[1]} lacks entry {number}, which was answered (its entries: {count}). Give the right '
+                f'journal this name. To go on without what this one lacks, move {self.files[1]}.log to another folder')
 
     def note(self, row):
         """Takes an entry."""

@@ -46,8 +46,13 @@ def keep(answer, kind, value, seconds=None):
     return answer
 
 
+def page(body, title, **more):
+    """A page of the window: base.html, and this template within it."""
+    return render_template('base.html', body=f'{body}.html', title=title, **more)
+
+
 def say(title, words, status=200):
-    return render_template('start.html', title=title, words=words), status
+    return page('start', title, words=words), status
 
 
 @app.before_request
@@ -105,10 +110,10 @@ def failed(why):
 def start():
     if g.session:
         office.desk.keep_up()
-        return render_template('start.html', title='Next voter',
-                               missed=[it for it in list(office.desk.unknown.values()) if it.clerk == g.clerk])
+        return page('start', 'Next voter',
+                    missed=[it for it in list(office.desk.unknown.values()) if it.clerk == g.clerk])
     g.fresh = cookie('sign-in') or secrets.token_urlsafe(32)
-    return keep(render_template('sign_in.html', title='Sign in'), 'sign-in', g.fresh)
+    return keep(page('sign_in', 'Sign in'), 'sign-in', g.fresh)
 
 
 @app.post('/sign-in')
@@ -118,7 +123,7 @@ def sign_in():
     if not clerk:
         office.log.write('not-signed-in', address=address, wait=round(wait))
         why = f'Wait {int(wait) + 1} seconds, and try again.' if wait else 'The name or the passphrase is wrong.'
-        return render_template('sign_in.html', title='Sign in', words=why), 429 if wait else 403
+        return page('sign_in', 'Sign in', words=why), 429 if wait else 403
     office.log.write('signed-in', clerk=clerk['number'], address=address)
     office.sessions.pop(cookie('session'), None)
     answer = keep(redirect('/', 303), 'session', office.sessions.begin(clerk, office.door.clerks()))
@@ -150,9 +155,10 @@ def show(voter, ids=None, is_asked_for=False):
     is_own = entry is not None and entry.clerk == g.clerk
     held = office.election.held(voter, entry) if has_ballot and (is_own or is_asked_for) else None
     ticked = ids if ids is not None else held if is_own else None
-    return render_template('voter.html', title='Voter', voter=voter, entry=entry, has_ballot=has_ballot, ticked=ticked or [],
-                           held=None if held is None else office.election.chosen(held), projects=office.election.projects,
-                           last=desk.last.get(voter), missed=[it for it in list(desk.unknown.values()) if it.voter == voter])
+    return page('voter', 'Voter', voter=voter, entry=entry, has_ballot=has_ballot, is_own=is_own, ids=ids,
+                held=None if held is None else office.election.chosen(held), projects=office.election.projects,
+                ticked=ticked or [], last=desk.last.get(voter),
+                missed=[it for it in list(desk.unknown.values()) if it.voter == voter])
 
 
 @app.post('/voter')
@@ -175,7 +181,7 @@ def look():
         abort(400)
     ids = election.ids_of(','.join(request.form.getlist('id'))) if wanted != 'withdraw' else []
     form = g.session.add(sessions.Form(wanted, asked_voter(), ids, int(seen)))
-    return render_template('look.html', title='Check before you record', form=form, chosen=office.election.chosen(ids))
+    return page('look', 'Check before you record', form=form, chosen=office.election.chosen(ids))
 
 
 @app.post('/record')
@@ -190,7 +196,7 @@ def record():
 def answer(form):
     outcome = form.send(office.desk, g.clerk)
     words = office.end() if outcome.kind == 'entry' and outcome.value[2::3] == ('shut', 'done') else None
-    return render_template('start.html', title='Answer', outcome=outcome, form=form, last=office.desk.last.get(form.voter), words=words)
+    return page('start', 'Answer', outcome=outcome, form=form, last=office.desk.last.get(form.voter), words=words)
 
 
 @app.post('/settle')
@@ -201,7 +207,7 @@ def settle():
 
 @app.get('/head')
 def head(words='', status=200):
-    return render_template('head.html', title='The head clerk', words=words, counts=office.desk.counts.copy()), status
+    return page('head', 'The head clerk', words=words, counts=office.desk.counts.copy()), status
 
 
 @app.post('/again')
@@ -222,8 +228,8 @@ def result(name=None):
     """The report of the shut desk, or a file to be kept."""
     if not office.desk.is_shut:
         return say('No result yet', 'The desk is open.', 409)
-    report, page = office.result()
+    report, shown = office.result()
     if name is None:
-        return render_template('result.html', title='The result', report=report.decode())
-    kept = {'report.txt': report, 'result.html': page}.get(name) or abort(404)
+        return page('result', 'The result', report=report.decode())
+    kept = {'report.txt': report, 'result.html': shown}.get(name) or abort(404)
     return Response(kept, mimetype='application/octet-stream', headers={'Content-Disposition': f'attachment; filename="{name}"'})

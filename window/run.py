@@ -69,7 +69,7 @@ class Day:
             try:
                 with open(self.given.journal, 'rb') as file:
                     text = file.read()
-                digest, entries = hashlib.sha256(text).hexdigest(), self.desk.newest.number if self.desk.newest else 0
+                digest, entries = hashlib.sha256(text).hexdigest(), self.desk.newest.number
                 self.log.write('ended', entries=entries, digest=digest)
                 print(f'{entries} entries, sha256 {digest}: write both down', flush=True)
                 name = f'{os.path.basename(self.given.journal)}.{datetime.datetime.now(datetime.timezone.utc):%Y%m%dT%H%M%S%fZ}'
@@ -103,7 +103,8 @@ def main():
         signal.signal(number, lambda *_: stop.set())
     try:
         web.prepare()
-        print(f'The window is open at {given.scheme}://{given.hosts[0]}/ and Ctrl-C ends the day.', flush=True)
+        print(f'The window is open at {given.scheme}://{given.hosts[0]}/ and Ctrl-C ends the day.',
+              f'Entries in the journal: {day.desk.newest.number}.', flush=True)
         threading.Thread(target=web.serve, daemon=True).start()
         stop.wait()
         web.stop()

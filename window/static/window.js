@@ -1,6 +1,6 @@
 // Search as you type, Enter to tick, the count of the chosen, Escape for the next voter. Without it all works by Tab and Space.
 document.documentElement.classList.add('scripted');
-let form = document.getElementById('ballot'), warned = false;
+let form = document.getElementById('ballot'), warned = false, typed = -Infinity;
 if (form) {
   const search = document.getElementById('search'), count = document.getElementById('count');
   const plain = text => text.normalize('NFD').replace(/\p{M}/gu, '').toLowerCase();
@@ -36,7 +36,13 @@ if (form) {
 addEventListener('keydown', event => {
   if (event.key !== 'Escape' || !document.getElementById('next')) return;
   const changed = form && [...form.elements].some(it => it.checked !== it.defaultChecked);
+  event.preventDefault();       // The browser's own Escape would stop the page that is about to load.
   if (!changed || warned) return location.assign('/');
   warned = true;
   document.getElementById('count').textContent = 'Press Escape once more to leave this voter. Nothing was sent.';
+});
+// On the check page an Enter or a space within a tenth of a second of a typed character is a scanner's: it is ignored.
+if (document.querySelector('form[action="/record"]')) addEventListener('keydown', event => {
+  if ((event.key === 'Enter' || event.key === ' ') && event.timeStamp - typed < 100) event.preventDefault();
+  if (event.key.length === 1) typed = event.timeStamp;
 });
