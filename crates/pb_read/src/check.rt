@@ -78,16 +78,6 @@ pub(crate) enum Verdict {
     Done,
 }
 
-impl Verdict {
-    /// The fault, if there is one.
-    fn fault(self) -> Option<ReadKind> {
-        match self {
-            Verdict::LeavesOut(kind) | Verdict::Ends(kind) => Some(kind),
-            Verdict::Passes | Verdict::Done => None,
-        }
-    }
-}
-
 /// How far a file was checked.
 #[derive(Drop)]
 pub(crate) struct Check {
@@ -178,42 +168,53 @@ impl Check {
         ensures ready { GoesOn result → IsReady self.new.progress }
     {
         match self.row.read_any(self.alloc, &mut self.raw, records) {
-            Ok(Found::Text) => {
-                let part = self.progress.part_of(&self.row);
-                let verdict = self.judge(kept);
-                watch.see(self.row.bytes(), at, part, verdict.fault());
-                verdict
-            }
+            Ok(Found::Text) => self.judge(watch, kept, at),
             Ok(Found::NoText) => {
-                let part = self.progress.stage.part();
-                let verdict = self.refused_by(ReadKind::NotText);
-                watch.see(&self.raw, at, part, verdict.fault());
-                verdict
+                let kind = ReadKind::NotText;
+                watch.refuse(&self.raw, ReadFault { kind, at }, &self.progress.stage);
+                self.refused_by(kind)
             }
-            Ok(Found::End) => self.judge_end(),
+            Ok(Found::End) => self.judge_end(watch, at),
             Err(RecordsFault::NoMemory) => Verdict::Ends(ReadKind::NoMemory),
             Err(_) => Verdict::Ends(ReadKind::ReadFailed),
         }
     }
 
-    /// Judges the row that was read, after so many that were kept.
-    fn judge(&mut self, kept: u32) -> Verdict
+    /// Judges the row that was read, number `at`, after so many that were kept.
+    fn judge<W: Watch>(&mut self, watch: &mut W, kept: u32, at: u32) -> Verdict
         requires { IsReady self.old.progress }
         ensures judged { JudgesRow kept self.old.row
             (place_of self.old.progress) (place_of self.new.progress) result }
         ensures ready { GoesOn result → IsReady self.new.progress }
     {
         if kept == MOST_RECORDS {
-            return Verdict::Ends(ReadKind::TooManyRecords);
+            let kind = ReadKind::TooManyRecords;
+            watch.refuse(
+                self.row.bytes(),
+                ReadFault { kind, at },
+                &self.progress.stage,
+            );
+            return Verdict::Ends(kind);
         }
+        let part = self.progress.part_of(&self.row);
         match self.progress.read(&self.row) {
-            Ok(()) => Verdict::Passes,
-            Err(kind) => self.refused_by(kind),
+            Ok(()) => {
+                watch.see(self.row.bytes(), at, part);
+                Verdict::Passes
+            }
+            Err(kind) => {
+                watch.refuse(
+                    self.row.bytes(),
+                    ReadFault { kind, at },
+                    &self.progress.stage,
+                );
+                self.refused_by(kind)
+            }
         }
     }
 
-    /// Judges the end of the file.
-    fn judge_end(&mut self) -> Verdict
+    /// Judges the end of the file, where record `at` would stand.
+    fn judge_end<W: Watch>(&mut self, watch: &mut W, at: u32) -> Verdict
         ensures { JudgesEnd (place_of self.old.progress) result }
     {
         match self.progress.finish() {
@@ -221,7 +222,10 @@ impl Check {
                 drop(election);
                 Verdict::Done
             }
-            Err(kind) => Verdict::Ends(kind),
+            Err(kind) => {
+                watch.refuse(&self.raw, ReadFault { kind, at }, &self.progress.stage);
+                Verdict::Ends(kind)
+            }
         }
     }
 

@@ -8,7 +8,7 @@ use pb_core::money_fault::MoneyFault;
 
 /// What the rows of META say so far; of a repeated key the last row counts.
 #[derive(Clone, Copy)]
-pub(crate) struct Meta {
+pub struct Meta {
     /// The value of `budget`, read as money.
     pub(crate) budget: Option<Result<Money, MoneyFault>>,
     /// Whether the value of `vote_type` is `approval`.

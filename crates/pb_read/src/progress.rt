@@ -23,7 +23,7 @@ use std::mem;
 
 /// How far a file was read: what the next record may be.
 #[derive(Clone, Copy)]
-pub(crate) enum Stage {
+pub enum Stage {
     /// META's head.
     Start,
     /// A section's header row, after its head.
@@ -38,7 +38,7 @@ pub(crate) enum Stage {
 
 impl Stage {
     /// What a record is that comes at this stage, and is neither blank nor a section's head.
-    pub(crate) fn part(&self) -> Part {
+    fn part(&self) -> Part {
         match *self {
             Stage::Start => Part::Other,
             Stage::Header(_) => Part::Names,
@@ -154,10 +154,12 @@ impl Progress {
 
     /// What a record is that comes next.
     pub(crate) fn part_of(&self, row: &Row) -> Part {
-        if row.is_blank() || Section::headed_by(row).is_some() {
-            Part::Other
-        } else {
-            self.stage.part()
+        if row.is_blank() {
+            return Part::Other;
+        }
+        match Section::headed_by(row) {
+            Some(section) => Part::Head(section),
+            None => self.stage.part(),
         }
     }
 

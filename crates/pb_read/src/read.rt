@@ -47,8 +47,8 @@ pub fn read_pb<R: Read + Drop>(alloc: Global, reader: R) -> Result<Election, Rea
     read_pb_watched(alloc, reader, &mut NoWatch)
 }
 
-/// The same, and who looks on is shown each record once it has passed, and then that the file has ended, where it stands
-/// for an election.
+/// The same, and who looks on is shown each record that has passed, and then what is refused, or that the file has ended
+/// and stands for an election.
 pub fn read_pb_watched<R: Read + Drop, W: Watch>(
     alloc: Global,
     reader: R,
@@ -105,8 +105,11 @@ fn read_election<R: Read, W: Watch>(
     ensures read { HasReadAtMost 2000001 records.old.left records.new.left }
 {
     match read_rows(records, row, progress, watch) {
-        Ok(end) => finish(progress, end, watch),
-        Err(fault) => Err(fault),
+        Ok(end) => finish(progress, end, row, watch),
+        Err(fault) => {
+            watch.refuse(row.bytes(), fault, &progress.stage);
+            Err(fault)
+        }
     }
 }
 
@@ -132,7 +135,7 @@ fn read_rows<R: Read, W: Watch>(
         }
         let part = progress.part_of(row);
         take_row(progress, row, at)?;
-        watch.see(row.bytes(), at, part, None);
+        watch.see(row.bytes(), at, part);
     }
     let at = MOST_RECORDS + 1;
     if read_row(records, row, at)? {
@@ -176,8 +179,13 @@ fn take_row(progress: &mut Progress, row: &Row, at: u32) -> Result<(), ReadFault
     }
 }
 
-/// Ends the reading, where record `at` would stand.
-fn finish<W: Watch>(progress: &mut Progress, at: u32, watch: &mut W) -> Result<Election, ReadFault>
+/// Ends the reading, where record `at` would stand and `row` is read last.
+fn finish<W: Watch>(
+    progress: &mut Progress,
+    at: u32,
+    row: &Row,
+    watch: &mut W,
+) -> Result<Election, ReadFault>
     ensures end { MatchResult result (EndsWith (place_of progress.old))
         (λ fault. (fault.at ≡ at) × Refuses progress.old the_end fault.kind) }
     ensures blame { IfErr result (λ fault. BlamesReader fault.kind None) }
@@ -187,6 +195,10 @@ fn finish<W: Watch>(progress: &mut Progress, at: u32, watch: &mut W) -> Result<E
             watch.end();
             Ok(election)
         }
-        Err(kind) => Err(ReadFault { kind, at }),
+        Err(kind) => {
+            let fault = ReadFault { kind, at };
+            watch.refuse(row.bytes(), fault, &progress.stage);
+            Err(fault)
+        }
     }
 }

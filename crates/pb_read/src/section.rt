@@ -4,7 +4,7 @@ use crate::row::{Row, is_word};
 
 /// A section of a file, in the order in which sections come.
 #[derive(Clone, Copy)]
-pub(crate) enum Section {
+pub enum Section {
     Meta,
     Projects,
     Votes,

@@ -4,7 +4,9 @@ ghost use Rattle.std.specs.Prelude.{◌≡◌, Option};
 ghost use Rattle.pb_read.specs.declared.warning.Warning.{Warning};
 
 use crate::columns::{ProjectColumns, VoteColumns};
-use crate::fault::ReadKind;
+use crate::fault::ReadFault;
+use crate::progress::Stage;
+use crate::section::Section;
 use crate::warning::{Warning, WarningRow};
 use csv::ByteRecord;
 use pb_core::no_memory::NoMemory;
@@ -12,8 +14,10 @@ use pb_core::no_memory::NoMemory;
 /// What a record of a file is, by where it stands.
 #[derive(Clone, Copy)]
 pub enum Part {
-    /// No row of a section: it is blank or a section's head, or comes before META.
+    /// Neither a row nor a head: it is blank. One that comes before META is refused.
     Other,
+    /// The head of this section.
+    Head(Section),
     /// A section's row of column names.
     Names,
     /// A row of META: a key and its value.
@@ -26,8 +30,12 @@ pub enum Part {
 
 /// Who looks on while a file is read. It is only shown what the reader reads, so it changes nothing of it.
 pub trait Watch {
-    /// Sees the record with this number, from 1, as it stands in the file, what it is, and why it is refused, if it is.
-    fn see(&mut self, record: &ByteRecord, at: u32, part: Part, refused: Option<ReadKind>);
+    /// Sees the record with this number, from 1, as it stands in the file, and what it is. The reader has accepted it.
+    fn see(&mut self, record: &ByteRecord, at: u32, part: Part);
+
+    /// Sees the record that the reader refuses, why, and how far the file was read before it. The record has no field
+    /// where there is none: the file ends, or `read_pb` met a field that is no text.
+    fn refuse(&mut self, record: &ByteRecord, fault: ReadFault, stage: &Stage);
 
     /// Learns that the file has ended, and may end there: all of its rows were shown.
     fn end(&mut self);
@@ -54,7 +62,9 @@ pub trait Heed: Watch {
 pub struct NoWatch;
 
 impl Watch for NoWatch {
-    fn see(&mut self, _record: &ByteRecord, _at: u32, _part: Part, _refused: Option<ReadKind>) {}
+    fn see(&mut self, _record: &ByteRecord, _at: u32, _part: Part) {}
+
+    fn refuse(&mut self, _record: &ByteRecord, _fault: ReadFault, _stage: &Stage) {}
 
     fn end(&mut self) {}
 }

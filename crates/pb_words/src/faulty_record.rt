@@ -4,11 +4,12 @@ use crate::fields::{JoinedBy, bytes_at, column_of, joined, place_of_no_text, tex
 use crate::mark::Mark;
 use crate::mark_words::put_subject;
 use crate::read_rules::words_of;
-use crate::section::{Names, OddHead, Section, Stage};
+use crate::section::{Names, OddHead, due_head, names_of, odd_head_of, section_of};
+use crate::seen::Seen;
 use crate::words::Value::{Bytes, Number, Own, Quoted};
 use crate::words::Words;
 use csv::ByteRecord;
-use pb_read::ReadKind;
+use pb_read::{ReadKind, Section, Stage};
 
 /// What to do about the column names of VOTES among the projects.
 const NO_VOTES: &str =
@@ -21,39 +22,54 @@ pub(crate) struct FaultyRecord<'r> {
     pub(crate) record: &'r ByteRecord,
     /// Where the record begins.
     pub(crate) mark: Mark,
-    /// What might come where it stands, and what things are called there.
-    pub(crate) stage: Stage,
-    /// The first row of the section before it that seems to be meant as a head.
-    pub(crate) odd_head: Option<OddHead>,
-    pub(crate) names: &'static Names,
-    /// The row's id, and its other value; the empty text where it has none.
-    pub(crate) id: &'r str,
-    pub(crate) value: &'r str,
-    /// Whether the row does not end before its id.
-    pub(crate) reaches_id: bool,
+    /// How far the file was read before it.
+    pub(crate) stage: &'r Stage,
+    /// What the records before it say.
+    pub(crate) seen: &'r Seen,
 }
 
 impl<'r> FaultyRecord<'r> {
+    /// The places of its id, and of the other value that a row of its section needs.
+    fn places(&self) -> (usize, usize) {
+        match self.stage {
+            Stage::InProjects(columns) => (columns.id, columns.cost),
+            Stage::InVotes(columns) => (columns.voter, columns.vote),
+            _ => (0, 1),
+        }
+    }
+
+    /// The row's id; the empty text where it has none.
+    pub(crate) fn id(&self) -> &'r str {
+        text_at(self.record, self.places().0)
+    }
+
+    /// The row's other value; the empty text where it has none.
+    pub(crate) fn value(&self) -> &'r str {
+        text_at(self.record, self.places().1)
+    }
+
+    /// What things are called where it stands.
+    fn names(&self) -> &'static Names {
+        names_of(section_of(self.stage))
+    }
+
     /// What to do about a row that is in the wrong section.
     pub(crate) fn remedy(&self) -> Option<&'static str> {
-        let is_project = self.stage == Stage::Rows(Section::Projects);
-        if is_project && column_of(self.record, "voter_id").is_some() {
-            return Some(NO_VOTES);
+        match self.stage {
+            Stage::InProjects(_) if column_of(self.record, "voter_id").is_some() => Some(NO_VOTES),
+            _ => None,
         }
-        None
     }
 
     /// The row that seems to be meant as a section's head: one before it in the section, or this one.
     pub(crate) fn odd_head(&self) -> Option<OddHead> {
-        if self.odd_head.is_some() {
-            return self.odd_head;
+        if self.seen.odd_head.is_some() {
+            return self.seen.odd_head;
         }
-        if self.stage.section() == Section::Votes {
-            return None;
+        match section_of(self.stage) {
+            Section::Votes => None,
+            Section::Meta | Section::Projects => odd_head_of(self.record, self.mark),
         }
-        let section = Section::meant_by(self.record)?;
-        let mark = self.mark;
-        Some(OddHead { section, mark })
     }
 
     /// Why the row is one field that seems to be a whole row, if it is one.
@@ -70,19 +86,19 @@ impl<'r> FaultyRecord<'r> {
         match self.kind {
             ReadKind::NotText => self.put_no_text(out),
             ReadKind::NoSection => self.put_head(out, " is no section's head, and META is due.\n"),
-            ReadKind::SectionOrder => self.put_head(out, self.stage.due_head()),
+            ReadKind::SectionOrder => self.put_head(out, due_head(self.stage)),
             ReadKind::NoHeader => {
                 self.put_head(out, " stands where ");
-                out.put(self.names.header_due)
+                out.put(self.names().header_due)
             }
             ReadKind::MissingColumn => self.put_no_column(out),
             ReadKind::MissingField => self.put_short(out),
-            ReadKind::EmptyId => self.put_value(out, self.names.id_column, "", self.id),
+            ReadKind::EmptyId => self.put_value(out, self.names().id_column, "", self.id()),
             ReadKind::BadMoney
             | ReadKind::MoneyTooFine
             | ReadKind::MoneyTooLarge
             | ReadKind::ZeroCost => {
-                self.put_value(out, self.names.value_column, self.id, self.value)
+                self.put_value(out, self.names().value_column, self.id(), self.value())
             }
             kind => out.fill(": {}.\n", &[Own(words_of(kind).what)]),
         }
@@ -92,7 +108,7 @@ impl<'r> FaultyRecord<'r> {
     pub(crate) fn put_repeated(&self, out: &mut Words, first: Option<u64>) {
         out.fill(
             ", column {}: {}",
-            &[Own(self.names.id_column), Quoted(self.id)],
+            &[Own(self.names().id_column), Quoted(self.id())],
         );
         match first {
             Some(line) => out.fill(" stood first on line {}.\n", &[Number(line)]),
@@ -117,10 +133,11 @@ impl<'r> FaultyRecord<'r> {
     }
 
     fn put_no_column(&self, out: &mut Words) {
-        let missing = if column_of(self.record, self.names.id_column).is_some() {
-            self.names.value_column
+        let names = self.names();
+        let missing = if column_of(self.record, names.id_column).is_some() {
+            names.value_column
         } else {
-            self.names.id_column
+            names.id_column
         };
         out.fill(
             ": the row of column names begins with {} and lacks the column `{}`.\n",
@@ -129,11 +146,12 @@ impl<'r> FaultyRecord<'r> {
     }
 
     fn put_short(&self, out: &mut Words) {
-        put_subject(out, self.names.subject, self.id);
-        let missing = if self.reaches_id {
-            self.names.value_column
+        let names = self.names();
+        put_subject(out, names.subject, self.id());
+        let missing = if self.places().0 < self.record.len() {
+            names.value_column
         } else {
-            self.names.id_column
+            names.id_column
         };
         out.fill(": the row ends before the column `{}`.\n", &[Own(missing)])
     }
@@ -141,7 +159,7 @@ impl<'r> FaultyRecord<'r> {
     /// Puts a value of this column, in the row with this id, and the rule that it breaks.
     fn put_value(&self, out: &mut Words, column: &str, id: &str, value: &str) {
         out.fill(", column {}", &[Own(column)]);
-        put_subject(out, self.names.subject, id);
+        put_subject(out, self.names().subject, id);
         out.fill(": {}", &[Quoted(value)]);
         out.put(words_of(self.kind).rule)
     }

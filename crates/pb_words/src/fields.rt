@@ -24,24 +24,6 @@ pub(crate) fn text_at(record: &ByteRecord, place: usize) -> &str {
     raw_text(record, place).trim()
 }
 
-/// Whether all fields are empty once trimmed.
-pub(crate) fn is_blank(record: &ByteRecord) -> bool {
-    for place in 0..record.len() {
-        if !is_white(bytes_at(record, place)) {
-            return false;
-        }
-    }
-    true
-}
-
-/// Whether a field is text of white space alone.
-fn is_white(field: &[u8]) -> bool {
-    match str::from_utf8(field) {
-        Ok(text) => text.trim().is_empty(),
-        Err(_) => false,
-    }
-}
-
 /// The first place at which the record has this word, in any case.
 pub(crate) fn column_of(record: &ByteRecord, name: &str) -> Option<usize> {
     for place in 0..record.len() {

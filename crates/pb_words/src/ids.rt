@@ -1,12 +1,10 @@
-//! The ids of a file's projects and voters, as far as it was read again.
+//! The ids of a file's projects and voters, as far as a witness was shown them.
 
-use crate::fields::is_blank;
+use crate::fields::text_at;
 use crate::firsts::Firsts;
 use crate::mark::Mark;
-use crate::section::{Section, Stage};
-use crate::seen::Seen;
 use csv::ByteRecord;
-use pb_read::{ReadFault, ReadKind};
+use pb_read::{Part, ReadFault, ReadKind, Stage};
 use std::alloc::{AllocError, Global};
 use std::cell::Cell;
 use strsim::levenshtein;
@@ -21,7 +19,6 @@ const MOST_COMPARED: u32 = 100;
 #[derive(Drop)]
 pub(crate) struct Ids {
     alloc: Global,
-    keeps_projects: bool,
     keeps_voters: bool,
     pub(crate) projects: Firsts,
     /// The projects that were left out.
@@ -33,20 +30,14 @@ pub(crate) struct Ids {
 }
 
 impl Ids {
-    /// No id yet; those will be kept that the words for these faults need.
+    /// No id yet; those of voters will be kept where the words for one of these faults need them.
     pub(crate) fn new(alloc: Global, faults: &[ReadFault]) -> Ids {
-        let mut keeps_projects = false;
         let mut keeps_voters = false;
         for fault in faults {
-            match fault.kind {
-                ReadKind::UnknownProject | ReadKind::RepeatedProject => keeps_projects = true,
-                ReadKind::RepeatedVoter => keeps_voters = true,
-                _ => {}
-            }
+            keeps_voters = keeps_voters || fault.kind == ReadKind::RepeatedVoter;
         }
         Ids {
             alloc,
-            keeps_projects,
             keeps_voters,
             projects: Firsts::new(alloc),
             left_out: Firsts::new(alloc),
@@ -56,28 +47,34 @@ impl Ids {
         }
     }
 
-    /// Keeps the id of a row, which is left out or not.
-    pub(crate) fn keep(
+    /// Keeps the id of a row that the reader accepts.
+    pub(crate) fn take(
         &mut self,
-        seen: &Seen,
-        row: &ByteRecord,
+        record: &ByteRecord,
         mark: Mark,
-        is_left_out: bool,
+        part: Part,
     ) -> Result<(), AllocError> {
-        let id = seen.id(row);
-        if id.is_empty() || is_blank(row) || Section::headed_by(row).is_some() {
-            return Ok(());
-        }
-        match seen.stage {
-            Stage::Rows(Section::Projects) if self.keeps_projects => {
-                if is_left_out {
-                    self.left_out.keep(self.alloc, id, mark)
-                } else {
-                    self.keep_project(id, mark)
-                }
+        match part {
+            Part::Project(columns) => { self.keep_project(text_at(record, columns.id), mark) }
+            Part::Vote(columns) if self.keeps_voters => {
+                self.voters
+                    .keep(self.alloc, text_at(record, columns.voter), mark)
             }
-            Stage::Rows(Section::Votes) if self.keeps_voters && !is_left_out => {
-                self.voters.keep(self.alloc, id, mark)
+            _ => Ok(()),
+        }
+    }
+
+    /// Keeps the id of a project that is left out.
+    pub(crate) fn leave_out(
+        &mut self,
+        record: &ByteRecord,
+        mark: Mark,
+        stage: &Stage,
+    ) -> Result<(), AllocError> {
+        match stage {
+            Stage::InProjects(columns) => {
+                self.left_out
+                    .keep(self.alloc, text_at(record, columns.id), mark)
             }
             _ => Ok(()),
         }

@@ -1,8 +1,9 @@
 //! Words for people beside a fault's line: where it stands, what stands there and which rule it breaks, and what to do.
 //!
-//! Words are made after a run has failed. A named file is opened and read again, so no result can change by them; of
-//! standard input they say what the fault alone says. All text from outside goes through `Words`, so no word puts a
-//! control character into a terminal. Nothing but that each call returns is proved of a word.
+//! Words are made after a run has failed, so no result can change by them. A .pb file that has a name is read once more
+//! by pb_read, which shows a `Witness` what it refuses; of a script or a journal the row at fault is read again. Of standard
+//! input words say what the fault alone says. All text from outside goes through `Words`, so no word puts a control
+//! character into a terminal. Nothing but that each call returns is proved of a word.
 #![tactic(auto)]
 
 mod audit_paths;
@@ -19,6 +20,7 @@ mod firsts;
 mod ids;
 mod journal_form;
 pub mod journal_words;
+mod keys;
 mod looks;
 mod mark;
 mod mark_words;
@@ -29,6 +31,7 @@ pub mod output_words;
 mod quote;
 mod read_rules;
 pub mod read_words;
+mod record_words;
 mod records;
 pub mod refused_words;
 mod result_oddities;
@@ -41,8 +44,8 @@ mod tally;
 mod terminal;
 mod text;
 mod typed_row;
-mod walk;
 pub mod warnings;
+mod witness;
 mod words;
 
 pub use audit_paths::AuditPaths;

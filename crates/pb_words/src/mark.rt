@@ -32,4 +32,12 @@ impl Mark {
             line: position.line(),
         }
     }
+
+    /// The same place, where the record that begins here is still to be read.
+    pub(crate) fn before(self) -> Mark {
+        Mark {
+            at: self.at.saturating_sub(1),
+            ..self
+        }
+    }
 }

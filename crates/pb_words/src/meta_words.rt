@@ -1,12 +1,13 @@
 //! Words for META: its values, which are judged at the head of PROJECTS, and its head.
 
 use crate::fields::{JoinedBy, joined, text_at};
+use crate::keys::Given;
 use crate::mark::Mark;
 use crate::mark_words::{line_of, put_mark};
 use crate::read_rules::words_of;
 use crate::records::Records;
-use crate::section::{OddHead, Section};
-use crate::seen::{Given, Seen};
+use crate::section::OddHead;
+use crate::seen::Seen;
 use crate::text::Text;
 use crate::words::Value::{Number, Own, Quoted};
 use crate::words::Words;
@@ -41,9 +42,9 @@ const MOST_BEFORE_META: u64 = 1_000;
 /// The key of META that a fault at the head of PROJECTS is about, and the rows that gave it.
 fn key_of(kind: ReadKind, seen: &Seen) -> (&'static str, Option<Given>) {
     match kind {
-        ReadKind::VoteType => ("vote_type", seen.vote_type),
-        ReadKind::BadLength => ("max_length", seen.max_length),
-        _ => ("budget", seen.budget),
+        ReadKind::VoteType => ("vote_type", seen.keys.vote_type()),
+        ReadKind::BadLength => ("max_length", seen.keys.max_length()),
+        _ => ("budget", seen.keys.budget()),
     }
 }
 
@@ -58,7 +59,7 @@ pub(crate) fn put_value_words<R: Files>(
     let Some(Given { first, last }) = given else {
         return false;
     };
-    let Some(records) = text.records_at(Mark::start(), last.at) else {
+    let Some(records) = text.record_at(last) else {
         return false;
     };
     put_mark(out, text, last);
@@ -84,7 +85,7 @@ pub(crate) fn put_missing_key<R: Files>(
     mark: Mark,
 ) {
     put_mark(out, text, mark);
-    let remedy = if seen.budget.is_none() {
+    let remedy = if seen.keys.budget().is_none() {
         out.put(": META ends here without the key `budget`.\n");
         ADD_BUDGET
     } else {
@@ -99,7 +100,7 @@ pub(crate) fn put_missing_key<R: Files>(
 
 /// Why the record with this mark is one field that seems to be a whole row, if it is one.
 fn joined_at<R: Files>(text: &Text<'_, R>, mark: Mark) -> Option<JoinedBy> {
-    let records = text.records_at(Mark::start(), mark.at)?;
+    let records = text.record_at(mark)?;
     let joined = joined(&records.last);
     drop(records);
     joined
@@ -117,16 +118,19 @@ pub(crate) fn put_joined(out: &mut Words, joined: Option<JoinedBy>, remedy: &str
 
 /// Puts what to do about a row that seems to be meant as a head.
 pub(crate) fn put_odd_head<R: Files>(out: &mut Words, text: &Text<'_, R>, odd: OddHead) {
-    let head = odd.section.names().head;
     out.fill(
         "Line {} is probably meant as the head {}: write {} there, without punctuation.\n",
-        &[Number(line_of(text, odd.mark)), Own(head), Own(head)],
+        &[
+            Number(line_of(text, odd.mark)),
+            Own(odd.head),
+            Own(odd.head),
+        ],
     )
 }
 
 /// Puts what to do where META's head stands behind the record with this mark, and answers whether it does.
 pub(crate) fn put_late_meta<R: Files>(out: &mut Words, text: &Text<'_, R>, first: Mark) -> bool {
-    let Some(mark) = late_meta(text, first.at) else {
+    let Some(mark) = late_meta(text, first) else {
         return false;
     };
     out.fill(
@@ -136,9 +140,9 @@ pub(crate) fn put_late_meta<R: Files>(out: &mut Words, text: &Text<'_, R>, first
     true
 }
 
-/// Where META's head stands behind the record with this number.
-fn late_meta<R: Files>(text: &Text<'_, R>, at: u64) -> Option<Mark> {
-    let mut records = text.records_at(Mark::start(), at)?;
+/// Where META's head stands behind the record with this mark.
+fn late_meta<R: Files>(text: &Text<'_, R>, first: Mark) -> Option<Mark> {
+    let mut records = text.record_at(first)?;
     let mark = next_meta(&mut records);
     drop(records);
     mark
@@ -149,7 +153,7 @@ fn next_meta<F: Read>(records: &mut Records<F>) -> Option<Mark> {
         if !records.advance() {
             return None;
         }
-        if Section::headed_by(&records.last) == Some(Section::Meta) {
+        if text_at(&records.last, 0).eq_ignore_ascii_case("META") {
             return Some(records.mark());
         }
     }

@@ -2,7 +2,7 @@
 
 use crate::mark::Mark;
 use pb_core::no_memory::NoMemory;
-use pb_read::{Oddity, Warning, WarningRow};
+use pb_read::{Oddity, ProjectColumns, VoteColumns, Warning, WarningRow};
 use std::alloc::Global;
 
 /// The oddities in the order in which warnings are written.
@@ -53,6 +53,44 @@ pub(crate) struct Odd {
     pub(crate) value_place: usize,
     /// What it is measured by, as how many rows there are.
     pub(crate) number: u64,
+}
+
+impl Odd {
+    /// A row of META that is odd, measured by this number.
+    pub(crate) fn of_key(oddity: Oddity, mark: Mark, number: u64) -> Odd {
+        Odd {
+            oddity,
+            mark,
+            subject: Subject::Key,
+            id_place: 0,
+            value_place: 1,
+            number,
+        }
+    }
+
+    /// A row of PROJECTS that is odd.
+    pub(crate) fn of_project(oddity: Oddity, mark: Mark, columns: ProjectColumns) -> Odd {
+        Odd {
+            oddity,
+            mark,
+            subject: Subject::Project,
+            id_place: columns.id,
+            value_place: columns.cost,
+            number: 0,
+        }
+    }
+
+    /// A row of VOTES that is odd, measured by this number.
+    pub(crate) fn of_vote(oddity: Oddity, mark: Mark, columns: VoteColumns, number: u64) -> Odd {
+        Odd {
+            oddity,
+            mark,
+            subject: Subject::Voter,
+            id_place: columns.voter,
+            value_place: columns.vote,
+            number,
+        }
+    }
 }
 
 /// What was found: so many odd records of each kind at most, and how many there are of each.

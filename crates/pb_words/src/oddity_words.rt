@@ -1,14 +1,12 @@
 //! Words for warnings: where, what, and what to do.
 
 use crate::fields::text_at;
-use crate::mark::Mark;
 use crate::mark_words::{put_mark, put_record_number, put_subject};
 use crate::oddities::{ALL, Odd, Oddities, Subject};
 use crate::text::Text;
 use crate::words::Value::{Number, Own, Quoted};
 use crate::words::Words;
 use pb_read::Oddity;
-use std::alloc::Global;
 use std::rt::Files;
 
 /// What is said of an oddity.
@@ -108,13 +106,7 @@ fn said_of(oddity: Oddity, is_vote: bool) -> &'static Said {
 }
 
 /// Puts what is said of each warning, by their names.
-pub(crate) fn put_oddities<R: Files>(
-    out: &mut Words,
-    alloc: Global,
-    text: &Text<'_, R>,
-    oddities: &Oddities,
-) {
-    let _alloc = alloc;
+pub(crate) fn put_oddities<R: Files>(out: &mut Words, text: &Text<'_, R>, oddities: &Oddities) {
     if !oddities.is_whole() {
         return out.fail();
     }
@@ -147,27 +139,20 @@ fn put_odd<R: Files>(out: &mut Words, text: &Text<'_, R>, odd: &Odd) {
 
 /// Puts where an odd row stands and what it says, where it can be read again; answers whether it can.
 fn put_row<R: Files>(out: &mut Words, text: &Text<'_, R>, odd: &Odd, said: &Said) -> bool {
-    let before = Mark {
-        at: odd.mark.at.saturating_sub(1),
-        ..odd.mark
-    };
-    let Some(mut records) = text.records_from(before) else {
+    let Some(records) = text.record_at(odd.mark) else {
         return false;
     };
-    let is_there = records.advance();
-    if is_there {
-        put_mark(out, text, odd.mark);
-        put_subject(
-            out,
-            odd.subject.word(),
-            text_at(&records.last, odd.id_place),
-        );
-        out.put(": ");
-        out.fill(
-            said.what,
-            &[Quoted(text_at(&records.last, odd.value_place))],
-        );
-    }
+    put_mark(out, text, odd.mark);
+    put_subject(
+        out,
+        odd.subject.word(),
+        text_at(&records.last, odd.id_place),
+    );
+    out.put(": ");
+    out.fill(
+        said.what,
+        &[Quoted(text_at(&records.last, odd.value_place))],
+    );
     drop(records);
-    is_there
+    true
 }

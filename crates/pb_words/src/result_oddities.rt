@@ -2,19 +2,12 @@
 
 use crate::claims::{Claim, Claims, broken};
 use crate::fields::text_at;
+use crate::keys::Keys;
 use crate::mark::Mark;
-use crate::oddities::{Odd, Oddities, Subject};
+use crate::oddities::{Odd, Oddities};
 use csv::ByteRecord;
 use pb_core::money::Money;
-use pb_read::{Oddity, Part, ProjectColumns, VoteColumns};
-
-/// The last row of a section, by which it may be a footer.
-#[derive(Clone, Copy)]
-struct Last {
-    mark: Mark,
-    id_place: usize,
-    value_place: usize,
-}
+use pb_read::{Oddity, Part, ProjectColumns, Stage, VoteColumns};
 
 /// What the records say so far.
 #[derive(Clone, Copy)]
@@ -25,22 +18,20 @@ pub(crate) struct ResultOddities {
     pub(crate) votes: u64,
     /// How many fields the row of the section's column names has.
     columns: usize,
-    /// The rows of META that gave these keys last.
-    keys: [Option<Mark>; 3],
+    /// The rows of META that gave the keys that the count uses.
+    keys: Keys,
     /// Where the budget has three digits behind its mark, its row.
     thousands: Option<Mark>,
     /// How many projects are accepted, what they cost together, and what the last one costs.
     costs: u64,
     sum: u64,
-    cost: u64,
-    last_project: Option<Last>,
+    pub(crate) cost: u64,
+    /// The last row of PROJECTS, by which it may be a footer.
+    last_project: Option<Odd>,
     /// How many ballots approve nothing, and the last row, if it is such a one.
     empty: u64,
-    last_vote: Option<Last>,
+    last_vote: Option<Odd>,
 }
-
-/// The keys of META that the count uses.
-const KEYS: [&str; 3] = ["budget", "vote_type", "max_length"];
 
 impl ResultOddities {
     /// Nothing was read yet.
@@ -50,7 +41,7 @@ impl ResultOddities {
             projects: 0,
             votes: 0,
             columns: 0,
-            keys: [None; 3],
+            keys: Keys::none(),
             thousands: None,
             costs: 0,
             sum: 0,
@@ -61,20 +52,19 @@ impl ResultOddities {
         }
     }
 
-    /// Counts a row that is left out.
-    pub(crate) fn count(&mut self, part: Part) {
-        match part {
-            Part::Project(_) => self.projects = self.projects.saturating_add(1),
-            Part::Vote(_) => self.votes = self.votes.saturating_add(1),
+    /// Counts the row that is left out at this stage.
+    pub(crate) fn leave_out(&mut self, stage: &Stage) {
+        match stage {
+            Stage::InProjects(_) => self.projects = self.projects.saturating_add(1),
+            Stage::InVotes(_) => self.votes = self.votes.saturating_add(1),
             _ => {}
         }
     }
 
     /// Takes a record that is accepted.
     pub(crate) fn take(&mut self, row: &ByteRecord, at: u32, part: Part, out: &mut Oddities) {
-        self.count(part);
         match part {
-            Part::Other => {}
+            Part::Other | Part::Head(_) => {}
             Part::Names => self.take_names(row, out),
             Part::Key => self.take_key(row, Mark::of(row, u64::from(at)), out),
             Part::Project(columns) => self.take_project(row, at, columns, out),
@@ -87,20 +77,15 @@ impl ResultOddities {
         self.columns = row.len();
         if let Some(mark) = self.thousands {
             self.thousands = None;
-            out.take(of_key(Oddity::ThousandsMark, mark, 0));
+            out.take(Odd::of_key(Oddity::ThousandsMark, mark, 0));
         }
     }
 
     fn take_key(&mut self, row: &ByteRecord, mark: Mark, out: &mut Oddities) {
         self.claims.take(row, mark);
         let key = text_at(row, 0);
-        for place in 0..3usize {
-            if key.eq_ignore_ascii_case(KEYS[place]) {
-                if self.keys[place].is_some() {
-                    out.take(of_key(Oddity::RepeatedKey, mark, 0));
-                }
-                self.keys[place] = Some(mark);
-            }
+        if self.keys.take(key, mark) {
+            out.take(Odd::of_key(Oddity::RepeatedKey, mark, 0));
         }
         if key.eq_ignore_ascii_case("budget") {
             self.thousands = None;
@@ -117,14 +102,11 @@ impl ResultOddities {
         columns: ProjectColumns,
         out: &mut Oddities,
     ) {
-        let last = Last {
-            mark: Mark::of(row, u64::from(at)),
-            id_place: columns.id,
-            value_place: columns.cost,
-        };
+        self.projects = self.projects.saturating_add(1);
+        let mark = Mark::of(row, u64::from(at));
         let cost = text_at(row, columns.cost);
         if has_thousands_mark(cost) {
-            out.take(of_project(Oddity::ThousandsMark, last, 0));
+            out.take(Odd::of_project(Oddity::ThousandsMark, mark, columns));
         }
         self.cost = match Money::read(cost) {
             Ok(amount) => amount.0,
@@ -132,22 +114,21 @@ impl ResultOddities {
         };
         self.costs = self.costs.saturating_add(1);
         self.sum = self.sum.saturating_add(self.cost);
-        self.last_project = Some(last);
+        self.last_project = Some(Odd::of_project(Oddity::FooterRow, mark, columns));
     }
 
     fn take_vote(&mut self, row: &ByteRecord, at: u32, columns: VoteColumns, out: &mut Oddities) {
+        self.votes = self.votes.saturating_add(1);
         if row.len() > self.columns {
             let mark = Mark::of(row, u64::from(at));
-            out.take(of_vote(Oddity::SurplusFields, mark, columns, self.columns as u64));
+            let names = self.columns as u64;
+            out.take(Odd::of_vote(Oddity::SurplusFields, mark, columns, names));
         }
         self.last_vote = None;
         if names_nothing(text_at(row, columns.vote)) {
+            let mark = Mark::of(row, u64::from(at));
             self.empty = self.empty.saturating_add(1);
-            self.last_vote = Some(Last {
-                mark: Mark::of(row, u64::from(at)),
-                id_place: columns.voter,
-                value_place: columns.vote,
-            });
+            self.last_vote = Some(Odd::of_vote(Oddity::FooterRow, mark, columns, 0));
         }
     }
 
@@ -160,22 +141,14 @@ impl ResultOddities {
             self.projects,
             out,
         );
-        if let Some(last) = self.last_project {
-            if self.costs >= 3 && self.cost == self.sum.saturating_sub(self.cost) {
-                out.take(of_project(Oddity::FooterRow, last, 0));
-            }
+        let is_sum = self.costs >= 3 && self.cost == self.sum.saturating_sub(self.cost);
+        match self.last_project {
+            Some(last) if is_sum => out.take(last),
+            _ => {}
         }
-        if let Some(last) = self.last_vote {
-            if self.empty == 1 {
-                out.take(Odd {
-                    oddity: Oddity::FooterRow,
-                    mark: last.mark,
-                    subject: Subject::Voter,
-                    id_place: last.id_place,
-                    value_place: last.value_place,
-                    number: 0,
-                });
-            }
+        match self.last_vote {
+            Some(last) if self.empty == 1 => out.take(last),
+            _ => {}
         }
     }
 }
@@ -183,43 +156,7 @@ impl ResultOddities {
 /// Takes a claim of META that is of other than so many.
 fn put_broken(oddity: Oddity, claim: Option<Claim>, count: u64, out: &mut Oddities) {
     if let Some(mark) = broken(claim, count) {
-        out.take(of_key(oddity, mark, count));
-    }
-}
-
-/// A row of META that is odd.
-fn of_key(oddity: Oddity, mark: Mark, number: u64) -> Odd {
-    Odd {
-        oddity,
-        mark,
-        subject: Subject::Key,
-        id_place: 0,
-        value_place: 1,
-        number,
-    }
-}
-
-/// A row of PROJECTS that is odd.
-fn of_project(oddity: Oddity, last: Last, number: u64) -> Odd {
-    Odd {
-        oddity,
-        mark: last.mark,
-        subject: Subject::Project,
-        id_place: last.id_place,
-        value_place: last.value_place,
-        number,
-    }
-}
-
-/// A row of VOTES that is odd.
-pub(crate) fn of_vote(oddity: Oddity, mark: Mark, columns: VoteColumns, number: u64) -> Odd {
-    Odd {
-        oddity,
-        mark,
-        subject: Subject::Voter,
-        id_place: columns.voter,
-        value_place: columns.vote,
-        number,
+        out.take(Odd::of_key(oddity, mark, count));
     }
 }
 

@@ -1,16 +1,9 @@
-//! The sections of a .pb file, and what may come next in one.
+//! What things are called in the sections of a .pb file, and what is due in one.
 
 use crate::fields::{joined, text_at};
 use crate::mark::Mark;
 use csv::ByteRecord;
-
-/// A section of a file.
-#[derive(Clone, Copy, PartialEq, Eq)]
-pub(crate) enum Section {
-    Meta,
-    Projects,
-    Votes,
-}
+use pb_read::{Section, Stage};
 
 /// What things are called in a section.
 #[derive(Clone, Copy)]
@@ -23,23 +16,24 @@ pub(crate) struct Names {
     pub(crate) subject: &'static str,
     /// What is missing where it has no row of column names.
     pub(crate) header_due: &'static str,
-    /// Its name, which is its head.
-    pub(crate) head: &'static str,
 }
 
 /// A row that seems to be meant as the head of a section, and is none.
 #[derive(Clone, Copy)]
 pub(crate) struct OddHead {
-    pub(crate) section: Section,
+    /// The section's name, as its head should be.
+    pub(crate) head: &'static str,
     pub(crate) mark: Mark,
 }
+
+/// The heads of the sections.
+const HEADS: [&str; 3] = ["META", "PROJECTS", "VOTES"];
 
 const META: &Names = &Names {
     id_column: "key",
     value_column: "value",
     subject: "key",
     header_due: "META's row of column names is due.\n",
-    head: "META",
 };
 
 const PROJECTS: &Names = &Names {
@@ -47,7 +41,6 @@ const PROJECTS: &Names = &Names {
     value_column: "cost",
     subject: "project",
     header_due: "PROJECTS' row of column names is due.\n",
-    head: "PROJECTS",
 };
 
 const VOTES: &Names = &Names {
@@ -55,89 +48,62 @@ const VOTES: &Names = &Names {
     value_column: "vote",
     subject: "voter",
     header_due: "VOTES' row of column names is due.\n",
-    head: "VOTES",
 };
 
-impl Section {
-    /// The section that a record is the head of.
-    pub(crate) fn headed_by(record: &ByteRecord) -> Option<Section> {
-        Section::named(text_at(record, 0))
-    }
-
-    /// The section that a record seems to be meant as the head of, and is not: punctuation stands beside its name.
-    pub(crate) fn meant_by(record: &ByteRecord) -> Option<Section> {
-        if joined(record).is_some() {
-            return None;
-        }
-        let field = text_at(record, 0);
-        let name = field.trim_matches(|c: char| c.is_ascii_punctuation() || c.is_whitespace());
-        if name.len() == field.len() {
-            return None;
-        }
-        Section::named(name)
-    }
-
-    /// The section with this name, in any case.
-    fn named(head: &str) -> Option<Section> {
-        if head.eq_ignore_ascii_case("META") {
-            Some(Section::Meta)
-        } else if head.eq_ignore_ascii_case("PROJECTS") {
-            Some(Section::Projects)
-        } else if head.eq_ignore_ascii_case("VOTES") {
-            Some(Section::Votes)
-        } else {
-            None
-        }
-    }
-
-    /// What things are called in it.
-    pub(crate) fn names(self) -> &'static Names {
-        match self {
-            Section::Meta => META,
-            Section::Projects => PROJECTS,
-            Section::Votes => VOTES,
-        }
+/// What things are called in a section.
+pub(crate) fn names_of(section: Section) -> &'static Names {
+    match section {
+        Section::Meta => META,
+        Section::Projects => PROJECTS,
+        Section::Votes => VOTES,
     }
 }
 
-/// What may come next.
-#[derive(Clone, Copy, PartialEq, Eq)]
-pub(crate) enum Stage {
-    /// META's head.
-    Start,
-    /// The header row of this section.
-    Header(Section),
-    /// A row of this section, or the next section's head.
-    Rows(Section),
+/// The section that is read at a stage.
+pub(crate) fn section_of(stage: &Stage) -> Section {
+    match stage {
+        Stage::Start | Stage::InMeta(_) => Section::Meta,
+        Stage::Header(section) => *section,
+        Stage::InProjects(_) => Section::Projects,
+        Stage::InVotes(_) => Section::Votes,
+    }
 }
 
-impl Stage {
-    /// The section that is read.
-    pub(crate) fn section(self) -> Section {
-        match self {
-            Stage::Start => Section::Meta,
-            Stage::Header(section) | Stage::Rows(section) => section,
+/// The head that a record seems to be meant as, where it is none: punctuation stands beside a section's name.
+pub(crate) fn odd_head_of(record: &ByteRecord, mark: Mark) -> Option<OddHead> {
+    if joined(record).is_some() {
+        return None;
+    }
+    let field = text_at(record, 0);
+    let name = field.trim_matches(|c: char| c.is_ascii_punctuation() || c.is_whitespace());
+    if name.len() == field.len() {
+        return None;
+    }
+    for head in HEADS {
+        if name.eq_ignore_ascii_case(head) {
+            return Some(OddHead { head, mark });
         }
     }
+    None
+}
 
-    /// What is due where another section's head stands.
-    pub(crate) fn due_head(self) -> &'static str {
-        match self {
-            Stage::Start => " stands where META is due.\n",
-            Stage::Rows(Section::Meta) => " stands where PROJECTS is due.\n",
-            Stage::Rows(Section::Projects) => " stands where VOTES is due.\n",
-            _ => " stands where no further section is due.\n",
-        }
+/// What is due where another section's head stands.
+pub(crate) fn due_head(stage: &Stage) -> &'static str {
+    match stage {
+        Stage::Start => " stands where META is due.\n",
+        Stage::InMeta(_) => " stands where PROJECTS is due.\n",
+        Stage::InProjects(_) => " stands where VOTES is due.\n",
+        Stage::Header(_) | Stage::InVotes(_) => " stands where no further section is due.\n",
     }
+}
 
-    /// What is missing where the file ends.
-    pub(crate) fn due_at_end(self) -> &'static str {
-        match self {
-            Stage::Start => "META is due.\n",
-            Stage::Header(section) => section.names().header_due,
-            Stage::Rows(Section::Meta) => "PROJECTS is still to come.\n",
-            Stage::Rows(Section::Projects) => "VOTES is still to come.\n",
-            Stage::Rows(Section::Votes) => "a record is missing.\n",
-        }
+/// What is missing where the file ends.
+pub(crate) fn due_at_end(stage: &Stage) -> &'static str {
+    match stage {
+        Stage::Start => "META is due.\n",
+        Stage::Header(section) => names_of(*section).header_due,
+        Stage::InMeta(_) => "PROJECTS is still to come.\n",
+        Stage::InProjects(_) => "VOTES is still to come.\n",
+        Stage::InVotes(_) => "a record is missing.\n",
     }
 }

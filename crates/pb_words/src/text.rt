@@ -54,6 +54,11 @@ impl<'a, R: Files> Text<'a, R> {
         Some(Records::new(self.alloc, file, start))
     }
 
+    /// The record that begins at this mark, which is read last; none where there is no such record any more.
+    pub(crate) fn record_at(&self, mark: Mark) -> Option<Records<R::File>> {
+        self.records_at(mark.before(), mark.at)
+    }
+
     /// Its records from the one with this number on, which is read last; none where it has no such record.
     pub(crate) fn records_at(&self, start: Mark, at: u64) -> Option<Records<R::File>> {
         let mut records = self.records_from(start)?;

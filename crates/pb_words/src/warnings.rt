@@ -4,17 +4,17 @@ ghost use Rattle.std.specs.Prelude.{◌≡◌, Option};
 
 use crate::fields::text_at;
 use crate::mark::Mark;
-use crate::oddities::{Odd, Oddities, Subject};
+use crate::oddities::{Odd, Oddities};
 use crate::oddity_words::put_oddities;
-use crate::result_oddities::{ResultOddities, of_vote};
+use crate::result_oddities::ResultOddities;
 use crate::text::Text;
 use crate::words::Words;
 use csv::ByteRecord;
-use pb_core::money::Money;
 use pb_core::no_memory::NoMemory;
 use pb_ids::IdTable;
 use pb_read::{
-    Heed, Oddity, Part, ProjectColumns, ReadKind, VoteColumns, Warn, Warning, WarningRow, Watch,
+    Heed, Oddity, Part, ProjectColumns, ReadFault, Stage, VoteColumns, Warn, Warning, WarningRow,
+    Watch,
 };
 use std::alloc::{AllocError, Global};
 use std::rt::Files;
@@ -25,8 +25,8 @@ const MOST: u64 = 100;
 /// A project, and how it is backed.
 #[derive(Clone, Copy)]
 struct Backed {
-    mark: Mark,
-    columns: ProjectColumns,
+    /// What it is where no vote names it.
+    alone: Odd,
     /// The last vote that named it, from 1; 0 is none.
     vote: u64,
 }
@@ -61,7 +61,7 @@ impl Warnings {
         let mut out = Words::new(self.alloc);
         if self.has_ended {
             let text = Text::new(rt, self.alloc, path, "record");
-            put_oddities(&mut out, self.alloc, &text, &self.oddities);
+            put_oddities(&mut out, &text, &self.oddities);
         }
         out.finish()
     }
@@ -75,22 +75,18 @@ impl Warnings {
     ) -> Result<(), AllocError> {
         let id = text_at(row, columns.id);
         let mark = Mark::of(row, u64::from(at));
-        let budget = self.results.claims.budget;
         if id.contains(',') {
             self.oddities
-                .take(of_project(Oddity::CommaInId, mark, columns));
+                .take(Odd::of_project(Oddity::CommaInId, mark, columns));
         }
-        if is_above(text_at(row, columns.cost), budget) {
+        if self.results.cost > self.results.claims.budget.unwrap_or(u64::MAX) {
             self.oddities
-                .take(of_project(Oddity::OverBudget, mark, columns));
+                .take(Odd::of_project(Oddity::OverBudget, mark, columns));
         }
         let place = u32::try_from(self.projects.len()).unwrap_or(u32::MAX);
         self.places.insert(self.alloc, id, place)?;
-        self.projects.push(Backed {
-            mark,
-            columns,
-            vote: 0,
-        })?;
+        let alone = Odd::of_project(Oddity::NoSupporter, mark, columns);
+        self.projects.push(Backed { alone, vote: 0 })?;
         Ok(())
     }
 
@@ -110,7 +106,8 @@ impl Warnings {
     }
 
     fn warn_vote(&mut self, oddity: Oddity, mark: Mark, columns: VoteColumns, length: u64) {
-        self.oddities.take(of_vote(oddity, mark, columns, length));
+        self.oddities
+            .take(Odd::of_vote(oddity, mark, columns, length));
     }
 
     /// Notes which projects the last vote names, and answers how many they are.
@@ -137,10 +134,7 @@ impl Warnings {
 }
 
 impl Watch for Warnings {
-    fn see(&mut self, record: &ByteRecord, at: u32, part: Part, refused: Option<ReadKind>) {
-        if refused.is_some() {
-            return self.results.count(part);
-        }
+    fn see(&mut self, record: &ByteRecord, at: u32, part: Part) {
         self.results.take(record, at, part, &mut self.oddities);
         match part {
             Part::Project(columns) => {
@@ -149,8 +143,12 @@ impl Watch for Warnings {
                 }
             }
             Part::Vote(columns) => self.take_vote(record, at, columns),
-            Part::Other | Part::Names | Part::Key => {}
+            Part::Other | Part::Head(_) | Part::Names | Part::Key => {}
         }
+    }
+
+    fn refuse(&mut self, _record: &ByteRecord, _fault: ReadFault, stage: &Stage) {
+        self.results.leave_out(stage);
     }
 
     fn end(&mut self) {
@@ -158,9 +156,7 @@ impl Watch for Warnings {
         self.results.end(&mut self.oddities);
         for project in &self.projects {
             if project.vote == 0 {
-                let (mark, columns) = (project.mark, project.columns);
-                self.oddities
-                    .take(of_project(Oddity::NoSupporter, mark, columns));
+                self.oddities.take(project.alone);
             }
         }
     }
@@ -205,16 +201,18 @@ impl ResultWarnings {
         let mut out = Words::new(self.alloc);
         if self.first.is_some() {
             let text = Text::new(rt, self.alloc, path, "record");
-            put_oddities(&mut out, self.alloc, &text, &self.oddities);
+            put_oddities(&mut out, &text, &self.oddities);
         }
         out.finish()
     }
 }
 
 impl Watch for ResultWarnings {
-    fn see(&mut self, record: &ByteRecord, at: u32, part: Part, _refused: Option<ReadKind>) {
+    fn see(&mut self, record: &ByteRecord, at: u32, part: Part) {
         self.results.take(record, at, part, &mut self.oddities);
     }
+
+    fn refuse(&mut self, _record: &ByteRecord, _fault: ReadFault, _stage: &Stage) {}
 
     fn end(&mut self) {
         self.results.end(&mut self.oddities);
@@ -229,25 +227,5 @@ impl Heed for ResultWarnings {
 
     fn refusal(&self) -> Option<Warning> {
         if self.is_strict { self.first } else { None }
-    }
-}
-
-/// A row of PROJECTS that is odd.
-fn of_project(oddity: Oddity, mark: Mark, columns: ProjectColumns) -> Odd {
-    Odd {
-        oddity,
-        mark,
-        subject: Subject::Project,
-        id_place: columns.id,
-        value_place: columns.cost,
-        number: 0,
-    }
-}
-
-/// Whether a cost is above the budget, where both are known.
-fn is_above(cost: &str, budget: Option<u64>) -> bool {
-    match Money::read(cost) {
-        Ok(cost) => cost.0 > budget.unwrap_or(u64::MAX),
-        Err(_) => false,
     }
 }

@@ -1,0 +1,57 @@
+//! The rows of META that gave the keys that the count uses.
+
+use crate::mark::Mark;
+
+/// The keys of META that the count uses.
+const KEYS: [&str; 3] = ["budget", "vote_type", "max_length"];
+
+/// The rows of META that gave a key: the first, and the last, which counts.
+#[derive(Clone, Copy)]
+pub(crate) struct Given {
+    pub(crate) first: Mark,
+    pub(crate) last: Mark,
+}
+
+/// The rows of META that gave these keys.
+#[derive(Clone, Copy)]
+pub(crate) struct Keys {
+    given: [Option<Given>; 3],
+}
+
+impl Keys {
+    /// No key was given yet.
+    pub(crate) fn none() -> Keys {
+        Keys { given: [None; 3] }
+    }
+
+    /// Takes a row of META with this key, and answers whether it repeats one of these.
+    pub(crate) fn take(&mut self, key: &str, mark: Mark) -> bool {
+        for place in 0..3usize {
+            if key.eq_ignore_ascii_case(KEYS[place]) {
+                let before = self.given[place];
+                let first = match before {
+                    Some(given) => given.first,
+                    None => mark,
+                };
+                self.given[place] = Some(Given { first, last: mark });
+                return before.is_some();
+            }
+        }
+        false
+    }
+
+    /// The rows that gave `budget`.
+    pub(crate) fn budget(&self) -> Option<Given> {
+        self.given[0]
+    }
+
+    /// The rows that gave `vote_type`.
+    pub(crate) fn vote_type(&self) -> Option<Given> {
+        self.given[1]
+    }
+
+    /// The rows that gave `max_length`.
+    pub(crate) fn max_length(&self) -> Option<Given> {
+        self.given[2]
+    }
+}

@@ -1,0 +1,151 @@
+//! Words for a record of a .pb file that is refused, and for the end of one that is refused there.
+
+use crate::faulty_record::FaultyRecord;
+use crate::ids::Ids;
+use crate::mark::Mark;
+use crate::mark_words::{line_of, put_mark, put_quotes, put_subject};
+use crate::meta_words::{
+    put_joined, put_late_meta, put_missing_key, put_odd_head, put_value_words,
+};
+use crate::read_rules::words_of;
+use crate::section::due_at_end;
+use crate::text::Text;
+use crate::words::Value::{Name, Number, Own, Quoted};
+use crate::words::Words;
+use pb_read::{ReadKind, Stage};
+use std::rt::Files;
+
+/// What to do about a vote for a project that was left out.
+const MEND_PROJECT: &str = "Mend the project's row; the vote may then stand as it is.\n";
+
+/// What to do about a vote whose ids blanks separate.
+const NO_BLANKS: &str = "The vote has blanks where `,` is due: write `,` between two ids.\n";
+
+/// Puts what is wrong with a record, or with the values of META before it, and what to do; answers whether it was found.
+pub(crate) fn put_found<R: Files>(
+    out: &mut Words,
+    text: &Text<'_, R>,
+    ids: &Ids,
+    faulty: &FaultyRecord<'_>,
+) -> bool {
+    match (faulty.kind, faulty.stage) {
+        (ReadKind::NotText | ReadKind::SectionOrder | ReadKind::TooManyRecords, _) => {
+            put_record(out, text, ids, faulty)
+        }
+        (ReadKind::MissingKey, Stage::InMeta(_)) => {
+            put_missing_key(out, text, faulty.seen, faulty.mark)
+        }
+        (kind, Stage::InMeta(_)) => return put_value_words(out, text, faulty.seen, kind),
+        _ => put_record(out, text, ids, faulty),
+    }
+    true
+}
+
+/// Puts what is wrong with a record, and what to do.
+fn put_record<R: Files>(out: &mut Words, text: &Text<'_, R>, ids: &Ids, faulty: &FaultyRecord<'_>) {
+    put_mark(out, text, faulty.mark);
+    let mut remedy = words_of(faulty.kind).remedy;
+    match faulty.kind {
+        ReadKind::UnknownProject => {
+            let unknown = ids.unknown_of(faulty.value());
+            let left_out = line_at(text, ids.left_out.mark(unknown));
+            out.put(", column vote");
+            put_subject(out, "voter", faulty.id());
+            remedy = put_unknown(out, ids, unknown, left_out);
+        }
+        ReadKind::RepeatedProject => {
+            faulty.put_repeated(out, line_at(text, ids.projects.mark(faulty.id())))
+        }
+        ReadKind::RepeatedVoter => {
+            faulty.put_repeated(out, line_at(text, ids.voters.mark(faulty.id())))
+        }
+        _ => faulty.put(out),
+    }
+    if !put_quotes(out, text, faulty.mark) {
+        put_remedy(out, text, faulty, remedy);
+    }
+}
+
+/// Puts what to do about a record.
+fn put_remedy<R: Files>(
+    out: &mut Words,
+    text: &Text<'_, R>,
+    faulty: &FaultyRecord<'_>,
+    remedy: &str,
+) {
+    if let Some(odd) = faulty.odd_head() {
+        return put_odd_head(out, text, odd);
+    }
+    let is_before_meta = faulty.kind == ReadKind::NoSection && matches!(faulty.stage, Stage::Start);
+    if is_before_meta && put_late_meta(out, text, faulty.mark) {
+        return;
+    }
+    put_joined(out, faulty.joined(), faulty.remedy().unwrap_or(remedy))
+}
+
+/// The line at which a record begins, if there is one.
+fn line_at<R: Files>(text: &Text<'_, R>, mark: Option<Mark>) -> Option<u64> {
+    Some(line_of(text, mark?))
+}
+
+/// Puts which id no project has, and the nearest one, or on which line that project was left out; answers what to do.
+fn put_unknown(out: &mut Words, ids: &Ids, unknown: &str, left_out: Option<u64>) -> &'static str {
+    out.fill(": {}", &[Quoted(unknown)]);
+    match left_out {
+        Some(line) => {
+            out.fill(
+                " is the id of a project that was left out, on line {}.\n",
+                &[Number(line)],
+            );
+            MEND_PROJECT
+        }
+        None => put_no_project(out, ids, unknown),
+    }
+}
+
+/// Puts that an id is no project's, and the nearest one; answers what to do.
+fn put_no_project(out: &mut Words, ids: &Ids, unknown: &str) -> &'static str {
+    if ids.are_apart_by_blanks(unknown) {
+        out.put(" is the id of no project.\n");
+        return NO_BLANKS;
+    }
+    match ids.nearest(unknown) {
+        Ok(Some(near)) => out.fill(
+            " is the id of no project; the nearest is {}.\n",
+            &[Quoted(near)],
+        ),
+        Ok(None) => out.put(" is the id of no project.\n"),
+        Err(_) => out.fail(),
+    }
+    words_of(ReadKind::UnknownProject).remedy
+}
+
+/// Puts what is missing at the end of the file, where it was read so far and its records say this; answers that it did.
+pub(crate) fn put_end<R: Files>(
+    out: &mut Words,
+    text: &Text<'_, R>,
+    end: &FaultyRecord<'_>,
+) -> bool {
+    let (due, last) = (due_at_end(end.stage), end.seen.last);
+    if last.at > 0 {
+        out.fill(
+            "{}: the file ends after line {} (record {}), and {}",
+            &[
+                Name(text.path),
+                Number(line_of(text, last)),
+                Number(last.at),
+                Own(due),
+            ],
+        );
+    } else {
+        out.fill("{}: the file ends, and {}", &[Name(text.path), Own(due)]);
+    }
+    if put_quotes(out, text, last) {
+        return true;
+    }
+    match end.seen.odd_head {
+        Some(odd) => put_odd_head(out, text, odd),
+        None => out.put(words_of(end.kind).remedy),
+    }
+    true
+}
