@@ -67,7 +67,9 @@ where
         Ok(arguments) => arguments.collect(rt.alloc())?,
         Err(error) if error.kind() == io::ErrorKind::OutOfMemory => return Err(AppFault::Memory),
         Err(_) => {
-            let _ = eprintln!(rt; "error: an argument is not UTF-8");
+            let _ = eprintln!(rt;
+                "error: an argument is not UTF-8 text. Rename the file, or type the argument again"
+            );
             return Ok(ExitCode::from(BAD_ARGUMENTS));
         }
     };

@@ -37,7 +37,7 @@ use std::thread::Threads;
 use std::time::Duration;
 
 /// What is said where memory is refused, also for words.
-const NO_MEMORY: &str = "Memory was refused.\nRun again on a machine with more memory.\n";
+const NO_MEMORY: &str = "Memory ran out.\nRun again on a machine with more memory.\n";
 
 /// What is said of a desk that is open and was to be shut.
 const OPEN_DESK: &str =
@@ -45,14 +45,15 @@ const OPEN_DESK: &str =
 
 /// What is said of an election that has a section's name as an id.
 const SECTION_WORD: &str =
-    "An id is META, PROJECTS or VOTES: in a file its row would begin that section.\nGive that project or voter another id.\n";
+    "An id is META, PROJECTS or VOTES: in a .pb file its row would begin that section.\nGive that project or voter another id.\n";
 
 /// What is said of an election with a vote that no file can name.
 const COMMA_IN_ID: &str =
-    "A ballot approves a project whose id has a comma, and a file's vote has commas between ids.\nGive that project another id.\n";
+    "A ballot names a project whose id has a comma, but in a .pb file commas separate the ids of a vote.\nGive that project another id.\n";
 
 /// What is said of a file that a warning refuses.
-const STRICT: &str = "The file is accepted, and `--strict` refuses it for its first warning:\n";
+const STRICT: &str =
+    "The file can be counted, but `--strict` refuses it because of these warnings:\n";
 
 /// How the program is used.
 const USAGE: &str = "pb_app counts a participatory budgeting election: pb_app count FILE
@@ -62,13 +63,13 @@ For more: pb_app --help
 
 /// How requests are typed.
 const HOW_TO_ASK: &str =
-    "Type a request a row: CLERK;REQUEST;VOTER;PLACES, as `0;cast;ann;0,2`, `0;replace;ann;1` or `0;withdraw;ann;`.
-A place is a project's position in FILE, from 0. Ctrl-D on a line of its own ends the run.
+    "Type one request on each row: CLERK;REQUEST;VOTER;PLACES, for example `0;cast;ann;0,2`, `0;replace;ann;1` or `0;withdraw;ann;`.
+PLACES are the positions of projects in FILE, counted from 0; with --by-id their ids. Ctrl-D on a line of its own ends the run.
 ";
 
 /// What is said of a row that goes on.
 const OPEN_ROW: &str =
-    "A quotation mark is open, so the row goes on with the next line: close it by `\"`.\n";
+    "A quotation mark is open, so the next line belongs to the same row. Type `\"` to close it.\n";
 
 /// Says why a run has no result.
 pub(crate) fn say_refusal<R: Files + Eprint + AllocGlobal>(
@@ -246,7 +247,7 @@ pub(crate) fn say_warnings<R: Files + Eprint + AllocGlobal>(
     }
 }
 
-/// Says how many requests were done and refused, where a journal was written or audited and `--quiet` is not given.
+/// Says how many requests were carried out and answered no, where a journal was written or audited and `--quiet` is not given.
 pub(crate) fn say_tally<R: Eprint + AllocGlobal>(
     rt: &R,
     asked: &Asked<'_>,
@@ -263,10 +264,8 @@ pub(crate) fn say_tally<R: Eprint + AllocGlobal>(
         | Task::Page(..)
         | Task::Export(..)
         | Task::Check(_) => {}
-        Task::Desk(..) | Task::Serve(..) => {
-            say_words(rt, written.words(rt.alloc(), "entries written"))
-        }
-        Task::Audit(..) => say_words(rt, audited.words(rt.alloc(), "entries audited")),
+        Task::Desk(..) | Task::Serve(..) => { say_words(rt, written.words(rt.alloc(), "recorded")) }
+        Task::Audit(..) => say_words(rt, audited.words(rt.alloc(), "checked")),
     }
 }
 

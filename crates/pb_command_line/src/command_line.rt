@@ -15,10 +15,18 @@ const MEASURES: &[&str] = &["votes", "cost"];
 
 /// What the program is.
 const ABOUT: &str =
-    "Participatory budgeting by the Method of Equal Shares: counts a city's .pb file, serves its desk, and audits the desk's journal";
+    "Participatory budgeting by the Method of Equal Shares: counts the ballots of a .pb file, runs a desk for ballots, and checks the desk's journal";
 
 /// What stands below the commands.
-const AFTER_HELP: &str = "Without a command standard input is counted.
+const AFTER_HELP: &str = "Without a command, the program counts standard input.
+
+Words:
+  request  what a clerk asks of the desk for a voter: cast, replace or withdraw a ballot; or: shut the desk
+  desk     takes the clerks' requests, and answers each, until a clerk shuts it
+  journal  a file with every request that the desk answered, and its answer, in order
+  script   a file of requests, one on each row
+  share    the money that each voter can spend: at first the budget divided by the number of voters
+  raise    adds --step to every voter's share, and counts again, so that less of the budget is left unspent (Add1)
 
 Examples:
   pb_app check city.pb
@@ -28,25 +36,40 @@ Examples:
   pb_app audit city.pb city.journal --require-shut
   pb_app serve city.pb city.journal < requests.script
 
-Statuses: 0 the result is written whole, 1 a file, script, journal or count is refused, 2 the arguments are
-refused, 3 a device failed or memory was refused. A refusal is one line on standard output, for programs; words for
-people stand on standard error.
+Exit status:
+  0  the whole result was written
+  1  a file, script, journal or count was refused
+  2  the arguments were refused
+  3  a device failed, or memory ran out
+A refusal is one line on standard output, for programs. Standard error explains it in words.
 
-Manual pages: man pb_app-count, and so for each command. The files: man pb_app-election, man pb_app-journal. What to do
-about each fault: man pb_app-faults. What a count does: man pb_app-counting. An office's days: man pb_app-office.";
+Manual pages:
+  man pb_app-count     one such page for each command
+  man pb_app-election  the .pb file
+  man pb_app-journal   the journal
+  man pb_app-faults    what to do about each fault
+  man pb_app-counting  how the count works
+  man pb_app-office    the days of an election office";
 
 /// What stands below the arguments of `serve`.
 const AFTER_SERVE: &str =
-    "Standard input has a request a row, as a script has them: clerk;request;voter;places. Each row is answered by its row of
-the journal, once that is on the disk; a row of another form is answered by fault;script;2;BadRow;I, and changes
-nothing. So is a row with an id that no project has (5;UnknownId), of a voter who is not on the roll (6;NotOnRoll), or of
-fewer projects than --min says (7;TooFew), where these options are given. The first rows say how many bytes were cut off
-the journal's end and kept in JOURNAL.torn (torn;BYTES), if any, and how many entries it has (entries;N;open or
-entries;N;shut).
+    "Standard input has one request on each row, in the form CLERK;REQUEST;VOTER;PLACES. PLACES are the positions of the
+projects in FILE, counted from 0, with `,` between them. The answer to a request is its row of the journal, printed once
+that row is on the disk.
 
-JOURNAL.file says which file the journal belongs to: its first line is the SHA-256 of FILE. With another FILE the same
-places are other projects, so once there are entries it is refused (fault;other-file). --other-file goes on with it: each
-ballot keeps its places, so only names, costs and what stands behind the last project may have changed.
+A refused row is not recorded. Its answer is fault;script;CODE;NAME;ROW:
+  2;BadRow     the row has another form
+  5;UnknownId  with --by-id: no project has this id
+  6;NotOnRoll  with --roll: the voter is not on the roll
+  7;TooFew     with --min: the ballot names too few projects
+
+The output begins with entries;N;open or entries;N;shut: the journal has N entries. If the journal ended in an
+incomplete row, that end was cut off and kept in JOURNAL.torn, and a row torn;BYTES comes first.
+
+JOURNAL.file says to which .pb file the journal belongs: its first line is the SHA-256 of FILE. In another FILE the same
+positions can be other projects. So serve refuses another FILE once the journal has entries (fault;other-file). With
+--other-file it accepts FILE. Use this only if the old projects keep their order: names and costs may differ, and
+projects may be added at the end.
 
 Examples:
   pb_app serve city.pb city.journal
@@ -54,8 +77,11 @@ Examples:
   pb_app serve city.pb city.journal --by-id --roll voters.csv --min 1
   pb_app serve city.pb city.journal < /dev/null
 
-Statuses: 0, and 1 where a row is refused or FILE, JOURNAL or ROLL is; 2 the arguments are refused; 3 a device
-failed, memory was refused, or another serve has JOURNAL (fault;locked;2).
+Exit status:
+  0  all rows were taken
+  1  a row, FILE, JOURNAL or ROLL was refused
+  2  the arguments were refused
+  3  a device failed, memory ran out, or another serve is using JOURNAL (fault;locked;2)
 
 Manual pages: man pb_app-script, man pb_app-journal, man pb_app-office.";
 
@@ -109,14 +135,14 @@ const ELECTION: Argument = Argument {
 const SCRIPT: Argument = Argument {
     name: "SCRIPT",
     takes: Takes::Path,
-    help: "What each clerk asks, a row a request; - is standard input",
+    help: "The clerks' requests, one on each row; - is standard input",
 };
 
 /// The journal that is audited.
 const JOURNAL: Argument = Argument {
     name: "JOURNAL",
     takes: Takes::Path,
-    help: "The journal of a desk that opened with it; - is standard input",
+    help: "The journal of a desk that was opened with FILE; - is standard input",
 };
 
 /// The file whose desk stands on a disk.
@@ -130,161 +156,161 @@ const SERVED: Argument = Argument {
 const DURABLE: Argument = Argument {
     name: "JOURNAL",
     takes: Takes::Path,
-    help: "The file of the desk's journal, which goes on where it ends; it is made where it is not there",
+    help: "The file of the desk's journal; if it exists, the desk continues it; if not, it is created",
 };
 
 /// The journal whose desk leaves the ballots.
 const LEFT_BY: Argument = Argument {
     name: "journal",
     takes: Takes::OptionalSource("JOURNAL"),
-    help: "Counts the ballots that this journal of its shut desk leaves; - is standard input",
+    help: "Counts the ballots as they were when the desk of this journal was shut; - is standard input",
 };
 
 /// How many clerks a desk has.
 const CLERKS: Argument = Argument {
     name: "clerks",
     takes: Takes::Number("N"),
-    help: "How many clerks serve side by side, 1 to 64; rows of different clerks have no order [default: 1]",
+    help: "How many clerks work at the same time, 1 to 64; rows of different clerks may be taken in any order [default: 1]",
 };
 
 /// Whether the desk is shut at the end of a run.
 const SHUT: Argument = Argument {
     name: "shut",
     takes: Takes::Nothing,
-    help: "Shuts the desk by a last entry of clerk 0, after all rows; a shut row cuts off other clerks' rows",
+    help: "Shuts the desk after all rows, as clerk 0; with several clerks a shut row in SCRIPT may come too early for the others",
 };
 
 /// Whether rows name projects by their ids.
 const BY_ID: Argument = Argument {
     name: "by-id",
     takes: Takes::Nothing,
-    help: "Rows name projects by their ids, separated by `,` as a vote's are, and not by their places",
+    help: "Requests name projects by their ids instead of their positions; write `,` between ids",
 };
 
 /// The voters' roll.
 const ROLL: Argument = Argument {
     name: "roll",
     takes: Takes::OptionalFile("ROLL"),
-    help: "Takes requests only for the voters of this file, whose rows have their ids first",
+    help: "Takes requests only for the voters in this file; the first field of each row is a voter's id",
 };
 
 /// How many projects a ballot has at least.
 const LEAST: Argument = Argument {
     name: "min",
     takes: Takes::Number("N"),
-    help: "How many projects a ballot that is cast or replaced has at least [default: 0]",
+    help: "The smallest number of projects that a new ballot may name [default: 0]",
 };
 
 /// How many workers a count has.
 const WORKERS: Argument = Argument {
     name: "workers",
     takes: Takes::Number("N"),
-    help: "How many workers compute prices, 1 to 64 [default: 1]",
+    help: "How many threads compute prices, 1 to 64; the result is the same for every number [default: 1]",
 };
 
 /// The step of a raise.
 const STEP: Argument = Argument {
     name: "step",
     takes: Takes::Number("H"),
-    help: "By how many hundredths a raise lifts the share, 1 to 1000000000 [default: 100]",
+    help: "How much each raise adds to a voter's share, in hundredths (100 is 1.00), 1 to 1000000000 [default: 100]",
 };
 
 /// The limit of raises.
 const RAISES: Argument = Argument {
     name: "raises",
     takes: Takes::Number("L"),
-    help: "How many raises there are at most, 0 to 1000000 [default: 1000000]",
+    help: "The most raises that are allowed, 0 to 1000000; a count that needs more is refused [default: 1000000]",
 };
 
 /// Whether completion is left out.
 const PLAIN: Argument = Argument {
     name: "plain",
     takes: Takes::Nothing,
-    help: "Lets the outcome at the opening share stand, without raises",
+    help: "Stops after the first count: the share is not raised (no Add1)",
 };
 
 /// What a project is worth to those who approve it.
 const MEASURE: Argument = Argument {
     name: "measure",
     takes: Takes::Measure,
-    help: "Elects the least price (votes), or the least price over cost (cost) [default: votes]",
+    help: "Elects next the project with the lowest price (votes), or with the lowest price divided by its cost (cost) [default: votes]",
 };
 
 /// The file that gets the result.
 const OUTPUT: Argument = Argument {
     name: "output",
     takes: Takes::OptionalPath('o'),
-    help: "Writes the result to this file, whole or not at all; it replaces an older one",
+    help: "Writes the result to this file; an older file is replaced only when the result is complete",
 };
 
 /// Whether an open desk is refused.
 const REQUIRE_SHUT: Argument = Argument {
     name: "require-shut",
     takes: Takes::Nothing,
-    help: "Refuses a desk that is still open",
+    help: "Refuses the journal if its desk is still open",
 };
 
 /// Whether a warning refuses the file.
 const STRICT: Argument = Argument {
     name: "strict",
     takes: Takes::Nothing,
-    help: "Refuses a file with a warning that can change the result, as check lists them",
+    help: "Refuses a file with one of the warnings VotesMissing, ProjectsMissing, SurplusFields, ThousandsMark, RepeatedKey, FooterRow",
 };
 
 /// Whether a journal of another file is read all the same.
 const OTHER_FILE: Argument = Argument {
     name: "other-file",
     takes: Takes::Nothing,
-    help: "Goes on with FILE where the journal belongs to another file: each ballot keeps its places",
+    help: "Accepts a journal that was made with another .pb file; its ballots then name the projects at the same positions in FILE",
 };
 
 /// Whether it is not shown how far the work has come.
 const QUIET: Argument = Argument {
     name: "quiet",
     takes: Takes::Nothing,
-    help: "Shows nothing of how far the work has come",
+    help: "Shows no progress",
 };
 
 /// Whether nothing is told of a desk's work either.
 const QUIET_DESK: Argument = Argument {
     name: "quiet",
     takes: Takes::Nothing,
-    help: "Shows nothing of how far the work has come, and no summary; refusals and warnings stay",
+    help: "Shows no progress and no summary; refusals and warnings are still shown",
 };
 
 /// Whether nothing is told of the rows that are served.
 const QUIET_SERVE: Argument = Argument {
     name: "quiet",
     takes: Takes::Nothing,
-    help: "Shows no summary, and at a terminal says nothing of how to ask and of rows",
+    help: "Shows no summary and, at a terminal, no instructions and no explanations of refused rows",
 };
 
 /// Whether it is shown.
 const PROGRESS: Argument = Argument {
     name: "progress",
     takes: Takes::Nothing,
-    help: "Shows how far it has come on standard error, also where that is no terminal",
+    help: "Shows progress on standard error, even if that is not a terminal",
 };
 
 /// Whether digests stand before a report.
 const DIGESTS: Argument = Argument {
     name: "digests",
     takes: Takes::Nothing,
-    help: "Prints the SHA-256 of the file's bytes and of the journal's first",
+    help: "Prints the SHA-256 of FILE and of JOURNAL before the report",
 };
 
 /// What a page is about.
 const TITLE: Argument = Argument {
     name: "title",
     takes: Takes::Text("TEXT"),
-    help: "What was voted on, as the page says it [default: Participatory budgeting]",
+    help: "The title of the page [default: Participatory budgeting]",
 };
 
 /// Where a page leads those who recount it.
 const RECOUNT: Argument = Argument {
     name: "recount",
     takes: Takes::Text("URL"),
-    help: "Where a copy of recount.html lies, to which the page then leads; of https or http, or relative to the page",
+    help: "The address of your copy of recount.html, to which the page links; https, http, or relative to the page",
 };
 
 /// What a page is about where it is not said.
@@ -303,7 +329,7 @@ const COUNTS: &[CommandForm] = &[
     CommandForm {
         name: "projects",
         notes: "Manual pages: man pb_app-election, man 5 pb_app-projects, man pb_app-counting.",
-        about: "Counts a .pb file, and prints who won and why, and what the others lacked at the last share",
+        about: "Counts a .pb file, and prints who won and why, and how much money the other projects lacked",
         arguments: &[
             ELECTION, LEFT_BY, OTHER_FILE, WORKERS, STEP, RAISES, PLAIN, MEASURE, STRICT, OUTPUT,
             QUIET, PROGRESS,
@@ -321,7 +347,7 @@ const COUNTS: &[CommandForm] = &[
     CommandForm {
         name: "page",
         notes: "Manual pages: man pb_app-election, man 5 pb_app-page, man pb_app-counting.",
-        about: "Counts a .pb file, and prints the result as a web page that people look at",
+        about: "Counts a .pb file, and prints the result as a web page for the public",
         arguments: &[
             ELECTION, LEFT_BY, OTHER_FILE, TITLE, RECOUNT, WORKERS, STEP, RAISES, PLAIN, MEASURE,
             STRICT, OUTPUT, QUIET, PROGRESS,
@@ -330,7 +356,7 @@ const COUNTS: &[CommandForm] = &[
     CommandForm {
         name: "export",
         notes: "Manual pages: man pb_app-election, man 5 pb_app-export, man pb_app-counting.",
-        about: "Counts a .pb file, and prints the ballots with the result as a .pb file, which counts the same",
+        about: "Counts a .pb file, and prints ballots and result as a new .pb file; counting that file gives the same result",
         arguments: &[
             ELECTION, LEFT_BY, OTHER_FILE, WORKERS, STEP, RAISES, PLAIN, MEASURE, STRICT, OUTPUT,
             QUIET, PROGRESS,
@@ -343,13 +369,13 @@ const DESKS: &[CommandForm] = &[
     CommandForm {
         name: "check",
         notes: "Manual pages: man pb_app-election, man pb_app-faults.",
-        about: "Lists all that is wrong with a .pb file, and what is probably not meant",
+        about: "Lists everything that is wrong in a .pb file, and what is probably a mistake",
         arguments: &[ELECTION, OUTPUT, QUIET, PROGRESS],
     },
     CommandForm {
         name: "desk",
         notes: "Manual pages: man pb_app-election, man pb_app-script, man pb_app-journal.",
-        about: "Serves a script's requests on the desk of a .pb file, and prints the journal",
+        about: "Runs a file of requests (a script) on a new desk, and prints the journal",
         arguments: &[
             ELECTION, SCRIPT, CLERKS, SHUT, BY_ID, ROLL, LEAST, OUTPUT, QUIET_DESK, PROGRESS,
         ],
@@ -357,7 +383,7 @@ const DESKS: &[CommandForm] = &[
     CommandForm {
         name: "audit",
         notes: "Manual pages: man pb_app-election, man pb_app-journal, man pb_app-report, man pb_app-counting.",
-        about: "Audits a journal on a .pb file, and prints the report of a shut desk",
+        about: "Checks a journal against its .pb file; if the desk is shut, counts its ballots and prints the report",
         arguments: &[
             ELECTION,
             JOURNAL,
@@ -378,7 +404,7 @@ const DESKS: &[CommandForm] = &[
     CommandForm {
         name: "serve",
         notes: AFTER_SERVE,
-        about: "Serves standard input's requests on the desk of a .pb file, whose journal stands in a file",
+        about: "Runs a desk: takes requests from standard input, and writes each to the journal on disk before it answers",
         arguments: &[SERVED, DURABLE, OTHER_FILE, BY_ID, ROLL, LEAST, QUIET_SERVE],
     },
 ];

@@ -94,7 +94,7 @@ fn leads_elsewhere(task: &Task<'_>) -> bool {
 /// Refuses an address that no link may lead to.
 fn refuse_address<R: Eprint>(rt: &R) -> u8 {
     let _ = eprintln!(rt;
-        "error: --recount takes an address that begins with https: or http:, or a relative one, without blanks"
+        "error: --recount takes an address that begins with https: or http:, or one relative to the page, without spaces"
     );
     BAD_ARGUMENTS
 }
@@ -102,7 +102,7 @@ fn refuse_address<R: Eprint>(rt: &R) -> u8 {
 /// Refuses arguments of which this one is standard input, where the requests stand there.
 fn refuse_input<R: Eprint>(rt: &R, name: &str) -> u8 {
     let _ = eprintln!(rt;
-        "error: {name} is standard input (-), which has the requests: name a file"
+        "error: {name} can't be standard input (-), because the requests come from there. Name a file"
     );
     BAD_ARGUMENTS
 }
@@ -110,7 +110,7 @@ fn refuse_input<R: Eprint>(rt: &R, name: &str) -> u8 {
 /// Refuses arguments of which FILE and this one are standard input.
 fn refuse_twice<R: Eprint>(rt: &R, name: &str) -> u8 {
     let _ = eprintln!(rt;
-        "error: FILE and {name} are both standard input (-), which can be read once"
+        "error: FILE and {name} can't both be standard input (-). Give one of them as a file"
     );
     BAD_ARGUMENTS
 }

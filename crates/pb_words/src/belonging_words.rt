@@ -14,8 +14,8 @@ pub fn other_file_words(
 ) -> Result<String, AllocError> {
     let mut out = Words::new(alloc);
     out.fill(
-        "{} belongs to another file than {}: the first line of {} is not the SHA-256 of {}.\nThe journal names projects by their places, so with another file the same rows are other ballots. Name the file that the desk opened with.\nWhere this one is meant, give `--other-file`: each ballot keeps its places, so only names, costs and what stands behind the last project may have changed.\n",
-        &[Name(journal), Name(file), Name(Some(beside)), Name(file)],
+        "{} is not the file of {}: its SHA-256 is not the one in {}.\nThe journal names projects by their positions in the file, and in another file the same positions can be other projects. Name the .pb file with which the desk was opened.\nIf you want to use {}, give `--other-file`. Do so only if the projects have the same order as before: names and costs may differ, and projects may be added at the end.\n",
+        &[Name(file), Name(journal), Name(Some(beside)), Name(file)],
     );
     out.finish()
 }
@@ -29,8 +29,8 @@ pub fn adopted_words(
 ) -> Result<String, AllocError> {
     let mut out = Words::new(alloc);
     out.fill(
-        "{} has entries, and nothing beside it said which file it belongs to.\n{} was made: it names the file of this run, whose SHA-256 is {}.\nCompare that with the digest that you noted when the desk opened.\n",
-        &[Name(Some(journal)), Name(Some(beside)), Own(digest)],
+        "{} was missing, so the program can't tell to which .pb file {} belongs.\nIt was made for the .pb file that you named, whose SHA-256 is {}.\nCompare this with the SHA-256 that you noted when the desk was opened. If they differ, stop, and find the right .pb file.\n",
+        &[Name(Some(beside)), Name(Some(journal)), Own(digest)],
     );
     out.finish()
 }
@@ -44,6 +44,6 @@ pub fn unread_file_words(
     let mut out = Words::new(alloc);
     out.put_name(beside);
     out.put_error(reason);
-    out.put("It says which file the journal belongs to. Give yourself leave to read it.\n");
+    out.put("This file says to which .pb file the journal belongs. Get permission to read it.\n");
     out.finish()
 }

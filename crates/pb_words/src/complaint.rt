@@ -1,7 +1,7 @@
 //! A condition that a row of a script or a journal breaks, in words.
 
 use crate::fields::{bytes_at, place_of_no_text};
-use crate::words::Value::{self, Bytes, Number, Own};
+use crate::words::Value::{self, Bytes, Own};
 use crate::words::Words;
 use csv::ByteRecord;
 
@@ -18,9 +18,9 @@ pub(crate) struct Condition {
 
 /// That a row is text.
 const IS_TEXT: &Condition = &Condition {
-    field: "number",
-    broken: " is not UTF-8 text, in field ",
-    remedy: "Save the text again with the encoding UTF-8.",
+    field: "",
+    broken: " is not UTF-8 text",
+    remedy: "Save the file again with the encoding UTF-8.",
 };
 
 impl Condition {
@@ -31,6 +31,7 @@ impl Condition {
         }
         Some(Complaint {
             condition: self,
+            field: self.field,
             value: value.as_bytes(),
             end: Own(""),
         })
@@ -41,6 +42,8 @@ impl Condition {
 #[derive(Clone, Copy)]
 pub(crate) struct Complaint<'r> {
     pub(crate) condition: &'static Condition,
+    /// The field, as the tables of the formats call it.
+    pub(crate) field: &'static str,
     /// What stands there.
     pub(crate) value: &'r [u8],
     /// What ends the words of the condition, which may be nothing.
@@ -54,7 +57,7 @@ impl<'r> Complaint<'r> {
         out.fill(
             ", field {}: {}{}{}.\n{}\n",
             &[
-                Own(condition.field),
+                Own(self.field),
                 Bytes(self.value),
                 Own(condition.broken),
                 self.end,
@@ -64,12 +67,13 @@ impl<'r> Complaint<'r> {
     }
 }
 
-/// The complaint of a row with a field that is no text.
-pub(crate) fn no_text(row: &ByteRecord) -> Option<Complaint<'_>> {
+/// The complaint of a row with these fields, one of which is not text.
+pub(crate) fn no_text<'r>(row: &'r ByteRecord, fields: &[&'static str]) -> Option<Complaint<'r>> {
     let place = place_of_no_text(row)?;
     Some(Complaint {
         condition: IS_TEXT,
+        field: fields.get(place).copied().unwrap_or("after the last"),
         value: bytes_at(row, place),
-        end: Number((place as u64).saturating_add(1)),
+        end: Own(""),
     })
 }

@@ -32,12 +32,21 @@ pub fn count_words(
     let mut out = Words::new(alloc);
     match fault {
         CountFault::RaisesSpent => {
+            let raises = if options.max_raises == 1 {
+                "raise"
+            } else {
+                "raises"
+            };
             out.fill(
-                "{}: no share decides within {} raises of ",
-                &[Name(path), Number(u64::from(options.max_raises))],
+                "{}: the count is not finished after {} {} of ",
+                &[
+                    Name(path),
+                    Number(u64::from(options.max_raises)),
+                    Own(raises),
+                ],
             );
             put_amount(&mut out, options.step.0);
-            out.put(".\n")
+            out.put(", so there is no result.\n")
         }
         fault => put_option(&mut out, fault, options),
     }
@@ -53,11 +62,11 @@ pub fn spent_words(
     budget: Option<u64>,
 ) -> Result<String, AllocError> {
     let mut out = Words::new(alloc);
+    out.put("First see what the rules of your vote say about the step and the number of raises.\n");
     put_raises(&mut out, deciding);
     if options.max_raises > 0 {
         put_step(&mut out, sure_step(options.max_raises, budget));
     }
-    out.put("The rules of the vote should say which step and how many raises hold.\n");
     out.finish()
 }
 
@@ -65,21 +74,21 @@ pub fn spent_words(
 fn put_raises(out: &mut Words, deciding: Deciding) {
     match deciding {
         Deciding::Least(raises) => out.fill(
-            "Allow more raises: `--raises {}` decides, and fewer do not.\n",
+            "Allow more raises: `--raises {}` is enough, and any smaller number is not.\n",
             &[Number(u64::from(raises))],
         ),
         Deciding::Enough(raises) => out.fill(
-            "Allow more raises: `--raises {}` decides, and perhaps fewer do.\n",
+            "Allow more raises: `--raises {}` is enough, and a smaller number may be enough too.\n",
             &[Number(u64::from(raises))],
         ),
         Deciding::NoneIs => out.put(
-            "More raises can't help: 1000000 is the most that `--raises` can be, and does not decide.\n",
+            "More raises can't help: `--raises` can be 1000000 at most, and that is not enough.\n",
         ),
         Deciding::NotFound => out.put(
-            "Allow more raises, up to 1000000: how many decide was not found in the time that this count took.\n",
+            "Allow more raises, up to 1000000. How many are needed is not known: the program looked for about as long as the count took.\n",
         ),
         Deciding::Unread => out.put(
-            "Allow more raises, up to 1000000: how many decide is not known, since the ballots can't be read again.\n",
+            "Allow more raises, up to 1000000. How many are needed is not known: the ballots can't be read a second time.\n",
         ),
     }
 }
@@ -88,16 +97,13 @@ fn put_raises(out: &mut Words, deciding: Deciding) {
 fn put_step(out: &mut Words, step: Option<u64>) {
     match step {
         Some(step) => {
-            out.fill(
-                "A larger step can decide too: with `--step {}` (hundredths: ",
-                &[Number(step)],
-            );
+            out.fill("Or use a larger step: with `--step {}` (", &[Number(step)]);
             put_amount(out, step);
             out.put(") the last raise gives each voter the whole budget.\n");
         }
-        None => out.put("A larger step can decide too.\n"),
+        None => out.put("Or use a larger step.\n"),
     }
-    out.put("But a larger step passes over the shares between, and may elect fewer projects.\n")
+    out.put("But a larger step skips the shares in between, so fewer projects may win.\n")
 }
 
 /// Puts which option a count refuses.
@@ -113,21 +119,15 @@ fn put_option(out: &mut Words, fault: CountFault, options: &CountOptions) {
             u64::from(options.max_raises),
             "0 to 1000000",
         ),
-        CountFault::RaisesSpent | CountFault::NoMemory => out.put("Memory was refused.\n"),
+        CountFault::RaisesSpent | CountFault::NoMemory => out.put("Memory ran out.\n"),
     }
 }
 
 /// Puts that an option is out of its range.
 pub(crate) fn put_range<'w>(out: &mut Words, option: &'w str, value: u64, range: &'w str) {
     out.fill(
-        "option --{}: {} is not {}.\nGive `--{}` a value from {}.\n",
-        &[
-            Own(option),
-            Number(value),
-            Own(range),
-            Own(option),
-            Own(range),
-        ],
+        "option --{}: {} is not allowed. Give a value from {}.\n",
+        &[Own(option), Number(value), Own(range)],
     )
 }
 
@@ -147,7 +147,7 @@ fn sure_step(max_raises: u32, budget: Option<u64>) -> Option<u64> {
 }
 
 /// Puts an amount of so many hundredths in units.
-fn put_amount(out: &mut Words, amount: u64) {
+pub(crate) fn put_amount(out: &mut Words, amount: u64) {
     let hundredths = amount % 100;
     let point = if hundredths < 10 { ".0" } else { "." };
     out.fill(

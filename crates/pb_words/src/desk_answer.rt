@@ -24,7 +24,7 @@ pub(crate) struct DeskAnswer {
     answer: Answer,
     /// How many projects there are.
     projects: u64,
-    /// How many projects a ballot may approve at most.
+    /// How many projects a ballot may name at most.
     most: u64,
 }
 
@@ -33,17 +33,17 @@ impl DeskAnswer {
     pub(crate) fn put(&self, out: &mut Words, request: &str) {
         match self.answer {
             Answer::UnknownPlace(place) => out.fill(
-                ", and the desk answers `unknown-place {}`: the number of projects is {}.\n",
+                ", but the right answer is `unknown-place {}`, because positions count from 0 and the number of projects is {}.\n",
                 &[Number(u64::from(place)), Number(self.projects)],
             ),
             Answer::TooLong => out.fill(
-                ", and the desk answers `too-long`: the most projects that a ballot may approve are {}.\n",
+                ", but the right answer is `too-long`, because `max_length` is {}.\n",
                 &[Number(self.most)],
             ),
             Answer::DeskShut => put_plain(out, "desk-shut", "the desk was shut before"),
             Answer::AlreadyCast => put_plain(out, "already-cast", "the voter has a ballot"),
             Answer::NoBallot => put_plain(out, "no-ballot", "the voter has no ballot"),
-            Answer::VoterLimit => put_plain(out, "voter-limit", "1,000,000 ballots stand"),
+            Answer::VoterLimit => put_plain(out, "voter-limit", "the desk has 1,000,000 ballots"),
             Answer::Done => put_plain(out, "done", why_done(request)),
         }
     }
@@ -51,7 +51,7 @@ impl DeskAnswer {
 
 fn put_plain(out: &mut Words, answer: &'static str, why: &'static str) {
     out.fill(
-        ", and the desk answers `{}`: {}.\n",
+        ", but the right answer is `{}`, because {}.\n",
         &[Own(answer), Own(why)],
     )
 }

@@ -3,8 +3,8 @@
 use crate::fields::{JoinedBy, bytes_at, column_of, joined, place_of_no_text, text_at};
 use crate::mark::Mark;
 use crate::mark_words::put_subject;
-use crate::read_rules::words_of;
-use crate::section::{Names, OddHead, due_head, names_of, odd_head_of, section_of};
+use crate::read_rules::{put_broken, words_of};
+use crate::section::{Names, OddHead, is_again, names_of, odd_head_of, section_of, wrong_head};
 use crate::seen::Seen;
 use crate::words::Value::{Bytes, Number, Own, Quoted};
 use crate::words::Words;
@@ -13,7 +13,18 @@ use pb_read::{ReadKind, Section, Stage};
 
 /// What to do about the column names of VOTES among the projects.
 const NO_VOTES: &str =
-    "These are the column names of VOTES: put the section's head, VOTES, on a line before them.\n";
+    "These are the column names of VOTES: write the heading VOTES on a line above them.\n";
+
+/// What to do where a file does not begin with META.
+const NO_META: &str =
+    "Write META on the first line. If the beginning of the file is missing, get the whole file again.\n";
+
+/// What to do about a section that comes twice.
+const ONCE: &str =
+    "Each section may come only once. If the file has two elections, put each into a file of its own.\n";
+
+/// What to do about a project's row that ends too early.
+const SHORT_PROJECT: &str = "Complete the row, or delete it if it does not belong here.\n";
 
 /// A record with its fault.
 #[derive(Clone, Copy)]
@@ -53,10 +64,19 @@ impl<'r> FaultyRecord<'r> {
         names_of(section_of(self.stage))
     }
 
-    /// What to do about a row that is in the wrong section.
+    /// What to do about this record, where more is known than its fault.
     pub(crate) fn remedy(&self) -> Option<&'static str> {
-        match self.stage {
-            Stage::InProjects(_) if column_of(self.record, "voter_id").is_some() => Some(NO_VOTES),
+        match (self.kind, self.stage) {
+            (_, Stage::InProjects(_)) if column_of(self.record, "voter_id").is_some() => {
+                Some(NO_VOTES)
+            }
+            (ReadKind::NoSection, _) => Some(NO_META),
+            (ReadKind::SectionOrder, stage) if is_again(stage, text_at(self.record, 0)) => {
+                Some(ONCE)
+            }
+            (ReadKind::NoHeader, _) => Some(self.names().add_header),
+            (ReadKind::MissingColumn, _) => Some(self.names().add_column),
+            (ReadKind::MissingField, Stage::InProjects(_)) => Some(SHORT_PROJECT),
             _ => None,
         }
     }
@@ -85,10 +105,15 @@ impl<'r> FaultyRecord<'r> {
     pub(crate) fn put(&self, out: &mut Words) {
         match self.kind {
             ReadKind::NotText => self.put_no_text(out),
-            ReadKind::NoSection => self.put_head(out, " is no section's head, and META is due.\n"),
-            ReadKind::SectionOrder => self.put_head(out, due_head(self.stage)),
+            ReadKind::NoSection => out.fill(
+                ": a .pb file begins with the line META, but this line begins with {}.\n",
+                &[Quoted(text_at(self.record, 0))],
+            ),
+            ReadKind::SectionOrder => {
+                self.put_head(out, wrong_head(self.stage, text_at(self.record, 0)))
+            }
             ReadKind::NoHeader => {
-                self.put_head(out, " stands where ");
+                self.put_head(out, " begins another section, but ");
                 out.put(self.names().header_due)
             }
             ReadKind::MissingColumn => self.put_no_column(out),
@@ -104,15 +129,15 @@ impl<'r> FaultyRecord<'r> {
         }
     }
 
-    /// Puts on which line its id stood first, where that is known.
+    /// Puts on which line its id is already, where that is known.
     pub(crate) fn put_repeated(&self, out: &mut Words, first: Option<u64>) {
         out.fill(
-            ", column {}: {}",
+            ", column {}: the id {}",
             &[Own(self.names().id_column), Quoted(self.id())],
         );
         match first {
-            Some(line) => out.fill(" stood first on line {}.\n", &[Number(line)]),
-            None => out.put(" stood in an earlier row.\n"),
+            Some(line) => out.fill(" is already on line {}.\n", &[Number(line)]),
+            None => out.put(" is already in an earlier row.\n"),
         }
     }
 
@@ -140,8 +165,8 @@ impl<'r> FaultyRecord<'r> {
             names.id_column
         };
         out.fill(
-            ": the row of column names begins with {} and lacks the column `{}`.\n",
-            &[Quoted(text_at(self.record, 0)), Own(missing)],
+            ": the row of column names has no column `{}`; it begins with {}.\n",
+            &[Own(missing), Quoted(text_at(self.record, 0))],
         )
     }
 
@@ -153,14 +178,16 @@ impl<'r> FaultyRecord<'r> {
         } else {
             names.id_column
         };
-        out.fill(": the row ends before the column `{}`.\n", &[Own(missing)])
+        out.fill(
+            ": the row has no field for the column `{}`.\n",
+            &[Own(missing)],
+        )
     }
 
     /// Puts a value of this column, in the row with this id, and the rule that it breaks.
     fn put_value(&self, out: &mut Words, column: &str, id: &str, value: &str) {
         out.fill(", column {}", &[Own(column)]);
         put_subject(out, self.names().subject, id);
-        out.fill(": {}", &[Quoted(value)]);
-        out.put(words_of(self.kind).rule)
+        put_broken(out, self.kind, value)
     }
 }

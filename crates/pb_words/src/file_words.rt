@@ -32,8 +32,8 @@ fn open_remedy(kind: ErrorKind) -> &'static str {
         ErrorKind::NotFound => {
             "Check the file's name, and the folder that the command runs in.\n"
         }
-        ErrorKind::PermissionDenied => "Give yourself leave to read the file, or copy it.\n",
-        _ => "Check the file's name, and that it may be read.\n",
+        ErrorKind::PermissionDenied => "Get permission to read the file.\n",
+        _ => "Check the file's name, and that you may read it.\n",
     }
 }
 
@@ -50,11 +50,27 @@ pub fn write_words(
         None => out.put(": the output could not be written.\n"),
     }
     out.put(if path.is_some() {
-        "Look for a full disk, or a folder that may not be written; what stood there stands.\n"
+        write_remedy(reason)
     } else {
-        "Look for a full disk or a closed pipe; what was written in part is void.\n"
+        "Check for a full disk or a closed pipe. Do not use the part that was written.\n"
     });
     out.finish()
+}
+
+/// What to do where a file cannot be written for this reason.
+fn write_remedy(reason: Option<&Error>) -> &'static str {
+    let kind = match reason {
+        Some(error) => error.kind(),
+        None => ErrorKind::Other,
+    };
+    match kind {
+        ErrorKind::IsADirectory => "Name a file, not a folder.\n",
+        ErrorKind::NotFound => {
+            "The result was not written. Name a file in a folder that exists.\n"
+        }
+        _ =>
+            "The result was not written. Check that you may write to this folder, and that the disk is not full. A file that already had this name is unchanged.\n",
+    }
 }
 
 /// Puts why a text could not be read to its end, at the record with this number, if it has a path; answers whether it has.
@@ -73,7 +89,7 @@ pub(crate) fn put_reading_failed<R: Files>(out: &mut Words, text: &Text<'_, R>, 
     if is_file(text.rt, path) {
         put_failure(text.rt, out, path);
     } else {
-        out.put(": the reader failed.\n");
+        out.put(": reading failed.\n");
     }
     out.put("Check the disk or the connection, then run again.\n");
     true
@@ -98,7 +114,7 @@ fn put_failure<R: Files>(rt: &R, out: &mut Words, path: &str) {
     };
     match &failure {
         Some(error) => out.put_error(error),
-        None => out.put(": the reader failed; read once more the file came whole.\n"),
+        None => out.put(": reading failed, but a second try read the whole file.\n"),
     }
 }
 
@@ -115,7 +131,7 @@ fn read_all<F: Read>(file: &mut F) -> Option<Error> {
     None
 }
 
-/// Words for a command line that names a file where a command is due.
+/// Words for a command line that names a file in place of a command.
 pub fn mistaken_words(alloc: Global, path: &str) -> Result<String, AllocError> {
     let mut out = Words::new(alloc);
     out.fill("Did you mean `pb_app count {}`?\n", &[Name(Some(path))]);

@@ -4,9 +4,9 @@ use crate::audit_paths::AuditPaths;
 use crate::audited::Audited;
 use crate::fields::{bytes_at, place_of_no_text, raw_text};
 use crate::file_words::put_reading_failed;
-use crate::journal_form::{EDITED, complaint_of};
+use crate::journal_form::{EDITED, NOT_JOURNAL, complaint_of};
 use crate::mark::Mark;
-use crate::mark_words::{put_mark, put_quotes, put_record_number, put_subject};
+use crate::mark_words::{put_mark, put_quotes, put_record_number, put_subject, put_unclosed};
 use crate::row_form::put_field_count;
 use crate::tally::Tally;
 use crate::words::Value::{Bytes, Number, Own};
@@ -45,22 +45,22 @@ fn put_words<R: Files>(out: &mut Words, audited: &Audited<'_, R>) {
 fn what_and_remedy(fault: AuditFault) -> &'static str {
     match fault {
         AuditFault::ReadFailed(_) => {
-            ": the journal could not be read any further.\nCheck the disk or the connection, then run again.\n"
+            ": the journal could not be read to its end.\nCheck the disk or the connection, then run again.\n"
         }
         AuditFault::BadRow(_) => {
-            ": the row has not the form of an entry.\nGet the desk's own copy: the file was edited, cut or converted after the desk wrote it. After a power cut let `pb_app serve` open it first.\n"
+            ": the row is not a journal's row.\nCheck that this is the journal. If it is, it was changed after the desk wrote it: get the desk's own copy.\n"
         }
         AuditFault::WrongNumber(_) => {
-            ": the row has another number.\nA row before it is missing, doubled or out of order: get the desk's own copy.\n"
+            ": the row's number is not the next one.\nA row is missing, repeated or in the wrong order: get the desk's own copy of the journal.\n"
         }
         AuditFault::JournalFull(_) => {
-            ": a desk of the program has no room for this row.\nThe journal is not from this program.\n"
+            ": the journal has more rows than a desk of this program can write.\nIt is not from this program.\n"
         }
         AuditFault::WrongAnswer(_) => {
-            ": the desk answers otherwise there.\nCompare the .pb file with the one that the desk opened with; if it is the same, the row was changed.\n"
+            ": the answer in the journal is wrong; the desk would have given another.\nCheck that this is the .pb file with which the desk was opened. If it is, this row or an earlier one was changed later: get the desk's own copy of the journal.\n"
         }
         AuditFault::NoMemory => {
-            ": memory was refused.\nRun the audit on a machine with more memory.\n"
+            ": memory ran out.\nRun the audit on a machine with more memory.\n"
         }
     }
 }
@@ -79,15 +79,17 @@ fn put_row<R: Files>(out: &mut Words, audited: &Audited<'_, R>, row: &ByteRecord
     put_mark(out, &audited.journal, mark);
     match audited.fault {
         AuditFault::BadRow(0) => out.fill(
-            ": the version {} is none that there is; `journal;2` is due.\n{}\n",
-            &[Bytes(bytes_at(row, 1)), Own(EDITED)],
+            ": this program can't read journals of version {}; the first line should be `journal;2`.\nIf a newer pb_app wrote the journal, use that program. Otherwise get the desk's own copy of the journal.\n",
+            &[Bytes(bytes_at(row, 1))],
         ),
         AuditFault::BadRow(_) => {
-            put_bad_row(out, row);
-            put_quotes(out, &audited.journal, mark);
+            if !put_unclosed(out, &audited.journal, mark) {
+                put_bad_row(out, row, remedy_at(audited));
+                put_quotes(out, &audited.journal, mark);
+            }
         }
         AuditFault::WrongNumber(at) => out.fill(
-            ", field number: {} stands where {} is due.\nA row before it is missing, doubled or out of order: get the desk's own copy.\n",
+            ", field number: this row has the number {}, but the next number is {}.\nA row is missing, repeated or in the wrong order: get the desk's own copy of the journal.\n",
             &[Bytes(bytes_at(row, 0)), Number(at)],
         ),
         AuditFault::WrongAnswer(_) => put_wrong_answer(out, audited, row, mark),
@@ -95,14 +97,23 @@ fn put_row<R: Files>(out: &mut Words, audited: &Audited<'_, R>, row: &ByteRecord
     }
 }
 
-/// Puts which condition a row breaks.
-fn put_bad_row(out: &mut Words, row: &ByteRecord) {
+/// What to do about a bad row: a text whose first row is one, and that does not begin as journals do, may be another file.
+fn remedy_at<R>(audited: &Audited<'_, R>) -> &'static str {
+    if audited.at == 1 && audited.journal.before == 0 {
+        NOT_JOURNAL
+    } else {
+        EDITED
+    }
+}
+
+/// Puts which condition a row breaks, and what to do.
+fn put_bad_row(out: &mut Words, row: &ByteRecord, remedy: &str) {
     if row.len() != 6 && place_of_no_text(row).is_none() {
         put_field_count(out, row, 6);
-        return out.fill("{}\n", &[Own(EDITED)]);
+        return out.fill("{}\n", &[Own(remedy)]);
     }
     match complaint_of(row) {
-        Some(complaint) => complaint.put(out, EDITED),
+        Some(complaint) => complaint.put(out, remedy),
         None => out.put(": the row is refused.\n"),
     }
 }
@@ -116,14 +127,14 @@ fn put_wrong_answer<R: Files>(
 ) {
     put_subject(out, "voter", raw_text(row, 3));
     out.fill(
-        ", request {}: the answer is {}",
+        ", request {}: the journal says {}",
         &[Bytes(bytes_at(row, 2)), Bytes(bytes_at(row, 5))],
     );
     match audited.answer_at(row, mark) {
         Some(answer) => answer.put(out, raw_text(row, 2)),
-        None => out.put(", and the desk gives another.\n"),
+        None => out.put(", but the right answer is another one.\n"),
     }
     out.put(
-        "Compare the .pb file with the one that the desk opened with; if it is the same, the row was changed.\n",
+        "Check that this is the .pb file with which the desk was opened. If it is, this row or an earlier one was changed later: get the desk's own copy of the journal.\n",
     )
 }

@@ -15,7 +15,7 @@ struct Look {
 const LOOKS: &[Look] = &[
     Look {
         begins: b"\x1f\x8b",
-        words: ": the file looks like a gzip archive.\nUnpack it first, as by `gunzip`.\n",
+        words: ": the file looks like a gzip archive.\nUnpack it first, for example with `gunzip`.\n",
     },
     Look {
         begins: b"PK\x03\x04",
@@ -30,18 +30,22 @@ const LOOKS: &[Look] = &[
         words: UTF_16,
     },
     Look {
+        begins: b"journal;",
+        words: ": this is the journal of a desk, not a .pb file.\nTo check it and count its ballots, run `pb_app audit FILE JOURNAL`. FILE is the .pb file of the desk.\n",
+    },
+    Look {
         begins: b"%PDF",
-        words: ": the file looks like a PDF document.\nFetch the file itself, which is text.\n",
+        words: ": the file looks like a PDF document.\nGet the .pb file itself, which is text.\n",
     },
 ];
 
 const UTF_16: &str =
     ": the file looks like text in the encoding UTF-16.\nSave the file again with the encoding UTF-8.\n";
 
-const EMPTY: &str = ": the file is empty.\nFetch or save the file again.\n";
+const EMPTY: &str = ": the file is empty.\nGet or save the file again.\n";
 
 const WEB_PAGE: &str =
-    ": the file looks like a web page.\nFetch the file itself, and not the page that shows it.\n";
+    ": the file looks like a web page.\nGet the file itself, and not the page that shows it.\n";
 
 /// What a text that is a file looks like by its first bytes, and what to do; none where they say nothing.
 pub(crate) fn looks_of<R: Files>(text: &Text<'_, R>) -> Option<&'static str> {

@@ -3,14 +3,14 @@
 use crate::mark::Mark;
 use crate::quote::{Span, span_of};
 use crate::text::Text;
-use crate::words::Value::{Name, Number, Own};
+use crate::words::Value::{Name, Number, Own, Quoted};
 use crate::words::Words;
 use std::rt::Files;
 
 /// What is said of a quotation mark that is never closed.
 const UNCLOSED: &str =
-    "A quotation mark opens on line {} and is not closed, so all that follows is one field.
-Close it, or double it where it belongs to the text.
+    "{} quotation mark opens on line {} and is never closed, so the rest of the file is read as one field.
+Close it. If it belongs to the text, write it twice and put the field in quotation marks.
 ";
 
 /// What is said of a field in quotes that runs over several lines.
@@ -22,14 +22,10 @@ pub(crate) fn put_record_number<R>(out: &mut Words, text: &Text<'_, R>, at: u64)
     out.fill("{}: {} {}", &[Name(text.path), Own(text.unit), Number(at)])
 }
 
-/// Puts where a record begins: `city.pb: line 39 (record 32)`.
+/// Puts where a record begins: `city.pb: line 39`.
 pub(crate) fn put_mark<R: Files>(out: &mut Words, text: &Text<'_, R>, mark: Mark) {
     let line = line_of(text, mark);
-    let at = mark.at.saturating_sub(text.before);
-    out.fill(
-        "{}: line {} ({} {})",
-        &[Name(text.path), Number(line), Own(text.unit), Number(at)],
-    )
+    out.fill("{}: line {}", &[Name(text.path), Number(line)])
 }
 
 /// The line at which a record begins.
@@ -40,12 +36,23 @@ pub(crate) fn line_of<R: Files>(text: &Text<'_, R>, mark: Mark) -> u64 {
     }
 }
 
-/// Puts whose row it is, where it has an id: `, project p7`.
+/// Puts whose row it is, where it has an id: `, project "p7"`.
 pub(crate) fn put_subject(out: &mut Words, subject: &str, id: &str) {
     if !id.is_empty() {
-        out.fill(", {} ", &[Own(subject)]);
-        out.put_id(id);
+        out.fill(", {} {}", &[Own(subject), Quoted(id)]);
     }
+}
+
+/// Puts that a quotation mark in this record is never closed, if one is; answers whether it is so.
+pub(crate) fn put_unclosed<R: Files>(out: &mut Words, text: &Text<'_, R>, mark: Mark) -> bool {
+    let Some(span) = span_of(text, mark) else {
+        return false;
+    };
+    let Some(opened) = span.unclosed() else {
+        return false;
+    };
+    out.fill(UNCLOSED, &[Own(": a"), Number(opened)]);
+    true
 }
 
 /// Puts what is to be said of quotation marks, where the record runs over several lines by one; answers
@@ -59,7 +66,7 @@ pub(crate) fn put_quotes<R: Files>(out: &mut Words, text: &Text<'_, R>, mark: Ma
 
 fn put_span(out: &mut Words, span: &Span) -> bool {
     if let Some(opened) = span.unclosed() {
-        out.fill(UNCLOSED, &[Number(opened)]);
+        out.fill(UNCLOSED, &[Own("A"), Number(opened)]);
         return true;
     }
     if let Some((opens, closes)) = span.over {

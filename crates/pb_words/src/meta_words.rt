@@ -4,7 +4,7 @@ use crate::fields::{JoinedBy, joined, text_at};
 use crate::keys::Given;
 use crate::mark::Mark;
 use crate::mark_words::{line_of, put_mark};
-use crate::read_rules::words_of;
+use crate::read_rules::{put_broken, words_of};
 use crate::records::Records;
 use crate::section::OddHead;
 use crate::seen::Seen;
@@ -16,25 +16,27 @@ use std::io::Read;
 use std::rt::Files;
 
 /// What to do where META has no budget.
-const ADD_BUDGET: &str = "Add the row that is missing, as `budget;5000`.\n";
+const ADD_BUDGET: &str = "Add it above this line, in the form `budget;AMOUNT`.\n";
 
 /// What to do where META has no vote type.
-const ADD_VOTE_TYPE: &str = "Add the row that is missing, as `vote_type;approval`.\n";
+const ADD_VOTE_TYPE: &str =
+    "If the votes are approval votes, add `vote_type;approval` above this line.\n";
 
 /// What to do where fields are separated by something else than `;`.
 const SAVE_AGAIN: &str =
-    "The file has {} where `;` is due: save it again with `;` between the fields (within a vote commas stay).\n";
+    "The fields are separated by {}. Save the file again with `;` between the fields. Commas within a vote are right.\n";
 
 /// What to do about a row that is one field in quotes.
-const NO_QUOTES: &str = "Quotation marks make the whole row one field: take them out.\n";
+const NO_QUOTES: &str =
+    "Quotation marks around the whole row turn it into one field. Delete these quotation marks.\n";
 
 /// The same, where the row on this line is one.
 const NO_QUOTES_AT: &str =
-    "Quotation marks make whole rows one field, as on line {}: take them out.\n";
+    "Quotation marks around whole rows turn each row into one field, for example on line {}. Delete these quotation marks.\n";
 
 /// What to do about a key that stands more than once.
 const REPEATED_KEY: &str =
-    "The key stands on line {} too, and of a repeated key the last row counts: take out the row that does not hold.\n";
+    "The key is on line {} as well. When a key is repeated, the last row counts. Delete the wrong row.\n";
 
 /// META's head is looked for in so many records after a first one that is none.
 const MOST_BEFORE_META: u64 = 1_000;
@@ -73,8 +75,8 @@ pub(crate) fn put_value_words<R: Files>(
 }
 
 fn put_value(out: &mut Words, key: &str, kind: ReadKind, value: &str) {
-    let rule = words_of(kind).rule;
-    out.fill(", key {}: {}{}", &[Own(key), Quoted(value), Own(rule)])
+    out.fill(", key {}", &[Quoted(key)]);
+    put_broken(out, kind, value)
 }
 
 /// Puts which key META lacks, and what to do.
@@ -86,10 +88,10 @@ pub(crate) fn put_missing_key<R: Files>(
 ) {
     put_mark(out, text, mark);
     let remedy = if seen.keys.budget().is_none() {
-        out.put(": META ends here without the key `budget`.\n");
+        out.put(": META has no row for the key `budget`.\n");
         ADD_BUDGET
     } else {
-        out.put(": META ends here without the key `vote_type`.\n");
+        out.put(": META has no row for the key `vote_type`.\n");
         ADD_VOTE_TYPE
     };
     match joined_at(text, seen.last) {
@@ -119,7 +121,7 @@ pub(crate) fn put_joined(out: &mut Words, joined: Option<JoinedBy>, remedy: &str
 /// Puts what to do about a row that seems to be meant as a head.
 pub(crate) fn put_odd_head<R: Files>(out: &mut Words, text: &Text<'_, R>, odd: OddHead) {
     out.fill(
-        "Line {} is probably meant as the head {}: write {} there, without punctuation.\n",
+        "Line {} is probably meant as the heading {}: write {} there, without punctuation.\n",
         &[
             Number(line_of(text, odd.mark)),
             Own(odd.head),
@@ -134,7 +136,7 @@ pub(crate) fn put_late_meta<R: Files>(out: &mut Words, text: &Text<'_, R>, first
         return false;
     };
     out.fill(
-        "META stands on line {}: take out what stands before it.\n",
+        "META is on line {}: delete everything above it.\n",
         &[Number(line_of(text, mark))],
     );
     true

@@ -53,6 +53,8 @@ pub(crate) struct Odd {
     pub(crate) value_place: usize,
     /// What it is measured by, as how many rows there are.
     pub(crate) number: u64,
+    /// What the number should not pass, where META says so.
+    pub(crate) limit: Option<u64>,
 }
 
 impl Odd {
@@ -65,6 +67,7 @@ impl Odd {
             id_place: 0,
             value_place: 1,
             number,
+            limit: None,
         }
     }
 
@@ -77,6 +80,7 @@ impl Odd {
             id_place: columns.id,
             value_place: columns.cost,
             number: 0,
+            limit: None,
         }
     }
 
@@ -89,6 +93,7 @@ impl Odd {
             id_place: columns.voter,
             value_place: columns.vote,
             number,
+            limit: None,
         }
     }
 }

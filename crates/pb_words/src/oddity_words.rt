@@ -1,11 +1,13 @@
 //! Words for warnings: where, what, and what to do.
 
+use crate::count_words::put_amount;
 use crate::fields::text_at;
 use crate::mark_words::{put_mark, put_record_number, put_subject};
 use crate::oddities::{ALL, Odd, Oddities, Subject};
 use crate::text::Text;
 use crate::words::Value::{Number, Own, Quoted};
 use crate::words::Words;
+use pb_core::money::Money;
 use pb_read::Oddity;
 use std::rt::Files;
 
@@ -25,82 +27,82 @@ struct Said {
 fn said_of(oddity: Oddity, is_vote: bool) -> &'static Said {
     match oddity {
         Oddity::VotesMissing => &Said {
-            what: "{} is not the number of vote rows, which is ",
-            alone: "`num_votes` is not the number of vote rows, which is ",
+            what: "{} is wrong: the number of vote rows is ",
+            alone: "`num_votes` is wrong: the number of vote rows is ",
             ends_in_number: true,
-            remedy: "Fetch the whole file, it may be cut off; or correct the number.\n",
+            remedy: "If rows are missing, get the whole file again. Otherwise correct the number.\n",
         },
         Oddity::ProjectsMissing => &Said {
-            what: "{} is not the number of project rows, which is ",
-            alone: "`num_projects` is not the number of project rows, which is ",
+            what: "{} is wrong: the number of project rows is ",
+            alone: "`num_projects` is wrong: the number of project rows is ",
             ends_in_number: true,
-            remedy: "Fetch the whole file, it may be cut off; or correct the number.\n",
+            remedy: "If rows are missing, get the whole file again. Otherwise correct the number.\n",
         },
         Oddity::SurplusFields => &Said {
-            what: "only {} of the vote counts: the row has more fields than there are column names, which are ",
-            alone: "the row has more fields than there are column names, which are ",
+            what: "only {} is read as the vote: the row has too many fields, since the number of columns is ",
+            alone: "the row has too many fields, since the number of columns is ",
             ends_in_number: true,
-            remedy: "Look whether `;` separates the ids of the vote: write `,` between them.\n",
+            remedy: "If `;` is between the ids of the vote, write `,` instead: only the ids before the first `;` are counted.\n",
         },
         Oddity::TooLongBallot => &Said {
-            what: "the vote {} is too long for `max_length`: the number of projects that it approves is ",
-            alone: "the vote is too long for `max_length`: the number of projects that it approves is ",
+            what: "the vote {} names more projects than `max_length` allows, namely ",
+            alone: "the vote names more projects than `max_length` allows, namely ",
             ends_in_number: true,
-            remedy: "Ask whether such ballots are valid; they are counted.\n",
+            remedy: "This ballot is counted. If your rules do not allow it, delete the row.\n",
         },
         Oddity::TooShortBallot => &Said {
-            what: "the vote {} is too short for `min_length`: the number of projects that it approves is ",
-            alone: "the vote is too short for `min_length`: the number of projects that it approves is ",
+            what: "the vote {} names fewer projects than `min_length` asks for, namely ",
+            alone: "the vote names fewer projects than `min_length` asks for, namely ",
             ends_in_number: true,
-            remedy: "Ask whether such ballots are valid; they are counted.\n",
+            remedy: "This ballot is counted. If your rules do not allow it, delete the row.\n",
         },
         Oddity::EmptyBallot => &Said {
-            what: "the vote {} approves nothing",
-            alone: "the vote approves nothing",
+            what: "the ballot is empty",
+            alone: "the ballot is empty",
             ends_in_number: false,
-            remedy: "Ask whether such ballots are valid; the voter gets a share of the budget.\n",
+            remedy: "It is counted, and its voter gets a share of the budget. If your rules do not allow it, delete the row.\n",
         },
         Oddity::NoSupporter => &Said {
-            what: "nobody approves the project, which costs {}",
-            alone: "nobody approves the project",
+            what: "no vote names this project",
+            alone: "no vote names the project",
             ends_in_number: false,
-            remedy: "Look whether its votes are missing, or name it otherwise.\n",
+            remedy: "Check whether votes for it are missing, or have another id by mistake.\n",
         },
         Oddity::OverBudget => &Said {
-            what: "{} is more than the budget, so the project can't be elected",
-            alone: "the project costs more than the budget, so it can't be elected",
+            what: "{} is more than the budget, so the project can't win",
+            alone: "the project costs more than the budget, so it can't win",
             ends_in_number: false,
-            remedy: "Look for digits too many, or for an amount in another unit.\n",
+            remedy: "Check whether the amount has too many digits, or is in another unit (cents, for example).\n",
         },
         Oddity::CommaInId => &Said {
-            what: "the id has a comma, so no vote can name the project, which costs {}",
+            what: "the id has a comma, so no vote can name the project",
             alone: "the project's id has a comma, so no vote can name it",
             ends_in_number: false,
             remedy: "Give the project another id.\n",
         },
         Oddity::ThousandsMark => &Said {
-            what: "{} has exactly three digits behind its mark, and they are read as decimals",
-            alone: "an amount has exactly three digits behind its mark, and they are read as decimals",
+            what: "{}",
+            alone: "the three digits after an amount's point or comma are read as decimals",
             ends_in_number: false,
-            remedy: "Leave a mark of thousands out; of decimals write two.\n",
+            remedy: "If the point or comma separates thousands, delete it. If it separates decimals, write two of them.\n",
         },
         Oddity::RepeatedKey => &Said {
-            what: "the key stands once more, with {}, and its last value counts",
-            alone: "a key stands once more, and its last value counts",
+            what: "the key is repeated here, with {}, and only its last row counts",
+            alone: "a key is repeated here, and only its last row counts",
             ends_in_number: false,
-            remedy: "Take out the row that does not hold.\n",
+            remedy: "Delete the wrong row.\n",
         },
         Oddity::FooterRow if is_vote => &Said {
-            what: "the vote {} of this last row is the only one that approves nothing",
-            alone: "the vote of the last row is the only one that approves nothing",
+            what: "this last row is the only one with an empty vote",
+            alone: "the last row is the only one with an empty vote",
             ends_in_number: false,
-            remedy: "If it is a total and no voter, take it out: it is counted as a voter.\n",
+            remedy: "It is counted as a voter. If it is a total or a note, delete the row.\n",
         },
         Oddity::FooterRow => &Said {
-            what: "{} is the sum of all costs above",
-            alone: "the last row of PROJECTS costs what all rows above cost together",
+            what: "its cost, {}, is the sum of all costs above",
+            alone: "the cost in the last row of PROJECTS is the sum of all costs above",
             ends_in_number: false,
-            remedy: "If it is a total and no project, take it out: it is counted as a project.\n",
+            remedy: "It is counted as a project. If it is a total, delete the row.\n",
         },
     }
 }
@@ -118,7 +120,10 @@ pub(crate) fn put_oddities<R: Files>(out: &mut Words, text: &Text<'_, R>, odditi
         }
         let more = oddities.more(oddity);
         if more > 0 {
-            out.fill("{}: {} more.\n", &[Own(oddity.name()), Number(more)]);
+            out.fill(
+                "Warnings {} that are not shown here: {}.\n",
+                &[Own(oddity.name()), Number(more)],
+            );
         }
     }
 }
@@ -133,6 +138,9 @@ fn put_odd<R: Files>(out: &mut Words, text: &Text<'_, R>, odd: &Odd) {
     }
     if said.ends_in_number {
         out.fill("{}", &[Number(odd.number)]);
+    }
+    if let Some(limit) = odd.limit {
+        out.fill("; the limit is {}", &[Number(limit)]);
     }
     out.fill(" ({}).\n{}", &[Own(odd.oddity.name()), Own(said.remedy)])
 }
@@ -153,6 +161,18 @@ fn put_row<R: Files>(out: &mut Words, text: &Text<'_, R>, odd: &Odd, said: &Said
         said.what,
         &[Quoted(text_at(&records.last, odd.value_place))],
     );
+    if odd.oddity == Oddity::ThousandsMark {
+        put_as_read(out, text_at(&records.last, odd.value_place));
+    }
     drop(records);
     true
+}
+
+/// Puts as which amount a value is read.
+fn put_as_read(out: &mut Words, value: &str) {
+    if let Ok(amount) = Money::read(value) {
+        out.put(" is read as ");
+        put_amount(out, amount.0);
+        out.put(", because decimals follow a point or a comma");
+    }
 }

@@ -25,7 +25,7 @@ pub fn beside_output_words(
 ) -> Result<String, AllocError> {
     said(
         alloc,
-        "error: --output {} belongs to {}, the journal that this run reads.\nName another file.\n",
+        "error: --output {}: the program keeps this name for a file of its own beside the journal ({}).\nName another file.\n",
         &[Name(Some(path)), Name(journal)],
     )
 }
@@ -34,7 +34,7 @@ pub fn beside_output_words(
 pub fn journal_output_words(alloc: Global, path: &str) -> Result<String, AllocError> {
     said(
         alloc,
-        "error: --output {} would replace a journal, which only `desk` does.\nName another file, or move the journal away first.\n",
+        "error: --output {} would replace a journal. Only `pb_app desk` may do that.\nName another file, or move the journal away first.\n",
         &[Name(Some(path))],
     )
 }
@@ -43,7 +43,7 @@ pub fn journal_output_words(alloc: Global, path: &str) -> Result<String, AllocEr
 pub fn served_output_words(alloc: Global, path: &str) -> Result<String, AllocError> {
     said(
         alloc,
-        "--output {} would replace a journal that another run serves.\nName another file.\n",
+        "--output {} would replace a journal that `pb_app serve` is using.\nName another file.\n",
         &[Name(Some(path))],
     )
 }

@@ -3,23 +3,23 @@
 use crate::faulty_record::FaultyRecord;
 use crate::ids::Ids;
 use crate::mark::Mark;
-use crate::mark_words::{line_of, put_mark, put_quotes, put_subject};
+use crate::mark_words::{line_of, put_mark, put_quotes, put_subject, put_unclosed};
 use crate::meta_words::{
     put_joined, put_late_meta, put_missing_key, put_odd_head, put_value_words,
 };
 use crate::read_rules::words_of;
-use crate::section::due_at_end;
+use crate::section::{due_at_end, end_remedy};
 use crate::text::Text;
 use crate::words::Value::{Name, Number, Own, Quoted};
 use crate::words::Words;
 use pb_read::{ReadKind, Stage};
 use std::rt::Files;
 
-/// What to do about a vote for a project that was left out.
-const MEND_PROJECT: &str = "Mend the project's row; the vote may then stand as it is.\n";
+/// What to do about a vote for a project whose row has a fault.
+const MEND_PROJECT: &str = "Correct that line first. This vote may be right.\n";
 
 /// What to do about a vote whose ids blanks separate.
-const NO_BLANKS: &str = "The vote has blanks where `,` is due: write `,` between two ids.\n";
+const NO_BLANKS: &str = "The vote has spaces between the ids: write `,` instead.\n";
 
 /// Puts what is wrong with a record, or with the values of META before it, and what to do; answers whether it was found.
 pub(crate) fn put_found<R: Files>(
@@ -44,6 +44,9 @@ pub(crate) fn put_found<R: Files>(
 /// Puts what is wrong with a record, and what to do.
 fn put_record<R: Files>(out: &mut Words, text: &Text<'_, R>, ids: &Ids, faulty: &FaultyRecord<'_>) {
     put_mark(out, text, faulty.mark);
+    if put_unclosed(out, text, faulty.mark) {
+        return;
+    }
     let mut remedy = words_of(faulty.kind).remedy;
     match faulty.kind {
         ReadKind::UnknownProject => {
@@ -61,9 +64,8 @@ fn put_record<R: Files>(out: &mut Words, text: &Text<'_, R>, ids: &Ids, faulty: 
         }
         _ => faulty.put(out),
     }
-    if !put_quotes(out, text, faulty.mark) {
-        put_remedy(out, text, faulty, remedy);
-    }
+    put_quotes(out, text, faulty.mark);
+    put_remedy(out, text, faulty, remedy);
 }
 
 /// Puts what to do about a record.
@@ -88,14 +90,13 @@ fn line_at<R: Files>(text: &Text<'_, R>, mark: Option<Mark>) -> Option<u64> {
     Some(line_of(text, mark?))
 }
 
-/// Puts which id no project has, and the nearest one, or on which line that project was left out; answers what to do.
+/// Puts which id no project has, and the nearest one, or on which line that project's row has a fault; answers what to do.
 fn put_unknown(out: &mut Words, ids: &Ids, unknown: &str, left_out: Option<u64>) -> &'static str {
-    out.fill(": {}", &[Quoted(unknown)]);
     match left_out {
         Some(line) => {
             out.fill(
-                " is the id of a project that was left out, on line {}.\n",
-                &[Number(line)],
+                ": the row of project {} on line {} has a fault, so this vote can't be accepted.\n",
+                &[Quoted(unknown), Number(line)],
             );
             MEND_PROJECT
         }
@@ -106,15 +107,15 @@ fn put_unknown(out: &mut Words, ids: &Ids, unknown: &str, left_out: Option<u64>)
 /// Puts that an id is no project's, and the nearest one; answers what to do.
 fn put_no_project(out: &mut Words, ids: &Ids, unknown: &str) -> &'static str {
     if ids.are_apart_by_blanks(unknown) {
-        out.put(" is the id of no project.\n");
+        out.fill(": no project has the id {}.\n", &[Quoted(unknown)]);
         return NO_BLANKS;
     }
     match ids.nearest(unknown) {
         Ok(Some(near)) => out.fill(
-            " is the id of no project; the nearest is {}.\n",
-            &[Quoted(near)],
+            ": no project has the id {}; the most similar id is {}.\n",
+            &[Quoted(unknown), Quoted(near)],
         ),
-        Ok(None) => out.put(" is the id of no project.\n"),
+        Ok(None) => out.fill(": no project has the id {}.\n", &[Quoted(unknown)]),
         Err(_) => out.fail(),
     }
     words_of(ReadKind::UnknownProject).remedy
@@ -129,13 +130,8 @@ pub(crate) fn put_end<R: Files>(
     let (due, last) = (due_at_end(end.stage), end.seen.last);
     if last.at > 0 {
         out.fill(
-            "{}: the file ends after line {} (record {}), and {}",
-            &[
-                Name(text.path),
-                Number(line_of(text, last)),
-                Number(last.at),
-                Own(due),
-            ],
+            "{}: the file ends after line {}, and {}",
+            &[Name(text.path), Number(line_of(text, last)), Own(due)],
         );
     } else {
         out.fill("{}: the file ends, and {}", &[Name(text.path), Own(due)]);
@@ -145,7 +141,7 @@ pub(crate) fn put_end<R: Files>(
     }
     match end.seen.odd_head {
         Some(odd) => put_odd_head(out, text, odd),
-        None => out.put(words_of(end.kind).remedy),
+        None => out.put(end_remedy(end.stage)),
     }
     true
 }

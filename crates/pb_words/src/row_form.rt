@@ -4,57 +4,64 @@ use crate::complaint::{Complaint, Condition};
 use crate::words::Value::{Number, Own};
 use crate::words::Words;
 use csv::ByteRecord;
+use pb_desk::desk::MOST_CLERKS;
 use pb_rows::read_number;
 
 const CLERK: &Condition = &Condition {
     field: "clerk",
-    broken: " is no number of a clerk",
-    remedy: "Write the clerk's number in digits, without a sign, a space or leading zeros.",
+    broken: " is not a clerk's number",
+    remedy: "Write the number in digits, without spaces or leading zeros. If this is a row of column names, delete it: a script has none.",
 };
 
 const LAST_CLERK: &Condition = &Condition {
     field: "clerk",
-    broken: " is above the last clerk, who is ",
-    remedy: "Correct the clerk's number, or raise `--clerks`: clerks count from 0.",
+    broken: " is too high: the last clerk has the number ",
+    remedy: "Correct the number, or allow more clerks: `--clerks` can be 64 at most, and clerks are numbered from 0.",
+};
+
+const HIGHEST_CLERK: &Condition = &Condition {
+    field: "clerk",
+    broken: " is too high: the last clerk has the number ",
+    remedy: "Correct the number: clerks are numbered from 0.",
 };
 
 const REQUEST: &Condition = &Condition {
     field: "request",
-    broken: " is no request",
+    broken: " is not a request",
     remedy: "Write `cast`, `replace`, `withdraw` or `shut`, in small letters.",
 };
 
 const NO_VOTER: &Condition = &Condition {
     field: "voter",
-    broken: " stands beside `shut`, which names no voter",
-    remedy: "Take the voter out.",
+    broken: " is given, but a `shut` request has no voter",
+    remedy: "Leave the field empty.",
 };
 
 const VOTER: &Condition = &Condition {
     field: "voter",
-    broken: " is no voter",
-    remedy: "Give the row its voter's id.",
+    broken: " is not a voter's id",
+    remedy: "Fill in the voter's id.",
 };
 
 const NO_PLACES: &Condition = &Condition {
     field: "places",
-    broken: " stands beside a request that names no places",
-    remedy: "Take the places out.",
+    broken: " is given, but only `cast` and `replace` requests name projects",
+    remedy: "Leave the field empty.",
 };
 
 const PLACE: &Condition = &Condition {
     field: "places",
-    broken: " is no place",
-    remedy: "Write places as numbers from 0, with `,` between two and no spaces.",
+    broken: " is not a position",
+    remedy: "Write the positions of the projects, counted from 0, with `,` between them and no spaces. If these are project ids, run again with `--by-id`.",
 };
 
-/// Puts how many fields a row has, and how many are due.
-pub(crate) fn put_field_count(out: &mut Words, row: &ByteRecord, due: u64) {
+/// Puts how many fields a row has, and how many it needs.
+pub(crate) fn put_field_count(out: &mut Words, row: &ByteRecord, needed: u64) {
     let count = row.len() as u64;
     let fields = if count == 1 { "field" } else { "fields" };
     out.fill(
-        ": the row has {} {}, and {} are due.\n",
-        &[Number(count), Own(fields), Number(due)],
+        ": the row has {} {}, but it needs {}.\n",
+        &[Number(count), Own(fields), Number(needed)],
     )
 }
 
@@ -82,7 +89,12 @@ fn bad_clerk(text: &str, clerks: u32) -> Option<Complaint<'_>> {
         None => CLERK.unless(false, text),
         Some(clerk) if clerk < clerks => None,
         Some(_) => Some(Complaint {
-            condition: LAST_CLERK,
+            condition: if clerks < MOST_CLERKS {
+                LAST_CLERK
+            } else {
+                HIGHEST_CLERK
+            },
+            field: "clerk",
             value: text.as_bytes(),
             end: Number(u64::from(clerks).saturating_sub(1)),
         }),

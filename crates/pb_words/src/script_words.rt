@@ -5,7 +5,7 @@ use crate::count_words::put_range;
 use crate::fields::{joined, place_of_no_text, raw_text};
 use crate::file_words::put_reading_failed;
 use crate::mark::Mark;
-use crate::mark_words::{put_mark, put_quotes, put_record_number};
+use crate::mark_words::{put_mark, put_quotes, put_record_number, put_unclosed};
 use crate::meta_words::put_joined;
 use crate::row_form::{bad_asking, bad_places, put_field_count};
 use crate::text::Text;
@@ -16,13 +16,15 @@ use pb_script::ScriptFault;
 use std::alloc::{AllocError, Global};
 use std::rt::Files;
 
+/// The fields of a script's row.
+const FIELDS: [&str; 4] = ["clerk", "request", "voter", "places"];
+
 /// What to do about a row of other than four fields.
 const FOUR_FIELDS: &str = "Write it as CLERK;REQUEST;VOTER;PLACES, with three `;`.\n";
 
 /// What is said of a journal's row.
-const JOURNAL_ROW: &str =
-    ": this is a row of a journal, and a request is due: CLERK;REQUEST;VOTER;PLACES.
-Audit a journal by `pb_app audit FILE JOURNAL`, or let its desk go on by `pb_app serve FILE JOURNAL`.
+const JOURNAL_ROW: &str = ": this is a row of a journal, not a request.
+To check a journal, run `pb_app audit FILE JOURNAL`. To continue its desk, run `pb_app serve FILE JOURNAL`.
 ";
 
 /// Words for a fault of the script with this path, of a run with this many clerks; no path is standard input.
@@ -59,17 +61,15 @@ fn put_words<R: Files>(out: &mut Words, text: &Text<'_, R>, fault: ScriptFault, 
 fn what_and_remedy(fault: ScriptFault) -> &'static str {
     match fault {
         ScriptFault::ReadFailed(_) => {
-            ": the script could not be read any further.\nCheck the disk or the connection, then run again.\n"
+            ": the script could not be read to its end.\nCheck the disk or the connection, then run again.\n"
         }
         ScriptFault::BadRow(_) => {
-            ": the row is not a request of a clerk of this run.\nCompare it with the form CLERK;REQUEST;VOTER;PLACES, and the clerk's number with `--clerks`.\n"
+            ": the row is not a valid request, or its clerk's number is too high.\nA request has the form CLERK;REQUEST;VOTER;PLACES. The clerk's number must be below the value of `--clerks`, which is 1 if it is not given.\n"
         }
         ScriptFault::TooManyRows => {
-            ": the script has more than 2,000,000 rows.\nA script with more rows cannot be served.\n"
+            ": the script has more than 2,000,000 rows.\nA longer script can't be used.\n"
         }
-        ScriptFault::NoMemory => {
-            ": memory was refused.\nRun again on a machine with more memory.\n"
-        }
+        ScriptFault::NoMemory => { ": memory ran out.\nRun again on a machine with more memory.\n" }
         ScriptFault::UnknownId(_) => ": no project has one of the ids.\n",
         ScriptFault::NotOnRoll(_) => ": the voter is not on the roll.\n",
         ScriptFault::TooFew(_) => ": the ballot has too few projects.\n",
@@ -83,8 +83,10 @@ fn put_row<R: Files>(out: &mut Words, text: &Text<'_, R>, at: u64, clerks: u32) 
     };
     let mark = records.mark();
     put_mark(out, text, mark);
-    put_row_words(out, &records.last, clerks);
-    put_quotes(out, text, mark);
+    if !put_unclosed(out, text, mark) {
+        put_row_words(out, &records.last, clerks);
+        put_quotes(out, text, mark);
+    }
     drop(records);
     true
 }
@@ -113,7 +115,7 @@ fn is_of_journal(row: &ByteRecord) -> bool {
 /// The first condition that a row of four fields breaks.
 fn complaint_of(row: &ByteRecord, clerks: u32) -> Option<Complaint<'_>> {
     let request = raw_text(row, 1);
-    no_text(row)
+    no_text(row, &FIELDS)
         .or(bad_asking(raw_text(row, 0), clerks, request, raw_text(row, 2)))
         .or(bad_places(request, raw_text(row, 3)))
 }

@@ -1,4 +1,4 @@
-//! What things are called in the sections of a .pb file, and what is due in one.
+//! What things are called in the sections of a .pb file, and what is missing in one.
 
 use crate::fields::{joined, text_at};
 use crate::mark::Mark;
@@ -16,6 +16,10 @@ pub(crate) struct Names {
     pub(crate) subject: &'static str,
     /// What is missing where it has no row of column names.
     pub(crate) header_due: &'static str,
+    /// What to do about it.
+    pub(crate) add_header: &'static str,
+    /// What to do where the row of column names lacks a column.
+    pub(crate) add_column: &'static str,
 }
 
 /// A row that seems to be meant as the head of a section, and is none.
@@ -33,21 +37,27 @@ const META: &Names = &Names {
     id_column: "key",
     value_column: "value",
     subject: "key",
-    header_due: "META's row of column names is due.\n",
+    header_due: "META has no row of column names.\n",
+    add_header: "Add it below the heading META, for example `key;value`.\n",
+    add_column: "",
 };
 
 const PROJECTS: &Names = &Names {
     id_column: "project_id",
     value_column: "cost",
     subject: "project",
-    header_due: "PROJECTS' row of column names is due.\n",
+    header_due: "PROJECTS has no row of column names.\n",
+    add_header: "Add it below the heading PROJECTS, for example `project_id;cost`.\n",
+    add_column: "PROJECTS needs the columns `project_id` and `cost`. If this row is a project, add the row of column names above it.\n",
 };
 
 const VOTES: &Names = &Names {
     id_column: "voter_id",
     value_column: "vote",
     subject: "voter",
-    header_due: "VOTES' row of column names is due.\n",
+    header_due: "VOTES has no row of column names.\n",
+    add_header: "Add it below the heading VOTES, for example `voter_id;vote`.\n",
+    add_column: "VOTES needs the columns `voter_id` and `vote`. If this row is a vote, add the row of column names above it.\n",
 };
 
 /// What things are called in a section.
@@ -87,23 +97,40 @@ pub(crate) fn odd_head_of(record: &ByteRecord, mark: Mark) -> Option<OddHead> {
     None
 }
 
-/// What is due where another section's head stands.
-pub(crate) fn due_head(stage: &Stage) -> &'static str {
+/// Whether the section with this head has begun already at a stage where its head is refused.
+pub(crate) fn is_again(stage: &Stage, head: &str) -> bool {
     match stage {
-        Stage::Start => " stands where META is due.\n",
-        Stage::InMeta(_) => " stands where PROJECTS is due.\n",
-        Stage::InProjects(_) => " stands where VOTES is due.\n",
-        Stage::Header(_) | Stage::InVotes(_) => " stands where no further section is due.\n",
+        Stage::Start => false,
+        Stage::InMeta(_) => head.eq_ignore_ascii_case("META"),
+        Stage::Header(_) | Stage::InProjects(_) | Stage::InVotes(_) => true,
+    }
+}
+
+/// What is wrong with this head of a section at a stage where it is refused.
+pub(crate) fn wrong_head(stage: &Stage, head: &str) -> &'static str {
+    match stage {
+        Stage::Start => " comes before META.\n",
+        _ if is_again(stage, head) => " begins a section that the file has already.\n",
+        _ => " comes before PROJECTS.\n",
+    }
+}
+
+/// What to do where the file ends too early.
+pub(crate) fn end_remedy(stage: &Stage) -> &'static str {
+    match stage {
+        Stage::Header(section) => names_of(*section).add_header,
+        _ =>
+            "Get the whole file again: it may be cut off. If the section has no rows yet, add its heading and column names.\n",
     }
 }
 
 /// What is missing where the file ends.
 pub(crate) fn due_at_end(stage: &Stage) -> &'static str {
     match stage {
-        Stage::Start => "META is due.\n",
+        Stage::Start => "there is no section META.\n",
         Stage::Header(section) => names_of(*section).header_due,
-        Stage::InMeta(_) => "PROJECTS is still to come.\n",
-        Stage::InProjects(_) => "VOTES is still to come.\n",
-        Stage::InVotes(_) => "a record is missing.\n",
+        Stage::InMeta(_) => "there is no section PROJECTS.\n",
+        Stage::InProjects(_) => "there is no section VOTES.\n",
+        Stage::InVotes(_) => "a row is missing.\n",
     }
 }

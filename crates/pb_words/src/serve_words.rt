@@ -1,6 +1,6 @@
 //! Words for a desk that stands on a file: why it does not, and which rows it did not take.
 
-use crate::words::Value::{Name, Number};
+use crate::words::Value::{Name, Number, Own};
 use crate::words::Words;
 use std::alloc::{AllocError, Global};
 use std::io::Error;
@@ -10,7 +10,7 @@ pub fn locked_words(alloc: Global, path: &str) -> Result<String, AllocError> {
     path_words(
         alloc,
         path,
-        "{}: another run serves this journal.\nWait until it has ended, or hand your rows to it.\n",
+        "{}: another `pb_app serve` is using this journal.\nWait until it ends, or enter your requests there.\n",
     )
 }
 
@@ -20,7 +20,7 @@ pub fn unopened_words(alloc: Global, path: &str, reason: &Error) -> Result<Strin
         alloc,
         path,
         Some(reason),
-        "Name a file in a folder that is there, and that you may read and write.\n",
+        "Name an ordinary file. Its folder must exist, and you must be allowed to read and write there.\n",
     )
 }
 
@@ -30,7 +30,7 @@ pub fn unkept_words(alloc: Global, path: &str, reason: &Error) -> Result<String,
         alloc,
         path,
         Some(reason),
-        "What was answered stands. Look for a full or failing disk; then run `serve` again, and send the rows that have no answer.\n",
+        "Every request that got an answer is kept. Check for a full or failing disk. Then run `serve` again, and send each request that got no answer.\n",
     )
 }
 
@@ -38,8 +38,13 @@ pub fn unkept_words(alloc: Global, path: &str, reason: &Error) -> Result<String,
 pub fn moved_words(alloc: Global, path: &str, kept: &str) -> Result<String, AllocError> {
     let mut out = Words::new(alloc);
     out.fill(
-        "{} was moved, replaced or deleted while this run wrote it.\nThe whole journal now stands in {}: each answered row is in it.\nCompare the two, keep the journal that has all rows under the old name, run `serve` again, and send the rows that have no answer.\n",
-        &[Name(Some(path)), Name(Some(kept))],
+        "{} was moved, replaced or deleted while `pb_app serve` was using it.\nThe whole journal is now in {}, with every request that got an answer.\nIf there is a file {} now, compare the two. Give the one that has all rows the name {}. Run `serve` again. Then send each request that got no answer.\n",
+        &[
+            Name(Some(path)),
+            Name(Some(kept)),
+            Name(Some(path)),
+            Name(Some(path)),
+        ],
     );
     out.finish()
 }
@@ -50,7 +55,7 @@ pub fn lost_words(alloc: Global, path: &str, reason: &Error) -> Result<String, A
         alloc,
         path,
         Some(reason),
-        "The journal was moved, replaced or deleted while this run wrote it, and its text could not be kept beside it.\nLook for the file under its new name: each answered row is in it.\n",
+        "The journal was moved, replaced or deleted while `pb_app serve` was using it, and it could not be saved beside its old place.\nFind the file under its new name: it has every request that got an answer.\n",
     )
 }
 
@@ -60,7 +65,7 @@ pub fn unanswered_words(alloc: Global, reason: Option<&Error>) -> Result<String,
         alloc,
         "standard output",
         reason,
-        "What was served stands in the journal, with its answer or without.\n",
+        "The journal has every request that was taken, whether its answer was printed or not.\n",
     )
 }
 
@@ -69,16 +74,17 @@ pub fn spelling_words(alloc: Global, path: &str) -> Result<String, AllocError> {
     path_words(
         alloc,
         path,
-        "{}: its rows are legal, and not spelled as a desk spells them: with other line ends, needless quotation marks, or a byte order mark.\nIt was left as it is. Get the desk's own copy.\n",
+        "{}: the rows are right, but another program saved the file again: it has other line ends, extra quotation marks, or a byte order mark.\nThe file was not changed now. Get the desk's own copy.\n",
     )
 }
 
 /// Words for so many bytes behind a journal's text that are kept in this file.
 pub fn torn_words(alloc: Global, path: &str, bytes: usize) -> Result<String, AllocError> {
     let mut out = Words::new(alloc);
+    let cut = if bytes == 1 { "byte was" } else { "bytes were" };
     out.fill(
-        "{} bytes behind the journal's text were cut off, and stand in {}.\nSend each row that has no answer once more.\n",
-        &[Number(bytes as u64), Name(Some(path))],
+        "The end of the journal was incomplete: {} {} cut off, and kept in {}.\nSend each request that got no answer again.\n",
+        &[Number(bytes as u64), Own(cut), Name(Some(path))],
     );
     out.finish()
 }
@@ -86,9 +92,9 @@ pub fn torn_words(alloc: Global, path: &str, bytes: usize) -> Result<String, All
 /// Words for so many rows that were not of the form.
 pub fn bad_rows_words(alloc: Global, rows: u64) -> Result<String, AllocError> {
     let form = if rows == 1 {
-        "{} row was not of the form clerk;request;voter;places, and changed nothing.\n"
+        "{} row did not have the form CLERK;REQUEST;VOTER;PLACES. It is not in the journal.\n"
     } else {
-        "{} rows were not of the form clerk;request;voter;places, and changed nothing.\n"
+        "{} rows did not have the form CLERK;REQUEST;VOTER;PLACES. They are not in the journal.\n"
     };
     let mut out = Words::new(alloc);
     out.fill(form, &[Number(rows)]);

@@ -106,8 +106,13 @@ impl Warnings {
     }
 
     fn warn_vote(&mut self, oddity: Oddity, mark: Mark, columns: VoteColumns, length: u64) {
-        self.oddities
-            .take(Odd::of_vote(oddity, mark, columns, length));
+        let limit = match oddity {
+            Oddity::TooLongBallot => self.results.claims.max_length,
+            Oddity::TooShortBallot => self.results.claims.min_length,
+            _ => None,
+        };
+        let odd = Odd::of_vote(oddity, mark, columns, length);
+        self.oddities.take(Odd { limit, ..odd });
     }
 
     /// Notes which projects the last vote names, and answers how many they are.

@@ -96,11 +96,6 @@ impl Words {
         self.put(if is_whole { "\"" } else { "\"..." });
     }
 
-    /// Puts an id without quotes, cut as a value is.
-    pub(crate) fn put_id(&mut self, id: &str) {
-        self.put_cut(id, MOST_SHOWN)
-    }
-
     /// Puts the name of a file as it was given.
     pub(crate) fn put_name(&mut self, path: &str) {
         self.put_cut(path, MOST_OF_NAME)
