@@ -143,7 +143,7 @@ def try_ids(window, ann):
     """Ids that are markup, unknown, with spaces, with a line end; a second sending; a form of another time."""
     count = len(window.entries())
     page = ann.ask('cast', 'unknown project', ['12', 'nowhere'])
-    see('names an id that no project has' in page.seen and 'no entry' in page.seen and len(window.entries()) == count,
+    see('no project has an id that the ballot names' in page.seen and 'not in the journal' in page.seen and len(window.entries()) == count,
         'an id that no project has is refused in words', page.seen)
     for piece in ('12\r0;shut;;', '12\n0;shut;;', '12"\n0;shut;;', '12";\n0;shut;;', '12\0'):
         page = ann.ask('cast', 'two rows', [piece])

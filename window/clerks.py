@@ -2,8 +2,8 @@
 """Keeps the file of the clerks: their names and numbers, and what scrypt makes of their passphrases.
 
 usage: clerks.py add NAME           a new clerk, with the next number; the first one is the head clerk, 0
-       clerks.py passphrase NAME    another passphrase for a clerk
-       clerks.py close NAME         the clerk signs in no more; the number stays taken
+       clerks.py passphrase NAME    another passphrase for a clerk; a closed name can sign in again
+       clerks.py close NAME         the clerk can no longer sign in; nobody else gets the number
 
 The file is clerks.json here, or the one that --clerks CLERKS names. A passphrase is typed at the terminal, twice, and has
 at least 12 characters.
@@ -75,11 +75,18 @@ def main():
     clerks = load(given.clerks) if os.path.exists(given.clerks) or given.what != 'add' else []
     name = given.name.strip()
     clerk = next((it for it in clerks if it['name'] == name), {'number': len(clerks), 'name': name})
-    if not name.isprintable() or not name or (given.what == 'add') != (clerk['number'] == len(clerks)) or len(clerks) == 64:
-        sys.exit('clerks.py: a new clerk has a name that nobody has, the others one of the file; there are 64 at most')
+    if not name.isprintable() or not name:
+        sys.exit('clerks.py: a name has at least one character, and only characters that can be seen')
+    if given.what == 'add' and clerk['number'] < len(clerks):
+        sys.exit(f'clerks.py: there is a clerk {name} already; give the new one another name')
+    if given.what != 'add' and clerk['number'] == len(clerks):
+        sys.exit(f"clerks.py: there is no clerk {name}; the clerks are {', '.join(it['name'] for it in clerks)}")
+    if len(clerks) == 64 and given.what == 'add':
+        sys.exit('clerks.py: there can be 64 clerks at most')
     clerk.update({'salt': '', 'hash': ''} if given.what == 'close' else typed(name))
     save(given.clerks, clerks[:clerk['number']] + [clerk] + clerks[clerk['number'] + 1:])
-    print(f"{name} is clerk {clerk['number']}{', the head clerk' if clerk['number'] == 0 else ''}")
+    said = f"{name} is clerk {clerk['number']}{', the head clerk' if clerk['number'] == 0 else ''}"
+    print(said + (', and can no longer sign in' if given.what == 'close' else ''))
 
 
 if __name__ == '__main__':

@@ -17,12 +17,12 @@ HEADERS = {'Cache-Control': 'no-store', 'Referrer-Policy': 'no-referrer', 'X-Con
 # What the desk answers, and after that why it takes a row for none.
 ANSWERS = {'done': 'Recorded.', 'already-cast': 'Not recorded: this voter has a ballot already.',
            'no-ballot': 'Not recorded: this voter has no ballot.',
-           'too-long': 'Not recorded: the ballot has more projects than the election allows.',
+           'too-long': 'Not recorded: the ballot has too many projects.',
            'voter-limit': 'Not recorded: the desk has as many ballots as it can hold.',
            'desk-shut': 'Not recorded: the desk is shut.',
-           'UnknownId': 'Not recorded: the ballot names an id that no project has.',
+           'UnknownId': 'Not recorded: no project has an id that the ballot names.',
            'NotOnRoll': 'Not recorded: this voter is not on the roll.',
-           'TooFew': 'Not recorded: the ballot has fewer projects than the office asks for.'}
+           'TooFew': 'Not recorded: the ballot has too few projects.'}
 STALE = 'The form is too old, or you were signed out. Nothing was sent to the desk just now. Look up the voter to see what is recorded.'
 
 
@@ -60,7 +60,7 @@ def check():
     """Lets through what comes from a page of this window, and from a clerk who is signed in."""
     g.session = g.clerk = None
     if request.headers.get('Host') not in office.hosts:
-        return say('Wrong address', 'The window does not go by this name.', 400)
+        return say('Wrong address', 'The window is not at this address. Ask the head clerk for the right one.', 400)
     g.session = office.sessions.find(cookie('session'), office.door.clerks())
     g.clerk = g.session and g.session.clerk['number']
     if request.method == 'POST':

@@ -10,16 +10,16 @@ except ImportError as why:
 
 OPTIONS = {
     '--clerks': dict(metavar='CLERKS', required=True, help='the file that clerks.py makes'),
-    '--listen': dict(metavar='ADDRESS:PORT', default='127.0.0.1:8080', help='127.0.0.1:8080, if nothing else is said'),
-    '--name': dict(metavar='HOST', action='append', default=[], help='a name by which clerks reach it; one or more'),
+    '--listen': dict(metavar='ADDRESS:PORT', default='127.0.0.1:8080', help='where the window listens; 127.0.0.1:8080 if not given'),
+    '--name': dict(metavar='HOST', action='append', default=[], help='a name that clerks type into the browser; may be given several times'),
     '--cert': dict(metavar='PEM', help='the certificate for TLS'),
     '--key': dict(metavar='PEM', help='its key'),
-    '--backup': dict(metavar='FOLDER', help='where the journal and its digest are copied to in the evening'),
-    '--roll': dict(metavar='ROLL', help='voters of this file alone, as `serve` takes it'),
-    '--min': dict(metavar='N', help='the least projects of a ballot, as `serve` takes it'),
-    '--title': dict(metavar='TEXT', help='what was voted on, for the page of the result'),
-    '--count': dict(metavar='OPTIONS', default='', help='the options of the count in one word, as --count="--measure cost"'),
-    '--program': dict(metavar='PATH', default='pb_app', help='pb_app, where it is not on the PATH'),
+    '--backup': dict(metavar='FOLDER', help='copies the journal and its digest there in the evening'),
+    '--roll': dict(metavar='ROLL', help='takes requests only for the voters in this file'),
+    '--min': dict(metavar='N', help='the smallest number of projects that a new ballot may name'),
+    '--title': dict(metavar='TEXT', help='the title of the page of the result'),
+    '--count': dict(metavar='OPTIONS', default='', help='the options of the count in one word, such as --count="--measure cost"'),
+    '--program': dict(metavar='PATH', default='pb_app', help='where pb_app is, if it is not on the PATH'),
 }
 
 
@@ -27,7 +27,7 @@ def arguments():
     """What the command line asks for."""
     parser = argparse.ArgumentParser(prog='run.py', description="The clerks' window: web pages on which clerks take ballots.")
     parser.add_argument('file', metavar='FILE', help='the election')
-    parser.add_argument('journal', metavar='JOURNAL', help='the journal of its desk; it is made where it is not there')
+    parser.add_argument('journal', metavar='JOURNAL', help='the journal of its desk; created if it does not exist')
     for option, words in OPTIONS.items():
         parser.add_argument(option, **words)
     given = parser.parse_args()
@@ -35,13 +35,13 @@ def arguments():
     try:
         address, given.address = ipaddress.ip_address(host.strip('[]')), (host.strip('[]'), int(port))
     except ValueError:
-        parser.error('--listen takes an address and a port, as 127.0.0.1:8080')
+        parser.error('--listen takes an address and a port, such as 127.0.0.1:8080')
     if bool(given.cert) != bool(given.key) or not (given.cert or address.is_loopback):
-        parser.error('on any address but loopback --cert and --key are needed')
+        parser.error('--cert and --key are needed, together, on every address but loopback')
     if address.is_unspecified and not given.name:
-        parser.error('say by --name what clerks type to reach the window')
+        parser.error('give --name: the name that clerks type to reach the window')
     if given.backup and not os.access(given.backup, os.W_OK | os.X_OK):
-        parser.error('--backup names no folder that can be written')
+        parser.error('--backup: this is not a folder in which you may write')
     given.scheme = 'https' if given.cert else 'http'
     names = given.name + [host] + ['localhost'] * address.is_loopback
     given.hosts = [f'{name}:{port}' for name in names] + names * (int(port) == (443 if given.cert else 80))
@@ -71,7 +71,7 @@ class Day:
                     text = file.read()
                 digest, entries = hashlib.sha256(text).hexdigest(), self.desk.newest.number
                 self.log.write('ended', entries=entries, digest=digest)
-                print(f'{entries} entries, sha256 {digest}: write both down', flush=True)
+                print(f'\nEntries: {entries}, sha256 {digest}: write both down', flush=True)
                 name = f'{os.path.basename(self.given.journal)}.{datetime.datetime.now(datetime.timezone.utc):%Y%m%dT%H%M%S%fZ}'
                 for end, data in (('', text), ('.sha256', f'{digest}  {name}\n'.encode())) if self.given.backup else ():
                     with open(os.path.join(self.given.backup, name + end), 'xb') as file:
@@ -80,7 +80,7 @@ class Day:
                         os.fsync(file.fileno())
             except OSError as why:
                 self.log.write('not-copied', why=str(why))
-                return f'The journal was not copied: {why}. Copy it by hand.'
+                return f'The journal was not copied: {why}. Copy it by hand. If it was moved, it is in {self.given.journal}.kept.'
 
     def result(self):
         """The report of the shut desk with its digests, and the page of the result."""

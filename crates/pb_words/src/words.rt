@@ -66,10 +66,10 @@ impl Words {
     pub(crate) fn fill(&mut self, form: &str, values: &[Value<'_>]) {
         let mut place = 0usize;
         for piece in form.split("{}") {
-            self.put(piece);
-            if let Some(value) = values.get(place) {
-                self.put_value(value);
+            if place > 0 && place <= values.len() {
+                self.put_value(&values[place - 1]);
             }
+            self.put(piece);
             place = place.saturating_add(1);
         }
     }
