@@ -121,6 +121,11 @@ fn refused<'a, R: Print + Eprint>(rt: &R, error: &Error) -> Result<Parsed<'a>, A
         return Err(AllocError);
     }
     let printed = error.print(rt);
+    if error.kind() == ErrorKind::ValueValidation {
+        let _ = eprintln!(rt;
+            "This option takes a whole number: `pb_app COMMAND --help` says which are allowed."
+        );
+    }
     if error.exit_code() != 0 {
         return Ok(Parsed::Ends(BAD_ARGUMENTS));
     }

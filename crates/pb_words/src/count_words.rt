@@ -74,21 +74,21 @@ pub fn spent_words(
 fn put_raises(out: &mut Words, deciding: Deciding) {
     match deciding {
         Deciding::Least(raises) => out.fill(
-            "Allow more raises: `--raises {}` is enough, and any smaller number is not.\n",
+            "You can allow more raises: `--raises {}` is enough, and any smaller number is not.\n",
             &[Number(u64::from(raises))],
         ),
         Deciding::Enough(raises) => out.fill(
-            "Allow more raises: `--raises {}` is enough, and a smaller number may be enough too.\n",
+            "You can allow more raises: `--raises {}` is enough, and a smaller number may be enough too.\n",
             &[Number(u64::from(raises))],
         ),
         Deciding::NoneIs => out.put(
             "More raises can't help: `--raises` can be 1000000 at most, and that is not enough.\n",
         ),
         Deciding::NotFound => out.put(
-            "Allow more raises, up to 1000000. How many are needed is not known: the program looked for about as long as the count took.\n",
+            "You can allow more raises, up to 1000000. How many are needed is not known: the program looked for about as long as the count took.\n",
         ),
         Deciding::Unread => out.put(
-            "Allow more raises, up to 1000000. How many are needed is not known: the ballots can't be read a second time.\n",
+            "You can allow more raises, up to 1000000. How many are needed is not known: the ballots can't be read a second time.\n",
         ),
     }
 }
@@ -97,11 +97,14 @@ fn put_raises(out: &mut Words, deciding: Deciding) {
 fn put_step(out: &mut Words, step: Option<u64>) {
     match step {
         Some(step) => {
-            out.fill("Or use a larger step: with `--step {}` (", &[Number(step)]);
+            out.fill(
+                "You can use a larger step: with `--step {}` (",
+                &[Number(step)],
+            );
             put_amount(out, step);
             out.put(") the last raise gives each voter the whole budget.\n");
         }
-        None => out.put("Or use a larger step.\n"),
+        None => out.put("You can use a larger step.\n"),
     }
     out.put("But a larger step skips the shares in between, so fewer projects may win.\n")
 }

@@ -39,20 +39,20 @@ fn said_of(oddity: Oddity, is_vote: bool) -> &'static Said {
             remedy: "If rows are missing, get the whole file again. Otherwise correct the number.\n",
         },
         Oddity::SurplusFields => &Said {
-            what: "only {} is read as the vote: the row has too many fields, since the number of columns is ",
-            alone: "the row has too many fields, since the number of columns is ",
+            what: "only {} is read as the vote: the row has more fields than the row of column names, which has ",
+            alone: "the row has more fields than the row of column names, which has ",
             ends_in_number: true,
             remedy: "If `;` is between the ids of the vote, write `,` instead: only the ids before the first `;` are counted.\n",
         },
         Oddity::TooLongBallot => &Said {
-            what: "the vote {} names more projects than `max_length` allows, namely ",
-            alone: "the vote names more projects than `max_length` allows, namely ",
+            what: "the vote {} names ",
+            alone: "the vote names ",
             ends_in_number: true,
             remedy: "This ballot is counted. If your rules do not allow it, delete the row.\n",
         },
         Oddity::TooShortBallot => &Said {
-            what: "the vote {} names fewer projects than `min_length` asks for, namely ",
-            alone: "the vote names fewer projects than `min_length` asks for, namely ",
+            what: "the vote {} names ",
+            alone: "the vote names ",
             ends_in_number: true,
             remedy: "This ballot is counted. If your rules do not allow it, delete the row.\n",
         },
@@ -84,11 +84,11 @@ fn said_of(oddity: Oddity, is_vote: bool) -> &'static Said {
             what: "{}",
             alone: "the three digits after an amount's point or comma are read as decimals",
             ends_in_number: false,
-            remedy: "If the point or comma separates thousands, delete it. If it separates decimals, write two of them.\n",
+            remedy: "If the point or comma separates thousands, delete it. Otherwise write two decimals.\n",
         },
         Oddity::RepeatedKey => &Said {
-            what: "the key is repeated here, with {}, and only its last row counts",
-            alone: "a key is repeated here, and only its last row counts",
+            what: "the key is repeated, here with {}; only the last row of a key counts",
+            alone: "a key is repeated; only the last row of a key counts",
             ends_in_number: false,
             remedy: "Delete the wrong row.\n",
         },
@@ -121,7 +121,7 @@ pub(crate) fn put_oddities<R: Files>(out: &mut Words, text: &Text<'_, R>, odditi
         let more = oddities.more(oddity);
         if more > 0 {
             out.fill(
-                "Warnings {} that are not shown here: {}.\n",
+                "Further warnings {}, not shown here: {}.\n",
                 &[Own(oddity.name()), Number(more)],
             );
         }
@@ -139,9 +139,7 @@ fn put_odd<R: Files>(out: &mut Words, text: &Text<'_, R>, odd: &Odd) {
     if said.ends_in_number {
         out.fill("{}", &[Number(odd.number)]);
     }
-    if let Some(limit) = odd.limit {
-        out.fill("; the limit is {}", &[Number(limit)]);
-    }
+    put_limit(out, odd);
     out.fill(" ({}).\n{}", &[Own(odd.oddity.name()), Own(said.remedy)])
 }
 
@@ -168,11 +166,25 @@ fn put_row<R: Files>(out: &mut Words, text: &Text<'_, R>, odd: &Odd, said: &Said
     true
 }
 
+/// Puts the limit that a ballot does not keep, after the number of its projects.
+fn put_limit(out: &mut Words, odd: &Odd) {
+    let Some(limit) = odd.limit else {
+        return;
+    };
+    let form = match (odd.oddity, odd.number) {
+        (Oddity::TooLongBallot, 1) => " project, and `max_length` allows {}",
+        (Oddity::TooLongBallot, _) => " projects, and `max_length` allows {}",
+        (_, 1) => " project, and `min_length` asks for {}",
+        _ => " projects, and `min_length` asks for {}",
+    };
+    out.fill(form, &[Number(limit)])
+}
+
 /// Puts as which amount a value is read.
 fn put_as_read(out: &mut Words, value: &str) {
     if let Ok(amount) = Money::read(value) {
         out.put(" is read as ");
         put_amount(out, amount.0);
-        out.put(", because decimals follow a point or a comma");
+        out.put(", because a point or a comma begins the decimals");
     }
 }
