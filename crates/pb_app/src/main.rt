@@ -117,8 +117,8 @@ where
     let code = match result {
         Ok(()) => {
             words::say_tally(rt, asked, &notes.written, &notes.audited);
-            words::say_faults(rt, &asked.task, notes.faults.as_slice());
-            words::say_warnings(rt, &asked.task, &notes.checked, &notes.seen);
+            words::say_faults(rt, &asked.task, &notes);
+            words::say_warnings(rt, &asked.task, &notes);
             status_of(notes.faults.as_slice())
         }
         Err(refusal) => {
@@ -127,9 +127,9 @@ where
             }
             let took = begun.and_then(|begun| begun.elapsed(rt).ok());
             let status = write_line(rt, &refusal);
-            words::say_refusal(rt, asked, &refusal, &output, &notes.audited);
+            words::say_refusal(rt, asked, &refusal, &output, &notes);
             words::say_spent(rt, asked, &refusal, took, &progress);
-            words::say_warnings(rt, &asked.task, &notes.checked, &notes.seen);
+            words::say_warnings(rt, &asked.task, &notes);
             status
         }
     };

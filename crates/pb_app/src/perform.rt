@@ -193,7 +193,7 @@ where
                 asked,
                 kinship,
                 writer,
-                &mut notes.written,
+                notes,
                 typing,
             );
         }

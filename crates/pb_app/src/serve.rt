@@ -3,7 +3,7 @@
 use crate::admitted::{Told, rules_of};
 use crate::counted::CountedWriter;
 use crate::kinship::{Kinship, standing_of};
-use crate::perform::Refusal;
+use crate::perform::{Notes, Refusal};
 use crate::typing::{HeardWriter, TypedReader, Typing};
 use crate::words;
 use pb_command_line::{Admits, ServeRun};
@@ -13,13 +13,13 @@ use pb_core::election::Election;
 use pb_durable::file_beside::{name_file, read_file_beside};
 use pb_durable::file_device::{FileDevice, FileFailure, FileFault, fault_of, keep_beside};
 use pb_durable::{Belonging, Beside, Device, DeviceFault, DurableDesk, JournalFile, Opened};
-use pb_read::read_pb;
+use pb_read::read_pb_watched;
 use pb_rows::read_number;
 use pb_script::{Admission, ROOM};
 use pb_serving::run_serve::run_admitted;
 use pb_serving::{AtHand, Incoming, Paced, ServingFault};
 use pb_streams::{Digested, open_file};
-use pb_words::Tally;
+use pb_words::Witness;
 use std::cell::Cell;
 use std::fs::File;
 use std::io::{Error, ErrorKind, Write};
@@ -72,14 +72,15 @@ pub(crate) fn serve<R, W: Write>(
     asked: &ServeRun<'_>,
     kinship: &Kinship,
     writer: &mut W,
-    tally: &mut Tally,
+    notes: &mut Notes,
     typing: &Typing,
 ) -> Result<(), Refusal>
 where
     R: Files<File = File> + Input + Eprint + Clock + AllocGlobal,
 {
-    let mut answers = CountedWriter::new(writer, tally);
-    serve_file(rt, asked, kinship, typing, &mut answers)
+    let mut answers = CountedWriter::new(writer, &mut notes.written);
+    let witness = &mut notes.seen.witness;
+    serve_file(rt, asked, kinship, witness, typing, &mut answers)
 }
 
 /// The same; what is written is counted.
@@ -87,13 +88,14 @@ fn serve_file<R, W: Write>(
     rt: &R,
     asked: &ServeRun<'_>,
     kinship: &Kinship,
+    witness: &mut Witness,
     typing: &Typing,
     writer: &mut W,
 ) -> Result<(), Refusal>
 where
     R: Files<File = File> + Input + Eprint + Clock + AllocGlobal,
 {
-    let (election, admission) = read_both(rt, asked, kinship)?;
+    let (election, admission) = read_both(rt, asked, kinship, witness)?;
     let failure = Cell::new(None);
     let served = match FileDevice::open(rt, asked.journal, &failure) {
         Ok(device) => {
@@ -250,12 +252,13 @@ fn read_both<R>(
     rt: &R,
     asked: &ServeRun<'_>,
     kinship: &Kinship,
+    witness: &mut Witness,
 ) -> Result<(Election, Admission), AppFault>
 where
     R: Files<File = File> + Eprint + AllocGlobal,
 {
     let file = Digested::new(open_file(rt, asked.file, 1)?, &kinship.file);
-    let election = read_pb(rt.alloc(), file)?;
+    let election = read_pb_watched(rt.alloc(), file, witness)?;
     match admission_on(rt, &asked.admits, &election) {
         Ok(admission) => Ok((election, admission)),
         Err(fault) => {

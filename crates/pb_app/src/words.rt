@@ -1,6 +1,6 @@
 //! What is said on standard error, beside what programs read.
 
-use crate::perform::Refusal;
+use crate::perform::{Notes, Refusal};
 use crate::spent::look_further;
 use pb_command_line::{Asked, Source, Task};
 use pb_commands::AppFault;
@@ -8,7 +8,6 @@ use pb_desk::desk::MOST_CLERKS;
 use pb_durable::file_beside::file_path;
 use pb_durable::moved::kept_path;
 use pb_export::ExportFault;
-use pb_read::ReadFault;
 use pb_rounds::count_fault::CountFault;
 use pb_script::{RowRefusal, ScriptFault};
 use pb_streams::{Bar, Output, Progress};
@@ -27,7 +26,6 @@ use pb_words::serve_words::{
     bad_rows_words, locked_words, lost_words, moved_words, spelling_words, torn_words,
     unanswered_words, unkept_words, unopened_words,
 };
-use pb_words::warnings::{ResultWarnings, Warnings};
 use pb_words::{AuditPaths, Tally, TypedRow, mistaken_words, open_words, write_words};
 use std::alloc::{AllocError, Global};
 use std::fs;
@@ -77,7 +75,7 @@ pub(crate) fn say_refusal<R: Files + Eprint + AllocGlobal>(
     asked: &Asked<'_>,
     refusal: &Refusal,
     output: &Output<'_, R>,
-    audited: &Tally,
+    notes: &Notes,
 ) {
     let failure = output.failure.as_ref();
     match refusal {
@@ -97,7 +95,7 @@ pub(crate) fn say_refusal<R: Files + Eprint + AllocGlobal>(
                 ScriptFault::UnknownId(_) | ScriptFault::NotOnRoll(_) | ScriptFault::TooFew(_),
             ),
         ) => {}
-        Refusal::Fault(fault) => say_words(rt, words_of(rt, asked, fault, failure, audited)),
+        Refusal::Fault(fault) => say_words(rt, words_of(rt, asked, fault, failure, notes)),
         Refusal::Unanswered => say_words(rt, unanswered_words(rt.alloc(), failure)),
         // Why each of the others was refused was said when it was read.
         Refusal::BadRows(0) => {}
@@ -159,12 +157,12 @@ fn words_of<R: Files + AllocGlobal>(
     asked: &Asked<'_>,
     fault: &AppFault,
     failure: Option<&Error>,
-    audited: &Tally,
+    notes: &Notes,
 ) -> Result<String, AllocError> {
     let alloc = rt.alloc();
     let (first, second) = asked.task.paths();
     match fault {
-        AppFault::Read(fault) => read_words(rt, alloc, first, fault),
+        AppFault::Read(fault) => read_words(rt, alloc, first, fault, &notes.seen.witness),
         AppFault::Script(fault) if is_serve(&asked.task) => {
             script_words(rt, alloc, None, Some(*fault), clerks_of(&asked.task))
         }
@@ -177,7 +175,7 @@ fn words_of<R: Files + AllocGlobal>(
                 file: first,
                 journal: second,
             };
-            journal_words(rt, alloc, paths, *fault, audited)
+            journal_words(rt, alloc, paths, *fault, &notes.audited)
         }
         AppFault::Count(fault) => count_words(alloc, first, *fault, &asked.task.options()),
         AppFault::Open(1) => open_words(rt, alloc, first.unwrap_or("-")),
@@ -224,11 +222,13 @@ fn clerks_of(task: &Task<'_>) -> u32 {
 pub(crate) fn say_faults<R: Files + Eprint + AllocGlobal>(
     rt: &R,
     task: &Task<'_>,
-    faults: &[ReadFault],
+    notes: &Notes,
 ) {
+    let faults = notes.faults.as_slice();
     if !faults.is_empty() {
         let (file, _) = task.paths();
-        say_words(rt, list_words(rt, rt.alloc(), file, faults));
+        let witness = &notes.checked.witness;
+        say_words(rt, list_words(rt, rt.alloc(), file, faults, witness));
     }
 }
 
@@ -236,14 +236,13 @@ pub(crate) fn say_faults<R: Files + Eprint + AllocGlobal>(
 pub(crate) fn say_warnings<R: Files + Eprint + AllocGlobal>(
     rt: &R,
     task: &Task<'_>,
-    checked: &Warnings,
-    seen: &ResultWarnings,
+    notes: &Notes,
 ) {
     let (file, _) = task.paths();
     match task {
-        Task::Check(_) => say_words(rt, checked.words(rt, file)),
+        Task::Check(_) => say_words(rt, notes.checked.words(rt, file)),
         Task::Desk(..) | Task::Serve(..) => {}
-        _ => say_words(rt, seen.words(rt, file)),
+        _ => say_words(rt, notes.seen.words(rt, file)),
     }
 }
 

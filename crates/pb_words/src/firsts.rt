@@ -21,6 +21,11 @@ impl Firsts {
         }
     }
 
+    /// How many ids are there.
+    pub(crate) fn len(&self) -> usize {
+        self.marks.len()
+    }
+
     /// Whether an id is there.
     pub(crate) fn has(&self, id: &str) -> bool {
         self.places.get(id).is_some()

@@ -1,10 +1,10 @@
-//! The ids of a file's projects and voters, as far as a witness was shown them.
+//! The ids of a file's projects, as far as a witness was shown them.
 
 use crate::fields::text_at;
 use crate::firsts::Firsts;
 use crate::mark::Mark;
 use csv::ByteRecord;
-use pb_read::{Part, ReadFault, ReadKind, Stage};
+use pb_read::{Part, Stage};
 use std::alloc::{AllocError, Global};
 use std::cell::Cell;
 use strsim::levenshtein;
@@ -15,39 +15,31 @@ const LONGEST: usize = 64;
 /// For so many ids the nearest one is looked for.
 const MOST_COMPARED: u32 = 100;
 
-/// The ids of projects and voters that words may need, each with where its first row stands.
+/// The ids of projects, each with where its first row stands.
 #[derive(Drop)]
 pub(crate) struct Ids {
     alloc: Global,
-    keeps_voters: bool,
     pub(crate) projects: Firsts,
     /// The projects that were left out.
     pub(crate) left_out: Firsts,
-    pub(crate) voters: Firsts,
     /// The ids of the projects that were not left out.
     project_ids: Vec<String>,
     compared: Cell<u32>,
 }
 
 impl Ids {
-    /// No id yet; those of voters will be kept where the words for one of these faults need them.
-    pub(crate) fn new(alloc: Global, faults: &[ReadFault]) -> Ids {
-        let mut keeps_voters = false;
-        for fault in faults {
-            keeps_voters = keeps_voters || fault.kind == ReadKind::RepeatedVoter;
-        }
+    /// No id yet.
+    pub(crate) fn new(alloc: Global) -> Ids {
         Ids {
             alloc,
-            keeps_voters,
             projects: Firsts::new(alloc),
             left_out: Firsts::new(alloc),
-            voters: Firsts::new(alloc),
             project_ids: Vec::new(alloc),
             compared: Cell::new(0),
         }
     }
 
-    /// Keeps the id of a row that the reader accepts.
+    /// Keeps the id of a project that the reader accepts.
     pub(crate) fn take(
         &mut self,
         record: &ByteRecord,
@@ -55,11 +47,7 @@ impl Ids {
         part: Part,
     ) -> Result<(), AllocError> {
         match part {
-            Part::Project(columns) => { self.keep_project(text_at(record, columns.id), mark) }
-            Part::Vote(columns) if self.keeps_voters => {
-                self.voters
-                    .keep(self.alloc, text_at(record, columns.voter), mark)
-            }
+            Part::Project(columns) => self.keep_project(text_at(record, columns.id), mark),
             _ => Ok(()),
         }
     }
@@ -120,6 +108,14 @@ impl Ids {
         self.compared.set(compared.saturating_add(1));
         nearest(self.alloc, self.project_ids.as_slice(), id)
     }
+}
+
+/// The ids of a file that words look up.
+#[derive(Clone, Copy)]
+pub(crate) struct Known<'i> {
+    pub(crate) ids: &'i Ids,
+    /// Where the first rows of the voters stand whose ids are repeated.
+    pub(crate) voters: &'i Firsts,
 }
 
 fn nearest<'i>(

@@ -1,7 +1,7 @@
 //! Words for people beside a fault's line: where it stands, what stands there and which rule it breaks, and what to do.
 //!
-//! Words are made after a run has failed, so no result can change by them. A .pb file that has a name is read once more
-//! by pb_read, which shows a `Witness` what it refuses; of a script or a journal the row at fault is read again. Of standard
+//! Words are made after a run has failed, so no result can change by them. While pb_read reads a .pb file, a `Witness` looks
+//! on and keeps what words need of what is refused; of a script or a journal the row at fault is read again. Of standard
 //! input words say what the fault alone says. All text from outside goes through `Words`, so no word puts a control
 //! character into a terminal. Nothing but that each call returns is proved of a word.
 #![tactic(auto)]
@@ -44,6 +44,7 @@ mod tally;
 mod terminal;
 mod text;
 mod typed_row;
+mod voters;
 pub mod warnings;
 mod witness;
 mod words;
@@ -53,3 +54,4 @@ pub use file_words::{mistaken_words, open_words, write_words};
 pub use tally::Tally;
 pub use terminal::for_terminal;
 pub use typed_row::TypedRow;
+pub use witness::Witness;

@@ -1,61 +1,168 @@
 //! Words for the faults of a .pb file.
 
+use crate::faulty_record::FaultyRecord;
+use crate::file_words::put_reading_failed;
+use crate::ids::Known;
+use crate::looks::looks_of;
+use crate::mark_words::put_record_number;
+use crate::read_rules::words_of;
+use crate::record_words::{put_end, put_found};
 use crate::text::Text;
-use crate::witness::Witness;
-use pb_read::{ReadFault, ReadKind, list_faults, read_pb_watched};
+use crate::voters::first_rows;
+use crate::witness::{Refused, Witness};
+use crate::words::Value::{Name, Own};
+use crate::words::Words;
+use pb_read::{ReadFault, ReadKind, read_pb_watched};
 use std::alloc::{AllocError, Global};
 use std::rt::Files;
 
-/// Words for a fault of the .pb file with this path; no path is standard input.
+/// Words for a fault of the .pb file with this path; no path is standard input. If the witness did not look on while the
+/// file was read, the file is read once more.
 pub fn read_words<R: Files>(
     rt: &R,
     alloc: Global,
     path: Option<&str>,
     fault: &ReadFault,
+    witness: &Witness,
 ) -> Result<String, AllocError> {
     let faults = [*fault];
-    let mut witness = Witness::new(Text::new(rt, alloc, path, "record"), &faults);
-    if fault.kind != ReadKind::ReadFailed {
-        read_again(alloc, &mut witness);
+    if !witness.refused.is_empty() || fault.kind == ReadKind::ReadFailed {
+        return list_words(rt, alloc, path, &faults, witness);
     }
-    let words = witness.take_words();
-    drop(witness);
+    let mut again = Witness::new(alloc);
+    read_again(&Text::new(rt, alloc, path, "record"), &mut again);
+    let words = list_words(rt, alloc, path, &faults, &again);
+    drop(again);
     words
 }
 
-/// Lets a witness look on while its file is read once more.
-fn read_again<R: Files>(alloc: Global, witness: &mut Witness<'_, R>) {
-    let Some(file) = witness.open() else {
+/// Lets a witness look on while a text is read once more, if it is a file.
+fn read_again<R: Files>(text: &Text<'_, R>, witness: &mut Witness) {
+    let Some(file) = text.open_at(0) else {
         return;
     };
-    match read_pb_watched(alloc, file, witness) {
+    match read_pb_watched(text.alloc, file, witness) {
         Ok(election) => drop(election),
-        Err(again) if again.kind == ReadKind::NoMemory => witness.fail(),
+        Err(again) if again.kind == ReadKind::NoMemory => witness.is_whole = false,
         Err(_) => {}
     }
 }
 
-/// Words for these faults of the .pb file with this path, their records rising; no path is standard input.
+/// Words for these faults of the .pb file with this path, their records rising; no path is standard input. The witness has
+/// looked on while it was read.
 pub fn list_words<R: Files>(
     rt: &R,
     alloc: Global,
     path: Option<&str>,
     faults: &[ReadFault],
+    witness: &Witness,
 ) -> Result<String, AllocError> {
-    let mut witness = Witness::new(Text::new(rt, alloc, path, "record"), faults);
-    check_again(alloc, &mut witness);
-    let words = witness.take_words();
-    drop(witness);
-    words
+    let mut out = Words::new(alloc);
+    let text = Text::new(rt, alloc, path, "record");
+    if !witness.is_whole {
+        out.fail();
+    }
+    put_faults(&mut out, &text, faults, witness)?;
+    out.finish()
 }
 
-/// Lets a witness look on while its file is checked once more.
-fn check_again<R: Files>(alloc: Global, witness: &mut Witness<'_, R>) {
-    let Some(file) = witness.open() else {
-        return;
+/// Puts what is said of these faults.
+fn put_faults<R: Files>(
+    out: &mut Words,
+    text: &Text<'_, R>,
+    faults: &[ReadFault],
+    witness: &Witness,
+) -> Result<(), AllocError> {
+    let voters = first_rows(text, witness)?;
+    let known = Known {
+        ids: &witness.ids,
+        voters: &voters,
     };
-    match list_faults(alloc, file, witness) {
-        Ok(again) => drop(again),
-        Err(_) => witness.fail(),
+    let can_be_read = text.is_file();
+    let mut place = 0usize;
+    for fault in faults {
+        match witness.refused.get(place) {
+            Some(refused) if can_be_read && refused.fault == *fault => {
+                put_fault(out, text, &known, refused)
+            }
+            _ => put_unread(out, text, *fault),
+        }
+        place = place.saturating_add(1);
     }
+    drop(voters);
+    Ok(())
+}
+
+/// Puts what is wrong with a record that was refused, or with the end of the file, and what to do.
+fn put_fault<R: Files>(
+    out: &mut Words,
+    text: &Text<'_, R>,
+    known: &Known<'_>,
+    refused: &Refused,
+) {
+    let kind = refused.fault.kind;
+    if put_looks(out, text, kind) {
+        return;
+    }
+    let faulty = FaultyRecord {
+        kind,
+        record: &refused.record,
+        mark: refused.mark,
+        stage: &refused.stage,
+        seen: &refused.seen,
+    };
+    let has_field = refused.record.len() > 0;
+    let is_said = match kind {
+        ReadKind::ReadFailed => false,
+        ReadKind::NotText if !has_field => put_no_text(out, text, known, &faulty),
+        _ if !has_field => put_end(out, text, &faulty),
+        _ => put_found(out, text, known, &faulty),
+    };
+    if !is_said {
+        put_unread(out, text, refused.fault);
+    }
+}
+
+/// Puts what is said of a fault by itself.
+fn put_unread<R: Files>(out: &mut Words, text: &Text<'_, R>, fault: ReadFault) {
+    let at = u64::from(fault.at);
+    if fault.kind == ReadKind::ReadFailed && put_reading_failed(out, text, at) {
+        return;
+    }
+    put_record_number(out, text, at);
+    let words = words_of(fault.kind);
+    out.fill(": {}.\n{}", &[Own(words.what), Own(words.remedy)])
+}
+
+/// Puts what the file looks like that is none, and answers whether it does.
+fn put_looks<R: Files>(out: &mut Words, text: &Text<'_, R>, kind: ReadKind) -> bool {
+    if kind != ReadKind::NotText && kind != ReadKind::NoSection {
+        return false;
+    }
+    match looks_of(text) {
+        Some(looks) => {
+            out.fill("{}{}", &[Name(text.path), Own(looks)]);
+            true
+        }
+        None => false,
+    }
+}
+
+/// Puts what is wrong with a record that is no text, which is read again as bytes; answers whether it was found.
+fn put_no_text<R: Files>(
+    out: &mut Words,
+    text: &Text<'_, R>,
+    known: &Known<'_>,
+    faulty: &FaultyRecord<'_>,
+) -> bool {
+    let Some(records) = text.record_at(faulty.mark) else {
+        return false;
+    };
+    let again = FaultyRecord {
+        record: &records.last,
+        ..*faulty
+    };
+    let is_found = put_found(out, text, known, &again);
+    drop(records);
+    is_found
 }

@@ -1,7 +1,7 @@
 //! Words for a record of a .pb file that is refused, and for the end of one that is refused there.
 
 use crate::faulty_record::FaultyRecord;
-use crate::ids::Ids;
+use crate::ids::{Ids, Known};
 use crate::mark::Mark;
 use crate::mark_words::{line_of, put_mark, put_quotes, put_subject, put_unclosed};
 use crate::meta_words::{
@@ -25,24 +25,30 @@ const NO_BLANKS: &str = "The vote has spaces between the ids: write `,` instead.
 pub(crate) fn put_found<R: Files>(
     out: &mut Words,
     text: &Text<'_, R>,
-    ids: &Ids,
+    known: &Known<'_>,
     faulty: &FaultyRecord<'_>,
 ) -> bool {
     match (faulty.kind, faulty.stage) {
         (ReadKind::NotText | ReadKind::SectionOrder | ReadKind::TooManyRecords, _) => {
-            put_record(out, text, ids, faulty)
+            put_record(out, text, known, faulty)
         }
         (ReadKind::MissingKey, Stage::InMeta(_)) => {
             put_missing_key(out, text, faulty.seen, faulty.mark)
         }
         (kind, Stage::InMeta(_)) => return put_value_words(out, text, faulty.seen, kind),
-        _ => put_record(out, text, ids, faulty),
+        _ => put_record(out, text, known, faulty),
     }
     true
 }
 
 /// Puts what is wrong with a record, and what to do.
-fn put_record<R: Files>(out: &mut Words, text: &Text<'_, R>, ids: &Ids, faulty: &FaultyRecord<'_>) {
+fn put_record<R: Files>(
+    out: &mut Words,
+    text: &Text<'_, R>,
+    known: &Known<'_>,
+    faulty: &FaultyRecord<'_>,
+) {
+    let ids = known.ids;
     put_mark(out, text, faulty.mark);
     if put_unclosed(out, text, faulty.mark) {
         return;
@@ -60,7 +66,7 @@ fn put_record<R: Files>(out: &mut Words, text: &Text<'_, R>, ids: &Ids, faulty: 
             faulty.put_repeated(out, line_at(text, ids.projects.mark(faulty.id())))
         }
         ReadKind::RepeatedVoter => {
-            faulty.put_repeated(out, line_at(text, ids.voters.mark(faulty.id())))
+            faulty.put_repeated(out, line_at(text, known.voters.mark(faulty.id())))
         }
         _ => faulty.put(out),
     }

@@ -16,6 +16,8 @@ pub(crate) struct Seen {
     pub(crate) odd_head: Option<OddHead>,
     /// The last record that is not blank.
     pub(crate) last: Mark,
+    /// The last row of column names.
+    pub(crate) names: Mark,
 }
 
 impl Seen {
@@ -25,6 +27,7 @@ impl Seen {
             keys: Keys::none(),
             odd_head: None,
             last: Mark::start(),
+            names: Mark::start(),
         }
     }
 
@@ -38,7 +41,8 @@ impl Seen {
                 self.keys.take(text_at(record, 0), mark);
             }
             Part::Project(_) => self.take_head(record, mark),
-            Part::Names | Part::Vote(_) => {}
+            Part::Names => self.names = mark,
+            Part::Vote(_) => {}
         }
         self.last = mark;
     }

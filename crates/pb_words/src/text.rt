@@ -39,6 +39,14 @@ impl<'a, R> Text<'a, R> {
 }
 
 impl<'a, R: Files> Text<'a, R> {
+    /// Whether it is a file, which can be read again.
+    pub(crate) fn is_file(&self) -> bool {
+        match self.path {
+            Some(path) => is_file(self.rt, path),
+            None => false,
+        }
+    }
+
     /// Opens the text again behind so many bytes, if it is a file.
     pub(crate) fn open_at(&self, byte: u64) -> Option<R::File> {
         let path = self.path?;

@@ -8,6 +8,7 @@ use crate::oddities::{Odd, Oddities};
 use crate::oddity_words::put_oddities;
 use crate::result_oddities::ResultOddities;
 use crate::text::Text;
+use crate::witness::Witness;
 use crate::words::Words;
 use csv::ByteRecord;
 use pb_core::no_memory::NoMemory;
@@ -41,6 +42,8 @@ pub struct Warnings {
     projects: Vec<Backed>,
     /// Whether the file has ended, and may end there.
     has_ended: bool,
+    /// What words need of what is refused.
+    pub witness: Witness,
 }
 
 impl Warnings {
@@ -53,6 +56,7 @@ impl Warnings {
             places: IdTable::new(alloc),
             projects: Vec::new(alloc),
             has_ended: false,
+            witness: Witness::new(alloc),
         }
     }
 
@@ -140,6 +144,7 @@ impl Warnings {
 
 impl Watch for Warnings {
     fn see(&mut self, record: &ByteRecord, at: u32, part: Part) {
+        self.witness.see(record, at, part);
         self.results.take(record, at, part, &mut self.oddities);
         match part {
             Part::Project(columns) => {
@@ -152,7 +157,8 @@ impl Watch for Warnings {
         }
     }
 
-    fn refuse(&mut self, _record: &ByteRecord, _fault: ReadFault, stage: &Stage) {
+    fn refuse(&mut self, record: &ByteRecord, fault: ReadFault, stage: &Stage) {
+        self.witness.refuse(record, fault, stage);
         self.results.leave_out(stage);
     }
 
@@ -187,6 +193,8 @@ pub struct ResultWarnings {
     is_strict: bool,
     /// The first warning, once the file has ended and may end there.
     first: Option<Warning>,
+    /// What words need of what is refused.
+    pub witness: Witness,
 }
 
 impl ResultWarnings {
@@ -198,6 +206,7 @@ impl ResultWarnings {
             oddities: Oddities::new(alloc, 1),
             is_strict,
             first: None,
+            witness: Witness::new(alloc),
         }
     }
 
@@ -214,10 +223,13 @@ impl ResultWarnings {
 
 impl Watch for ResultWarnings {
     fn see(&mut self, record: &ByteRecord, at: u32, part: Part) {
+        self.witness.see(record, at, part);
         self.results.take(record, at, part, &mut self.oddities);
     }
 
-    fn refuse(&mut self, _record: &ByteRecord, _fault: ReadFault, _stage: &Stage) {}
+    fn refuse(&mut self, record: &ByteRecord, fault: ReadFault, stage: &Stage) {
+        self.witness.refuse(record, fault, stage);
+    }
 
     fn end(&mut self) {
         self.results.end(&mut self.oddities);

@@ -1,160 +1,86 @@
-//! Who looks on while a refused .pb file is read once more, and says what is wrong with it.
+//! Who looks on while a .pb file is read, and keeps what words need of what the reader refuses.
 
-use crate::faulty_record::FaultyRecord;
-use crate::file_words::put_reading_failed;
 use crate::ids::Ids;
-use crate::looks::looks_of;
 use crate::mark::Mark;
-use crate::mark_words::put_record_number;
-use crate::read_rules::words_of;
-use crate::record_words::{put_end, put_found};
 use crate::seen::Seen;
-use crate::text::Text;
-use crate::words::Value::{Name, Own};
-use crate::words::Words;
 use csv::ByteRecord;
-use pb_read::{Part, ReadFault, ReadKind, Stage, Watch};
-use std::alloc::AllocError;
-use std::mem;
-use std::rt::Files;
+use pb_read::{MOST_FAULTS, Part, ReadFault, Stage, Watch};
+use std::alloc::{AllocError, Global};
 
-/// Looks on while pb_read reads a .pb file, and puts words for each of these faults when it is shown the fault's record.
+/// A record that the reader refused.
 #[derive(Drop)]
-pub(crate) struct Witness<'a, R> {
-    text: Text<'a, R>,
-    out: Words,
-    /// The faults that it has still to speak of, their records rising.
-    faults: &'a [ReadFault],
+pub(crate) struct Refused {
+    pub(crate) fault: ReadFault,
+    /// Its fields; none where there is no record that is text.
+    pub(crate) record: ByteRecord,
+    /// Where it begins.
+    pub(crate) mark: Mark,
+    /// How far the file was read before it.
+    pub(crate) stage: Stage,
+    /// What the records before it say.
+    pub(crate) seen: Seen,
+}
+
+/// Looks on while a .pb file is read, and keeps what words need of the first 1,000 records that are refused.
+#[derive(Drop)]
+pub struct Witness {
     seen: Seen,
-    ids: Ids,
+    pub(crate) ids: Ids,
+    pub(crate) refused: Vec<Refused>,
+    /// Whether all was kept: no memory was refused.
+    pub(crate) is_whole: bool,
 }
 
-impl<'a, R: Files> Witness<'a, R> {
-    /// Nothing was shown yet of this text, which has these faults.
-    pub(crate) fn new(text: Text<'a, R>, faults: &'a [ReadFault]) -> Witness<'a, R> {
-        let alloc = text.alloc;
+impl Witness {
+    /// Nothing was shown yet.
+    pub fn new(alloc: Global) -> Witness {
         Witness {
-            text,
-            out: Words::new(alloc),
-            faults,
             seen: Seen::nothing(),
-            ids: Ids::new(alloc, faults),
+            ids: Ids::new(alloc),
+            refused: Vec::new(alloc),
+            is_whole: true,
         }
     }
 
-    /// The file that it is to be shown, if the text is one that can be read again.
-    pub(crate) fn open(&self) -> Option<R::File> {
-        self.text.open_at(0)
+    /// Where the row of the column names begins that was shown last.
+    pub(crate) fn names_mark(&self) -> Mark {
+        self.seen.names
     }
 
-    /// Says that memory was refused.
-    pub(crate) fn fail(&mut self) {
-        self.out.fail();
-    }
-
-    /// Hands out the words for all of the faults. Of those that it was not shown they say what each fault alone says.
-    pub(crate) fn take_words(&mut self) -> Result<String, AllocError> {
-        let faults = self.faults;
-        for fault in faults {
-            put_unread(&mut self.out, &self.text, *fault);
-        }
-        let none = Words::new(self.text.alloc);
-        mem::replace(&mut self.out, none).finish()
-    }
-
-    /// Puts what is wrong with a record, or with the end of the file, and what to do.
-    fn put_fault(&mut self, record: &ByteRecord, fault: ReadFault, stage: &Stage) {
-        let kind = fault.kind;
-        if put_looks(&mut self.out, &self.text, kind) {
-            return;
-        }
-        let faulty = FaultyRecord {
-            kind,
-            record,
-            mark: Mark::of(record, u64::from(fault.at)),
-            stage,
-            seen: &self.seen,
-        };
-        let is_said = match kind {
-            ReadKind::ReadFailed => false,
-            ReadKind::NotText => put_no_text(&mut self.out, &self.text, &self.ids, &faulty),
-            _ if record.len() == 0 => put_end(&mut self.out, &self.text, &faulty),
-            _ => put_found(&mut self.out, &self.text, &self.ids, &faulty),
-        };
-        if !is_said {
-            put_unread(&mut self.out, &self.text, fault);
-        }
+    /// Takes a record that is refused.
+    fn keep(
+        &mut self,
+        record: &ByteRecord,
+        fault: ReadFault,
+        stage: &Stage,
+    ) -> Result<(), AllocError> {
+        let mark = Mark::of(record, u64::from(fault.at));
+        self.refused.push(Refused {
+            fault,
+            record: record.clone()?,
+            mark,
+            stage: *stage,
+            seen: self.seen,
+        })?;
+        self.seen.leave_out(record, mark, stage);
+        self.ids.leave_out(record, mark, stage)
     }
 }
 
-impl<'a, R: Files> Watch for Witness<'a, R> {
+impl Watch for Witness {
     fn see(&mut self, record: &ByteRecord, at: u32, part: Part) {
         let mark = Mark::of(record, u64::from(at));
         self.seen.take(record, mark, part);
         if self.ids.take(record, mark, part).is_err() {
-            self.out.fail();
+            self.is_whole = false;
         }
     }
 
     fn refuse(&mut self, record: &ByteRecord, fault: ReadFault, stage: &Stage) {
-        let Some((next, others)) = self.faults.split_first() else {
-            return;
-        };
-        if *next != fault {
-            return;
-        }
-        self.faults = others;
-        self.put_fault(record, fault, stage);
-        let mark = Mark::of(record, u64::from(fault.at));
-        self.seen.leave_out(record, mark, stage);
-        if self.ids.leave_out(record, mark, stage).is_err() {
-            self.out.fail();
+        if self.refused.len() < MOST_FAULTS && self.keep(record, fault, stage).is_err() {
+            self.is_whole = false;
         }
     }
 
     fn end(&mut self) {}
-}
-
-/// Puts what is said of a fault by itself.
-fn put_unread<R: Files>(out: &mut Words, text: &Text<'_, R>, fault: ReadFault) {
-    let at = u64::from(fault.at);
-    if fault.kind == ReadKind::ReadFailed && put_reading_failed(out, text, at) {
-        return;
-    }
-    put_record_number(out, text, at);
-    let words = words_of(fault.kind);
-    out.fill(": {}.\n{}", &[Own(words.what), Own(words.remedy)])
-}
-
-/// Puts what the file looks like that is none, and answers whether it does.
-fn put_looks<R: Files>(out: &mut Words, text: &Text<'_, R>, kind: ReadKind) -> bool {
-    if kind != ReadKind::NotText && kind != ReadKind::NoSection {
-        return false;
-    }
-    match looks_of(text) {
-        Some(looks) => {
-            out.fill("{}{}", &[Name(text.path), Own(looks)]);
-            true
-        }
-        None => false,
-    }
-}
-
-/// Puts what is wrong with a record that is no text, which is read again as bytes; answers whether it was found.
-fn put_no_text<R: Files>(
-    out: &mut Words,
-    text: &Text<'_, R>,
-    ids: &Ids,
-    faulty: &FaultyRecord<'_>,
-) -> bool {
-    let Some(records) = text.record_at(faulty.mark) else {
-        return false;
-    };
-    let again = FaultyRecord {
-        record: &records.last,
-        ..*faulty
-    };
-    let is_found = put_found(out, text, ids, &again);
-    drop(records);
-    is_found
 }
