@@ -21,8 +21,8 @@ const ABOUT: &str =
 const AFTER_HELP: &str = "Without a command, the program counts standard input.
 
 Words:
-  request  what a clerk asks of the desk for a voter: cast, replace or withdraw a ballot; or: shut the desk
-  desk     takes the clerks' requests, and answers each, until a clerk shuts it
+  desk     takes requests of clerks, and answers each, until a clerk shuts it
+  request  what a clerk asks of the desk: cast, replace or withdraw a voter's ballot, or shut the desk
   journal  a file with every request that the desk answered, and its answer, in order
   script   a file of requests, one on each row
   share    the money that each voter can spend: at first the budget divided by the number of voters
@@ -41,6 +41,7 @@ Exit status:
   1  a file, script, journal or count was refused
   2  the arguments were refused
   3  a device failed, or memory ran out
+
 A refusal is one line on standard output, for programs. Standard error explains it in words.
 
 Manual pages:
@@ -57,7 +58,9 @@ const AFTER_SERVE: &str =
 projects in FILE, counted from 0, with `,` between them. The answer to a request is its row of the journal, printed once
 that row is on the disk.
 
-A refused row is not recorded. Its answer is fault;script;CODE;NAME;ROW:
+A refused row is not recorded. Its answer is fault;script;CODE;NAME;ROW.
+
+Why a row is refused:
   2;BadRow     the row has another form
   5;UnknownId  with --by-id: no project has this id
   6;NotOnRoll  with --roll: the voter is not on the roll
