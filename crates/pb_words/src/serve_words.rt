@@ -74,7 +74,7 @@ pub fn spelling_words(alloc: Global, path: &str) -> Result<String, AllocError> {
     path_words(
         alloc,
         path,
-        "{}: the rows are right, but another program saved the file again: it has other line ends, extra quotation marks, or a byte order mark.\nThe file was not changed now. Get the desk's own copy.\n",
+        "{}: the rows are right, but another program saved the file again: it has other line ends, extra quotation marks, or a byte order mark.\nThe program left the file as it was. Get the desk's own copy.\n",
     )
 }
 
