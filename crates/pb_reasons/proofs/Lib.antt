@@ -8,5 +8,8 @@ pub mod Told
 pub mod Paying
 pub mod Reasoned
 pub mod Listing
+mod Numbering
+pub mod Results
 pub mod VoterTold
 pub mod WinnerSums
+pub mod PlaceSums

@@ -1,7 +1,7 @@
 use Rattle.std.proofs.Common.{◌∙◌, ap}
 use Rattle.pb_rounds.specs.Outcome.{OutcomeView}
 use Rattle.pb_reasons.proofs.Tellable.{count_can_be_told}
-use Rattle.pb_reasons.proofs.totals.Totals.of.Goals as goal
+use Rattle.pb_reasons.proofs.totals.Totals.of_elected.Goals as goal
 
 pub spent_for-spent-requires : goal.spent_for-spent-requires
 spent_for-spent-requires c =
