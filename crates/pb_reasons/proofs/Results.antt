@@ -1,13 +1,13 @@
 -- What a count comes to, as those who tell it take it.
-use Rattle.std.proofs.Common.{◌≡◌, ℕ, ◌+◌, ◌-◌, ◌<◌, ◌≤◌, Bool, true, false, Option, Some, None, List, [], length, map, refl, sym, ap, subst, inl, inr, arith}
-use Rattle.std.specs.Prelude.{All, slice_index, sum_by}
+use Rattle.std.proofs.Common.{◌≡◌, ℕ, ◌+◌, ◌-◌, ◌<◌, ◌≤◌, Bool, true, false, Option, Some, None, List, [], length, map, refl, sym, ◌∙◌, ap, subst, inl, inr, arith}
+use Rattle.std.specs.Prelude.{All, slice_get, slice_index, sum_by}
 use Rattle.std.proofs.lemmas.Bool.{cases_lt}
 use Rattle.std.proofs.lemmas.List.{get_or_past}
 use Rattle.std.proofs.lemmas.List.Elements.{All-nil, All-weaker}
 use Rattle.std.proofs.lemmas.List.FromFn.{length-map-range_with_len}
 use Rattle.pb_core.specs.Election.{ElectionView, IsElection}
 use Rattle.pb_greedy.proofs.Added.{added_are_paid, added_have_votes, election_is_filled}
-use Rattle.pb_greedy.specs.MostVotes.{most_votes_first, votes_at}
+use Rattle.pb_greedy.specs.MostVotes.{votes_at}
 use Rattle.pb_price.specs.Supporters.{cost_at, support_of, supporters_at, supporters_of}
 use Rattle.pb_rounds.specs.Count.{spent_on}
 use Rattle.pb_rounds.specs.Counted.{IsCountOf}
@@ -15,11 +15,12 @@ use Rattle.pb_rounds.specs.Outcome.{OutcomeView}
 use Rattle.pb_rounds.specs.declared.options.CountOptions.{CountOptions}
 use Rattle.pb_rounds.specs.Run.{ElectedView}
 use Rattle.pb_reasons.specs.Counted.{CountedView, IsCounted, counted}
-use Rattle.pb_reasons.specs.Reasons.{ending_of}
+use Rattle.pb_reasons.specs.Reasons.{ending_of, project_reason, round_of}
 use Rattle.pb_reasons.specs.Inner.Numbers.{AreNumbers}
-use Rattle.pb_reasons.specs.Inner.OfOutcome.{ending_as, ending_with, outcome_ending}
+use Rattle.pb_reasons.specs.Inner.OfOutcome.{ending_as, ending_with, outcome_ending, outcome_reason}
 use Rattle.pb_reasons.specs.declared.project_reason.Ending.{Ending}
 use Rattle.pb_reasons.specs.declared.project_reason.Ending.TheVariants.{Won, Added, Lost}
+use Rattle.pb_reasons.specs.declared.project_reason.ProjectReason.{ProjectReason}
 use Rattle.pb_reasons.proofs.Numbering.{added_has_number}
 
 -- what a count comes to is a result
@@ -74,3 +75,21 @@ pub ending_numbered : (added numbers : List ℕ) (projects place : ℕ) (ending 
 ending_numbered added numbers projects place (Won w) are known = refl
 ending_numbered added numbers projects place (Added a) are known = refl
 ending_numbered added numbers projects place (Lost l) are known = rw (are.numbered place known, added_has_number added place) refl
+
+-- what is told of a project, from what is told of it in the outcome and from its number
+pub project_filled : (e : ElectionView) (c : CountedView) (numbers : List ℕ) (place : ℕ) → AreNumbers (length e.projects) c.added numbers
+    → place < length e.projects → (reason : ProjectReason) → reason ≡ outcome_reason e c.outcome place
+    → (number added : ℕ) → number ≡ slice_index numbers place → added ≡ length c.added
+    → (ending : Ending) → ending ≡ ending_as reason.ending number added
+    → record { votes = reason.votes; ending = ending } ≡ project_reason e c place
+project_filled e c numbers place are known reason reason_is number added number_is added_is ending ending_is =
+    let winner = slice_get c.outcome.elected (round_of c.outcome.elected place) in
+    let end : ending ≡ ending_of e c place winner =
+    ending_is
+    ∙ ap (λ n. ending_as reason.ending n added) number_is
+    ∙ ap (ending_as reason.ending (slice_index numbers place)) added_is
+    ∙ ending_numbered c.added numbers (length e.projects) place reason.ending are known
+    ∙ ap (λ (r : ProjectReason). ending_with c.added place r.ending) reason_is
+    ∙ ending_filled e c place winner in
+    ap (λ (r : ProjectReason). record { votes = r.votes; ending = ending }) reason_is
+    ∙ ap (λ (last : Ending). record { votes = length (supporters_at (support_of e) place); ending = last }) end

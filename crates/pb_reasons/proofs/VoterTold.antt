@@ -60,7 +60,8 @@ map_agree : (f g : ℕ → Payment) (xs : List ℕ) → All (λ x. f x ≡ g x) 
 map_agree f g [] same = refl
 map_agree f g (x ∷ xs) same = rw (All-head (λ y. f y ≡ g y) x xs same, map_agree f g xs (All-tail (λ y. f y ≡ g y) x xs same)) refl
 
-count_agree : (p q : ℕ → Bool) (xs : List ℕ) → All (λ x. p x ≡ q x) xs → count_by p xs ≡ count_by q xs
+-- tests that agree on each of them count as many
+pub count_agree : (p q : ℕ → Bool) (xs : List ℕ) → All (λ x. p x ≡ q x) xs → count_by p xs ≡ count_by q xs
 count_agree p q [] same = refl
 count_agree p q (x ∷ xs) same =
     sum_by-cons (λ y. cond (p y) 1 0) x xs

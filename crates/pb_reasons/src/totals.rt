@@ -1,6 +1,7 @@
 //! What those come to together that a count elects and adds.
 
 ghost use Rattle.std.specs.Prelude.{◌≡◌, ◌<◌, ◌^◌, All, length, sum_by};
+ghost use Rattle.pb_core.specs.Election.{IsElection};
 ghost use Rattle.pb_price.specs.Supporters.{cost_at, support_of};
 ghost use Rattle.pb_rounds.specs.Count.{spent_on};
 ghost use Rattle.pb_reasons.specs.Counted.{IsCounted};
@@ -38,7 +39,8 @@ impl Totals {
     /// The totals of the elected of an outcome of a count of this election.
     fn of_elected(election: &Election, outcome: &Outcome) -> Totals
         requires { IsOutcome election.now outcome.now }
-        ensures { result ≡ outcome_totals election.now outcome.now.elected }
+        ensures totals { result ≡ outcome_totals election.now outcome.now.elected }
+        ensures is_election { IsElection election.now }
     {
         // What is true of every election bounds the sums of its outcome.
         let _budget = election.budget();
