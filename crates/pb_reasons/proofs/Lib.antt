@@ -13,3 +13,4 @@ pub mod Results
 pub mod VoterTold
 pub mod WinnerSums
 pub mod PlaceSums
+pub mod Winners

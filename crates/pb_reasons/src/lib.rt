@@ -4,6 +4,7 @@
 
 pub mod counted;
 mod ending;
+pub mod laws;
 mod numbers;
 mod paid_row;
 pub mod payment;
