@@ -4,6 +4,7 @@ pub mod Printables
 pub mod Tellable
 pub mod Turns
 pub mod Due
+pub mod Positions
 pub mod Told
 pub mod Paying
 pub mod Reasoned
