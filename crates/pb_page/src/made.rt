@@ -3,7 +3,8 @@
 ghost use Rattle.std.specs.Prelude.{◌≡◌, ◌<◌, ◌++◌, All, IfOk, OnOk, length};
 ghost use Rattle.pb_page.specs.Inner.Grown.{Grows};
 ghost use Rattle.pb_page.specs.Page.{IsPage, added, blocks, budget, others, parts, winners, won_by_voter};
-ghost use Rattle.pb_reasons.specs.Counted.{IsCounted, counted, winners_of};
+ghost use Rattle.pb_reasons.specs.Counted as counting;
+ghost use Rattle.pb_reasons.specs.Counted.{IsCounted, winners_of};
 ghost use Rattle.pb_rounds.specs.Counted.{IsCountOf};
 
 use crate::added::put_added;
@@ -36,7 +37,7 @@ pub fn page_of(
     facts: &Facts,
 ) -> Result<Vec<u8>, NoMemory>
     requires counted { IsCountOf election.now facts.now.options counted.now.outcome }
-    requires filled { counted.now ≡ counted election.now facts.now.fills_up counted.now.outcome }
+    requires filled { counted.now ≡ counting.counted election.now facts.now.fills_up counted.now.outcome }
     ensures { IfOk result (λ text. IsPage election.now facts.now text.items) }
 {
     let won = won_by_voter(alloc, election, counted)?;
@@ -54,7 +55,7 @@ fn page_with(
     won: &[u32],
 ) -> Result<Vec<u8>, NoMemory>
     requires counted { IsCountOf election.now facts.now.options counted.now.outcome }
-    requires filled { counted.now ≡ counted election.now facts.now.fills_up counted.now.outcome }
+    requires filled { counted.now ≡ counting.counted election.now facts.now.fills_up counted.now.outcome }
     requires won { won.now ≡ won_by_voter election.now counted.now }
     ensures { IfOk result (λ text. IsPage election.now facts.now text.items) }
 {

@@ -1,4 +1,4 @@
-use Rattle.std.proofs.Common.{◌≡◌, ◌∙◌, ap}
+use Rattle.std.proofs.Common.{◌∙◌, ap}
 use Rattle.pb_markup.specs.Filling.{page_of}
 use Rattle.pb_reasons.specs.Counted.{CountedView}
 use Rattle.pb_page.specs.Page.{parts}

@@ -1,4 +1,3 @@
-use Rattle.std.proofs.Common.{◌∙◌, ap}
 use Rattle.pb_reasons.proofs.Results.{result_is_added}
 use Rattle.pb_reasons.proofs.Tellable.{count_can_be_told}
 use Rattle.pb_page.proofs.made.put_projects.Goals as goal

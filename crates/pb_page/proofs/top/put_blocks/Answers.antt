@@ -1,4 +1,5 @@
 use Rattle.std.proofs.Common.{◌≡◌, ◌∙◌, arith, refl}
+use Rattle.std.proofs.lemmas.List.{get_or_default}
 use Rattle.pb_reasons.proofs.PlaceSums.{costs_more, costs_more_le, the_placed}
 use Rattle.pb_page.proofs.Grown.{none}
 use Rattle.pb_page.proofs.Rows.{block_more}
@@ -9,13 +10,15 @@ loop-place-init c = record { before = refl; grown = none c.args.page.now.items }
 
 pub overflow_add-before : goal.overflow_add-before
 overflow_add-before c =
-    let placed = the_placed c.args.election.now _ _ _ _ _ c.requires.known c.loop-place-test.true c.place-item.is c.projects-projects.ensures.projects c.index-projects-place.is in
+    let here = get_or_default c.args.winners.now c.loop-place.place-index 0 _ c.loop-place-test.true in
+    let placed = the_placed c.args.election.now c.args.winners.now _ _ _ _ c.requires.known c.loop-place-test.true here c.projects-projects.ensures.projects c.index-projects-place.is in
     let cost : c.cost.inside.0 ≡ c.index-projects-place.result.cost = c.cost.view_is ∙ c.cost-cost.ensures.cost in
     omega (arith, costs_more_le _ _ _ _ _ placed, c.requires.fits, c.loop-place.invariant.before)
 
 pub loop-place-preserved : goal.loop-place-preserved
 loop-place-preserved c =
-    let placed = the_placed c.args.election.now _ _ _ _ _ c.requires.known c.loop-place-test.true c.place-item.is c.projects-projects.ensures.projects c.index-projects-place.is in
+    let here = get_or_default c.args.winners.now c.loop-place.place-index 0 _ c.loop-place-test.true in
+    let placed = the_placed c.args.election.now c.args.winners.now _ _ _ _ c.requires.known c.loop-place-test.true here c.projects-projects.ensures.projects c.index-projects-place.is in
     let cost : c.cost.inside.0 ≡ c.index-projects-place.result.cost = c.cost.view_is ∙ c.cost-cost.ensures.cost in
     record {
       before = omega (arith, costs_more _ _ _ _ _ placed, c.loop-place.invariant.before);
