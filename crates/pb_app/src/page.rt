@@ -8,11 +8,10 @@ ghost use Rattle.pb_page.specs.Page.{IsPage};
 use crate::journal::open_with_journal;
 use crate::kinship::Kinship;
 use pb_command_line::{PageRun, Source as Given};
-use pb_commands::{AppFault, Counting, closed_ballots, own_ballots, write_out};
+use pb_commands::{AppFault, Counting, closed_ballots, counted, own_ballots, write_out};
 use pb_core::election::Election;
 use pb_core::gate::Gate;
 use pb_page::{Facts, Source, page_of};
-use pb_rounds::count::count_watched;
 use pb_rounds::count_fault::CountFault;
 use pb_streams::{Digested, Hex, Progress, open_shown};
 use pb_words::warnings::ResultWarnings;
@@ -113,9 +112,9 @@ fn write_page<'a, T: Threads + Sync, G: Gate, W: Write>(
         journal,
         recount: run.recount,
         options: *counting.options,
+        fills_up: counting.fills_up,
     };
-    let (rt, alloc) = (counting.rt, counting.alloc);
-    let text = page_text(rt, alloc, counting.gate, &read.election, &facts)?;
+    let text = page_text(counting, &read.election, &facts)?;
     write_whole(writer, text.as_slice())
 }
 
@@ -132,22 +131,22 @@ fn source_of<'a>(given: &Given<'a>, digest: Option<&'a Hex>) -> Source<'a> {
     Source { name, digest }
 }
 
-/// The page of an election, counted with the options of these facts: each number on it is one of the outcome's, and nothing
+/// The page of an election, counted with the options of these facts: each number on it is one of the count's, and nothing
 /// in it is markup but the program's own pieces. What refuses it is what refuses the count.
 fn page_text<T: Threads + Sync, G: Gate>(
-    rt: &T,
-    alloc: Global,
-    gate: &G,
+    counting: &Counting<T, G>,
     election: &Election,
     facts: &Facts,
 ) -> Result<Vec<u8>, CountFault>
+    requires options { counting.now.options.now ≡ facts.now.options }
+    requires fills_up { counting.now.fills_up ≡ facts.now.fills_up }
     ensures ok { IfOk result (λ text. IsPage election.now facts.now text.items) }
     ensures fault { IfErr result (IsCountFault election.now facts.now.options) }
 {
     // What is true of every election is true of its reasons.
     let _budget = election.budget();
-    let outcome = count_watched(rt, alloc, election, &facts.options, gate)?;
-    Ok(page_of(alloc, election, &outcome, facts)?)
+    let counted = counted(counting, election)?;
+    Ok(page_of(counting.alloc, election, &counted, facts)?)
 }
 
 /// Writes the whole page, and sees that it leaves the writer.

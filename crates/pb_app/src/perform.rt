@@ -101,6 +101,7 @@ where
         alloc: rt.alloc(),
         gate: progress,
         options: &options,
+        fills_up: asked.fills_up,
     };
     let kinship = Kinship::new(asked.takes_other);
     let typing = Typing::new(terminals.input && !is_quiet(asked));

@@ -10,6 +10,9 @@ use std::alloc::{AllocError, Global};
 /// The program's version, and of which commit it is, which `tools/package` fills in.
 const VERSION: &str = "1.0.0 (built from source; which commit is not recorded)";
 
+/// The completions by their names.
+const COMPLETIONS: &[&str] = &["none", "add1", "utilitarian", "add1u"];
+
 /// The measures by their names, votes first.
 const MEASURES: &[&str] = &["votes", "cost"];
 
@@ -103,6 +106,8 @@ enum Takes {
     Number(&'static str),
     /// The name of a measure.
     Measure,
+    /// The name of a completion, where no raises are left out by an option of their own.
+    Completion,
     /// A text, which its help calls so.
     Text(&'static str),
     /// Nothing: it is given or not.
@@ -229,7 +234,14 @@ const RAISES: Argument = Argument {
 const PLAIN: Argument = Argument {
     name: "plain",
     takes: Takes::Nothing,
-    help: "Stops after the first count: the share is not raised (no Add1)",
+    help: "Stops after the first count: the share is not raised (no Add1); the same as --completion none",
+};
+
+/// What is done with the money that a first run leaves.
+const COMPLETION: Argument = Argument {
+    name: "completion",
+    takes: Takes::Completion,
+    help: "Raises the share (add1) or not (none); add1u is add1 and utilitarian is none, and both then fill up the rest of the budget by votes [default: add1]",
 };
 
 /// What a project is worth to those who approve it.
@@ -326,7 +338,8 @@ const COUNTS: &[CommandForm] = &[
         notes: "Manual pages: man pb_app-election, man pb_app-report, man pb_app-counting.",
         about: "Counts a .pb file, and prints the report",
         arguments: &[
-            ELECTION, WORKERS, STEP, RAISES, PLAIN, MEASURE, STRICT, OUTPUT, QUIET, PROGRESS,
+            ELECTION, WORKERS, STEP, RAISES, PLAIN, COMPLETION, MEASURE, STRICT, OUTPUT, QUIET,
+            PROGRESS,
         ],
     },
     CommandForm {
@@ -334,8 +347,8 @@ const COUNTS: &[CommandForm] = &[
         notes: "Manual pages: man pb_app-election, man 5 pb_app-projects, man pb_app-counting.",
         about: "Counts a .pb file, and prints who won and why, and how much money the other projects lacked",
         arguments: &[
-            ELECTION, LEFT_BY, OTHER_FILE, WORKERS, STEP, RAISES, PLAIN, MEASURE, STRICT, OUTPUT,
-            QUIET, PROGRESS,
+            ELECTION, LEFT_BY, OTHER_FILE, WORKERS, STEP, RAISES, PLAIN, COMPLETION, MEASURE,
+            STRICT, OUTPUT, QUIET, PROGRESS,
         ],
     },
     CommandForm {
@@ -343,8 +356,8 @@ const COUNTS: &[CommandForm] = &[
         notes: "Manual pages: man pb_app-election, man 5 pb_app-voters, man pb_app-counting.",
         about: "Counts a .pb file, and prints what each voter paid, and for what",
         arguments: &[
-            ELECTION, LEFT_BY, OTHER_FILE, WORKERS, STEP, RAISES, PLAIN, MEASURE, STRICT, OUTPUT,
-            QUIET, PROGRESS,
+            ELECTION, LEFT_BY, OTHER_FILE, WORKERS, STEP, RAISES, PLAIN, COMPLETION, MEASURE,
+            STRICT, OUTPUT, QUIET, PROGRESS,
         ],
     },
     CommandForm {
@@ -352,8 +365,8 @@ const COUNTS: &[CommandForm] = &[
         notes: "Manual pages: man pb_app-election, man 5 pb_app-page, man pb_app-counting.",
         about: "Counts a .pb file, and prints the result as a web page for the public",
         arguments: &[
-            ELECTION, LEFT_BY, OTHER_FILE, TITLE, RECOUNT, WORKERS, STEP, RAISES, PLAIN, MEASURE,
-            STRICT, OUTPUT, QUIET, PROGRESS,
+            ELECTION, LEFT_BY, OTHER_FILE, TITLE, RECOUNT, WORKERS, STEP, RAISES, PLAIN,
+            COMPLETION, MEASURE, STRICT, OUTPUT, QUIET, PROGRESS,
         ],
     },
     CommandForm {
@@ -361,8 +374,8 @@ const COUNTS: &[CommandForm] = &[
         notes: "Manual pages: man pb_app-election, man 5 pb_app-export, man pb_app-counting.",
         about: "Counts a .pb file, and prints ballots and result as a new .pb file; counting that file gives the same result",
         arguments: &[
-            ELECTION, LEFT_BY, OTHER_FILE, WORKERS, STEP, RAISES, PLAIN, MEASURE, STRICT, OUTPUT,
-            QUIET, PROGRESS,
+            ELECTION, LEFT_BY, OTHER_FILE, WORKERS, STEP, RAISES, PLAIN, COMPLETION, MEASURE,
+            STRICT, OUTPUT, QUIET, PROGRESS,
         ],
     },
 ];
@@ -395,6 +408,7 @@ const DESKS: &[CommandForm] = &[
             STEP,
             RAISES,
             PLAIN,
+            COMPLETION,
             MEASURE,
             REQUIRE_SHUT,
             DIGESTS,
@@ -464,15 +478,16 @@ fn with_arguments<'a>(
 ) -> Result<Command<'a>, AllocError> {
     let mut command = command;
     for argument in arguments {
-        command = command.arg(made(alloc, argument))?;
+        let arg = made(alloc, argument)?;
+        command = command.arg(arg)?;
     }
     Ok(command)
 }
 
 /// An argument, as `clap` takes it.
-fn made<'a>(alloc: Global, argument: &Argument) -> Arg<'a> {
+fn made<'a>(alloc: Global, argument: &Argument) -> Result<Arg<'a>, AllocError> {
     let arg = Arg::new(alloc, argument.name).help(argument.help);
-    match argument.takes {
+    let arg = match argument.takes {
         Takes::Path => arg
             .value_name(argument.name)
             .required(true)
@@ -496,12 +511,19 @@ fn made<'a>(alloc: Global, argument: &Argument) -> Arg<'a> {
             .value_name("MEASURE")
             .value_parser(MEASURES)
             .action(ArgAction::Set),
+        Takes::Completion => arg
+            .long(argument.name)
+            .value_name("COMPLETION")
+            .value_parser(COMPLETIONS)
+            .action(ArgAction::Set)
+            .conflicts_with("plain")?,
         Takes::Text(name) => arg
             .long(argument.name)
             .value_name(name)
             .action(ArgAction::Set),
         Takes::Nothing => arg.long(argument.name).action(ArgAction::SetTrue),
-    }
+    };
+    Ok(arg)
 }
 
 /// What parsed arguments ask for; without a command it is a count of standard input.
@@ -511,6 +533,7 @@ pub(crate) fn asked_by<'a>(matches: &ArgMatches<'a>) -> Asked<'a> {
             task: task_of(name, given),
             output: given.get_str("output"),
             shows: shows_by(given),
+            fills_up: fills_up(given),
             is_strict: given.get_flag("strict"),
             takes_other: given.get_flag("other-file"),
         },
@@ -518,6 +541,7 @@ pub(crate) fn asked_by<'a>(matches: &ArgMatches<'a>) -> Asked<'a> {
             task: Task::Count(Source::Input, CountOptions::standard()),
             output: None,
             shows: None,
+            fills_up: false,
             is_strict: false,
             takes_other: false,
         },
@@ -608,6 +632,11 @@ fn path_of<'a>(given: &ArgMatches<'a>, name: &str) -> &'a str {
     given.get_str(name).unwrap_or("")
 }
 
+/// Whether what is left is filled up by votes.
+fn fills_up(given: &ArgMatches<'_>) -> bool {
+    matches!(given.get_str("completion"), Some("utilitarian" | "add1u"))
+}
+
 /// The options of a count; those that are not given are the standard ones.
 fn options_of(given: &ArgMatches<'_>) -> CountOptions {
     let standard = CountOptions::standard();
@@ -618,10 +647,11 @@ fn options_of(given: &ArgMatches<'_>) -> CountOptions {
         },
         max_raises: given.get_one("raises").unwrap_or(standard.max_raises),
         workers: given.get_one("workers").unwrap_or(standard.workers),
-        completion: if given.get_flag("plain") {
-            Completion::Plain
-        } else {
-            standard.completion
+        completion: match given.get_str("completion") {
+            Some("none" | "utilitarian") => Completion::Plain,
+            Some(_) => Completion::Add1,
+            None if given.get_flag("plain") => Completion::Plain,
+            None => standard.completion,
         },
         measure: match given.get_str("measure") {
             Some("cost") => Measure::Cost,

@@ -179,6 +179,8 @@ pub struct Asked<'a> {
     pub output: Option<&'a str>,
     /// Whether it is shown how far the work has come; none is where standard error is a terminal.
     pub shows: Option<bool>,
+    /// What the elected of a count leave of the budget is filled up by votes.
+    pub fills_up: bool,
     /// A warning refuses the .pb file of a count.
     pub is_strict: bool,
     /// A journal that belongs to another .pb file is read all the same.

@@ -58,6 +58,7 @@ fn a_count_tells_of_its_raises(rt: HostRuntime) {
         alloc: rt.alloc(),
         gate: &told,
         options: &options,
+        fills_up: false,
     };
     let counted = run_count_watched(&counting, file, &mut NoWatch, &mut report);
     same(&rt, counted.is_ok(), true, "a count");

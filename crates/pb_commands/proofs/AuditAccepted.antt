@@ -43,10 +43,10 @@ one_desk bytes journal d other first second =
     let same = journal_rows-injective d.opening.version other.opening.version d.journal other.journal (omega arith) (omega arith) (small_numbers _ first.sound.entries) (small_numbers _ second.sound.entries) (sym first.rows ∙ second.rows) in
     λ i. record { opening = record { election = election i; version = same.0 i }; room = room i; journal = same.1 i }
 
-pub audited_by_reader : (files journals : Option (List ℕ)) (options : CountOptions) (fault : ReadFault) (r : Result (Unit {0}) AppFault)
+pub audited_by_reader : {fills_up : Bool} (files journals : Option (List ℕ)) (options : CountOptions) (fault : ReadFault) (r : Result (Unit {0}) AppFault)
     → IsErrAnd r (λ app. app ≡ merged (Read fault))
     → IfSome files (λ bytes. (e : ElectionView) → StandsFor (records_of bytes) e → IsFromOutside fault.kind)
-    → IfBothKnown files journals (λ bytes journal. Accepts (AuditWrites bytes journal options) r)
+    → IfBothKnown files journals (λ bytes journal. Accepts (AuditWrites bytes journal options fills_up) r)
 audited_by_reader None journals options fault r is accepts = tt
 audited_by_reader (Some bytes) None options fault r is accepts = tt
 audited_by_reader (Some bytes) (Some journal) options fault r is accepts = λ text writes.
@@ -62,10 +62,10 @@ journal_from_outside o journal sound (audit.JournalFull row) fails = absurd (no_
 journal_from_outside o journal sound (audit.WrongAnswer row) fails = absurd (no_fault o program_room journal (audit.WrongAnswer row) (omega arith) sound fails (λ is. cc, λ i is. cc))
 journal_from_outside o journal sound audit.NoMemory fails = refl
 
-pub audited_by_journal : (files journals : Option (List ℕ)) (options : CountOptions) (e : ElectionView) (fault : AuditFault) (r : Result (Unit {0}) AppFault)
+pub audited_by_journal : {fills_up : Bool} (files journals : Option (List ℕ)) (options : CountOptions) (e : ElectionView) (fault : AuditFault) (r : Result (Unit {0}) AppFault)
     → IsErrAnd r (λ app. app ≡ merged (Audit fault))
     → IfSome files (λ bytes. StandsFor (records_of bytes) e) → IfSome journals (λ journal. IsFaultOfJournal e program_room (records_of journal) fault)
-    → IfBothKnown files journals (λ bytes journal. Accepts (AuditWrites bytes journal options) r)
+    → IfBothKnown files journals (λ bytes journal. Accepts (AuditWrites bytes journal options fills_up) r)
 audited_by_journal None journals options e fault r is stands fails = tt
 audited_by_journal (Some bytes) None options e fault r is stands fails = tt
 audited_by_journal (Some bytes) (Some journal) options e fault r is stands fails = λ text writes.
@@ -76,7 +76,7 @@ audited_by_journal (Some bytes) (Some journal) options e fault r is stands fails
     given_fault IsOutsideFault r (merged (Audit fault)) is (journal_from_outside d.opening d.journal sound fault (subst P election (rw writes.1.rows at fails)))
 
 -- a desk that has a text is refused from outside alone
-desk_from_outside : (d : DeskView) (options : CountOptions) (text : List ℕ) → IsTextOf d options text
+desk_from_outside : {fills_up : Bool} (d : DeskView) (options : CountOptions) (text : List ℕ) → IsTextOf d options fills_up text
     → (fault : CountFault) → IsRefusedDesk d options fault → IsOutsideFault (merged (Count fault))
 desk_from_outside d options text written count.NoMemory refused = refl
 desk_from_outside d options text written fault refused =
@@ -99,9 +99,9 @@ desk_of bytes journal e d is = record {
   sound = rw is.room is.sound;
 }
 
-pub audited_by_desk : (files journals : Option (List ℕ)) (options : CountOptions) (e : ElectionView) (d : DeskView) (fault : CountFault) (r : Result (Unit {0}) AppFault)
+pub audited_by_desk : {fills_up : Bool} (files journals : Option (List ℕ)) (options : CountOptions) (e : ElectionView) (d : DeskView) (fault : CountFault) (r : Result (Unit {0}) AppFault)
     → IsErrAnd r (λ app. app ≡ merged (Count fault)) → IsAudited files journals e d → IsRefusedDesk d options fault
-    → IfBothKnown files journals (λ bytes journal. Accepts (AuditWrites bytes journal options) r)
+    → IfBothKnown files journals (λ bytes journal. Accepts (AuditWrites bytes journal options fills_up) r)
 audited_by_desk None journals options e d fault r is audited refused = tt
 audited_by_desk (Some bytes) None options e d fault r is audited refused = tt
 audited_by_desk (Some bytes) (Some journal) options e d fault r is audited refused = λ text writes.
@@ -110,16 +110,16 @@ audited_by_desk (Some bytes) (Some journal) options e d fault r is audited refus
     given_fault IsOutsideFault r (merged (Count fault)) is (desk_from_outside d options text written fault refused)
 
 -- a desk has one text
-one_desk_text : (shut : Bool) (e : ElectionView) (options : CountOptions) (row a b first second : List ℕ)
-    → a ≡ row ++ first → b ≡ row ++ second → MatchBool shut (IsReportOf e options first) (first ≡ [])
-    → MatchBool shut (IsReportOf e options second) (second ≡ []) → a ≡ b
+one_desk_text : {fills_up : Bool} (shut : Bool) (e : ElectionView) (options : CountOptions) (row a b first second : List ℕ)
+    → a ≡ row ++ first → b ≡ row ++ second → MatchBool shut (IsReportOf e options fills_up first) (first ≡ [])
+    → MatchBool shut (IsReportOf e options fills_up second) (second ≡ []) → a ≡ b
 one_desk_text true e options row a b first second is_a is_b one other =
     is_a ∙ ap (λ (t : List ℕ). row ++ t) (one_report e options first second one other) ∙ sym is_b
 one_desk_text false e options row a b first second is_a is_b one other =
     is_a ∙ ap (λ (t : List ℕ). row ++ t) (one ∙ sym other) ∙ sym is_b
 
-pub one_audit : (bytes journal : List ℕ) (options : CountOptions) (a b : List ℕ)
-    → AuditWrites bytes journal options a → AuditWrites bytes journal options b → a ≡ b
+pub one_audit : {fills_up : Bool} (bytes journal : List ℕ) (options : CountOptions) (a b : List ℕ)
+    → AuditWrites bytes journal options fills_up a → AuditWrites bytes journal options fills_up b → a ≡ b
 one_audit bytes journal options a b first second =
     let d = first.0 in
     let written = rw (one_desk bytes journal second.0 d second.1 first.1) at second.2 in

@@ -4,6 +4,7 @@ use Rattle.std.proofs.lemmas.List.{append-nil}
 use Rattle.std.specs.Prelude.{IfErr, MatchBool, OnOk, Result, Ok, Err}
 use Rattle.pb_core.specs.Election.{ElectionView}
 use Rattle.pb_desk.specs.Desk.{DeskView, closed_election, standing_of}
+use Rattle.pb_reasons.specs.Counted.{counted}
 use Rattle.pb_rounds.specs.Counted.{IsCountFault, IsCountOf}
 use Rattle.pb_rounds.specs.Outcome.{OutcomeView}
 use Rattle.pb_rounds.specs.declared.count_fault.CountFault.{CountFault}
@@ -20,37 +21,38 @@ when_true : (b : Bool) (A B : Type 0) → b ≡ true → A → MatchBool b A B
 when_true b A B is a = subst (λ (t : Bool). MatchBool t A B) (sym is) a
 
 -- the desk's row and the report of a count of its ballots are what is to be written of the desk
-pub report_of_count : (d : DeskView) (options : CountOptions) (o : OutcomeView) → (standing_of d).is_shut ≡ true → IsCountOf (closed_election d) options o
-    → IsTextOf d options (text_of_row (entries_row d) ++ report_of (closed_election d) o)
-report_of_count d options o shut counted = (report_of (closed_election d) o, refl, when_true (standing_of d).is_shut _ _ shut (o, counted, refl))
+pub report_of_count : {fills_up : Bool} (d : DeskView) (options : CountOptions) (o : OutcomeView) → (standing_of d).is_shut ≡ true → IsCountOf (closed_election d) options o
+    → IsTextOf d options fills_up (text_of_row (entries_row d) ++ report_of (closed_election d) (counted (closed_election d) fills_up o))
+report_of_count {fills_up} d options o shut is_count =
+    (report_of (closed_election d) (counted (closed_election d) fills_up o), refl, when_true (standing_of d).is_shut _ _ shut (o, is_count, refl))
 
 -- the report of a shut desk's ballots goes after the desk's row
-pub report_follows : (d : DeskView) (options : CountOptions) (e : ElectionView) (before middle after : List ℕ) (r : Result (Unit {0}) CountFault) → (standing_of d).is_shut ≡ true
-    → e ≡ closed_election d → middle ≡ before ++ text_of_row (entries_row d) → OnOk r ((report : List ℕ) × IsReportOf e options report × (after ≡ middle ++ report))
-    → OnOk r ((text : List ℕ) × IsTextOf d options text × (after ≡ before ++ text))
+pub report_follows : {fills_up : Bool} (d : DeskView) (options : CountOptions) (e : ElectionView) (before middle after : List ℕ) (r : Result (Unit {0}) CountFault) → (standing_of d).is_shut ≡ true
+    → e ≡ closed_election d → middle ≡ before ++ text_of_row (entries_row d) → OnOk r ((report : List ℕ) × IsReportOf e options fills_up report × (after ≡ middle ++ report))
+    → OnOk r ((text : List ℕ) × IsTextOf d options fills_up text × (after ≡ before ++ text))
 report_follows d options e before middle after (Err fault) shut is row_is put = tt
-report_follows d options e before middle after (Ok done) shut is row_is put =
+report_follows {fills_up} d options e before middle after (Ok done) shut is row_is put =
     let row = text_of_row (entries_row d) in
-    let of_closed = subst (λ (e : ElectionView). IsReportOf e options put.0) is put.1 in (
+    let of_closed = subst (λ (e : ElectionView). IsReportOf e options fills_up put.0) is put.1 in (
       row ++ put.0,
       (put.0, refl, when_true (standing_of d).is_shut _ _ shut of_closed),
       put.2 ∙ ap (λ (t : List ℕ). t ++ put.0) row_is ∙ append_assoc before row put.0,
     )
 
 -- nothing goes after the row of an open desk
-pub row_alone : (d : DeskView) (options : CountOptions) (before after : List ℕ) → (standing_of d).is_shut ≡ false → after ≡ before ++ text_of_row (entries_row d)
-    → (text : List ℕ) × IsTextOf d options text × (after ≡ before ++ text)
-row_alone d options before after unshut is =
+pub row_alone : {fills_up : Bool} (d : DeskView) (options : CountOptions) (before after : List ℕ) → (standing_of d).is_shut ≡ false → after ≡ before ++ text_of_row (entries_row d)
+    → (text : List ℕ) × IsTextOf d options fills_up text × (after ≡ before ++ text)
+row_alone {fills_up} d options before after unshut is =
     let row = text_of_row (entries_row d) in
     let none : List ℕ = [] in
-    let P : Bool → Type 0 = λ t. MatchBool t (IsReportOf (closed_election d) options none) (none ≡ none) in
+    let P : Bool → Type 0 = λ t. MatchBool t (IsReportOf (closed_election d) options fills_up none) (none ≡ none) in
     (row, (none, sym (append-nil row), subst P (sym unshut) refl), is)
 
 -- the report of an election that a desk leaves
-pub report_of_closed : (d : DeskView) (options : CountOptions) (e : ElectionView) (before after : List ℕ) (r : Result (Unit {0}) CountFault) → e ≡ closed_election d
-    → OnOk r ((report : List ℕ) × IsReportOf e options report × (after ≡ before ++ report)) → OnOk r ((report : List ℕ) × IsReportOf (closed_election d) options report × (after ≡ before ++ report))
+pub report_of_closed : {fills_up : Bool} (d : DeskView) (options : CountOptions) (e : ElectionView) (before after : List ℕ) (r : Result (Unit {0}) CountFault) → e ≡ closed_election d
+    → OnOk r ((report : List ℕ) × IsReportOf e options fills_up report × (after ≡ before ++ report)) → OnOk r ((report : List ℕ) × IsReportOf (closed_election d) options fills_up report × (after ≡ before ++ report))
 report_of_closed d options e before after (Err fault) is put = tt
-report_of_closed d options e before after (Ok done) is put = (put.0, subst (λ (e : ElectionView). IsReportOf e options put.0) is put.1, put.2)
+report_of_closed {fills_up} d options e before after (Ok done) is put = (put.0, subst (λ (e : ElectionView). IsReportOf e options fills_up put.0) is put.1, put.2)
 
 -- a count of a shut desk's ballots that is refused
 pub refused_desk : (d : DeskView) (options : CountOptions) (e : ElectionView) (r : Result (Unit {0}) CountFault) → (standing_of d).is_shut ≡ true → e ≡ closed_election d

@@ -1,5 +1,5 @@
 -- How runs that write the file of a counted election end.
-use Rattle.std.proofs.Common.{◌≡◌, ℕ, ◌+◌, List, [], ◌∷◌, ◌++◌, map, Option, Some, None, Ok, Err, refl, sym, ◌∙◌, ap, subst, arith}
+use Rattle.std.proofs.Common.{Bool, ◌≡◌, ℕ, ◌+◌, List, [], ◌∷◌, ◌++◌, map, Option, Some, None, Ok, Err, refl, sym, ◌∙◌, ap, subst, arith}
 use Rattle.std.specs.Io.KnownBytes.{Appends}
 use Rattle.std.specs.List.{range_with_len}
 use Rattle.std.specs.Prelude.{IfErr, IfSome, IsErrAnd, OnOk, Result}
@@ -34,7 +34,7 @@ one_put {X} f n old new x before put is =
 
 module _ (options : CountOptions) where
   -- what stops the making of a file that there is comes from outside
-  from_outside : (e : ElectionView) (text : List ℕ) → IsExportOf options e text → (fault : AppFault) → IsStopped options e fault → merged fault ≡ fault → IsOutsideFault fault
+  from_outside : {fills_up : Bool} (e : ElectionView) (text : List ℕ) → IsExportOf options fills_up e text → (fault : AppFault) → IsStopped options e fault → merged fault ≡ fault → IsOutsideFault fault
   from_outside e text writes Memory stopped is = refl
   from_outside e text writes (Count count.WorkerCount) stopped is = absurd (none-some _ (sym writes.counted.in_range ∙ stopped))
   from_outside e text writes (Count count.StepRange) stopped is = absurd (none-some _ (sym writes.counted.in_range ∙ stopped))
@@ -56,18 +56,18 @@ module _ (options : CountOptions) where
   from_outside e text writes (Warned warning) stopped is = absurd stopped
   from_outside e text writes (Roll fault) stopped is = absurd stopped
 
-  pub accepted_by_reader : (files : Option (List ℕ)) (fault : ReadFault) (r : Result (Unit {0}) AppFault) → IsErrAnd r (λ app. app ≡ merged (Read fault))
+  pub accepted_by_reader : {fills_up : Bool} (files : Option (List ℕ)) (fault : ReadFault) (r : Result (Unit {0}) AppFault) → IsErrAnd r (λ app. app ≡ merged (Read fault))
       → IfSome files (λ bytes. (e : ElectionView) → StandsFor (records_of bytes) e → IsFromOutside fault.kind)
-      → IfSome files (λ bytes. Accepts (ExportWrites options (StandsFor (records_of bytes))) r)
+      → IfSome files (λ bytes. Accepts (ExportWrites options fills_up (StandsFor (records_of bytes))) r)
   accepted_by_reader None fault r is accepts = tt
   accepted_by_reader (Some bytes) fault r is accepts = λ text writes.
       given_fault IsOutsideFault r (merged (Read fault)) is (read_from_outside fault.kind fault.at (accepts writes.0 writes.1))
 
-  pub stopped_accepts : (files : Option (List ℕ)) (e : ElectionView) (fault : AppFault) → IfSome files (λ bytes. StandsFor (records_of bytes) e) → IsStopped options e fault → merged fault ≡ fault
-      → IfSome files (λ bytes. Accepts (ExportWrites options (StandsFor (records_of bytes))) (Err fault))
+  pub stopped_accepts : {fills_up : Bool} (files : Option (List ℕ)) (e : ElectionView) (fault : AppFault) → IfSome files (λ bytes. StandsFor (records_of bytes) e) → IsStopped options e fault → merged fault ≡ fault
+      → IfSome files (λ bytes. Accepts (ExportWrites options fills_up (StandsFor (records_of bytes))) (Err fault))
   stopped_accepts None e fault stands stopped is = tt
-  stopped_accepts (Some bytes) e fault stands stopped is = λ text writes.
-      from_outside e text (subst (λ (x : ElectionView). IsExportOf options x text) (one_election (records_of bytes) writes.0 e writes.1 stands) writes.2) fault stopped is
+  stopped_accepts {fills_up} (Some bytes) e fault stands stopped is = λ text writes.
+      from_outside e text (subst (λ (x : ElectionView). IsExportOf options fills_up x text) (one_election (records_of bytes) writes.0 e writes.1 stands) writes.2) fault stopped is
 
   -- what refuses the ballots of a journal before they are counted
   early : (bytes rows : List ℕ) (IsText : List ℕ → Type 0) (fault : AppFault) → FailsBy (ClosedRefuses bytes rows options) (λ _. ⊥) bytes fault → FailsBy (ClosedExportRefuses bytes rows options) IsText bytes fault
@@ -85,14 +85,14 @@ module _ (options : CountOptions) where
   early bytes rows IsText (Warned warning) fails = fails
   early bytes rows IsText (Roll fault) fails = fails
 
-  pub refused_early : (files journals : Option (List ℕ)) (fault : AppFault) → IfBothKnown files journals (λ bytes rows. Fails bytes rows fault)
-      → IfBothKnown files journals (λ bytes rows. FailsBy (ClosedExportRefuses bytes rows options) (ExportWrites options (Leaves bytes rows)) bytes fault)
+  pub refused_early : {fills_up : Bool} (files journals : Option (List ℕ)) (fault : AppFault) → IfBothKnown files journals (λ bytes rows. Fails bytes rows fault)
+      → IfBothKnown files journals (λ bytes rows. FailsBy (ClosedExportRefuses bytes rows options) (ExportWrites options fills_up (Leaves bytes rows)) bytes fault)
   refused_early None journals fault fails = tt
   refused_early (Some bytes) None fault fails = tt
-  refused_early (Some bytes) (Some rows) fault fails = early bytes rows (ExportWrites options (Leaves bytes rows)) fault (fails options)
+  refused_early {fills_up} (Some bytes) (Some rows) fault fails = early bytes rows (ExportWrites options fills_up (Leaves bytes rows)) fault (fails options)
 
-  pub barred_early : (files journals : Option (List ℕ)) (fault : AppFault) → IfBothKnown files journals (λ bytes rows. Bars bytes rows fault)
-      → IfBothKnown files journals (λ bytes rows. Accepts (ExportWrites options (Leaves bytes rows)) (Err fault))
+  pub barred_early : {fills_up : Bool} (files journals : Option (List ℕ)) (fault : AppFault) → IfBothKnown files journals (λ bytes rows. Bars bytes rows fault)
+      → IfBothKnown files journals (λ bytes rows. Accepts (ExportWrites options fills_up (Leaves bytes rows)) (Err fault))
   barred_early None journals fault bars = tt
   barred_early (Some bytes) None fault bars = tt
   barred_early (Some bytes) (Some rows) fault bars = λ text writes. bars writes.0 writes.1
@@ -114,33 +114,33 @@ module _ (options : CountOptions) where
     stopped_fails bytes rows IsText (Warned warning) leaves stopped = absurd stopped
     stopped_fails bytes rows IsText (Roll fault) leaves stopped = absurd stopped
 
-    pub refused_late : (files journals : Option (List ℕ)) (fault : AppFault) → IfBothKnown files journals (λ bytes rows. Leaves bytes rows e) → IsStopped options e fault
-        → IfBothKnown files journals (λ bytes rows. FailsBy (ClosedExportRefuses bytes rows options) (ExportWrites options (Leaves bytes rows)) bytes fault)
+    pub refused_late : {fills_up : Bool} (files journals : Option (List ℕ)) (fault : AppFault) → IfBothKnown files journals (λ bytes rows. Leaves bytes rows e) → IsStopped options e fault
+        → IfBothKnown files journals (λ bytes rows. FailsBy (ClosedExportRefuses bytes rows options) (ExportWrites options fills_up (Leaves bytes rows)) bytes fault)
     refused_late None journals fault leaves stopped = tt
     refused_late (Some bytes) None fault leaves stopped = tt
-    refused_late (Some bytes) (Some rows) fault leaves stopped = stopped_fails bytes rows (ExportWrites options (Leaves bytes rows)) fault leaves stopped
+    refused_late {fills_up} (Some bytes) (Some rows) fault leaves stopped = stopped_fails bytes rows (ExportWrites options fills_up (Leaves bytes rows)) fault leaves stopped
 
-    pub barred_late : (files journals : Option (List ℕ)) (fault : AppFault) → IfBothKnown files journals (λ bytes rows. Leaves bytes rows e) → IsStopped options e fault → merged fault ≡ fault
-        → IfBothKnown files journals (λ bytes rows. Accepts (ExportWrites options (Leaves bytes rows)) (Err fault))
+    pub barred_late : {fills_up : Bool} (files journals : Option (List ℕ)) (fault : AppFault) → IfBothKnown files journals (λ bytes rows. Leaves bytes rows e) → IsStopped options e fault → merged fault ≡ fault
+        → IfBothKnown files journals (λ bytes rows. Accepts (ExportWrites options fills_up (Leaves bytes rows)) (Err fault))
     barred_late None journals fault leaves stopped is = tt
     barred_late (Some bytes) None fault leaves stopped is = tt
-    barred_late (Some bytes) (Some rows) fault leaves stopped is = λ text writes.
-        from_outside e text (subst (λ (x : ElectionView). IsExportOf options x text) (one_left bytes rows writes.0 e writes.1 leaves) writes.2) fault stopped is
+    barred_late {fills_up} (Some bytes) (Some rows) fault leaves stopped is = λ text writes.
+        from_outside e text (subst (λ (x : ElectionView). IsExportOf options fills_up x text) (one_left bytes rows writes.0 e writes.1 leaves) writes.2) fault stopped is
 
-    pub file_written : (files journals before after : Option (List ℕ)) (text : List ℕ) (r : Result (Unit {0}) AppFault)
-        → OnOk r (Appends before after text) → IfBothKnown files journals (λ bytes rows. Leaves bytes rows e) → IsExportOf options e text
-        → OnOk r (IfBothKnown files journals (λ bytes rows. HasWritten (ExportWrites options (Leaves bytes rows)) before after))
+    pub file_written : {fills_up : Bool} (files journals before after : Option (List ℕ)) (text : List ℕ) (r : Result (Unit {0}) AppFault)
+        → OnOk r (Appends before after text) → IfBothKnown files journals (λ bytes rows. Leaves bytes rows e) → IsExportOf options fills_up e text
+        → OnOk r (IfBothKnown files journals (λ bytes rows. HasWritten (ExportWrites options fills_up (Leaves bytes rows)) before after))
     file_written files journals before after text (Err fault) appends leaves told = tt
     file_written None journals before after text (Ok done) appends leaves told = tt
     file_written (Some bytes) None before after text (Ok done) appends leaves told = tt
     file_written (Some bytes) (Some rows) before after text (Ok done) appends leaves told = (text, (e, leaves, told), appends)
 
-    pub file_not_written : (files journals : Option (List ℕ)) (text : List ℕ) (r : Result (Unit {0}) AppFault)
-        → IfErr r (λ fault. fault ≡ Write) → IfBothKnown files journals (λ bytes rows. Leaves bytes rows e) → IsExportOf options e text
-        → IfErr r (λ app. IfBothKnown files journals (λ bytes rows. FailsBy (ClosedExportRefuses bytes rows options) (ExportWrites options (Leaves bytes rows)) bytes app))
+    pub file_not_written : {fills_up : Bool} (files journals : Option (List ℕ)) (text : List ℕ) (r : Result (Unit {0}) AppFault)
+        → IfErr r (λ fault. fault ≡ Write) → IfBothKnown files journals (λ bytes rows. Leaves bytes rows e) → IsExportOf options fills_up e text
+        → IfErr r (λ app. IfBothKnown files journals (λ bytes rows. FailsBy (ClosedExportRefuses bytes rows options) (ExportWrites options fills_up (Leaves bytes rows)) bytes app))
     file_not_written files journals text (Ok done) is leaves told = tt
     file_not_written None journals text (Err fault) is leaves told = tt
     file_not_written (Some bytes) None text (Err fault) is leaves told = tt
-    file_not_written (Some bytes) (Some rows) text (Err fault) is leaves told =
-        let writes : ExportWrites options (Leaves bytes rows) text = (e, leaves, told) in
-        subst (FailsBy (ClosedExportRefuses bytes rows options) (ExportWrites options (Leaves bytes rows)) bytes) (sym is) (text, writes)
+    file_not_written {fills_up} (Some bytes) (Some rows) text (Err fault) is leaves told =
+        let writes : ExportWrites options fills_up (Leaves bytes rows) text = (e, leaves, told) in
+        subst (FailsBy (ClosedExportRefuses bytes rows options) (ExportWrites options fills_up (Leaves bytes rows)) bytes) (sym is) (text, writes)

@@ -1,8 +1,8 @@
 -- What the tables of a count tell, and that they agree with its report.
-use Rattle.std.proofs.Common.{◌≡◌, ℕ, ◌+◌, ◌-◌, ◌<◌, ◌≤◌, List, [], ◌∷◌, length, get_or, false, Some, refl, sym, ◌∙◌, ap, inl, inr, arith}
+use Rattle.std.proofs.Common.{◌≡◌, Bool, ℕ, ◌+◌, ◌-◌, ◌<◌, ◌≤◌, List, [], ◌∷◌, length, get_or, false, Some, refl, sym, ◌∙◌, ap, inl, inr, arith}
 use Rattle.std.specs.Prelude.{◌==◌, count_by, slice_get, slice_index, sum, sum_by}
 use Rattle.std.specs.List.{AllZip, range_with_len}
-use Rattle.std.proofs.lemmas.Bool.{cases_lt, eq-eqb, lt-ltb, true≢false}
+use Rattle.std.proofs.lemmas.Bool.{cases_lt, eq-eqb, lt-ltb, or_parts, true≢false}
 use Rattle.std.proofs.lemmas.List.{get_or_default, length-map}
 use Rattle.std.proofs.lemmas.List.FromFn.{fill_by_all}
 use Rattle.std.proofs.lemmas.List.Sums.{fails_before_first, sum-map, sum_by-cons}
@@ -12,6 +12,8 @@ use Rattle.pb_price.specs.Price.{total_rest}
 use Rattle.pb_price.specs.Supporters.{SupportView, cost_at, support_of, supporters_at}
 use Rattle.pb_reasons.proofs.Due.{round_is}
 use Rattle.pb_reasons.proofs.Told.{elected_has_round}
+use Rattle.pb_greedy.specs.MostVotes.{is_taken}
+use Rattle.pb_reasons.specs.Counted.{counted, is_selected}
 use Rattle.pb_reasons.specs.Reasons.{all_payments, ending_of, paid_for, project_reason, round_of, voter_reason}
 use Rattle.pb_reasons.specs.declared.project_reason.Ending.TheVariants as ending
 use Rattle.pb_reasons.specs.declared.project_reason.Lost.{Lost}
@@ -34,10 +36,14 @@ no_round elected place none = elim (cases_lt (round_of elected place) (length el
   | inr more ↦ more
 ]
 
-pub missing_told : (e : ElectionView) (options : CountOptions) (o : OutcomeView) (place : ℕ) → IsElection e → IsCountOf e options o → place < length e.projects → is_elected o.elected place ≡ false
-    → (lost : Lost) × ((project_reason e o place).ending ≡ ending.Lost lost) × (0 < lost.missing) × (lost.left + lost.missing ≡ cost_at (support_of e) place)
-missing_told e options o place h counted known none =
-    let told = count_can_be_told e options o h counted in
+pub missing_told : (e : ElectionView) (options : CountOptions) (fills_up : Bool) (o : OutcomeView) (place : ℕ) → IsElection e → IsCountOf e options o → place < length e.projects
+    → is_selected (counted e fills_up o) place ≡ false
+    → (lost : Lost) × ((project_reason e (counted e fills_up o) place).ending ≡ ending.Lost lost) × (0 < lost.missing) × (lost.left + lost.missing ≡ cost_at (support_of e) place)
+missing_told e options fills_up o place h is_count known unselected =
+    let c = counted e fills_up o in
+    let parts = or_parts (is_elected o.elected place) (is_taken c.added place) unselected in
+    let none = parts.0 in
+    let told = count_can_be_told e options o h is_count in
     let past = no_round o.elected place none in
     let costs : length (support_of e).costs ≡ length e.projects = simp length-map in
     let left = total_rest (supporters_at (support_of e) place) o.rests in
@@ -45,14 +51,14 @@ missing_told e options o place h counted known none =
     let other = fails_before_first (λ (w : ElectedView). w.place == place) o.elected k d (omega (arith, past, below)) in
     absurd (true≢false (sym (eq-eqb _ _ same) ∙ other))) in (
       record { left = left; missing = cost_at (support_of e) place - left },
-      ap (ending_of e o place) (slice_get_past o.elected (round_of o.elected place) past),
+      ap (ending_of e c place) (slice_get_past o.elected (round_of o.elected place) past) ∙ rw parts.1 refl,
       omega (arith, short),
       omega (arith, short),
     )
 
-pub share_told : (e : ElectionView) (options : CountOptions) (o : OutcomeView) (voter : ℕ) → IsElection e → IsCountOf e options o → voter < length e.voters
-    → (voter_reason e o voter).paid + (voter_reason e o voter).left ≡ o.share
-share_told e options o voter h counted known = (count_can_be_told e options o h counted).price_system.endowed voter known
+pub share_told : (e : ElectionView) (options : CountOptions) (fills_up : Bool) (o : OutcomeView) (voter : ℕ) → IsElection e → IsCountOf e options o → voter < length e.voters
+    → (voter_reason e (counted e fills_up o) voter).paid + (voter_reason e (counted e fills_up o) voter).left ≡ o.share
+share_told e options fills_up o voter h is_count known = (count_can_be_told e options o h is_count).price_system.endowed voter known
 
 read_here : (elected : List ElectedView) (round : ℕ) (w : ElectedView) → slice_get elected round ≡ Some w → (round < length elected) × (get_or elected round w ≡ w)
 read_here elected round w is = elim (cases_lt round (length elected)) [
@@ -60,14 +66,14 @@ read_here elected round w is = elim (cases_lt round (length elected)) [
   | inr more ↦ absurd (none-some _ (sym (slice_get_past elected round more) ∙ is))
 ]
 
-pub elected_told : (e : ElectionView) (options : CountOptions) (o : OutcomeView) (round : ℕ) (w : ElectedView) → IsElection e → IsCountOf e options o → slice_get o.elected round ≡ Some w
-    → (won : Won) × ((project_reason e o w.place).ending ≡ ending.Won won) × (won.round ≡ round + 1) × (won.price ≡ w.price) × (won.collected ≡ w.collected)
-elected_told e options o round w h counted is =
-    let places = count_elects_projects e options (settled o) (is_computed e options o counted) in
+pub elected_told : (e : ElectionView) (options : CountOptions) (fills_up : Bool) (o : OutcomeView) (round : ℕ) (w : ElectedView) → IsElection e → IsCountOf e options o → slice_get o.elected round ≡ Some w
+    → (won : Won) × ((project_reason e (counted e fills_up o) w.place).ending ≡ ending.Won won) × (won.round ≡ round + 1) × (won.price ≡ w.price) × (won.collected ≡ w.collected)
+elected_told e options fills_up o round w h is_count is =
+    let places = count_elects_projects e options (settled o) (is_computed e options o is_count) in
     let here = read_here o.elected round w is in
     let numbered = round_is o.elected places.apart round w here.0 here.1 in (
       record { round = round_of o.elected w.place + 1; price = w.price; collected = w.collected; in_full = count_by (λ voter. paid_for e o w.place voter == w.price) (supporters_at (support_of e) w.place) },
-      ap (ending_of e o w.place) (ap (slice_get o.elected) numbered ∙ is),
+      ap (ending_of e (counted e fills_up o) w.place) (ap (slice_get o.elected) numbered ∙ is),
       ap (λ n. n + 1) numbered,
       refl,
       refl,
@@ -109,11 +115,11 @@ spent_within s rests (w ∷ elected) [] all = absurd all
 spent_within s rests (w ∷ elected) (row ∷ rows) all =
     omega (arith, spent_within s rests elected rows all.1, all.0.covered, sum_by-cons (λ (w : ElectedView). w.collected) w elected, sum_by-cons (λ (w : ElectedView). cost_at s w.place) w elected)
 
-pub paid_told : (e : ElectionView) (options : CountOptions) (o : OutcomeView) → IsElection e → IsCountOf e options o
-    → (sum_by (λ voter. (voter_reason e o voter).paid) (range_with_len 0 (length e.voters)) ≡ collected_for o.elected)
-    × ((totals_of e o.elected).spent + (totals_of e o.elected).surplus ≡ collected_for o.elected)
-paid_told e options o h counted =
-    let told = count_can_be_told e options o h counted in
+pub paid_told : (e : ElectionView) (options : CountOptions) (fills_up : Bool) (o : OutcomeView) → IsElection e → IsCountOf e options o
+    → (sum_by (λ voter. (voter_reason e (counted e fills_up o) voter).paid) (range_with_len 0 (length e.voters)) ≡ collected_for o.elected)
+    × ((totals_of e (counted e fills_up o)).spent + (totals_of e (counted e fills_up o)).surplus ≡ collected_for o.elected + sum_by (cost_at (support_of e)) (counted e fills_up o).added)
+paid_told e options fills_up o h is_count =
+    let told = count_can_be_told e options o h is_count in
     let all = columns_sum (support_of e) o.rests o.elected (all_payments e o) told.price_system.paid in
     let within = spent_within (support_of e) o.rests o.elected (all_payments e o) told.price_system.paid in
     (all, omega (arith, within))

@@ -1,5 +1,5 @@
 -- What a run of `audit` writes, and what it refuses.
-use Rattle.std.specs.Prelude.{◌≡◌, ℕ, ⊤, ◌++◌, MatchBool, List, [], true}
+use Rattle.std.specs.Prelude.{◌≡◌, ℕ, ⊤, ◌++◌, Bool, MatchBool, List, [], true}
 use Rattle.pb_core.specs.Election.{ElectionView}
 use Rattle.pb_desk.specs.Audit.{IsFaultOfJournal, IsSound}
 use Rattle.pb_desk.specs.Desk.{DeskView, closed_election, standing_of}
@@ -24,13 +24,13 @@ pub record IsDeskOf (bytes journal : List ℕ) (d : DeskView) : Type 0 where
   pub sound : IsSound d.opening d.room d.journal
 
 -- what is written of a desk: its row, and then, where it is shut, the report of the ballots that its journal leaves
-abbrev pub IsTextOf : DeskView → CountOptions → List ℕ → Type 0
-IsTextOf d options text = (report : List ℕ) × (text ≡ text_of_row (entries_row d) ++ report)
-    × MatchBool (standing_of d).is_shut (IsReportOf (closed_election d) options report) (report ≡ [])
+abbrev pub IsTextOf : DeskView → CountOptions → (fills_up : Bool) → List ℕ → Type 0
+IsTextOf d options fills_up text = (report : List ℕ) × (text ≡ text_of_row (entries_row d) ++ report)
+    × MatchBool (standing_of d).is_shut (IsReportOf (closed_election d) options fills_up report) (report ≡ [])
 
 -- what these bytes make a run of `audit` write
-abbrev pub AuditWrites : List ℕ → List ℕ → CountOptions → List ℕ → Type 0
-AuditWrites bytes journal options text = (d : DeskView) × IsDeskOf bytes journal d × IsTextOf d options text
+abbrev pub AuditWrites : List ℕ → List ℕ → CountOptions → (fills_up : Bool) → List ℕ → Type 0
+AuditWrites bytes journal options fills_up text = (d : DeskView) × IsDeskOf bytes journal d × IsTextOf d options fills_up text
 
 -- what refuses an election in a run of `audit` on these bytes: the journal's first fault; or the count of the
 -- ballots that the journal of a shut desk leaves; or a warning, of which `Heeds` says when

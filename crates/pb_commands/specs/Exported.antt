@@ -1,5 +1,5 @@
 -- What a run of `export` writes, and what refuses it.
-use Rattle.std.specs.Prelude.{◌≡◌, ◌++◌, ℕ, ⊤, Bool, List, codes, decimal, length, map}
+use Rattle.std.specs.Prelude.{◌≡◌, ◌++◌, ℕ, ⊤, Bool, List, [], codes, decimal, if◌then◌else◌, length, map}
 use Rattle.std.specs.List.{range_with_len}
 use Rattle.pb_core.specs.Election.{ElectionView}
 use Rattle.pb_core.specs.MoneyText.{money_text}
@@ -7,9 +7,9 @@ use Rattle.pb_export.specs.Export.{CanBeWritten, IsExportFault}
 use Rattle.pb_export.specs.FileRows.{file_rows}
 use Rattle.pb_price.specs.Supporters.{support_of, supporters_at}
 use Rattle.pb_read.specs.StandsFor.{StandsFor}
+use Rattle.pb_reasons.specs.Counted.{CountedView, counted, is_selected}
 use Rattle.pb_rounds.specs.Counted.{IsCountFault, IsCountOf}
 use Rattle.pb_rounds.specs.Outcome.{OutcomeView}
-use Rattle.pb_rounds.specs.Run.{ElectedView, is_elected}
 use Rattle.pb_rounds.specs.declared.measure.Measure.{Measure}
 use Rattle.pb_rounds.specs.declared.measure.Measure.TheVariants as measure
 use Rattle.pb_rounds.specs.declared.options.CountOptions.{CountOptions}
@@ -32,29 +32,31 @@ completion_text completion.Add1 step most =
     codes ", raises of " ++ money_text step ++ codes ", at most " ++ decimal most
 
 -- the rule of a count, in words
-abbrev pub rule_text : CountOptions → List ℕ
-rule_text options =
-    measure_text options.measure ++ completion_text options.completion options.step options.max_raises
+abbrev pub rule_text : CountOptions → (fills_up : Bool) → List ℕ
+rule_text options fills_up =
+    measure_text options.measure
+    ++ (completion_text options.completion options.step options.max_raises
+    ++ (if fills_up then codes ", filled up by votes" else []))
 
--- how many ballots approve each project, and whether it is elected
+-- how many ballots approve each project, and whether it is elected or added
 abbrev pub votes_of : ElectionView → List ℕ
 votes_of e = map (λ place. length (supporters_at (support_of e) place)) (range_with_len 0 (length e.projects))
 
-abbrev pub selected_of : ElectionView → List ElectedView → List Bool
-selected_of e elected = map (is_elected elected) (range_with_len 0 (length e.projects))
+abbrev pub selected_of : ElectionView → CountedView → List Bool
+selected_of e c = map (is_selected c) (range_with_len 0 (length e.projects))
 
 -- the text is a file of the election, with what the count by these options came to; it is read back as the election
-pub record IsExportOf (options : CountOptions) (e : ElectionView) (text : List ℕ) : Type 0 where
+pub record IsExportOf (options : CountOptions) (fills_up : Bool) (e : ElectionView) (text : List ℕ) : Type 0 where
   pub outcome : OutcomeView
   pub counted : IsCountOf e options outcome
   pub can : CanBeWritten e
   pub text_is : text
-      ≡ text_of_rows (file_rows e (rule_text options) (votes_of e) (selected_of e outcome.elected))
+      ≡ text_of_rows (file_rows e (rule_text options fills_up) (votes_of e) (selected_of e (counted e fills_up outcome)))
   pub reads_back : StandsFor (records_of text) e
 
 -- the text is such a file of an election that is such
-abbrev pub ExportWrites : CountOptions → (ElectionView → Type 0) → List ℕ → Type 0
-ExportWrites options IsSuch text = (e : ElectionView) × IsSuch e × IsExportOf options e text
+abbrev pub ExportWrites : CountOptions → (fills_up : Bool) → (ElectionView → Type 0) → List ℕ → Type 0
+ExportWrites options fills_up IsSuch text = (e : ElectionView) × IsSuch e × IsExportOf options fills_up e text
 
 -- what refuses an election: its count; or, once it is counted, that no file would be read back as it
 abbrev pub ExportRefuses : CountOptions → ElectionView → AppFault → Type 0

@@ -5,7 +5,7 @@ ghost use Rattle.pb_commands.specs.Inner.Exporting.{IsStopped, is_won};
 ghost use Rattle.pb_commands.specs.Exported.{IsExportOf, completion_text, rule_text, selected_of, votes_of};
 ghost use Rattle.pb_faults.specs.Fault.{merged};
 
-use crate::counting::Counting;
+use crate::counting::{Counting, counted};
 use itoa::Buffer;
 use pb_core::election::Election;
 use pb_core::gate::Gate;
@@ -14,7 +14,6 @@ use pb_export::Told;
 use pb_export::write_pb::write_pb;
 use pb_faults::AppFault;
 use pb_reasons::{Ending, ProjectTeller};
-use pb_rounds::count::count_watched;
 use pb_rounds::measure::Measure;
 use pb_rounds::options::{Completion, CountOptions};
 use std::alloc::Global;
@@ -25,14 +24,14 @@ pub(crate) fn export_text<T: Threads + Sync, G: Gate>(
     counting: &Counting<T, G>,
     election: &Election,
 ) -> Result<Vec<u8>, AppFault>
-    ensures ok { IfOk result (λ text. IsExportOf counting.now.options.now election.now text.items) }
+    ensures ok { IfOk result (λ text. IsExportOf counting.now.options.now counting.now.fills_up election.now text.items) }
     ensures fault { IfErr result (IsStopped counting.now.options.now election.now) }
     ensures merged { IfErr result (λ fault. merged fault ≡ fault) }
 {
-    let (rt, alloc, options) = (counting.rt, counting.alloc, counting.options);
-    let outcome = count_watched(rt, alloc, election, options, counting.gate)?;
-    let rule = rule_text(alloc, options)?;
-    let teller = ProjectTeller::of(alloc, election, &outcome)?;
+    let alloc = counting.alloc;
+    let counted = counted(counting, election)?;
+    let rule = rule_text(alloc, counting.options, counting.fills_up)?;
+    let teller = ProjectTeller::of(alloc, election, &counted)?;
     let votes = votes_of(alloc, election, &teller)?;
     let selected = selected_of(alloc, election, &teller)?;
     let told = Told {
@@ -61,14 +60,14 @@ fn votes_of(
     Ok(votes)
 }
 
-/// Whether each project is elected.
+/// Whether each project is elected or added.
 fn selected_of(
     alloc: Global,
     election: &Election,
     teller: &ProjectTeller,
 ) -> Result<Vec<bool>, NoMemory>
     requires { teller.now.0 ≡ election.now }
-    ensures { IfOk result (λ selected. selected.items ≡ selected_of election.now teller.now.1.elected) }
+    ensures { IfOk result (λ selected. selected.items ≡ selected_of election.now teller.now.1) }
 {
     let mut selected = Vec::new(alloc);
     for place in 0..election.projects().len() {
@@ -78,19 +77,19 @@ fn selected_of(
     Ok(selected)
 }
 
-/// Whether a project is elected.
+/// Whether a project is elected or added.
 fn is_won(ending: &Ending) -> bool
     ensures { result ≡ is_won ending.now }
 {
     match ending {
-        Ending::Won(_) => true,
+        Ending::Won(_) | Ending::Added(_) => true,
         Ending::Lost(_) => false,
     }
 }
 
 /// The rule of a count, in words.
-fn rule_text(alloc: Global, options: &CountOptions) -> Result<String, NoMemory>
-    ensures { IfOk result (λ text. string_bytes text ≡ rule_text options.now) }
+fn rule_text(alloc: Global, options: &CountOptions, fills_up: bool) -> Result<String, NoMemory>
+    ensures { IfOk result (λ text. string_bytes text ≡ rule_text options.now fills_up) }
 {
     let words = match options.measure {
         Measure::Votes => "equal shares by price",
@@ -100,6 +99,9 @@ fn rule_text(alloc: Global, options: &CountOptions) -> Result<String, NoMemory>
     match options.completion {
         Completion::Plain => text.push_str(", no raises")?,
         Completion::Add1 => put_raises(alloc, &mut text, options)?,
+    }
+    if fills_up {
+        text.push_str(", filled up by votes")?;
     }
     Ok(text)
 }

@@ -9,6 +9,7 @@ ghost use Rattle.pb_desk.specs.Rows.{journal_text};
 ghost use Rattle.pb_read.specs.StandsFor.{StandsFor};
 ghost use Rattle.pb_rows.specs.Reading.{records_of};
 ghost use Rattle.pb_rows.specs.Writing.{text_of_row};
+ghost use Rattle.pb_reasons.specs.Counted.{counted};
 ghost use Rattle.pb_rounds.specs.Counted.{IsCountOf};
 ghost use Rattle.pb_rounds.specs.Outcome.{OutcomeView};
 ghost use Rattle.pb_rounds.specs.declared.options.CountOptions.{CountOptions};
@@ -27,10 +28,10 @@ use pb_core::answer::Answer;
 /// What is written is a function of the bytes that are read and of the options: a file has one report at
 /// most, and a file and a journal have one text at most.
 pub fn one_report()
-    ensures counted { (bytes : List ℕ) (options : CountOptions) (first second : List ℕ)
-        → CountWrites bytes options first → CountWrites bytes options second → first ≡ second }
-    ensures audited { (bytes journal : List ℕ) (options : CountOptions) (first second : List ℕ)
-        → AuditWrites bytes journal options first → AuditWrites bytes journal options second
+    ensures counted { (bytes : List ℕ) (options : CountOptions) (fills_up : Bool) (first second : List ℕ)
+        → CountWrites bytes options fills_up first → CountWrites bytes options fills_up second → first ≡ second }
+    ensures audited { (bytes journal : List ℕ) (options : CountOptions) (fills_up : Bool) (first second : List ℕ)
+        → AuditWrites bytes journal options fills_up first → AuditWrites bytes journal options fills_up second
         → first ≡ second }
 {}
 
@@ -43,8 +44,8 @@ pub fn journals_recount()
     ensures accepted { (bytes : List ℕ) (d : DeskView) → StandsFor (records_of bytes) d.opening.election
         → d.room ≡ program_room → IsSound d.opening d.room d.journal
         → IsDeskOf bytes (journal_text d.opening.version d.journal) d }
-    ensures recounted { (bytes journal : List ℕ) (d : DeskView) (options : CountOptions) (text : List ℕ)
-        → IsDeskOf bytes journal d → AuditWrites bytes journal options text ↔ IsTextOf d options text }
+    ensures recounted { (bytes journal : List ℕ) (d : DeskView) (options : CountOptions) (fills_up : Bool) (text : List ℕ)
+        → IsDeskOf bytes journal d → AuditWrites bytes journal options fills_up text ↔ IsTextOf d options fills_up text }
 
     // What `desk` wrote is a desk's: each clerk's entries ask what its rows in the script do, in their order, and no
     // other entries stand there, but where the run shuts the desk one last entry by clerk 0, which shuts it.
@@ -60,7 +61,8 @@ pub fn journals_recount()
         (((standing_of d).is_shut ≡ true) × (answer : Answer)
         × (d.journal ≡ served ++ record { clerk = 0; request = Shut; answer = answer } ∷ []))
         (d.journal ≡ served) }
-    ensures winners { (d : DeskView) (options : CountOptions) (o : OutcomeView)
+    ensures winners { (d : DeskView) (options : CountOptions) (fills_up : Bool) (o : OutcomeView)
         → (standing_of d).is_shut ≡ true → IsCountOf (closed_election d) options o
-        → IsTextOf d options (text_of_row (entries_row d) ++ report_of (closed_election d) o) }
+        → IsTextOf d options fills_up
+        (text_of_row (entries_row d) ++ report_of (closed_election d) (counted (closed_election d) fills_up o)) }
 {}

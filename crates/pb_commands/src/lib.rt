@@ -21,6 +21,6 @@ pub mod table_laws;
 mod voters_table;
 
 pub use closed_desk::{closed_ballots, own_ballots};
-pub use counting::Counting;
+pub use counting::{Counting, counted};
 pub use pb_faults::{AppFault, BAD_ARGUMENTS, write_out};
 pub use table::Table;

@@ -1,11 +1,11 @@
 //! The table of projects: who won and why, who lost and by how much.
 
-ghost use Rattle.std.specs.Prelude.{◌≡◌, ◌++◌, ◌∷◌, ℕ, List, [], OnOk, decimal, length, map, string_bytes};
+ghost use Rattle.std.specs.Prelude.{◌≡◌, ◌++◌, ◌∷◌, ℕ, List, [], OnOk, decimal, if◌then◌else◌, length, take, map, string_bytes};
 ghost use Rattle.std.specs.List.{range_with_len};
 ghost use Rattle.pb_core.specs.MoneyText.{money_text};
 ghost use Rattle.pb_rows.specs.Reading.{Fields};
 ghost use Rattle.pb_rows.specs.Writing.{text_of_row, text_of_rows};
-ghost use Rattle.pb_reasons.specs.Reasons.{IsCounted};
+ghost use Rattle.pb_reasons.specs.Counted.{IsCounted};
 ghost use Rattle.pb_commands.specs.Tables.{ending_fields, project_table_row};
 ghost use Rattle.pb_commands.specs.Inner.Tables.{project_columns};
 
@@ -13,8 +13,7 @@ use itoa::Buffer;
 use pb_core::election::Election;
 use pb_core::no_memory::NoMemory;
 use pb_core::project::Project;
-use pb_reasons::{Ending, Lost, ProjectReason, ProjectTeller, Won};
-use pb_rounds::outcome::Outcome;
+use pb_reasons::{Added, Counted, Ending, Lost, ProjectReason, ProjectTeller, Won};
 use pb_rows::RowsWriter;
 use std::alloc::Global;
 
@@ -33,63 +32,84 @@ pub(crate) fn put_projects(
     rows: &mut RowsWriter,
     alloc: Global,
     election: &Election,
-    outcome: &Outcome,
+    counted: &Counted,
 ) -> Result<(), NoMemory>
-    requires { IsCounted election.now outcome.now }
+    requires { IsCounted election.now counted.now }
     ensures { OnOk result (rows.new.text ≡ rows.old.text
-        ++ text_of_rows (project_columns
-        ∷ map (project_table_row election.now outcome.now) (range_with_len 0 (length election.now.projects)))) }
+        ++ text_of_rows (project_columns counted.now.fills_up
+        ∷ map (project_table_row election.now counted.now) (range_with_len 0 (length election.now.projects)))) }
 {
-    rows.put_row(&[
-        "place",
-        "project_id",
-        "name",
-        "cost",
-        "votes",
-        "round",
-        "price",
-        "collected",
-        "in_full",
-        "left",
-        "missing",
-    ])?;
-    let teller = ProjectTeller::of(alloc, election, outcome)?;
-    let put = put_each(rows, alloc, election, &teller);
+    put_columns(rows, counted.fills_up)?;
+    let teller = ProjectTeller::of(alloc, election, counted)?;
+    let put = put_each(rows, alloc, counted.fills_up, election, &teller);
     drop(teller);
     put
+}
+
+/// Writes the columns.
+fn put_columns(rows: &mut RowsWriter, fills_up: bool) -> Result<(), NoMemory>
+    ensures { OnOk result (rows.new.text ≡ rows.old.text ++ text_of_row (project_columns fills_up)) }
+{
+    let opening = Opening {
+        place: "place",
+        id: "project_id",
+        name: "name",
+        cost: "cost",
+        votes: "votes",
+    };
+    let texts = EndingTexts {
+        round: "round",
+        price: "price",
+        collected: "collected",
+        in_full: "in_full",
+        left: "left",
+        missing: "missing",
+        added: "added",
+    };
+    put_texts(rows, fills_up, opening, texts)
 }
 
 /// Writes a row for each of the election's projects after the columns.
 fn put_each(
     rows: &mut RowsWriter,
     alloc: Global,
+    fills_up: bool,
     election: &Election,
     teller: &ProjectTeller,
 ) -> Result<(), NoMemory>
-    requires { teller.now.0 ≡ election.now }
-    ensures { OnOk result ((old : List ℕ) → rows.old.text ≡ old ++ text_of_row project_columns → rows.new.text ≡ old
-        ++ text_of_rows (project_columns
+    requires own { teller.now.0 ≡ election.now }
+    requires fills_up { fills_up ≡ teller.now.1.fills_up }
+    ensures { OnOk result ((old : List ℕ) → rows.old.text ≡ old ++ text_of_row (project_columns fills_up) → rows.new.text ≡ old
+        ++ text_of_rows (project_columns fills_up
         ∷ map (project_table_row election.now teller.now.1) (range_with_len 0 (length election.now.projects)))) }
 {
     let projects = election.projects();
     for place in 0..projects.len() {
         let reason = teller.tell(place as u32);
-        put_project(rows, alloc, place as u32, &projects[place], &reason)?;
+        put_told(
+            rows,
+            alloc,
+            place as u32,
+            &projects[place],
+            &reason,
+            fills_up,
+        )?;
     }
     Ok(())
 }
 
-/// Writes the row of the project at this place.
-fn put_project(
+/// Writes the row of the project at this place, for which these are the reasons.
+fn put_told(
     rows: &mut RowsWriter,
     alloc: Global,
     place: u32,
     project: &Project,
     reason: &ProjectReason,
+    fills_up: bool,
 ) -> Result<(), NoMemory>
     ensures { OnOk result (rows.new.text ≡ rows.old.text
-        ++ text_of_row (decimal place ∷ project.now.id ∷ project.now.name ∷ money_text project.now.cost
-        ∷ decimal reason.now.votes ∷ ending_fields reason.now.ending)) }
+        ++ text_of_row (take (if fills_up then 12 else 11) (decimal place ∷ project.now.id ∷ project.now.name ∷ money_text project.now.cost
+        ∷ decimal reason.now.votes ∷ ending_fields reason.now.ending))) }
 {
     let mut place_digits = Buffer::new();
     let mut vote_digits = Buffer::new();
@@ -101,9 +121,26 @@ fn put_project(
         cost: cost.as_str(),
         votes: vote_digits.format(reason.votes),
     };
-    match &reason.ending {
-        Ending::Won(won) => put_won(rows, alloc, opening, won),
-        Ending::Lost(lost) => put_lost(rows, alloc, opening, lost),
+    put_project(rows, alloc, fills_up, opening, &reason.ending)
+}
+
+/// Writes the row of a project that begins and ended so.
+fn put_project(
+    rows: &mut RowsWriter,
+    alloc: Global,
+    fills_up: bool,
+    opening: Opening,
+    ending: &Ending,
+) -> Result<(), NoMemory>
+    ensures { OnOk result (rows.new.text ≡ rows.old.text
+        ++ text_of_row (take (if fills_up then 12 else 11) (opening.entry.place.now ∷ opening.entry.id.now ∷ opening.entry.name.now
+        ∷ opening.entry.cost.now ∷ opening.entry.votes.now
+        ∷ ending_fields ending.now))) }
+{
+    match ending {
+        Ending::Won(won) => put_won(rows, alloc, fills_up, opening, won),
+        Ending::Added(added) => put_added(rows, fills_up, opening, added),
+        Ending::Lost(lost) => put_lost(rows, alloc, fills_up, opening, lost),
     }
 }
 
@@ -111,61 +148,125 @@ fn put_project(
 fn put_won(
     rows: &mut RowsWriter,
     alloc: Global,
+    fills_up: bool,
     opening: Opening,
     won: &Won,
 ) -> Result<(), NoMemory>
     ensures { OnOk result (rows.new.text ≡ rows.old.text
-        ++ text_of_row (opening.entry.place.now ∷ opening.entry.id.now ∷ opening.entry.name.now
+        ++ text_of_row (take (if fills_up then 12 else 11) (opening.entry.place.now ∷ opening.entry.id.now ∷ opening.entry.name.now
         ∷ opening.entry.cost.now ∷ opening.entry.votes.now
         ∷ decimal won.now.round ∷ money_text won.now.price ∷ money_text won.now.collected
-        ∷ decimal won.now.in_full ∷ [] ∷ [] ∷ [])) }
+        ∷ decimal won.now.in_full ∷ [] ∷ [] ∷ [] ∷ []))) }
 {
     let mut round_digits = Buffer::new();
     let mut full_digits = Buffer::new();
     let price = won.price.text(alloc)?;
     let collected = won.collected.text(alloc)?;
-    rows.put_row(&[
-        opening.place,
-        opening.id,
-        opening.name,
-        opening.cost,
-        opening.votes,
-        round_digits.format(won.round),
-        price.as_str(),
-        collected.as_str(),
-        full_digits.format(won.in_full),
-        "",
-        "",
-    ])?;
-    Ok(())
+    let texts = EndingTexts {
+        round: round_digits.format(won.round),
+        price: price.as_str(),
+        collected: collected.as_str(),
+        in_full: full_digits.format(won.in_full),
+        ..EMPTY
+    };
+    put_texts(rows, fills_up, opening, texts)
 }
 
-/// Writes the row of a project that is not elected.
+/// Writes the row of an added project.
+fn put_added(
+    rows: &mut RowsWriter,
+    fills_up: bool,
+    opening: Opening,
+    added: &Added,
+) -> Result<(), NoMemory>
+    ensures { OnOk result (rows.new.text ≡ rows.old.text
+        ++ text_of_row (take (if fills_up then 12 else 11) (opening.entry.place.now ∷ opening.entry.id.now ∷ opening.entry.name.now
+        ∷ opening.entry.cost.now ∷ opening.entry.votes.now
+        ∷ [] ∷ [] ∷ [] ∷ [] ∷ [] ∷ [] ∷ decimal added.now.number ∷ []))) }
+{
+    let mut digits = Buffer::new();
+    let texts = EndingTexts {
+        added: digits.format(added.number),
+        ..EMPTY
+    };
+    put_texts(rows, fills_up, opening, texts)
+}
+
+/// Writes the row of a project that is neither elected nor added.
 fn put_lost(
     rows: &mut RowsWriter,
     alloc: Global,
+    fills_up: bool,
     opening: Opening,
     lost: &Lost,
 ) -> Result<(), NoMemory>
     ensures { OnOk result (rows.new.text ≡ rows.old.text
-        ++ text_of_row (opening.entry.place.now ∷ opening.entry.id.now ∷ opening.entry.name.now
+        ++ text_of_row (take (if fills_up then 12 else 11) (opening.entry.place.now ∷ opening.entry.id.now ∷ opening.entry.name.now
         ∷ opening.entry.cost.now ∷ opening.entry.votes.now
-        ∷ [] ∷ [] ∷ [] ∷ [] ∷ money_text lost.now.left ∷ money_text lost.now.missing ∷ [])) }
+        ∷ [] ∷ [] ∷ [] ∷ [] ∷ money_text lost.now.left ∷ money_text lost.now.missing ∷ [] ∷ []))) }
 {
     let left = lost.left.text(alloc)?;
     let missing = lost.missing.text(alloc)?;
-    rows.put_row(&[
+    let texts = EndingTexts {
+        left: left.as_str(),
+        missing: missing.as_str(),
+        ..EMPTY
+    };
+    put_texts(rows, fills_up, opening, texts)
+}
+
+/// The fields on how a project ended; those of another ending are empty.
+#[derive(Clone, Copy)]
+struct EndingTexts<'a> {
+    round: &'a str,
+    price: &'a str,
+    collected: &'a str,
+    in_full: &'a str,
+    left: &'a str,
+    missing: &'a str,
+    /// Where an outcome is filled up.
+    added: &'a str,
+}
+
+/// No field.
+const EMPTY: EndingTexts<'static> = EndingTexts {
+    round: "",
+    price: "",
+    collected: "",
+    in_full: "",
+    left: "",
+    missing: "",
+    added: "",
+};
+
+/// Writes a row of these fields, the last of them where an outcome is filled up.
+fn put_texts(
+    rows: &mut RowsWriter,
+    fills_up: bool,
+    opening: Opening,
+    texts: EndingTexts,
+) -> Result<(), NoMemory>
+    ensures { OnOk result (rows.new.text ≡ rows.old.text
+        ++ text_of_row (take (if fills_up then 12 else 11) (opening.entry.place.now ∷ opening.entry.id.now ∷ opening.entry.name.now
+        ∷ opening.entry.cost.now ∷ opening.entry.votes.now ∷ texts.entry.round.now ∷ texts.entry.price.now
+        ∷ texts.entry.collected.now ∷ texts.entry.in_full.now ∷ texts.entry.left.now ∷ texts.entry.missing.now
+        ∷ texts.entry.added.now ∷ []))) }
+{
+    let fields = [
         opening.place,
         opening.id,
         opening.name,
         opening.cost,
         opening.votes,
-        "",
-        "",
-        "",
-        "",
-        left.as_str(),
-        missing.as_str(),
-    ])?;
+        texts.round,
+        texts.price,
+        texts.collected,
+        texts.in_full,
+        texts.left,
+        texts.missing,
+        texts.added,
+    ];
+    let width = if fills_up { 12 } else { 11 };
+    rows.put_row(&fields[..width])?;
     Ok(())
 }

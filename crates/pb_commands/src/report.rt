@@ -2,15 +2,18 @@
 
 ghost use Rattle.std.specs.Prelude.{◌≡◌, ◌<◌, ◌++◌, ◌∷◌, [], All, OnOk, codes, decimal, length, map};
 ghost use Rattle.pb_core.specs.MoneyText.{money_text};
-ghost use Rattle.pb_reasons.specs.Reasons.{IsCounted};
+ghost use Rattle.pb_price.specs.Supporters.{support_of};
+ghost use Rattle.pb_reasons.specs.Counted.{IsCounted};
 ghost use Rattle.pb_rows.specs.Writing.{text_of_row, text_of_rows};
-ghost use Rattle.pb_commands.specs.Report.{closing_rows, elected_row, opening_rows, report_of};
+ghost use Rattle.pb_commands.specs.Report.{added_row, closing_rows, elected_row, opening_rows, report_of};
 
 use itoa::Buffer;
 use pb_core::election::Election;
 use pb_core::money::Money;
 use pb_core::no_memory::NoMemory;
-use pb_reasons::Totals;
+use pb_core::project::Project;
+use pb_price::supporters::Supporters;
+use pb_reasons::{Counted, Totals};
 use pb_rounds::outcome::{Elected, Outcome};
 use pb_rows::RowsWriter;
 use std::alloc::Global;
@@ -22,16 +25,18 @@ pub(crate) fn put_report(
     rows: &mut RowsWriter,
     alloc: Global,
     election: &Election,
-    outcome: &Outcome,
+    counted: &Counted,
 ) -> Result<(), NoMemory>
-    requires { IsCounted election.now outcome.now }
-    ensures { OnOk result (rows.new.text ≡ rows.old.text ++ report_of election.now outcome.now) }
+    requires { IsCounted election.now counted.now }
+    ensures { OnOk result (rows.new.text ≡ rows.old.text ++ report_of election.now counted.now) }
 {
     // What is true of every election is true of the places of its elected projects.
     let _budget = election.budget();
+    let outcome = &counted.outcome;
     put_opening(rows, alloc, election, outcome)?;
     put_elected(rows, alloc, election, outcome.elected.as_slice())?;
-    put_closing(rows, alloc, Totals::of(election, outcome))?;
+    put_added(rows, alloc, election, counted.added.as_slice())?;
+    put_closing(rows, alloc, Totals::of(election, counted))?;
     Ok(())
 }
 
@@ -70,6 +75,64 @@ fn put_elected(
         let price = winner.price.text(alloc)?;
         rows.put_row(&["elected", project.id(), cost.as_str(), price.as_str()])?;
     }
+    Ok(())
+}
+
+/// One row for each added project.
+fn put_added(
+    rows: &mut RowsWriter,
+    alloc: Global,
+    election: &Election,
+    added: &[u32],
+) -> Result<(), NoMemory>
+    requires { All (λ place. place < length election.now.projects) added.now }
+    ensures { OnOk result (rows.new.text ≡ rows.old.text
+        ++ text_of_rows (map (added_row election.now) added.now)) }
+{
+    if added.is_empty() {
+        return Ok(());
+    }
+    let supporters = Supporters::build(alloc, election)?;
+    let put = put_supported(rows, alloc, election, &supporters, added);
+    drop(supporters);
+    put
+}
+
+/// The same, where these are the supporters.
+fn put_supported(
+    rows: &mut RowsWriter,
+    alloc: Global,
+    election: &Election,
+    supporters: &Supporters,
+    added: &[u32],
+) -> Result<(), NoMemory>
+    requires own { supporters.now ≡ support_of election.now }
+    requires known { All (λ place. place < length election.now.projects) added.now }
+    ensures { OnOk result (rows.new.text ≡ rows.old.text
+        ++ text_of_rows (map (added_row election.now) added.now)) }
+{
+    let projects = election.projects();
+    for place in added {
+        let project = &projects[*place as usize];
+        let votes = supporters.of(*place).len();
+        put_one_added(rows, alloc, project, votes as u64)?;
+    }
+    Ok(())
+}
+
+/// The row of an added project that so many ballots approve.
+fn put_one_added(
+    rows: &mut RowsWriter,
+    alloc: Global,
+    project: &Project,
+    votes: u64,
+) -> Result<(), NoMemory>
+    ensures { OnOk result (rows.new.text ≡ rows.old.text
+        ++ text_of_row (codes "added" ∷ project.now.id ∷ money_text project.now.cost ∷ decimal votes ∷ [])) }
+{
+    let mut digits = Buffer::new();
+    let cost = project.cost().text(alloc)?;
+    rows.put_row(&["added", project.id(), cost.as_str(), digits.format(votes)])?;
     Ok(())
 }
 

@@ -1,6 +1,6 @@
 //! The command `audit`: what a journal says of a file.
 
-ghost use Rattle.std.specs.Prelude.{◌≡◌, ◌≢◌, ◌++◌, ℕ, List, IfErr, IfOk, IfSome, OnOk, None, true};
+ghost use Rattle.std.specs.Prelude.{◌≡◌, ◌≢◌, ◌++◌, ℕ, List, IfErr, IfOk, IfSome, OnOk, None, false, true};
 ghost use Rattle.pb_desk.specs.Desk.{closed_election, standing_of};
 ghost use Rattle.pb_commands.specs.Audited.{AuditRefuses, AuditWrites, IsTextOf};
 ghost use Rattle.pb_commands.specs.Inner.Audited.{IsRefusedDesk};
@@ -39,15 +39,15 @@ pub fn run_audit<T: Threads + Sync, P: Read + Drop, J: Read + Drop, W: Write>(
 ) -> Result<(), AppFault>
     // Where the bytes of both readers are known, they alone and the options decide what is written,
     ensures ok { OnOk result (IfBothKnown (P.remaining file) (J.remaining journal) (λ bytes rows.
-        HasWritten (AuditWrites bytes rows options.now) (W.contents writer.old) (W.contents writer.new))) }
+        HasWritten (AuditWrites bytes rows options.now false) (W.contents writer.old) (W.contents writer.new))) }
 
     // and which fault comes.
     ensures fault { IfErr result (λ fault. IfBothKnown (P.remaining file) (J.remaining journal) (λ bytes rows.
-        FailsBy (AuditRefuses bytes rows options.now) (AuditWrites bytes rows options.now) bytes fault)) }
+        FailsBy (AuditRefuses bytes rows options.now) (AuditWrites bytes rows options.now false) bytes fault)) }
 
     // A file and a journal that have a text get it, unless a device fails or memory is refused.
     ensures accepts { IfBothKnown (P.remaining file) (J.remaining journal) (λ bytes rows.
-        Accepts (AuditWrites bytes rows options.now) result) }
+        Accepts (AuditWrites bytes rows options.now false) result) }
 
     // The file is judged first, whatever is known of the journal.
     ensures file { IfSome (P.remaining file) (λ bytes. JudgesFile bytes result) }
@@ -66,6 +66,7 @@ pub fn run_audit<T: Threads + Sync, P: Read + Drop, J: Read + Drop, W: Write>(
         alloc,
         gate: &NoGate,
         options,
+        fills_up: false,
     };
     run_audit_watched(&counting, file, journal, &mut NoWatch, writer)
 }
@@ -88,18 +89,18 @@ pub fn run_audit_watched<
 ) -> Result<(), AppFault>
     // Where the bytes of both readers are known, they alone and the options decide what is written,
     ensures ok { OnOk result (IfBothKnown (P.remaining file) (J.remaining journal) (λ bytes rows.
-        HasWritten (AuditWrites bytes rows counting.now.options.now)
+        HasWritten (AuditWrites bytes rows counting.now.options.now counting.now.fills_up)
         (W.contents writer.old) (W.contents writer.new))) }
 
     // and which fault comes.
     ensures fault { IfErr result (λ fault. IfBothKnown (P.remaining file) (J.remaining journal) (λ bytes rows.
         FailsBy (AuditRefuses bytes rows counting.now.options.now)
-        (AuditWrites bytes rows counting.now.options.now) bytes fault)) }
+        (AuditWrites bytes rows counting.now.options.now counting.now.fills_up) bytes fault)) }
 
     // A file and a journal that have a text get it, unless a device fails or memory is refused, or a warning refuses the file.
     ensures accepts { H.refused_for watch.new ≡ None →
         IfBothKnown (P.remaining file) (J.remaining journal) (λ bytes rows.
-        Accepts (AuditWrites bytes rows counting.now.options.now) result) }
+        Accepts (AuditWrites bytes rows counting.now.options.now counting.now.fills_up) result) }
 
     // The file is judged first, whatever is known of the journal.
     ensures file { IfSome (P.remaining file) (λ bytes. JudgesFile bytes result) }
@@ -128,7 +129,7 @@ fn desk_text<T: Threads + Sync, G: Gate>(
     counting: &Counting<T, G>,
     desk: Desk,
 ) -> Result<Vec<u8>, CountFault>
-    ensures ok { IfOk result (λ text. IsTextOf desk counting.now.options.now text.items) }
+    ensures ok { IfOk result (λ text. IsTextOf desk counting.now.options.now counting.now.fills_up text.items) }
     ensures fault { IfErr result (IsRefusedDesk desk counting.now.options.now) }
 {
     let mut rows = RowsWriter::start(counting.alloc);
@@ -148,7 +149,7 @@ fn put_desk<T: Threads + Sync, G: Gate>(
     desk: Desk,
 ) -> Result<(), CountFault>
     ensures ok { OnOk result ((text : List ℕ)
-        × IsTextOf desk counting.now.options.now text × (rows.new.text ≡ rows.old.text ++ text)) }
+        × IsTextOf desk counting.now.options.now counting.now.fills_up text × (rows.new.text ≡ rows.old.text ++ text)) }
     ensures fault { IfErr result (IsRefusedDesk desk counting.now.options.now) }
 {
     match put_entries(rows, &desk) {
@@ -173,7 +174,7 @@ fn put_ballots<T: Threads + Sync, G: Gate>(
     desk: Desk,
 ) -> Result<(), CountFault>
     requires { (standing_of desk).is_shut ≡ true }
-    ensures ok { OnOk result ((report : List ℕ) × IsReportOf (closed_election desk) counting.now.options.now report
+    ensures ok { OnOk result ((report : List ℕ) × IsReportOf (closed_election desk) counting.now.options.now counting.now.fills_up report
         × (rows.new.text ≡ rows.old.text ++ report)) }
     ensures fault { IfErr result (IsRefusedDesk desk counting.now.options.now) }
 {

@@ -1,19 +1,18 @@
 //! The command `count`: a file's report.
 
-ghost use Rattle.std.specs.Prelude.{◌≡◌, ◌≢◌, ◌++◌, ℕ, List, IfErr, IfOk, IfSome, OnOk, None};
+ghost use Rattle.std.specs.Prelude.{◌≡◌, ◌≢◌, ◌++◌, ℕ, List, IfErr, IfOk, IfSome, OnOk, None, false};
 ghost use Rattle.pb_rounds.specs.Counted.{IsCountFault};
 ghost use Rattle.pb_rounds.specs.declared.count_fault.CountFault.TheVariants as count;
 ghost use Rattle.pb_commands.specs.Counted.{CountRefuses, CountWrites, IsReportOf};
 ghost use Rattle.pb_commands.specs.Ends.{Accepts, FailsBy, HasWritten, Heeds};
 ghost use Rattle.pb_faults.specs.Fault.{merged};
 
-use crate::counting::Counting;
+use crate::counting::{Counting, counted};
 use crate::report::put_report;
 use pb_core::election::Election;
 use pb_core::gate::{Gate, NoGate};
 use pb_faults::{AppFault, write_out};
 use pb_read::{Heed, NoWatch, read_pb_watched};
-use pb_rounds::count::count_watched;
 use pb_rounds::count_fault::CountFault;
 use pb_rounds::options::CountOptions;
 use pb_rows::RowsWriter;
@@ -35,14 +34,14 @@ pub fn run_count<T: Threads + Sync, R: Read + Drop, W: Write>(
 ) -> Result<(), AppFault>
     // Where the reader's bytes are known, they alone and the options decide what is written,
     ensures ok { OnOk result (IfSome (R.remaining reader) (λ bytes.
-        HasWritten (CountWrites bytes options.now) (W.contents writer.old) (W.contents writer.new))) }
+        HasWritten (CountWrites bytes options.now false) (W.contents writer.old) (W.contents writer.new))) }
 
     // and which fault comes.
     ensures fault { IfErr result (λ fault. IfSome (R.remaining reader) (λ bytes.
-        FailsBy (CountRefuses options.now) (CountWrites bytes options.now) bytes fault)) }
+        FailsBy (CountRefuses options.now) (CountWrites bytes options.now false) bytes fault)) }
 
     // A file that has a report gets it, unless a device fails or memory is refused.
-    ensures accepts { IfSome (R.remaining reader) (λ bytes. Accepts (CountWrites bytes options.now) result) }
+    ensures accepts { IfSome (R.remaining reader) (λ bytes. Accepts (CountWrites bytes options.now false) result) }
 
     // A fault writes nothing, unless it is the writer's.
     ensures unchanged { IfErr result (λ fault. fault ≢ AppFault.Write → writer.new ≡ writer.old) }
@@ -58,6 +57,7 @@ pub fn run_count<T: Threads + Sync, R: Read + Drop, W: Write>(
         alloc,
         gate: &NoGate,
         options,
+        fills_up: false,
     };
     run_count_watched(&counting, reader, &mut NoWatch, writer)
 }
@@ -72,15 +72,15 @@ pub fn run_count_watched<T: Threads + Sync, R: Read + Drop, G: Gate, H: Heed, W:
 ) -> Result<(), AppFault>
     // Where the reader's bytes are known, they alone and the options decide what is written,
     ensures ok { OnOk result (IfSome (R.remaining reader) (λ bytes.
-        HasWritten (CountWrites bytes counting.now.options.now) (W.contents writer.old) (W.contents writer.new))) }
+        HasWritten (CountWrites bytes counting.now.options.now counting.now.fills_up) (W.contents writer.old) (W.contents writer.new))) }
 
     // and which fault comes.
     ensures fault { IfErr result (λ fault. IfSome (R.remaining reader) (λ bytes.
-        FailsBy (CountRefuses counting.now.options.now) (CountWrites bytes counting.now.options.now) bytes fault)) }
+        FailsBy (CountRefuses counting.now.options.now) (CountWrites bytes counting.now.options.now counting.now.fills_up) bytes fault)) }
 
     // A file that has a report gets it, unless a device fails or memory is refused, or a warning refuses it.
     ensures accepts { H.refused_for watch.new ≡ None → IfSome (R.remaining reader) (λ bytes.
-        Accepts (CountWrites bytes counting.now.options.now) result) }
+        Accepts (CountWrites bytes counting.now.options.now counting.now.fills_up) result) }
 
     // A fault writes nothing, unless it is the writer's.
     ensures unchanged { IfErr result (λ fault. fault ≢ AppFault.Write → writer.new ≡ writer.old) }
@@ -107,7 +107,7 @@ fn report_text<T: Threads + Sync, G: Gate>(
     counting: &Counting<T, G>,
     election: &Election,
 ) -> Result<Vec<u8>, CountFault>
-    ensures ok { IfOk result (λ text. IsReportOf election.now counting.now.options.now text.items) }
+    ensures ok { IfOk result (λ text. IsReportOf election.now counting.now.options.now counting.now.fills_up text.items) }
     ensures fault { IfErr result (IsCountFault election.now counting.now.options.now) }
 {
     let mut rows = RowsWriter::start(counting.alloc);
@@ -138,11 +138,10 @@ pub(crate) fn put_count<T: Threads + Sync, G: Gate>(
     election: &Election,
 ) -> Result<(), CountFault>
     ensures ok { OnOk result ((text : List ℕ)
-        × IsReportOf election.now counting.now.options.now text × (rows.new.text ≡ rows.old.text ++ text)) }
+        × IsReportOf election.now counting.now.options.now counting.now.fills_up text × (rows.new.text ≡ rows.old.text ++ text)) }
     ensures fault { IfErr result (IsCountFault election.now counting.now.options.now) }
 {
-    let (rt, alloc) = (counting.rt, counting.alloc);
-    let outcome = count_watched(rt, alloc, election, counting.options, counting.gate)?;
-    put_report(rows, alloc, election, &outcome)?;
+    let counted = counted(counting, election)?;
+    put_report(rows, counting.alloc, election, &counted)?;
     Ok(())
 }

@@ -31,17 +31,17 @@ pub fn run_export<T: Threads + Sync, R: Read + Drop, G: Gate, H: Heed, W: Write>
 ) -> Result<(), AppFault>
     // Where the reader's bytes are known, they alone and the options decide what is written,
     ensures ok { OnOk result (IfSome (R.remaining reader) (λ bytes.
-        HasWritten (ExportWrites counting.now.options.now (StandsFor (records_of bytes)))
+        HasWritten (ExportWrites counting.now.options.now counting.now.fills_up (StandsFor (records_of bytes)))
         (W.contents writer.old) (W.contents writer.new))) }
 
     // and which fault comes.
     ensures fault { IfErr result (λ fault. IfSome (R.remaining reader) (λ bytes.
         FailsBy (ExportRefuses counting.now.options.now)
-        (ExportWrites counting.now.options.now (StandsFor (records_of bytes))) bytes fault)) }
+        (ExportWrites counting.now.options.now counting.now.fills_up (StandsFor (records_of bytes))) bytes fault)) }
 
     // A file that can be exported is, unless a device fails or memory is refused, or a warning refuses it.
     ensures accepts { H.refused_for watch.new ≡ None → IfSome (R.remaining reader) (λ bytes.
-        Accepts (ExportWrites counting.now.options.now (StandsFor (records_of bytes))) result) }
+        Accepts (ExportWrites counting.now.options.now counting.now.fills_up (StandsFor (records_of bytes))) result) }
 
     // A fault writes nothing, unless it is the writer's.
     ensures unchanged { IfErr result (λ fault. fault ≢ AppFault.Write → writer.new ≡ writer.old) }
@@ -88,18 +88,18 @@ pub fn run_closed_export<
 ) -> Result<(), AppFault>
     // Where the bytes of both readers are known, they alone and the options decide what is written,
     ensures ok { OnOk result (IfBothKnown (P.remaining file) (J.remaining journal) (λ bytes rows.
-        HasWritten (ExportWrites counting.now.options.now (Leaves bytes rows))
+        HasWritten (ExportWrites counting.now.options.now counting.now.fills_up (Leaves bytes rows))
         (W.contents writer.old) (W.contents writer.new))) }
 
     // and which fault comes.
     ensures fault { IfErr result (λ fault. IfBothKnown (P.remaining file) (J.remaining journal) (λ bytes rows.
         FailsBy (ClosedExportRefuses bytes rows counting.now.options.now)
-        (ExportWrites counting.now.options.now (Leaves bytes rows)) bytes fault)) }
+        (ExportWrites counting.now.options.now counting.now.fills_up (Leaves bytes rows)) bytes fault)) }
 
     // A file and a journal that can be exported are, unless a device fails or memory is refused, or a warning refuses the file.
     ensures accepts { H.refused_for watch.new ≡ None →
         IfBothKnown (P.remaining file) (J.remaining journal) (λ bytes rows.
-        Accepts (ExportWrites counting.now.options.now (Leaves bytes rows)) result) }
+        Accepts (ExportWrites counting.now.options.now counting.now.fills_up (Leaves bytes rows)) result) }
 
     // The file is judged first, whatever is known of the journal.
     ensures file { IfSome (P.remaining file) (λ bytes. JudgesFile bytes result) }

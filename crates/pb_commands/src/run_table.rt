@@ -2,7 +2,7 @@
 
 ghost use Rattle.std.specs.Prelude.{◌≡◌, ◌≢◌, ◌++◌, ℕ, List, IfErr, IfOk, IfSome, OnOk, None};
 ghost use Rattle.pb_read.specs.StandsFor.{StandsFor};
-ghost use Rattle.pb_reasons.specs.Reasons.{IsCounted};
+ghost use Rattle.pb_reasons.specs.Counted.{IsCounted};
 ghost use Rattle.pb_rounds.specs.Counted.{IsCountFault};
 ghost use Rattle.pb_rows.specs.Reading.{records_of};
 ghost use Rattle.pb_commands.specs.Closed.{ClosedRefuses, Leaves};
@@ -13,7 +13,7 @@ ghost use Rattle.pb_commands.specs.Tabled.{IsTableOf, TableWrites};
 ghost use Rattle.pb_commands.specs.Tables.{table_of};
 
 use crate::closed_desk::closed_ballots;
-use crate::counting::Counting;
+use crate::counting::{Counting, counted};
 use crate::projects_table::put_projects;
 use crate::run_count::finished;
 use crate::table::Table;
@@ -23,9 +23,8 @@ use pb_core::gate::Gate;
 use pb_core::no_memory::NoMemory;
 use pb_faults::{AppFault, write_out};
 use pb_read::{Heed, read_pb_watched};
-use pb_rounds::count::count_watched;
+use pb_reasons::Counted;
 use pb_rounds::count_fault::CountFault;
-use pb_rounds::outcome::Outcome;
 use pb_rows::RowsWriter;
 use std::alloc::Global;
 use std::io::{Read, Write};
@@ -46,17 +45,17 @@ pub fn run_table<T: Threads + Sync, R: Read + Drop, G: Gate, H: Heed, W: Write>(
 ) -> Result<(), AppFault>
     // Where the reader's bytes are known, they alone and the options decide what is written,
     ensures ok { OnOk result (IfSome (R.remaining reader) (λ bytes.
-        HasWritten (TableWrites table counting.now.options.now (StandsFor (records_of bytes)))
+        HasWritten (TableWrites table counting.now.options.now counting.now.fills_up (StandsFor (records_of bytes)))
         (W.contents writer.old) (W.contents writer.new))) }
 
     // and which fault comes.
     ensures fault { IfErr result (λ fault. IfSome (R.remaining reader) (λ bytes.
         FailsBy (CountRefuses counting.now.options.now)
-        (TableWrites table counting.now.options.now (StandsFor (records_of bytes))) bytes fault)) }
+        (TableWrites table counting.now.options.now counting.now.fills_up (StandsFor (records_of bytes))) bytes fault)) }
 
     // A file that has a table gets it, unless a device fails or memory is refused, or a warning refuses it.
     ensures accepts { H.refused_for watch.new ≡ None → IfSome (R.remaining reader) (λ bytes.
-        Accepts (TableWrites table counting.now.options.now (StandsFor (records_of bytes))) result) }
+        Accepts (TableWrites table counting.now.options.now counting.now.fills_up (StandsFor (records_of bytes))) result) }
 
     // A fault writes nothing, unless it is the writer's.
     ensures unchanged { IfErr result (λ fault. fault ≢ AppFault.Write → writer.new ≡ writer.old) }
@@ -101,18 +100,18 @@ pub fn run_closed_table<
 ) -> Result<(), AppFault>
     // Where the bytes of both readers are known, they alone and the options decide what is written,
     ensures ok { OnOk result (IfBothKnown (P.remaining file) (J.remaining journal) (λ bytes rows.
-        HasWritten (TableWrites table counting.now.options.now (Leaves bytes rows))
+        HasWritten (TableWrites table counting.now.options.now counting.now.fills_up (Leaves bytes rows))
         (W.contents writer.old) (W.contents writer.new))) }
 
     // and which fault comes.
     ensures fault { IfErr result (λ fault. IfBothKnown (P.remaining file) (J.remaining journal) (λ bytes rows.
         FailsBy (ClosedRefuses bytes rows counting.now.options.now)
-        (TableWrites table counting.now.options.now (Leaves bytes rows)) bytes fault)) }
+        (TableWrites table counting.now.options.now counting.now.fills_up (Leaves bytes rows)) bytes fault)) }
 
     // A file and a journal that have a table get it, unless a device fails or memory is refused, or a warning refuses the file.
     ensures accepts { H.refused_for watch.new ≡ None →
         IfBothKnown (P.remaining file) (J.remaining journal) (λ bytes rows.
-        Accepts (TableWrites table counting.now.options.now (Leaves bytes rows)) result) }
+        Accepts (TableWrites table counting.now.options.now counting.now.fills_up (Leaves bytes rows)) result) }
 
     // The file is judged first, whatever is known of the journal.
     ensures file { IfSome (P.remaining file) (λ bytes. JudgesFile bytes result) }
@@ -139,7 +138,7 @@ fn table_text<T: Threads + Sync, G: Gate>(
     election: &Election,
     table: Table,
 ) -> Result<Vec<u8>, CountFault>
-    ensures ok { IfOk result (λ text. IsTableOf table counting.now.options.now election.now text.items) }
+    ensures ok { IfOk result (λ text. IsTableOf table counting.now.options.now counting.now.fills_up election.now text.items) }
     ensures fault { IfErr result (IsCountFault election.now counting.now.options.now) }
 {
     let mut rows = RowsWriter::start(counting.alloc);
@@ -160,31 +159,30 @@ fn put_counted<T: Threads + Sync, G: Gate>(
     table: Table,
 ) -> Result<(), CountFault>
     ensures ok { OnOk result ((text : List ℕ)
-        × IsTableOf table counting.now.options.now election.now text × (rows.new.text ≡ rows.old.text ++ text)) }
+        × IsTableOf table counting.now.options.now counting.now.fills_up election.now text × (rows.new.text ≡ rows.old.text ++ text)) }
     ensures fault { IfErr result (IsCountFault election.now counting.now.options.now) }
 {
     // What is true of every election is true of its payments.
     let _budget = election.budget();
-    let (rt, alloc) = (counting.rt, counting.alloc);
-    let outcome = count_watched(rt, alloc, election, counting.options, counting.gate)?;
-    put_outcome(rows, alloc, election, &outcome, table)?;
+    let counted = counted(counting, election)?;
+    put_outcome(rows, counting.alloc, election, &counted, table)?;
     Ok(())
 }
 
-/// Puts this table of an outcome after the rows that stand there.
+/// Puts this table of what a count comes to after the rows that stand there.
 fn put_outcome(
     rows: &mut RowsWriter,
     alloc: Global,
     election: &Election,
-    outcome: &Outcome,
+    counted: &Counted,
     table: Table,
 ) -> Result<(), NoMemory>
-    requires { IsCounted election.now outcome.now }
+    requires { IsCounted election.now counted.now }
     ensures { OnOk result (rows.new.text
         ≡ rows.old.text ++ table_of table election.now outcome.now) }
 {
     match table {
-        Table::Projects => put_projects(rows, alloc, election, outcome),
-        Table::Voters => put_voters(rows, alloc, election, outcome),
+        Table::Projects => put_projects(rows, alloc, election, counted),
+        Table::Voters => put_voters(rows, alloc, election, counted),
     }
 }

@@ -4,7 +4,7 @@ ghost use Rattle.std.specs.Prelude.{◌≡◌, ◌++◌, ◌∷◌, ℕ, List, [
 ghost use Rattle.std.specs.List.{range_with_len};
 ghost use Rattle.pb_core.specs.MoneyText.{money_text};
 ghost use Rattle.pb_rows.specs.Writing.{text_of_row, text_of_rows};
-ghost use Rattle.pb_reasons.specs.Reasons.{IsCounted};
+ghost use Rattle.pb_reasons.specs.Counted.{IsCounted};
 ghost use Rattle.pb_commands.specs.Tables.{payments_text, voter_table_row};
 ghost use Rattle.pb_commands.specs.Inner.Tables.{voter_columns};
 
@@ -12,8 +12,7 @@ use itoa::Buffer;
 use pb_core::election::Election;
 use pb_core::money::Money;
 use pb_core::no_memory::NoMemory;
-use pb_reasons::{Payment, VoterReason, VoterTeller};
-use pb_rounds::outcome::Outcome;
+use pb_reasons::{Counted, Payment, VoterReason, VoterTeller};
 use pb_rows::RowsWriter;
 use std::alloc::Global;
 
@@ -22,15 +21,15 @@ pub(crate) fn put_voters(
     rows: &mut RowsWriter,
     alloc: Global,
     election: &Election,
-    outcome: &Outcome,
+    counted: &Counted,
 ) -> Result<(), NoMemory>
-    requires { IsCounted election.now outcome.now }
+    requires { IsCounted election.now counted.now }
     ensures { OnOk result (rows.new.text ≡ rows.old.text
         ++ text_of_rows (voter_columns
-        ∷ map (voter_table_row election.now outcome.now) (range_with_len 0 (length election.now.voters)))) }
+        ∷ map (voter_table_row election.now counted.now) (range_with_len 0 (length election.now.voters)))) }
 {
     rows.put_row(&["voter_id", "votes", "elected", "paid", "left", "payments"])?;
-    let mut teller = VoterTeller::of(alloc, election, outcome)?;
+    let mut teller = VoterTeller::of(alloc, election, counted)?;
     let put = put_each(rows, alloc, election, &mut teller);
     drop(teller);
     put

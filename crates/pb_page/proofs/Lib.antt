@@ -1,3 +1,4 @@
 -- The lemmas that the proofs of this crate share.
 mod Grown
 mod Rows
+mod WinnerPlaces

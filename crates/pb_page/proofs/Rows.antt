@@ -1,5 +1,6 @@
 -- The rows of a page, as they are put.
 use Rattle.std.proofs.Common.{◌≡◌, ◌<◌, ◌+◌, ℕ, List, [], ◌∷◌, ◌++◌, get_or, length, map, sym, take, ◌∙◌, ap, arith}
+use Rattle.std.specs.Prelude.{sum_by}
 use Rattle.std.specs.List.{range_with_len}
 use Rattle.std.proofs.lemmas.List.{get_or_default, take_more}
 use Rattle.std.proofs.lemmas.List.Sums.{sum_by-cons}
@@ -7,12 +8,10 @@ use Rattle.std.proofs.lemmas.List.FromFn.{map-range_with_len_more}
 use Rattle.pb_core.specs.Election.{ElectionView, ProjectView}
 use Rattle.pb_markup.specs.Filling.{Filling}
 use Rattle.pb_price.specs.Supporters.{cost_at, support_of}
+use Rattle.pb_reasons.specs.Counted.{CountedView}
 use Rattle.pb_reasons.specs.Reasons.{project_reason}
 use Rattle.pb_reasons.specs.declared.project_reason.ProjectReason.{ProjectReason}
-use Rattle.pb_reasons.proofs.WinnerSums.{IsWinner}
-use Rattle.pb_rounds.specs.Count.{spent_on}
-use Rattle.pb_rounds.specs.Outcome.{OutcomeView}
-use Rattle.pb_rounds.specs.Run.{ElectedView}
+use Rattle.pb_reasons.proofs.PlaceSums.{IsPlaced}
 use Rattle.pb_page.specs.Inner.Grown.{Grows}
 use Rattle.pb_page.proofs.Grown.{grown_as, then}
 use Rattle.pb_page.specs.Inner.Pieces.{block}
@@ -22,18 +21,18 @@ pub the_project : (e : ElectionView) (place : ℕ) (p : ProjectView) → place <
 the_project e place p known is = is ∙ get_or_default e.projects place p (record { id = []; name = []; cost = 0 }) known
 
 -- the row of a project that did not win, as it is told
-pub lost_told : (e : ElectionView) (o : OutcomeView) (place : ℕ) (p : ProjectView) → place < length e.projects → p ≡ get_or e.projects place p
-    → (reason : ProjectReason) → reason ≡ project_reason e o place → lost_row p reason.votes reason.ending ≡ lost_rows e o place
-lost_told e o place p known is reason told =
+pub lost_told : (e : ElectionView) (c : CountedView) (place : ℕ) (p : ProjectView) → place < length e.projects → p ≡ get_or e.projects place p
+    → (reason : ProjectReason) → reason ≡ project_reason e c place → lost_row p reason.votes reason.ending ≡ lost_rows e c place
+lost_told e c place p known is reason told =
     ap (λ (r : ProjectReason). lost_row p r.votes r.ending) told
-    ∙ ap (λ (q : ProjectView). lost_row q (project_reason e o place).votes (project_reason e o place).ending) (the_project e place p known is)
+    ∙ ap (λ (q : ProjectView). lost_row q (project_reason e c place).votes (project_reason e c place).ending) (the_project e place p known is)
 
 -- the row of a winner, as it is told
-pub won_told : (e : ElectionView) (o : OutcomeView) (elected : List ElectedView) (i : ℕ) (w : ElectedView) (p : ProjectView) → IsWinner e elected i w p
-    → (reason : ProjectReason) → reason ≡ project_reason e o w.place → won_row e.budget p reason.votes reason.ending ≡ won_rows e o w
-won_told e o elected i w p winner reason told =
+pub won_told : (e : ElectionView) (c : CountedView) (place : ℕ) (p : ProjectView) → place < length e.projects → p ≡ get_or e.projects place p
+    → (reason : ProjectReason) → reason ≡ project_reason e c place → won_row e.budget p reason.votes reason.ending ≡ won_rows e c place
+won_told e c place p known is reason told =
     ap (λ (r : ProjectReason). won_row e.budget p r.votes r.ending) told
-    ∙ ap (λ (q : ProjectView). won_row e.budget q (project_reason e o w.place).votes (project_reason e o w.place).ending) (the_project e w.place p winner.known winner.project)
+    ∙ ap (λ (q : ProjectView). won_row e.budget q (project_reason e c place).votes (project_reason e c place).ending) (the_project e place p known is)
 
 -- one number more
 pub one_told : (f : ℕ → ℕ) (n : ℕ) (before after : List ℕ) (x : ℕ) → before ≡ map f (range_with_len 0 n) → after ≡ before ++ x ∷ [] → x ≡ f n
@@ -42,21 +41,21 @@ one_told f n before after x so_far put is =
     put ∙ ap (λ (t : List ℕ). t ++ x ∷ []) so_far ∙ ap (λ (y : ℕ). map f (range_with_len 0 n) ++ y ∷ []) is ∙ sym (map-range_with_len_more f 0 n n (omega arith))
 
 -- the parts of the winners with one more
-blocks_more : (e : ElectionView) (before total : ℕ) (xs : List ElectedView) (w : ElectedView) → total ≡ before + spent_on (support_of e) xs
-    → blocks e before (xs ++ w ∷ []) ≡ blocks e before xs ++ blocks e total (w ∷ [])
-blocks_more e before total [] w sum =
-    let none : before ≡ total = omega (arith, sum) in ap (λ (n : ℕ). blocks e n (w ∷ [])) none
-blocks_more e before total (x ∷ xs) w sum =
-    let cost = cost_at (support_of e) x.place in
-    let parts : spent_on (support_of e) (x ∷ xs) ≡ cost + spent_on (support_of e) xs = sum_by-cons (λ (v : ElectedView). cost_at (support_of e) v.place) x xs in
-    let rest : total ≡ (before + cost) + spent_on (support_of e) xs = omega (arith, sum, parts) in
-    ap (λ (t : List Filling). blocks e before (x ∷ []) ++ t) (blocks_more e (before + cost) total xs w rest)
+blocks_more : (e : ElectionView) (before total : ℕ) (xs : List ℕ) (place : ℕ) → total ≡ before + sum_by (cost_at (support_of e)) xs
+    → blocks e before (xs ++ place ∷ []) ≡ blocks e before xs ++ blocks e total (place ∷ [])
+blocks_more e before total [] place sum =
+    let none : before ≡ total = omega (arith, sum) in ap (λ (n : ℕ). blocks e n (place ∷ [])) none
+blocks_more e before total (x ∷ xs) place sum =
+    let cost = cost_at (support_of e) x in
+    let parts : sum_by (cost_at (support_of e)) (x ∷ xs) ≡ cost + sum_by (cost_at (support_of e)) xs = sum_by-cons (cost_at (support_of e)) x xs in
+    let rest : total ≡ (before + cost) + sum_by (cost_at (support_of e)) xs = omega (arith, sum, parts) in
+    ap (λ (t : List Filling). blocks e before (x ∷ []) ++ t) (blocks_more e (before + cost) total xs place rest)
 
-pub block_more : (e : ElectionView) (elected : List ElectedView) (i : ℕ) (w : ElectedView) (p : ProjectView) (before : ℕ) (old middle new : List ℕ)
-    → IsWinner e elected i w p → before ≡ spent_on (support_of e) (take i elected) → Grows old middle (blocks e 0 (take i elected))
-    → Grows middle new (block e.budget before p ∷ []) → Grows old new (blocks e 0 (take (i + 1) elected))
-block_more e elected i w p before old middle new winner sum one two =
-    let last = ap (λ (q : ProjectView). block e.budget before q ∷ []) (the_project e w.place p winner.known winner.project) in
-    let total : before ≡ 0 + spent_on (support_of e) (take i elected) = omega (arith, sum) in
-    let all = ap (blocks e 0) (take_more elected i w winner.below ∙ ap (λ (v : ElectedView). take i elected ++ v ∷ []) (sym winner.here)) ∙ blocks_more e 0 before (take i elected) w total in
+pub block_more : (e : ElectionView) (places : List ℕ) (i place : ℕ) (p : ProjectView) (before : ℕ) (old middle new : List ℕ)
+    → IsPlaced e places i place p → before ≡ sum_by (cost_at (support_of e)) (take i places) → Grows old middle (blocks e 0 (take i places))
+    → Grows middle new (block e.budget before p ∷ []) → Grows old new (blocks e 0 (take (i + 1) places))
+block_more e places i place p before old middle new placed sum one two =
+    let last = ap (λ (q : ProjectView). block e.budget before q ∷ []) (the_project e place p placed.known placed.project) in
+    let total : before ≡ 0 + sum_by (cost_at (support_of e)) (take i places) = omega (arith, sum) in
+    let all = ap (blocks e 0) (take_more places i place placed.below ∙ ap (λ (q : ℕ). take i places ++ q ∷ []) (sym placed.here)) ∙ blocks_more e 0 before (take i places) place total in
     grown_as _ _ _ _ (sym all) (then _ _ _ _ _ one (grown_as _ _ _ _ last two))

@@ -8,8 +8,8 @@ ghost use Rattle.pb_page.specs.Page.{check, named};
 use crate::facts::{Facts, Source};
 use crate::put::put;
 use crate::templates::{
-    AUDIT, CHECK_JOURNAL, CHECK_OPENING, CLOSING, COUNT, NO_RECOUNT, OPTION_COST, OPTION_PLAIN,
-    RECOUNT,
+    AUDIT, CHECK_JOURNAL, CHECK_OPENING, CLOSING, COUNT, NO_RECOUNT, OPTION_ADD1U, OPTION_COST,
+    OPTION_PLAIN, OPTION_UTILITARIAN, RECOUNT,
 };
 use pb_core::no_memory::NoMemory;
 use pb_markup::Value;
@@ -24,7 +24,7 @@ pub(crate) fn put_check(page: &mut Vec<u8>, alloc: Global, facts: &Facts) -> Res
     put_sources(page, alloc, facts.file, facts.journal)?;
     put_link(page, alloc, facts.recount)?;
     put_command(page, alloc, facts.journal)?;
-    put_options(page, alloc, &facts.options)
+    put_options(page, alloc, &facts.options, facts.fills_up)
 }
 
 /// The texts that were read.
@@ -85,11 +85,16 @@ fn put_command(
 }
 
 /// The options of the command, and the end of the page.
-fn put_options(page: &mut Vec<u8>, alloc: Global, options: &CountOptions) -> Result<(), NoMemory>
-    ensures { OnOk result (Grows page.old.items page.new.items (closing options.now)) }
+fn put_options(
+    page: &mut Vec<u8>,
+    alloc: Global,
+    options: &CountOptions,
+    fills_up: bool,
+) -> Result<(), NoMemory>
+    ensures { OnOk result (Grows page.old.items page.new.items (closing options.now fills_up)) }
 {
     put_measure(page, alloc, options.measure)?;
-    put_completion(page, alloc, options.completion)?;
+    put_completion(page, alloc, options.completion, fills_up)?;
     put(
         page,
         alloc,
@@ -114,11 +119,18 @@ fn put_measure(page: &mut Vec<u8>, alloc: Global, measure: Measure) -> Result<()
 
 /// The option for a completion.
 #[tactic(auto, using(crate::proofs::Grown::none))]
-fn put_completion(page: &mut Vec<u8>, alloc: Global, completion: Completion) -> Result<(), NoMemory>
-    ensures { OnOk result (Grows page.old.items page.new.items (completion_option completion)) }
+fn put_completion(
+    page: &mut Vec<u8>,
+    alloc: Global,
+    completion: Completion,
+    fills_up: bool,
+) -> Result<(), NoMemory>
+    ensures { OnOk result (Grows page.old.items page.new.items (completion_option completion fills_up)) }
 {
     match completion {
+        Completion::Plain if fills_up => put(page, alloc, OPTION_UTILITARIAN, &[]),
         Completion::Plain => put(page, alloc, OPTION_PLAIN, &[]),
+        Completion::Add1 if fills_up => put(page, alloc, OPTION_ADD1U, &[]),
         Completion::Add1 => Ok(()),
     }
 }

@@ -24,4 +24,6 @@ pub struct Facts<'a> {
     pub recount: Option<&'a str>,
     /// How it was counted.
     pub options: CountOptions,
+    /// What the elected left of the budget was filled up by votes.
+    pub fills_up: bool,
 }

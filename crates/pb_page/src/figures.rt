@@ -2,12 +2,11 @@
 
 ghost use Rattle.std.specs.Prelude.{◌≡◌};
 ghost use Rattle.pb_page.specs.Inner.Pieces.{figures_of};
-ghost use Rattle.pb_reasons.specs.Reasons.{IsCounted};
+ghost use Rattle.pb_reasons.specs.Counted.{IsCounted};
 
 use pb_core::election::Election;
 use pb_core::money::Money;
-use pb_reasons::Totals;
-use pb_rounds::outcome::Outcome;
+use pb_reasons::{Counted, Totals};
 
 /// The numbers of the whole.
 #[derive(Clone, Copy)]
@@ -25,17 +24,17 @@ pub struct Figures {
 }
 
 impl Figures {
-    /// Those of the outcome of a count of this election.
-    pub(crate) fn of(election: &Election, outcome: &Outcome) -> Figures
-        requires { IsCounted election.now outcome.now }
-        ensures { result ≡ figures_of election.now outcome.now }
+    /// Those of what a count of this election comes to.
+    pub(crate) fn of(election: &Election, counted: &Counted) -> Figures
+        requires { IsCounted election.now counted.now }
+        ensures { result ≡ figures_of election.now counted.now }
     {
-        let totals = Totals::of(election, outcome);
+        let totals = Totals::of(election, counted);
         let budget = election.budget();
         Figures {
             voters: election.voters().len() as u64,
             projects: election.projects().len() as u64,
-            won: outcome.elected.len() as u64,
+            won: (counted.outcome.elected.len() + counted.added.len()) as u64,
             budget,
             spent: totals.spent,
             left: Money(budget.0.saturating_sub(totals.spent.0)),

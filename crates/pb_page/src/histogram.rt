@@ -2,24 +2,23 @@
 
 ghost use Rattle.std.specs.Prelude.{◌≡◌, ◌<◌, ◌^◌, IfOk, length};
 ghost use Rattle.pb_page.specs.Page.{at_least, exactly, won_by_voter};
-ghost use Rattle.pb_reasons.specs.Reasons.{IsCounted};
+ghost use Rattle.pb_reasons.specs.Counted.{IsCounted};
 
 use pb_core::election::Election;
 use pb_core::no_memory::NoMemory;
-use pb_reasons::VoterTeller;
-use pb_rounds::outcome::Outcome;
+use pb_reasons::{Counted, VoterTeller};
 use std::alloc::Global;
 
 /// How many of each voter's choices won, voters in the order of the file.
 pub(crate) fn won_by_voter(
     alloc: Global,
     election: &Election,
-    outcome: &Outcome,
+    counted: &Counted,
 ) -> Result<Vec<u32>, NoMemory>
-    requires { IsCounted election.now outcome.now }
-    ensures { IfOk result (λ won. won.items ≡ won_by_voter election.now outcome.now) }
+    requires { IsCounted election.now counted.now }
+    ensures { IfOk result (λ won. won.items ≡ won_by_voter election.now counted.now) }
 {
-    let mut teller = VoterTeller::of(alloc, election, outcome)?;
+    let mut teller = VoterTeller::of(alloc, election, counted)?;
     let won = won_told(alloc, election, &mut teller);
     drop(teller);
     won

@@ -2,6 +2,7 @@
 //! counted, and how to check it.
 #![tactic(auto)]
 
+mod added;
 mod check;
 mod facts;
 mod figures;

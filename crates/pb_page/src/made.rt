@@ -2,10 +2,12 @@
 
 ghost use Rattle.std.specs.Prelude.{◌≡◌, ◌<◌, ◌++◌, All, IfOk, OnOk, length};
 ghost use Rattle.pb_page.specs.Inner.Grown.{Grows};
-ghost use Rattle.pb_page.specs.Page.{IsPage, budget, others, parts, winners, won_by_voter};
-ghost use Rattle.pb_reasons.specs.Reasons.{IsCounted};
+ghost use Rattle.pb_page.specs.Page.{IsPage, added, blocks, budget, others, parts, winners, won_by_voter};
+ghost use Rattle.pb_reasons.specs.Counted as counting;
+ghost use Rattle.pb_reasons.specs.Counted.{IsCounted, winners_of};
 ghost use Rattle.pb_rounds.specs.Counted.{IsCountOf};
 
+use crate::added::put_added;
 use crate::check::put_check;
 use crate::facts::Facts;
 use crate::figures::Figures;
@@ -20,26 +22,26 @@ use crate::winners::put_winners;
 use pb_core::election::Election;
 use pb_core::no_memory::NoMemory;
 use pb_markup::Value;
-use pb_reasons::ProjectTeller;
-use pb_rounds::outcome::{Elected, Outcome};
+use pb_reasons::{Counted, ProjectTeller};
 use std::alloc::Global;
 
-/// The page of an outcome of this election, counted with the options of these facts: an HTML document that needs no other
+/// The page of what a count of this election comes to, with the options of these facts: an HTML document that needs no other
 /// file, and runs no script.
 ///
-/// Each number on it is one of the outcome's. Nothing in it is markup but the program's own pieces, whatever texts the
+/// Each number on it is one of the count's. Nothing in it is markup but the program's own pieces, whatever texts the
 /// election and the facts have.
 pub fn page_of(
     alloc: Global,
     election: &Election,
-    outcome: &Outcome,
+    counted: &Counted,
     facts: &Facts,
 ) -> Result<Vec<u8>, NoMemory>
-    requires { IsCountOf election.now facts.now.options outcome.now }
+    requires counted { IsCountOf election.now facts.now.options counted.now.outcome }
+    requires filled { counted.now ≡ counting.counted election.now facts.now.fills_up counted.now.outcome }
     ensures { IfOk result (λ text. IsPage election.now facts.now text.items) }
 {
-    let won = won_by_voter(alloc, election, outcome)?;
-    let page = page_with(alloc, election, outcome, facts, won.as_slice());
+    let won = won_by_voter(alloc, election, counted)?;
+    let page = page_with(alloc, election, counted, facts, won.as_slice());
     drop(won);
     page
 }
@@ -48,16 +50,17 @@ pub fn page_of(
 fn page_with(
     alloc: Global,
     election: &Election,
-    outcome: &Outcome,
+    counted: &Counted,
     facts: &Facts,
     won: &[u32],
 ) -> Result<Vec<u8>, NoMemory>
-    requires counted { IsCountOf election.now facts.now.options outcome.now }
-    requires won { won.now ≡ won_by_voter election.now outcome.now }
+    requires counted { IsCountOf election.now facts.now.options counted.now.outcome }
+    requires filled { counted.now ≡ counting.counted election.now facts.now.fills_up counted.now.outcome }
+    requires won { won.now ≡ won_by_voter election.now counted.now }
     ensures { IfOk result (λ text. IsPage election.now facts.now text.items) }
 {
     let mut page = Vec::new(alloc);
-    put_all(&mut page, alloc, election, outcome, facts, won)?;
+    put_all(&mut page, alloc, election, counted, facts, won)?;
     Ok(page)
 }
 
@@ -66,18 +69,18 @@ fn put_all(
     page: &mut Vec<u8>,
     alloc: Global,
     election: &Election,
-    outcome: &Outcome,
+    counted: &Counted,
     facts: &Facts,
     won: &[u32],
 ) -> Result<(), NoMemory>
-    requires counted { IsCounted election.now outcome.now }
-    requires won { won.now ≡ won_by_voter election.now outcome.now }
-    ensures { OnOk result (Grows page.old.items page.new.items (parts election.now outcome.now facts.now)) }
+    requires counted { IsCounted election.now counted.now }
+    requires won { won.now ≡ won_by_voter election.now counted.now }
+    ensures { OnOk result (Grows page.old.items page.new.items (parts election.now counted.now facts.now)) }
 {
-    put_budget(page, alloc, election, outcome, facts.title)?;
-    put_projects(page, alloc, election, outcome)?;
+    put_budget(page, alloc, election, counted, facts.title)?;
+    put_projects(page, alloc, election, counted)?;
     put_voters(page, alloc, won)?;
-    put_rule(page, alloc, &facts.options, outcome)?;
+    put_rule(page, alloc, &facts.options, counted)?;
     put_check(page, alloc, facts)
 }
 
@@ -86,17 +89,17 @@ fn put_budget(
     page: &mut Vec<u8>,
     alloc: Global,
     election: &Election,
-    outcome: &Outcome,
+    counted: &Counted,
     title: &str,
 ) -> Result<(), NoMemory>
-    requires { IsCounted election.now outcome.now }
-    ensures { OnOk result (Grows page.old.items page.new.items (budget title.now election.now outcome.now)) }
+    requires { IsCounted election.now counted.now }
+    ensures { OnOk result (Grows page.old.items page.new.items (budget title.now election.now counted.now)) }
 {
     // What is true of every election is true of the places of its elected projects.
     let _budget = election.budget();
-    let figures = Figures::of(election, outcome);
+    let figures = Figures::of(election, counted);
     put_top(page, alloc, title, &figures)?;
-    put_blocks(page, alloc, election, outcome.elected.as_slice())?;
+    put_winners_blocks(page, alloc, election, counted)?;
     put(
         page,
         alloc,
@@ -109,39 +112,59 @@ fn put_budget(
     )
 }
 
-/// The winners, and the other projects.
+/// The elected, the added, and the other projects.
 fn put_projects(
     page: &mut Vec<u8>,
     alloc: Global,
     election: &Election,
-    outcome: &Outcome,
+    counted: &Counted,
 ) -> Result<(), NoMemory>
-    requires { IsCounted election.now outcome.now }
-    ensures { OnOk result (Grows page.old.items page.new.items (winners election.now outcome.now ++ others election.now outcome.now)) }
+    requires { IsCounted election.now counted.now }
+    ensures { OnOk result (Grows page.old.items page.new.items
+        (winners election.now counted.now ++ (added election.now counted.now ++ others election.now counted.now))) }
 {
     // What is true of every election is true of the places of its elected projects.
     let _budget = election.budget();
-    let elected = outcome.elected.as_slice();
-    let teller = ProjectTeller::of(alloc, election, outcome)?;
-    let put = put_both(page, alloc, election, &teller, elected);
+    let teller = ProjectTeller::of(alloc, election, counted)?;
+    let put = put_told(page, alloc, election, &teller, counted);
     drop(teller);
     put
 }
 
 /// The same, as it is told.
-fn put_both(
+fn put_told(
     page: &mut Vec<u8>,
     alloc: Global,
     election: &Election,
     teller: &ProjectTeller,
-    elected: &[Elected],
+    counted: &Counted,
 ) -> Result<(), NoMemory>
-    requires own { teller.now.0 ≡ election.now }
-    requires elected { teller.now.1.elected ≡ elected.now }
-    requires known { All (λ w. w.place < length election.now.projects) elected.now }
+    requires own { teller.now ≡ (election.now, counted.now) }
+    requires elected { All (λ w. w.place < length election.now.projects) counted.now.outcome.elected }
+    requires added { All (λ place. place < length election.now.projects) counted.now.added }
     ensures { OnOk result (Grows page.old.items page.new.items
-        (winners election.now teller.now.1 ++ others election.now teller.now.1)) }
+        (winners election.now counted.now ++ (added election.now counted.now ++ others election.now counted.now))) }
 {
-    put_winners(page, alloc, election, teller, elected)?;
-    put_others(page, alloc, election, teller, elected.len())
+    put_winners(page, alloc, election, teller, counted)?;
+    put_added(page, alloc, election, teller, counted)?;
+    let won = counted.outcome.elected.len() + counted.added.len();
+    put_others(page, alloc, election, teller, won)
+}
+
+/// The blocks of the winners.
+fn put_winners_blocks(
+    page: &mut Vec<u8>,
+    alloc: Global,
+    election: &Election,
+    counted: &Counted,
+) -> Result<(), NoMemory>
+    requires { IsCounted election.now counted.now }
+    ensures { OnOk result (Grows page.old.items page.new.items (blocks election.now 0 (winners_of counted.now))) }
+{
+    // What is true of every election is true of the places of its winners.
+    let _budget = election.budget();
+    let winners = counted.winners(alloc)?;
+    let put = put_blocks(page, alloc, election, winners.as_slice());
+    drop(winners);
+    put
 }

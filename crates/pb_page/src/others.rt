@@ -4,6 +4,7 @@ ghost use Rattle.std.specs.Prelude.{◌≡◌, OnOk, flat_map, length};
 ghost use Rattle.std.specs.List.{range_with_len};
 ghost use Rattle.pb_page.specs.Inner.Grown.{Grows};
 ghost use Rattle.pb_page.specs.Inner.Pieces.{other_table};
+ghost use Rattle.pb_reasons.specs.Counted.{winners_of};
 ghost use Rattle.pb_page.specs.Page.{lost_row, lost_rows, others};
 
 use crate::forms::{called, width};
@@ -16,19 +17,19 @@ use pb_markup::Value;
 use pb_reasons::{Ending, Lost, ProjectReason, ProjectTeller};
 use std::alloc::Global;
 
-/// The projects that did not win, in the order of the file; so many are elected.
+/// The projects that did not win, in the order of the file; so many won.
 pub(crate) fn put_others(
     page: &mut Vec<u8>,
     alloc: Global,
     election: &Election,
     teller: &ProjectTeller,
-    elected: usize,
+    won: usize,
 ) -> Result<(), NoMemory>
     requires own { teller.now.0 ≡ election.now }
-    requires elected { elected ≡ length teller.now.1.elected }
+    requires won { won ≡ length (winners_of teller.now.1) }
     ensures { OnOk result (Grows page.old.items page.new.items (others election.now teller.now.1)) }
 {
-    if elected == election.projects().len() {
+    if won == election.projects().len() {
         return put(page, alloc, NO_OTHERS, &[]);
     }
     put_table(page, alloc, election, teller)
@@ -79,7 +80,7 @@ fn put_row(
     ensures { OnOk result (Grows page.old.items page.new.items (lost_row project.now reason.now.votes reason.now.ending)) }
 {
     match &reason.ending {
-        Ending::Won(_) => Ok(()),
+        Ending::Won(_) | Ending::Added(_) => Ok(()),
         Ending::Lost(lost) => put_lost(page, alloc, project, reason.votes, lost),
     }
 }

@@ -49,6 +49,27 @@ pub(crate) const NO_WINNERS: &str = "<section aria-labelledby='winners'>
 </section>
 ";
 
+/// The elected where there are none, and what is left is filled up.
+pub(crate) const NO_ELECTED: &str = "<section aria-labelledby='winners'>
+<h2 id='winners'>The winners</h2>
+<p>No project was elected by equal shares.</p>
+</section>
+";
+
+/// The head of the table of the added.
+pub(crate) const ADDED_OPENING: &str = "<section class='won' aria-labelledby='added'>
+<h2 id='added'>Added by votes</h2>
+<table class='wide' role='table'>
+<caption role='caption'>What the winners above left of the budget went to the project with the most votes that it still paid for, again and again: of equal votes to the cheaper project, of equal costs to the first in the file. Nobody's share pays for these projects. The bar is the project's part of the budget.</caption>
+<thead role='rowgroup'><tr role='row'><th role='columnheader' scope='col' class='n round'>Number</th><th role='columnheader' scope='col'>Project</th><th role='columnheader' scope='col' class='n'>Cost</th><th role='columnheader' scope='col' class='n'>Votes</th></tr></thead>
+<tbody role='rowgroup'>
+";
+
+/// An added project. Values: id, number, name, width of its bar, cost, votes.
+pub(crate) const ADDED: &str =
+    "<tr role='row' data-project='~'><td role='cell' class='n' data-label='Number'><data class='added' value='^'>~</data></td><th role='rowheader' scope='row'><bdi dir='auto'>~</bdi><svg class='bar' viewBox='0 0 10000 1' preserveAspectRatio='none' aria-hidden='true'><rect width='~' height='1'/></svg></th><td role='cell' class='n' data-label='Cost'><data class='cost' value='^'>~</data></td><td role='cell' class='n' data-label='Votes'><data class='votes' value='^'>~</data></td></tr>
+";
+
 /// The head of the table of the others.
 pub(crate) const OTHERS_OPENING: &str = "<section class='lost' aria-labelledby='others'>
 <h2 id='others'>The other projects</h2>
@@ -120,6 +141,10 @@ pub(crate) const PLAIN: &str =
 <li>This is the Method of Equal Shares (Peters, Pierczyński and Skowron 2021), without completion.</li>
 ";
 
+pub(crate) const UNUSED: &str = "<li>The shares were not raised.</li>
+<li>This is the Method of Equal Shares (Peters, Pierczyński and Skowron 2021), filled up by votes (utilitarian completion).</li>
+";
+
 pub(crate) const RAISED: &str =
     "<li>To spend more of the budget, all rounds were held anew with higher and higher shares, until nothing that was left could be afforded, or the next winners would have cost more than the budget.</li>
 <li>This is the Method of Equal Shares (Peters, Pierczyński and Skowron 2021), with Add1 completion.</li>
@@ -128,6 +153,11 @@ pub(crate) const RAISED: &str =
 pub(crate) const UNRAISED: &str =
     "<li>Higher shares were not needed: after these rounds nothing that was left could be afforded, or the next winners would have cost more than the budget.</li>
 <li>This is the Method of Equal Shares (Peters, Pierczyński and Skowron 2021), with Add1 completion.</li>
+";
+
+/// How what was left is filled up.
+pub(crate) const FILLED_UP: &str =
+    "<li>What was then left of the budget was filled up by votes: as long as it paid for a project that anyone had voted for, the one with the most votes was added, of equal votes the cheaper, of equal costs the first in the file.</li>
 ";
 
 /// The head of what was counted. Values: the name of the file, and its digest.
@@ -167,6 +197,10 @@ pub(crate) const AUDIT: &str = "pb_app audit FILE JOURNAL --digests --require-sh
 pub(crate) const OPTION_COST: &str = " --measure cost";
 
 pub(crate) const OPTION_PLAIN: &str = " --plain";
+
+pub(crate) const OPTION_UTILITARIAN: &str = " --completion utilitarian";
+
+pub(crate) const OPTION_ADD1U: &str = " --completion add1u";
 
 /// Its other options, and the end of a page. Values: the step in hundredths, the limit of raises.
 pub(crate) const CLOSING: &str = " --step ~ --raises ~</code></pre>

@@ -1,11 +1,10 @@
 //! The top of a page, and the picture of the budget.
 
-ghost use Rattle.std.specs.Prelude.{[], ◌∷◌, ◌<◌, ◌^◌, All, OnOk, length};
+ghost use Rattle.std.specs.Prelude.{[], ◌∷◌, ◌<◌, ◌^◌, All, OnOk, length, sum_by};
 ghost use Rattle.pb_page.specs.Inner.Grown.{Grows};
 ghost use Rattle.pb_page.specs.Inner.Pieces.{block, budget_opening, summary, top};
 ghost use Rattle.pb_page.specs.Page.{blocks};
-ghost use Rattle.pb_price.specs.Supporters.{support_of};
-ghost use Rattle.pb_rounds.specs.Count.{spent_on};
+ghost use Rattle.pb_price.specs.Supporters.{cost_at, support_of};
 
 use crate::figures::Figures;
 use crate::forms::{called, width, word};
@@ -17,7 +16,6 @@ use pb_core::money::Money;
 use pb_core::no_memory::NoMemory;
 use pb_core::project::Project;
 use pb_markup::Value;
-use pb_rounds::outcome::Elected;
 use std::alloc::Global;
 
 /// What the page is about, who voted, what was spent, how many won.
@@ -72,22 +70,22 @@ fn put_summary(page: &mut Vec<u8>, alloc: Global, figures: &Figures) -> Result<(
     )
 }
 
-/// A block for each of the elected, one beside the other.
+/// A block for each of the winners at these places, one beside the other.
 pub(crate) fn put_blocks(
     page: &mut Vec<u8>,
     alloc: Global,
     election: &Election,
-    elected: &[Elected],
+    winners: &[u32],
 ) -> Result<(), NoMemory>
-    requires known { All (λ w. w.place < length election.now.projects) elected.now }
-    requires fits { spent_on (support_of election.now) elected.now < 2 ^ 64 }
-    ensures { OnOk result (Grows page.old.items page.new.items (blocks election.now 0 elected.now)) }
+    requires known { All (λ place. place < length election.now.projects) winners.now }
+    requires fits { sum_by (cost_at (support_of election.now)) winners.now < 2 ^ 64 }
+    ensures { OnOk result (Grows page.old.items page.new.items (blocks election.now 0 winners.now)) }
 {
     let budget = election.budget();
     let projects = election.projects();
     let mut before = 0;
-    for winner in elected {
-        let project = &projects[winner.place as usize];
+    for place in winners {
+        let project = &projects[*place as usize];
         put_block(page, alloc, project, before, budget)?;
         let cost = project.cost();
         before += cost.0;

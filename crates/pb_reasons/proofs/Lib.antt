@@ -4,9 +4,14 @@ pub mod Printables
 pub mod Tellable
 pub mod Turns
 pub mod Due
+pub mod Positions
 pub mod Told
 pub mod Paying
 pub mod Reasoned
 pub mod Listing
+mod Numbering
+pub mod Results
 pub mod VoterTold
 pub mod WinnerSums
+pub mod PlaceSums
+pub mod Winners

@@ -16,7 +16,8 @@ use Rattle.pb_rounds.specs.Run.{ElectedView}
 use Rattle.pb_rounds.proofs.Listed.{listed_from_contains}
 use Rattle.pb_rounds.proofs.Collected.{length-rises}
 use Rattle.pb_rounds.proofs.Explained.{supporters_rise}
-use Rattle.pb_reasons.specs.Reasons.{all_payments, ending_of, paid_for, project_reason, round_of}
+use Rattle.pb_reasons.specs.Reasons.{all_payments, paid_for, round_of}
+use Rattle.pb_reasons.specs.Inner.OfOutcome.{outcome_ending, outcome_reason}
 use Rattle.pb_reasons.specs.Inner.Told.{CanBeTold}
 use Rattle.pb_reasons.specs.Inner.Kept.{AreReasons, ReasonsView}
 use Rattle.pb_reasons.specs.Inner.Replay.{paid_by_supporters}
@@ -91,21 +92,21 @@ module _ (e : ElectionView) (o : OutcomeView) (r : ReasonsView) (own : AreReason
     pub project_won : (round : ℕ) → round ≡ round_of o.elected place → round < length o.elected → (w : ElectedView) → w ≡ get_or o.elected round w
         → (supporters amounts : List ℕ) → supporters ≡ supporters_at (support_of e) place → amounts ≡ get_or r.paid round amounts
         → (ending : Ending) → ending ≡ Won (record { round = round + 1; price = w.price; collected = w.collected; in_full = count_by (λ amount. amount == w.price) amounts })
-        → record { votes = length supporters; ending = ending } ≡ project_reason e o place
+        → record { votes = length supporters; ending = ending } ≡ outcome_reason e o place
     project_won round is below w here supporters amounts supporters_are amounts_are ending ending_is =
         let found : slice_get o.elected (round_of o.elected place) ≡ Some w = ap (slice_get o.elected) (sym is) ∙ slice_get_read o.elected (length o.elected) round w refl below here in
         let inside : round < length r.paid = rw as_many_rows below in
         let row : amounts ≡ get_or r.paid (round_of o.elected place) [] = amounts_are ∙ get_or_default r.paid round amounts [] inside ∙ ap (λ n. get_or r.paid n []) is in
         let full = in_full_is (rw (← is) below) amounts row w.price in
-        let end : ending ≡ ending_of e o place (Some w) = ending_is ∙ ap (λ n. Won (record { round = n + 1; price = w.price; collected = w.collected; in_full = count_by (λ amount. amount == w.price) amounts })) is
+        let end : ending ≡ outcome_ending e o place (Some w) = ending_is ∙ ap (λ n. Won (record { round = n + 1; price = w.price; collected = w.collected; in_full = count_by (λ amount. amount == w.price) amounts })) is
         ∙ ap (λ n. Won (record { round = round_of o.elected place + 1; price = w.price; collected = w.collected; in_full = n })) full in
         ap (λ (l : List ℕ). record { votes = length l; ending = ending }) supporters_are
-        ∙ ap (λ (end : Ending). record { votes = length (supporters_at (support_of e) place); ending = end }) (end ∙ ap (ending_of e o place) (sym found))
+        ∙ ap (λ (end : Ending). record { votes = length (supporters_at (support_of e) place); ending = end }) (end ∙ ap (outcome_ending e o place) (sym found))
 
     pub project_lost : (round : ℕ) → round ≡ round_of o.elected place → length o.elected ≤ round
         → (supporters rests : List ℕ) (cost : ℕ) → supporters ≡ supporters_at (support_of e) place → rests ≡ o.rests → cost ≡ cost_at (support_of e) place
         → (ending : Ending) → ending ≡ Lost (record { left = total_rest supporters rests; missing = cost - total_rest supporters rests })
-        → record { votes = length supporters; ending = ending } ≡ project_reason e o place
+        → record { votes = length supporters; ending = ending } ≡ outcome_reason e o place
     project_lost round is past supporters rests cost supporters_are rests_are cost_is ending ending_is =
         let found : slice_get o.elected (round_of o.elected place) ≡ None = ap (slice_get o.elected) (sym is) ∙ slice_get_past o.elected round past in
         rw (ending_is, found, supporters_are, rests_are, cost_is) refl

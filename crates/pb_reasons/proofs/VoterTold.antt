@@ -16,7 +16,8 @@ use Rattle.pb_rounds.specs.Outcome.{OutcomeView}
 use Rattle.pb_rounds.specs.Payments.{paid_in_turn}
 use Rattle.pb_rounds.specs.Inner.Listed.{is_listed}
 use Rattle.pb_rounds.specs.Run.{ElectedView, charged, is_elected}
-use Rattle.pb_reasons.specs.Reasons.{all_payments, paid_for, round_of, voter_payments, voter_reason}
+use Rattle.pb_reasons.specs.Reasons.{all_payments, paid_for, round_of, voter_payments}
+use Rattle.pb_reasons.specs.Inner.OfOutcome.{outcome_voter}
 use Rattle.pb_reasons.specs.Inner.Kept.{AreRounds}
 use Rattle.pb_reasons.specs.Inner.Told.{CanBeTold}
 use Rattle.pb_reasons.specs.Inner.Turns.{HasPaid, amount_at, due_of, paid_alone}
@@ -59,7 +60,8 @@ map_agree : (f g : ℕ → Payment) (xs : List ℕ) → All (λ x. f x ≡ g x) 
 map_agree f g [] same = refl
 map_agree f g (x ∷ xs) same = rw (All-head (λ y. f y ≡ g y) x xs same, map_agree f g xs (All-tail (λ y. f y ≡ g y) x xs same)) refl
 
-count_agree : (p q : ℕ → Bool) (xs : List ℕ) → All (λ x. p x ≡ q x) xs → count_by p xs ≡ count_by q xs
+-- tests that agree on each of them count as many
+pub count_agree : (p q : ℕ → Bool) (xs : List ℕ) → All (λ x. p x ≡ q x) xs → count_by p xs ≡ count_by q xs
 count_agree p q [] same = refl
 count_agree p q (x ∷ xs) same =
     sum_by-cons (λ y. cond (p y) 1 0) x xs
@@ -104,7 +106,7 @@ module _ (e : ElectionView) (o : OutcomeView) (told : CanBeTold e o) (rounds amo
 
   pub reason_told : (elected left paid : ℕ) → elected ≡ count_by (λ place. nat_lt (slice_index rounds place) (length amounts)) ballot
       → left ≡ slice_index o.rests voter → paid ≡ o.share - left
-      → record { votes = length ballot; elected = elected; paid = paid; left = left } ≡ voter_reason e o voter
+      → record { votes = length ballot; elected = elected; paid = paid; left = left } ≡ outcome_voter e o voter
   reason_told elected left paid elected_is left_is paid_is =
       let endowed = told.price_system.endowed voter is_voter in
       let all : paid ≡ sum_by (λ row. slice_index row voter) (all_payments e o) = omega (arith, paid_is, left_is, endowed) in

@@ -1,5 +1,7 @@
 -- Words that only private contracts and the invariants of private fields speak of: nobody has to believe them.
 pub mod Kept
+pub mod Numbers
+pub mod OfOutcome
 pub mod Replay
 pub mod Told
 pub mod Turns

@@ -1,17 +1,17 @@
--- Why an outcome is as it is, project by project and voter by voter.
-use Rattle.std.specs.Prelude.{ℕ, ◌+◌, ◌-◌, ◌==◌, List, [], Option, Some, None, count_by, filter, length, map, nat_lt, replicate, slice_get, slice_index, slice_index_or, sum_by}
+-- Why a count comes to what it does, project by project and voter by voter.
+use Rattle.std.specs.Prelude.{ℕ, ◌+◌, ◌-◌, ◌==◌, List, [], Option, Some, None, count_by, filter, if◌then◌else◌, length, map, nat_lt, replicate, slice_get, slice_index, slice_index_or, sum_by}
 use Rattle.std.specs.List.{position_or_len}
 use Rattle.pb_core.specs.Election.{ElectionView}
+use Rattle.pb_greedy.specs.MostVotes.{is_taken}
 use Rattle.pb_price.specs.Price.{total_rest}
 use Rattle.pb_price.specs.Supporters.{ballot_at, cost_at, support_of, supporters_at}
-use Rattle.pb_rounds.specs.Counted.{IsCountOf}
 use Rattle.pb_rounds.specs.Outcome.{OutcomeView}
 use Rattle.pb_rounds.specs.Payments.{paid_in_turn}
 use Rattle.pb_rounds.specs.Run.{ElectedView, is_elected}
-use Rattle.pb_rounds.specs.declared.options.CountOptions.{CountOptions}
+use Rattle.pb_reasons.specs.Counted.{CountedView}
 use Rattle.pb_reasons.specs.declared.payment.Payment.{Payment}
 use Rattle.pb_reasons.specs.declared.project_reason.Ending.{Ending}
-use Rattle.pb_reasons.specs.declared.project_reason.Ending.TheVariants.{Won, Lost}
+use Rattle.pb_reasons.specs.declared.project_reason.Ending.TheVariants.{Won, Added, Lost}
 use Rattle.pb_reasons.specs.declared.project_reason.ProjectReason.{ProjectReason}
 use Rattle.pb_reasons.specs.declared.voter_reason.VoterReason.{VoterReason}
 
@@ -28,35 +28,40 @@ abbrev pub paid_for : ElectionView → OutcomeView → (place voter : ℕ) → �
 paid_for e o place voter =
     slice_index (slice_index_or (all_payments e o) (round_of o.elected place) []) voter
 
--- how a project ended, elected or not
-abbrev pub ending_of : ElectionView → OutcomeView → ℕ → Option ElectedView → Ending
-ending_of e o place (Some w) =
+-- the number of an added project, from 0; as many as are added where it is none of them
+abbrev pub number_of : (added : List ℕ) → ℕ → ℕ
+number_of added place = position_or_len (λ p. p == place) added
+
+-- how a project ended: elected, added, or neither
+abbrev pub ending_of : ElectionView → CountedView → ℕ → Option ElectedView → Ending
+ending_of e c place (Some w) =
     let supporters = supporters_at (support_of e) place in
     Won
     (record {
-      round = round_of o.elected place + 1;
+      round = round_of c.outcome.elected place + 1;
       price = w.price;
       collected = w.collected;
-      in_full = count_by (λ voter. paid_for e o place voter == w.price) supporters;
+      in_full = count_by (λ voter. paid_for e c.outcome place voter == w.price) supporters;
     })
-ending_of e o place None =
-    let left = total_rest (supporters_at (support_of e) place) o.rests in
-    Lost (record { left = left; missing = cost_at (support_of e) place - left })
+ending_of e c place None =
+    let left = total_rest (supporters_at (support_of e) place) c.outcome.rests in
+    if is_taken c.added place then Added (record { number = number_of c.added place + 1 })
+    else Lost (record { left = left; missing = cost_at (support_of e) place - left })
 
--- why the project at this place is elected, or is not
-abbrev pub project_reason : ElectionView → OutcomeView → ℕ → ProjectReason
-project_reason e o place = record {
+-- why the project at this place is elected or added, or is neither
+abbrev pub project_reason : ElectionView → CountedView → ℕ → ProjectReason
+project_reason e c place = record {
   votes = length (supporters_at (support_of e) place);
-  ending = ending_of e o place (slice_get o.elected (round_of o.elected place));
+  ending = ending_of e c place (slice_get c.outcome.elected (round_of c.outcome.elected place));
 }
 
--- what the ballot of the voter at this position came to
-abbrev pub voter_reason : ElectionView → OutcomeView → ℕ → VoterReason
-voter_reason e o voter = record {
+-- what the ballot of the voter at this position came to; nobody pays for what is added
+abbrev pub voter_reason : ElectionView → CountedView → ℕ → VoterReason
+voter_reason e c voter = record {
   votes = length (ballot_at e voter);
-  elected = count_by (is_elected o.elected) (ballot_at e voter);
-  paid = sum_by (λ row. slice_index row voter) (all_payments e o);
-  left = slice_index o.rests voter;
+  elected = count_by (is_elected c.outcome.elected) (ballot_at e voter) + count_by (is_taken c.added) (ballot_at e voter);
+  paid = sum_by (λ row. slice_index row voter) (all_payments e c.outcome);
+  left = slice_index c.outcome.rests voter;
 }
 
 -- the voter's payments above 0, places rising
@@ -64,7 +69,3 @@ abbrev pub voter_payments : ElectionView → OutcomeView → ℕ → List Paymen
 voter_payments e o voter =
     filter (λ p. nat_lt 0 p.amount)
     (map (λ place. record { place = place; amount = paid_for e o place voter }) (ballot_at e voter))
-
--- an outcome that a count of the election comes to
-abbrev pub IsCounted : ElectionView → OutcomeView → Type 0
-IsCounted e o = (options : CountOptions) × IsCountOf e options o

@@ -1,8 +1,9 @@
--- What the elected of an outcome come to together.
-use Rattle.std.specs.Prelude.{ℕ, ◌-◌, List, sum_by}
+-- What those come to together that a count elects and adds.
+use Rattle.std.specs.Prelude.{ℕ, ◌+◌, ◌-◌, List, sum_by}
 use Rattle.pb_core.specs.Election.{ElectionView}
-use Rattle.pb_price.specs.Supporters.{support_of}
+use Rattle.pb_price.specs.Supporters.{cost_at, support_of}
 use Rattle.pb_rounds.specs.Count.{spent_on}
+use Rattle.pb_reasons.specs.Counted.{CountedView}
 use Rattle.pb_rounds.specs.Run.{ElectedView}
 use Rattle.pb_reasons.specs.declared.totals.Totals.{Totals}
 
@@ -10,8 +11,9 @@ use Rattle.pb_reasons.specs.declared.totals.Totals.{Totals}
 abbrev pub collected_for : List ElectedView → ℕ
 collected_for elected = sum_by (λ w. w.collected) elected
 
--- what the elected cost together, and what was paid beyond that
-abbrev pub totals_of : ElectionView → List ElectedView → Totals
-totals_of e elected =
-    let spent = spent_on (support_of e) elected in
-    record { spent = spent; surplus = collected_for elected - spent }
+-- what the elected and the added cost together, and what was paid beyond the costs of the elected
+abbrev pub totals_of : ElectionView → CountedView → Totals
+totals_of e c =
+    let elected = spent_on (support_of e) c.outcome.elected in
+    let added = sum_by (cost_at (support_of e)) c.added in
+    record { spent = elected + added; surplus = collected_for c.outcome.elected - elected }

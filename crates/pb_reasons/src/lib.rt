@@ -2,7 +2,10 @@
 //! who paid what.
 #![tactic(auto)]
 
+pub mod counted;
 mod ending;
+pub mod laws;
+mod numbers;
 mod paid_row;
 pub mod payment;
 pub mod project_reason;
@@ -15,8 +18,9 @@ pub mod totals;
 pub mod voter_reason;
 pub mod voter_teller;
 
+pub use counted::Counted;
 pub use payment::Payment;
-pub use project_reason::{Ending, Lost, ProjectReason, Won};
+pub use project_reason::{Added, Ending, Lost, ProjectReason, Won};
 pub use project_teller::ProjectTeller;
 pub use totals::Totals;
 pub use voter_reason::VoterReason;

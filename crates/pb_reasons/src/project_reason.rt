@@ -1,4 +1,4 @@
-//! Why a project is elected, or is not.
+//! Why a project is elected or added, or is neither.
 
 use pb_core::money::Money;
 
@@ -15,7 +15,14 @@ pub struct Won {
     pub in_full: u32,
 }
 
-/// What a project that is not elected lacked.
+/// A project that is added by votes to the elected.
+#[derive(Clone, Copy, Debug, PartialEq, Eq)]
+pub struct Added {
+    /// Its number in the order in which projects are added, from 1.
+    pub number: u64,
+}
+
+/// What a project that is neither elected nor added lacked.
 #[derive(Clone, Copy, Debug, PartialEq, Eq)]
 pub struct Lost {
     /// What its supporters have left together, in hundredths.
@@ -29,11 +36,13 @@ pub struct Lost {
 pub enum Ending {
     /// It is elected.
     Won(Won),
-    /// It is not.
+    /// It is added by votes.
+    Added(Added),
+    /// It is neither.
     Lost(Lost),
 }
 
-/// Why a project is elected, or is not.
+/// Why a project is elected or added, or is neither.
 #[derive(Clone, Copy, Debug, PartialEq, Eq)]
 pub struct ProjectReason {
     /// How many ballots approve it.

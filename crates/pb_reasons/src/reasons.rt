@@ -3,7 +3,7 @@
 ghost use Rattle.std.specs.Prelude.{◌≡◌, ◌<◌, IfOk, length};
 ghost use Rattle.pb_reasons.specs.Inner.Kept.{AreReasons};
 ghost use Rattle.pb_reasons.specs.Inner.Told.{CanBeTold};
-ghost use Rattle.pb_reasons.specs.Reasons.{project_reason};
+ghost use Rattle.pb_reasons.specs.Inner.OfOutcome.{outcome_reason};
 
 use crate::ending::{lost, won};
 use crate::paid_row::PaidRow;
@@ -68,7 +68,7 @@ impl Reasons {
         requires told { CanBeTold election.now outcome.now }
         requires own { AreReasons election.now outcome.now self.now }
         requires known { place < length election.now.projects }
-        ensures { result ≡ project_reason election.now outcome.now place }
+        ensures { result ≡ outcome_reason election.now outcome.now place }
     {
         let supporters = self.supporters.of(place);
         let round = self.rounds[place as usize];

@@ -1,29 +1,46 @@
-//! What the elected of an outcome come to together.
+//! What those come to together that a count elects and adds.
 
-ghost use Rattle.std.specs.Prelude.{◌≡◌, ◌<◌, ◌^◌, All, length};
-ghost use Rattle.pb_price.specs.Supporters.{support_of};
+ghost use Rattle.std.specs.Prelude.{◌≡◌, ◌<◌, ◌^◌, All, length, sum_by};
+ghost use Rattle.pb_core.specs.Election.{IsElection};
+ghost use Rattle.pb_price.specs.Supporters.{cost_at, support_of};
 ghost use Rattle.pb_rounds.specs.Count.{spent_on};
-ghost use Rattle.pb_reasons.specs.Reasons.{IsCounted};
+ghost use Rattle.pb_reasons.specs.Counted.{IsCounted};
+ghost use Rattle.pb_reasons.specs.Inner.OfOutcome.{IsOutcome, outcome_totals};
 ghost use Rattle.pb_reasons.specs.Totals.{collected_for, totals_of};
 
+use crate::counted::Counted;
 use pb_core::election::Election;
 use pb_core::money::Money;
 use pb_rounds::outcome::{Elected, Outcome};
 
-/// What the elected of an outcome come to together.
+/// What those come to together that a count elects and adds.
 #[derive(Clone, Copy, Debug, PartialEq, Eq)]
 pub struct Totals {
     /// What they cost, in hundredths.
     pub spent: Money,
-    /// What was paid beyond that, in hundredths: a price is a whole number of them.
+    /// What was paid beyond the costs of the elected, in hundredths: a price is a whole number of them.
     pub surplus: Money,
 }
 
 impl Totals {
-    /// The totals of the outcome of a count of this election.
-    pub fn of(election: &Election, outcome: &Outcome) -> Totals
-        requires { IsCounted election.now outcome.now }
-        ensures { result ≡ totals_of election.now outcome.now.elected }
+    /// The totals of what a count of this election comes to.
+    pub fn of(election: &Election, counted: &Counted) -> Totals
+        requires { IsCounted election.now counted.now }
+        ensures { result ≡ totals_of election.now counted.now }
+    {
+        let elected = Totals::of_elected(election, &counted.outcome);
+        let added = costs_of(election, counted.added.as_slice());
+        Totals {
+            spent: Money(elected.spent.0 + added),
+            surplus: elected.surplus,
+        }
+    }
+
+    /// The totals of the elected of an outcome of a count of this election.
+    fn of_elected(election: &Election, outcome: &Outcome) -> Totals
+        requires { IsOutcome election.now outcome.now }
+        ensures totals { result ≡ outcome_totals election.now outcome.now.elected }
+        ensures is_election { IsElection election.now }
     {
         // What is true of every election bounds the sums of its outcome.
         let _budget = election.budget();
@@ -37,8 +54,22 @@ impl Totals {
     }
 }
 
+/// What the projects at these places cost together, in hundredths.
+fn costs_of(election: &Election, places: &[u32]) -> u64
+    requires known { All (λ place. place < length election.now.projects) places.now }
+    requires fits { sum_by (cost_at (support_of election.now)) places.now < 2 ^ 64 }
+    ensures { result ≡ sum_by (cost_at (support_of election.now)) places.now }
+{
+    let projects = election.projects();
+    let mut sum = 0;
+    for place in places {
+        sum += projects[*place as usize].cost().0;
+    }
+    sum
+}
+
 /// What the elected cost together, in hundredths.
-fn spent_for(election: &Election, elected: &[Elected]) -> u64
+pub(crate) fn spent_for(election: &Election, elected: &[Elected]) -> u64
     requires known { All (λ w. w.place < length election.now.projects) elected.now }
     requires fits { spent_on (support_of election.now) elected.now < 2 ^ 64 }
     ensures { result ≡ spent_on (support_of election.now) elected.now }

@@ -7,7 +7,7 @@ use pb_core::money::Money;
 pub struct VoterReason {
     /// How many projects the ballot approves.
     pub votes: u32,
-    /// How many of these are elected, also where nothing was paid.
+    /// How many of these are elected, also where nothing was paid, or added.
     pub elected: u32,
     /// What the voter paid, in hundredths.
     pub paid: Money,

@@ -1,10 +1,14 @@
 //! What the ballots came to, told voter by voter.
 
 ghost use Rattle.std.specs.Prelude.{◌≡◌, ◌<◌, All, ◌^◌, IfOk, OnOk, count_by, filter, length, map, nat_lt, slice_index};
+ghost use Rattle.pb_reasons.specs.Counted.{IsCounted};
+ghost use Rattle.pb_reasons.specs.Inner.OfOutcome.{IsOutcome, outcome_voter};
 ghost use Rattle.pb_reasons.specs.Inner.Told.{CanBeTold};
 ghost use Rattle.pb_reasons.specs.Inner.Turns.{amount_at};
-ghost use Rattle.pb_reasons.specs.Reasons.{IsCounted, voter_payments, voter_reason};
+ghost use Rattle.pb_reasons.specs.Reasons.{voter_payments, voter_reason};
 
+use crate::counted::Counted;
+use crate::numbers::numbers_of;
 use crate::payment::Payment;
 use crate::purse::Purse;
 use crate::rounds::rounds_of;
@@ -18,47 +22,127 @@ use std::marker::Model;
 
 /// Tells what the ballots of a counted election came to, one voter after the other.
 ///
-/// A contract sees the election and its outcome.
+/// A contract sees the election and what its count comes to.
 #[derive(Drop)]
 pub struct VoterTeller<'a> {
-    kept: Kept<'a>,
+    filled: Filled<'a>,
 }
 
 impl<'a> Model for VoterTeller<'a> {
     ghost use Rattle.pb_core.specs.Election.{ElectionView};
-    ghost use Rattle.pb_rounds.specs.Outcome.{OutcomeView};
+    ghost use Rattle.pb_reasons.specs.Counted.{CountedView};
 
-    ghost Value = { ElectionView × OutcomeView };
+    ghost Value = { ElectionView × CountedView };
 
-    ghost view = { λ t. t.kept };
+    ghost view = { λ t. t.filled };
 }
 
 impl<'a> VoterTeller<'a> {
-    /// A teller of the outcome of a count of this election.
+    /// A teller of what a count of this election comes to.
     pub fn of(
         alloc: Global,
         election: &'a Election,
-        outcome: &'a Outcome,
+        counted: &'a Counted,
     ) -> Result<VoterTeller<'a>, NoMemory>
-        requires { IsCounted election.now outcome.now }
-        ensures { IfOk result (λ teller. teller ≡ (election.now, outcome.now)) }
+        requires { IsCounted election.now counted.now }
+        ensures { IfOk result (λ teller. teller ≡ (election.now, counted.now)) }
     {
-        let kept = Kept::of(alloc, election, outcome)?;
-        Ok(VoterTeller { kept })
+        let filled = Filled::of(alloc, election, counted)?;
+        Ok(VoterTeller { filled })
     }
 
     /// What the ballot of the voter at this position came to; the payments come into the list, in place of what it held.
     pub fn tell(&mut self, voter: u32, payments: &mut Vec<Payment>) -> Result<VoterReason, NoMemory>
         requires { voter < length self.old.0.voters }
         ensures reason { IfOk result (λ reason. reason ≡ voter_reason self.old.0 self.old.1 voter) }
-        ensures payments { OnOk result (payments.new.items ≡ voter_payments self.old.0 self.old.1 voter) }
+        ensures payments { OnOk result (payments.new.items ≡ voter_payments self.old.0 self.old.1.outcome voter) }
         ensures same { self.new ≡ self.old }
     {
-        self.kept.tell(voter, payments)
+        self.filled.tell(voter, payments)
     }
 }
 
-/// What it takes to tell of voters.
+/// What it takes to tell of voters, and of what was added.
+#[derive(Drop)]
+struct Filled<'a> {
+    kept: Kept<'a>,
+    election: &'a Election,
+    counted: &'a Counted,
+    /// The number of each project among the added ones, from 0; as many as there are where it is none of them.
+    numbers: Vec<usize>,
+}
+
+impl<'a> Model for Filled<'a> {
+    ghost use Rattle.std.specs.Prelude.{◌≡◌, length};
+    ghost use Rattle.pb_core.specs.Election.{ElectionView};
+    ghost use Rattle.pb_reasons.specs.Counted.{CountedView};
+    ghost use Rattle.pb_reasons.specs.Inner.Numbers.{AreNumbers};
+
+    ghost Value = { ElectionView × CountedView };
+
+    ghost view = { λ f. (f.election.now, f.counted.now) };
+
+    ghost invariant = { λ f. (f.kept ≡ (f.election.now, f.counted.now.outcome))
+        × AreNumbers (length f.election.now.projects) f.counted.now.added f.numbers.items };
+}
+
+impl<'a> Filled<'a> {
+    fn of(
+        alloc: Global,
+        election: &'a Election,
+        counted: &'a Counted,
+    ) -> Result<Filled<'a>, NoMemory>
+        requires { IsCounted election.now counted.now }
+        ensures { IfOk result (λ filled. filled ≡ (election.now, counted.now)) }
+    {
+        let numbers = numbers_of(alloc, counted.added.as_slice(), election.projects().len())?;
+        let kept = Kept::of(alloc, election, &counted.outcome)?;
+        Ok(Filled {
+            kept,
+            election,
+            counted,
+            numbers,
+        })
+    }
+
+    fn tell(&mut self, voter: u32, payments: &mut Vec<Payment>) -> Result<VoterReason, NoMemory>
+        requires { voter < length self.old.0.voters }
+        ensures reason { IfOk result (λ reason. reason ≡ voter_reason self.old.0 self.old.1 voter) }
+        ensures payments { OnOk result (payments.new.items ≡ voter_payments self.old.0 self.old.1.outcome voter) }
+        ensures same { self.new ≡ self.old }
+    {
+        let reason = self.kept.tell(voter, payments)?;
+        let election = self.election;
+        let counted = self.counted;
+        let owner = &election.voters()[voter as usize];
+        let ballot = owner.ballot.places();
+        let added = count_added(self.numbers.as_slice(), counted.added.len(), ballot);
+        Ok(VoterReason {
+            votes: reason.votes,
+            elected: reason.elected + added,
+            paid: reason.paid,
+            left: reason.left,
+        })
+    }
+}
+
+/// How many of the ballot's places have a number below this.
+fn count_added(numbers: &[usize], added: usize, ballot: &[u32]) -> u32
+    requires known { All (λ place. place < length numbers.now) ballot.now }
+    requires few { length ballot.now < 2 ^ 32 }
+    ensures { result ≡ count_by (λ place. nat_lt (slice_index numbers.now place) added) ballot.now }
+{
+    let mut count = 0;
+    for place in ballot {
+        let number = numbers[*place as usize];
+        if number < added {
+            count += 1;
+        }
+    }
+    count
+}
+
+/// What it takes to tell of the voters of an outcome.
 #[derive(Drop)]
 struct Kept<'a> {
     election: &'a Election,
@@ -85,7 +169,7 @@ impl<'a> Model for Kept<'a> {
 
 impl<'a> Kept<'a> {
     fn of(alloc: Global, election: &'a Election, outcome: &'a Outcome) -> Result<Kept<'a>, NoMemory>
-        requires { IsCounted election.now outcome.now }
+        requires { IsOutcome election.now outcome.now }
         ensures { IfOk result (λ kept. kept ≡ (election.now, outcome.now)) }
     {
         let elected = outcome.elected.as_slice();
@@ -101,7 +185,7 @@ impl<'a> Kept<'a> {
 
     fn tell(&mut self, voter: u32, payments: &mut Vec<Payment>) -> Result<VoterReason, NoMemory>
         requires { voter < length self.old.0.voters }
-        ensures reason { IfOk result (λ reason. reason ≡ voter_reason self.old.0 self.old.1 voter) }
+        ensures reason { IfOk result (λ reason. reason ≡ outcome_voter self.old.0 self.old.1 voter) }
         ensures payments { OnOk result (payments.new.items ≡ voter_payments self.old.0 self.old.1 voter) }
         ensures same { self.new ≡ self.old }
     {

@@ -2,7 +2,7 @@
 use Rattle.std.specs.Prelude.{Bool, true, false, ⊤}
 use Rattle.pb_core.specs.Election.{ElectionView}
 use Rattle.pb_reasons.specs.declared.project_reason.Ending.{Ending}
-use Rattle.pb_reasons.specs.declared.project_reason.Ending.TheVariants.{Won, Lost}
+use Rattle.pb_reasons.specs.declared.project_reason.Ending.TheVariants.{Won, Added, Lost}
 use Rattle.pb_rounds.specs.declared.options.CountOptions.{CountOptions}
 use Rattle.pb_commands.specs.Exported.{ExportRefuses}
 use Rattle.pb_faults.specs.declared.fault.AppFault.{AppFault}
@@ -14,7 +14,8 @@ IsStopped options e Memory = ⊤
 IsStopped options e (Warned warning) = ⊥
 IsStopped options e fault = ExportRefuses options e fault
 
--- whether a project is elected
+-- whether a project is elected or added
 abbrev pub is_won : Ending → Bool
 is_won (Won w) = true
+is_won (Added a) = true
 is_won (Lost l) = false

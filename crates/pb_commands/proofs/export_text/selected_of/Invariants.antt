@@ -1,7 +1,7 @@
 use Rattle.std.proofs.Common.{◌≡◌, map}
 use Rattle.std.specs.List.{range_with_len}
-use Rattle.pb_rounds.specs.Run.{is_elected}
+use Rattle.pb_reasons.specs.Counted.{is_selected}
 use Rattle.pb_commands.proofs.export_text.selected_of.Given as goal
 
 abbrev pub invariant-loop-place : goal.invariant-loop-place
-invariant-loop-place l = l.selected.items ≡ map (is_elected l.teller.1.elected) (range_with_len 0 l.place)
+invariant-loop-place l = l.selected.items ≡ map (is_selected l.teller.1) (range_with_len 0 l.place)

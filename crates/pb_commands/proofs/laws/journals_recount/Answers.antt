@@ -3,4 +3,9 @@ use Rattle.pb_commands.proofs.Recounts.{accepted, recounted, written}
 use Rattle.pb_commands.proofs.laws.journals_recount.Goals as goal
 
 pub returns : goal.returns
-returns c = record { accepted = accepted; recounted = recounted; written = written; winners = report_of_count }
+returns c = record {
+  accepted = accepted;
+  recounted = λ bytes journal d options fills_up text. recounted bytes journal d options text;
+  written = written;
+  winners = λ d options fills_up o. report_of_count d options o;
+}

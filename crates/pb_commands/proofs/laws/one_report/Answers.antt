@@ -3,4 +3,7 @@ use Rattle.pb_commands.proofs.AuditAccepted.{one_audit}
 use Rattle.pb_commands.proofs.laws.one_report.Goals as goal
 
 pub returns : goal.returns
-returns c = record { counted = one_text; audited = one_audit }
+returns c = record {
+  counted = λ bytes options fills_up first second. one_text bytes options first second;
+  audited = λ bytes journal options fills_up first second. one_audit bytes journal options first second;
+}

@@ -7,7 +7,7 @@ use Rattle.pb_commands.proofs.run_audit.run_audit_watched.Goals as goal
 
 pub returns-in_err-election-clause-fault : goal.returns-in_err-election-clause-fault
 returns-in_err-election-clause-fault g c =
-    refused_of_both (λ bytes rows. AuditRefuses bytes rows c.args.counting.now.options.now) (λ bytes rows. AuditWrites bytes rows c.args.counting.now.options.now) _ _
+    refused_of_both (λ bytes rows. AuditRefuses bytes rows c.args.counting.now.options.now) (λ bytes rows. AuditWrites bytes rows c.args.counting.now.options.now c.args.counting.now.fills_up) _ _
     c.in_err-election.field-0.0 _ c.from_residual.ensures.1 c.in_err-election.ensures.fault
 
 pub returns-in_err-election-clause-merged : goal.returns-in_err-election-clause-merged

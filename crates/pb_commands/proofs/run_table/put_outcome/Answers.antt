@@ -7,9 +7,9 @@ use Rattle.pb_commands.proofs.run_table.put_outcome.Goals as goal
 pub returns-in-Projects : goal.returns-in-Projects
 unfolding table_of
 returns-in-Projects c =
-    rw c.in-Projects.is (rw (projects_head (map (project_table_row c.args.election.now c.args.outcome.now) (range_with_len 0 (length c.args.election.now.projects)))) at c.put_projects.ensures)
+    rw c.in-Projects.is (rw (projects_head c.args.counted.now.fills_up (map (project_table_row c.args.election.now c.args.counted.now) (range_with_len 0 (length c.args.election.now.projects)))) at c.put_projects.ensures)
 
 pub returns-in-Voters : goal.returns-in-Voters
 unfolding table_of
 returns-in-Voters c =
-    rw c.in-Voters.is (rw (voters_head (map (voter_table_row c.args.election.now c.args.outcome.now) (range_with_len 0 (length c.args.election.now.voters)))) at c.put_voters.ensures)
+    rw c.in-Voters.is (rw (voters_head (map (voter_table_row c.args.election.now c.args.counted.now) (range_with_len 0 (length c.args.election.now.voters)))) at c.put_voters.ensures)

@@ -9,7 +9,7 @@ use Rattle.pb_commands.proofs.run_table.run_table.Goals as goal
 
 pub returns-in_err-election-clause-fault : goal.returns-in_err-election-clause-fault
 returns-in_err-election-clause-fault g c =
-    refused_by_reader (λ bytes. CountRefuses c.args.counting.now.options.now) (λ bytes. TableWrites c.args.table c.args.counting.now.options.now (StandsFor (records_of bytes))) _ c.in_err-election.field-0.0 _
+    refused_by_reader (λ bytes. CountRefuses c.args.counting.now.options.now) (λ bytes. TableWrites c.args.table c.args.counting.now.options.now c.args.counting.now.fills_up (StandsFor (records_of bytes))) _ c.in_err-election.field-0.0 _
     c.from_residual.ensures.1 c.in_err-election.ensures.fault
 
 pub returns-in_err-election-clause-merged : goal.returns-in_err-election-clause-merged

@@ -1,6 +1,6 @@
 use Rattle.std.proofs.Common.{◌≡◌, ◌<◌, ◌++◌, ◌∙◌, ap, length, refl}
 use Rattle.pb_core.specs.Election.{ElectionView, VoterView}
-use Rattle.pb_rounds.specs.Outcome.{OutcomeView}
+use Rattle.pb_reasons.specs.Counted.{CountedView}
 use Rattle.pb_rows.specs.Writing.{text_of_row}
 use Rattle.pb_commands.proofs.TableRows.{columns_put, row_put, voter_row_read}
 use Rattle.pb_commands.specs.Tables.{voter_table_row}
@@ -25,8 +25,8 @@ loop-position-preserved c =
     let voter = c.loop-position.position in
     let known : voter < length e.voters = rw (← c.voters-voters.ensures.voters) c.loop-position-test.true in
     let kept = c.loop-position.invariant.same in
-    let election : c.loop-position.teller.0 ≡ e = ap (λ (t : ElectionView × OutcomeView). t.0) kept ∙ c.requires in
-    let outcome : c.loop-position.teller.1 ≡ o = ap (λ (t : ElectionView × OutcomeView). t.1) kept in
+    let election : c.loop-position.teller.0 ≡ e = ap (λ (t : ElectionView × CountedView). t.0) kept ∙ c.requires in
+    let outcome : c.loop-position.teller.1 ≡ o = ap (λ (t : ElectionView × CountedView). t.1) kept in
     let row = voter_row_read e o voter c.index-voters-position.result known (rw c.voters-voters.ensures.voters at c.index-voters-position.is) c.text.result.now
     (c.text.ensures.text ∙ ap (λ (v : VoterView). v.id) c.voter.view_is) c.in_ok-reason.reason (rw (election, outcome) at c.in_ok-reason.ensures.reason)
     c.as_slice.result.now (c.as_slice.ensures.value ∙ (rw (election, outcome) at c.in_ok-reason.ensures.payments)) in

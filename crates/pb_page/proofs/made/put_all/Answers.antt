@@ -15,5 +15,5 @@ returns c =
 pub returns-in_err-put_rule : goal.returns-in_err-put_rule
 returns-in_err-put_rule c =
     refused {E = NoMemory} c.from_residual-in_err-put_rule.result _
-    (Grows c.args.page.now.items c.put_rule.new.page.items (parts c.args.election.now c.args.outcome.now c.args.facts.now))
+    (Grows c.args.page.now.items c.put_rule.new.page.items (parts c.args.election.now c.args.counted.now c.args.facts.now))
     c.from_residual-in_err-put_rule.ensures.1

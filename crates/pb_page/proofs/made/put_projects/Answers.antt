@@ -1,4 +1,13 @@
+use Rattle.pb_reasons.proofs.Results.{result_is_added}
+use Rattle.pb_reasons.proofs.Tellable.{count_can_be_told}
 use Rattle.pb_page.proofs.made.put_projects.Goals as goal
 
 pub returns : goal.returns
-returns c = rw c.in_ok-teller.ensures at c.put_both-put.ensures
+returns c = c.put_told-put.ensures
+
+pub put_told-put-requires-clause-elected : goal.put_told-put-requires-clause-elected
+put_told-put-requires-clause-elected c =
+    (count_can_be_told c.args.election.now c.requires.0 c.args.counted.now.outcome c.budget-budget.ensures.is_election c.requires.1).known
+
+pub put_told-put-requires-clause-added : goal.put_told-put-requires-clause-added
+put_told-put-requires-clause-added c = (result_is_added c.args.election.now c.args.counted.now c.budget-budget.ensures.is_election c.requires).known

@@ -1,23 +1,26 @@
 use Rattle.std.proofs.Common.{◌≡◌, ◌∙◌, arith, refl}
-use Rattle.pb_reasons.proofs.WinnerSums.{spent_more, spent_more_le, the_winner}
+use Rattle.std.proofs.lemmas.List.{get_or_default}
+use Rattle.pb_reasons.proofs.PlaceSums.{costs_more, costs_more_le, the_placed}
 use Rattle.pb_page.proofs.Grown.{none}
 use Rattle.pb_page.proofs.Rows.{block_more}
 use Rattle.pb_page.proofs.top.put_blocks.Goals as goal
 
-pub loop-winner-init : goal.loop-winner-init
-loop-winner-init c = record { before = refl; grown = none c.args.page.now.items }
+pub loop-place-init : goal.loop-place-init
+loop-place-init c = record { before = refl; grown = none c.args.page.now.items }
 
 pub overflow_add-before : goal.overflow_add-before
 overflow_add-before c =
-    let winner = the_winner c.args.election.now _ _ _ _ _ _ c.requires.known c.loop-winner-test.true c.winner-item.is c.winner.view_is c.projects-projects.ensures.projects c.index-projects-winner.is in
-    let cost : c.cost.inside.0 ≡ c.index-projects-winner.result.cost = c.cost.view_is ∙ c.cost-cost.ensures.cost in
-    omega (arith, spent_more_le _ _ _ _ _ winner, c.requires.fits, c.loop-winner.invariant.before)
+    let here = get_or_default c.args.winners.now c.loop-place.place-index 0 _ c.loop-place-test.true in
+    let placed = the_placed c.args.election.now c.args.winners.now _ _ _ _ c.requires.known c.loop-place-test.true here c.projects-projects.ensures.projects c.index-projects-place.is in
+    let cost : c.cost.inside.0 ≡ c.index-projects-place.result.cost = c.cost.view_is ∙ c.cost-cost.ensures.cost in
+    omega (arith, costs_more_le _ _ _ _ _ placed, c.requires.fits, c.loop-place.invariant.before)
 
-pub loop-winner-preserved : goal.loop-winner-preserved
-loop-winner-preserved c =
-    let winner = the_winner c.args.election.now _ _ _ _ _ _ c.requires.known c.loop-winner-test.true c.winner-item.is c.winner.view_is c.projects-projects.ensures.projects c.index-projects-winner.is in
-    let cost : c.cost.inside.0 ≡ c.index-projects-winner.result.cost = c.cost.view_is ∙ c.cost-cost.ensures.cost in
+pub loop-place-preserved : goal.loop-place-preserved
+loop-place-preserved c =
+    let here = get_or_default c.args.winners.now c.loop-place.place-index 0 _ c.loop-place-test.true in
+    let placed = the_placed c.args.election.now c.args.winners.now _ _ _ _ c.requires.known c.loop-place-test.true here c.projects-projects.ensures.projects c.index-projects-place.is in
+    let cost : c.cost.inside.0 ≡ c.index-projects-place.result.cost = c.cost.view_is ∙ c.cost-cost.ensures.cost in
     record {
-      before = omega (arith, spent_more _ _ _ _ _ winner, c.loop-winner.invariant.before);
-      grown = block_more _ _ _ _ _ _ _ _ _ winner c.loop-winner.invariant.before c.loop-winner.invariant.grown (rw c.budget-budget.ensures.budget at c.in_ok-put_block.ensures);
+      before = omega (arith, costs_more _ _ _ _ _ placed, c.loop-place.invariant.before);
+      grown = block_more _ _ _ _ _ _ _ _ _ placed c.loop-place.invariant.before c.loop-place.invariant.grown (rw c.budget-budget.ensures.budget at c.in_ok-put_block.ensures);
     }

@@ -1,12 +1,12 @@
 use Rattle.std.proofs.Common.{◌≡◌, take}
+use Rattle.std.specs.Prelude.{sum_by}
 use Rattle.pb_page.specs.Inner.Grown.{Grows}
 use Rattle.pb_page.specs.Page.{blocks}
-use Rattle.pb_price.specs.Supporters.{support_of}
-use Rattle.pb_rounds.specs.Count.{spent_on}
+use Rattle.pb_price.specs.Supporters.{cost_at, support_of}
 use Rattle.pb_page.proofs.top.put_blocks.Given as goal
 
-abbrev pub invariant-loop-winner : goal.invariant-loop-winner
-invariant-loop-winner l = record {
-  before : l.before ≡ spent_on (support_of l.election) (take l.winner-index l.elected);
-  grown : Grows l.fn.page.items l.page.items (blocks l.election 0 (take l.winner-index l.elected));
+abbrev pub invariant-loop-place : goal.invariant-loop-place
+invariant-loop-place l = record {
+  before : l.before ≡ sum_by (cost_at (support_of l.election)) (take l.place-index l.winners);
+  grown : Grows l.fn.page.items l.page.items (blocks l.election 0 (take l.place-index l.winners));
 }

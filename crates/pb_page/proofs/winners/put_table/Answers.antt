@@ -1,5 +1,6 @@
 use Rattle.std.proofs.Common.{ap, sym}
 use Rattle.std.specs.Prelude.{flat_map}
+use Rattle.pb_rounds.specs.Run.{ElectedView}
 use Rattle.pb_page.specs.Page.{won_rows}
 use Rattle.pb_page.proofs.Grown.{grown_as, then_put}
 use Rattle.pb_page.proofs.winners.put_table.Goals as goal
@@ -7,4 +8,4 @@ use Rattle.pb_page.proofs.winners.put_table.Goals as goal
 pub returns : goal.returns
 returns c =
     then_put _ _ _ _ _ _ c.in_ok-put.ensures
-    (then_put _ _ _ _ _ _ (grown_as _ _ _ _ (ap (flat_map (won_rows c.args.election.now c.args.teller.now.1)) (sym c.requires.elected)) c.in_ok-put_rows.ensures) c.put-2.ensures)
+    (then_put _ _ _ _ _ _ (grown_as _ _ _ _ (ap (flat_map (λ (w : ElectedView). won_rows c.args.election.now c.args.teller.now.1 w.place)) (sym c.requires.elected)) c.in_ok-put_rows.ensures) c.put-2.ensures)

@@ -1,16 +1,29 @@
-use Rattle.std.proofs.Common.{◌∙◌, ap}
-use Rattle.pb_rounds.specs.Outcome.{OutcomeView}
-use Rattle.pb_reasons.proofs.Tellable.{count_can_be_told}
+use Rattle.std.proofs.Common.{◌≡◌, ◌∙◌, ap, arith}
+use Rattle.std.specs.Prelude.{sum_by}
+use Rattle.pb_price.specs.Supporters.{cost_at, support_of}
+use Rattle.pb_rounds.specs.Count.{spent_on}
+use Rattle.pb_reasons.specs.Counted.{CountedView}
+use Rattle.pb_reasons.specs.declared.totals.Totals.{Totals}
+use Rattle.pb_reasons.proofs.Results.{result_is_added}
 use Rattle.pb_reasons.proofs.totals.Totals.of.Goals as goal
 
-pub spent_for-spent-requires : goal.spent_for-spent-requires
-spent_for-spent-requires c =
-    let told = count_can_be_told c.args.election.now c.requires.0 c.args.outcome.now c.budget-budget.ensures.is_election c.requires.1 in
-    let elected = c.as_slice-elected.ensures.value ∙ ap (λ (v : OutcomeView). v.elected) c.outcome.view_is in
-    record { known = rw elected told.known; fits = rw elected told.spent }
+pub costs_of-added-requires-clause-known : goal.costs_of-added-requires-clause-known
+costs_of-added-requires-clause-known c =
+    let are = result_is_added c.args.election.now c.args.counted.now c.of_elected-elected.ensures.is_election c.requires in
+    let added : c.as_slice.result.now ≡ c.args.counted.now.added = c.as_slice.ensures.value ∙ ap (λ (v : CountedView). v.added) c.counted.view_is in
+    rw added are.known
 
-pub collected_for-requires : goal.collected_for-requires
-collected_for-requires c =
-    let told = count_can_be_told c.args.election.now c.requires.0 c.args.outcome.now c.budget-budget.ensures.is_election c.requires.1 in
-    let elected = c.as_slice-elected.ensures.value ∙ ap (λ (v : OutcomeView). v.elected) c.outcome.view_is in
-    rw elected told.collected
+pub costs_of-added-requires-clause-fits : goal.costs_of-added-requires-clause-fits
+costs_of-added-requires-clause-fits c =
+    let are = result_is_added c.args.election.now c.args.counted.now c.of_elected-elected.ensures.is_election c.requires in
+    let added : c.as_slice.result.now ≡ c.args.counted.now.added = c.as_slice.ensures.value ∙ ap (λ (v : CountedView). v.added) c.counted.view_is in
+    rw added (omega (arith, are.paid, c.of_elected-elected.ensures.is_election.budget_bounded))
+
+pub overflow_add-result : goal.overflow_add-result
+overflow_add-result c =
+    let are = result_is_added c.args.election.now c.args.counted.now c.of_elected-elected.ensures.is_election c.requires in
+    let added : c.as_slice.result.now ≡ c.args.counted.now.added = c.as_slice.ensures.value ∙ ap (λ (v : CountedView). v.added) c.counted.view_is in
+    let costs : c.costs_of-added.result ≡ sum_by (cost_at (support_of c.args.election.now)) c.args.counted.now.added = c.costs_of-added.ensures ∙ ap (sum_by (cost_at (support_of c.args.election.now))) added in
+    let elected = ap (λ (v : CountedView). spent_on (support_of c.args.election.now) v.outcome.elected) c.counted.view_is in
+    let spent = ap (λ (t : Totals). t.spent) (c.elected.view_is ∙ c.of_elected-elected.ensures.totals) in
+    omega (arith, are.paid, costs, elected, spent, c.of_elected-elected.ensures.is_election.budget_bounded)

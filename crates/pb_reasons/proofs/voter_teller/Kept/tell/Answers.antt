@@ -6,7 +6,8 @@ use Rattle.pb_price.proofs.BuiltLists.{ballot_known, ballot_read}
 use Rattle.pb_rounds.specs.Outcome.{OutcomeView}
 use Rattle.pb_reasons.specs.Inner.Kept.{AreRounds}
 use Rattle.pb_reasons.specs.Inner.Turns.{HasPaid}
-use Rattle.pb_reasons.specs.Reasons.{voter_payments, voter_reason}
+use Rattle.pb_reasons.specs.Reasons.{voter_payments}
+use Rattle.pb_reasons.specs.Inner.OfOutcome.{outcome_voter}
 use Rattle.pb_reasons.proofs.Listing.{few_places}
 use Rattle.pb_reasons.proofs.VoterTold.{left_within, payments_told, reason_told}
 use Rattle.pb_reasons.proofs.voter_teller.Kept.tell.Goals as goal
@@ -74,7 +75,7 @@ returns-clause-reason c =
     let paid : HasPaid o.elected ballot o.share amounts = rw c.amounts.ensures (rw (elected, share) at c.in_ok-pay.ensures.paid) in
     let told = reason_told e o c.self.invariant.0 rounds amounts ballot numbered one_each voter is_voter read known paid c.in_ok-elected.elected c.index-left.result.now (c.share.inside.0 - c.left.inside.0)
     c.in_ok-elected.ensures.elected left (omega (arith, c.share.view_is, c.left.view_is, share)) in
-    subst (λ (p : ElectionView × OutcomeView). record { votes = length ballot; elected = c.in_ok-elected.elected; paid = c.share.inside.0 - c.left.inside.0; left = c.index-left.result.now } ≡ voter_reason p.0 p.1 voter) c.self.view_is told
+    subst (λ (p : ElectionView × OutcomeView). record { votes = length ballot; elected = c.in_ok-elected.elected; paid = c.share.inside.0 - c.left.inside.0; left = c.index-left.result.now } ≡ outcome_voter p.0 p.1 voter) c.self.view_is told
 
 pub returns-clause-payments : goal.returns-clause-payments
 returns-clause-payments c =

@@ -1,0 +1,73 @@
+//! The projects that were added by votes.
+
+ghost use Rattle.std.specs.Prelude.{◌≡◌, ◌<◌, All, OnOk, flat_map, length};
+ghost use Rattle.pb_page.specs.Inner.Grown.{Grows};
+ghost use Rattle.pb_page.specs.Inner.Pieces.{added_table};
+ghost use Rattle.pb_page.specs.Page.{added, won_rows};
+
+use crate::put::put;
+use crate::templates::{ADDED_OPENING, TABLE_CLOSING};
+use crate::winners::put_row;
+use pb_core::election::Election;
+use pb_core::no_memory::NoMemory;
+use pb_reasons::{Counted, ProjectTeller};
+use std::alloc::Global;
+
+/// The added projects, in their order; nothing where there are none.
+#[tactic(auto, using(crate::proofs::Grown::none))]
+pub(crate) fn put_added(
+    page: &mut Vec<u8>,
+    alloc: Global,
+    election: &Election,
+    teller: &ProjectTeller,
+    counted: &Counted,
+) -> Result<(), NoMemory>
+    requires own { teller.now ≡ (election.now, counted.now) }
+    requires known { All (λ place. place < length election.now.projects) counted.now.added }
+    ensures { OnOk result (Grows page.old.items page.new.items (added election.now counted.now)) }
+{
+    let places = counted.added.as_slice();
+    if places.is_empty() {
+        return Ok(());
+    }
+    put_table(page, alloc, election, teller, places)
+}
+
+/// Their table.
+fn put_table(
+    page: &mut Vec<u8>,
+    alloc: Global,
+    election: &Election,
+    teller: &ProjectTeller,
+    places: &[u32],
+) -> Result<(), NoMemory>
+    requires own { teller.now.0 ≡ election.now }
+    requires added { teller.now.1.added ≡ places.now }
+    requires known { All (λ place. place < length election.now.projects) places.now }
+    ensures { OnOk result (Grows page.old.items page.new.items (added_table election.now teller.now.1)) }
+{
+    put(page, alloc, ADDED_OPENING, &[])?;
+    put_rows(page, alloc, election, teller, places)?;
+    put(page, alloc, TABLE_CLOSING, &[])
+}
+
+/// A row for each added project.
+fn put_rows(
+    page: &mut Vec<u8>,
+    alloc: Global,
+    election: &Election,
+    teller: &ProjectTeller,
+    places: &[u32],
+) -> Result<(), NoMemory>
+    requires own { teller.now.0 ≡ election.now }
+    requires known { All (λ place. place < length election.now.projects) places.now }
+    ensures { OnOk result (Grows page.old.items page.new.items (flat_map (won_rows election.now teller.now.1) places.now)) }
+{
+    let projects = election.projects();
+    for place in places {
+        let reason = teller.tell(*place);
+        let project = &projects[*place as usize];
+        put_row(page, alloc, project, &reason, election.budget())?;
+    }
+    Ok(())
+}

@@ -1,0 +1,72 @@
+-- The winners: the elected and the added together.
+use Rattle.std.proofs.Common.{◌≡◌, ◌≢◌, ℕ, zero, suc, ◌+◌, ◌-◌, List, [], ◌∷◌, ◌++◌, Bool, false, true, map, refl, sym, ◌∙◌, ap, subst, arith, ◌||◌}
+use Rattle.std.specs.Prelude.{◌==◌, All, AllPairs, sum_by}
+use Rattle.std.proofs.lemmas.Bool.{eqb-false, or_parts}
+use Rattle.std.proofs.lemmas.List.Elements.{All-append, All-map, All-weaker}
+use Rattle.std.proofs.lemmas.List.Folds.{list_any-append}
+use Rattle.std.proofs.lemmas.List.Kept.{AllPairs-cons}
+use Rattle.pb_core.specs.Election.{ElectionView, IsElection}
+use Rattle.pb_greedy.proofs.Added.{added_differ, added_were_not_taken, election_is_filled}
+use Rattle.pb_greedy.proofs.Filled.{rule_from_filled}
+use Rattle.pb_greedy.specs.MostVotes.{IsMostVotesFirst, fits, is_taken, left_after}
+use Rattle.pb_price.specs.Supporters.{cost_at, support_of}
+use Rattle.pb_rounds.specs.Count.{spent_on}
+use Rattle.pb_rounds.specs.Outcome.{OutcomeView}
+use Rattle.pb_rounds.specs.Run.{ElectedView, is_elected}
+use Rattle.pb_reasons.specs.Counted.{CountedView, IsCounted, added_to, counted, is_selected, winners_of}
+use Rattle.pb_reasons.specs.Totals.{totals_of}
+use Rattle.pb_reasons.specs.Inner.Told.{AreApart}
+use Rattle.pb_reasons.proofs.Tellable.{count_can_be_told}
+
+elected_are_taken : (elected : List ElectedView) (place : ℕ) → is_elected elected place ≡ is_taken (map (λ w. w.place) elected) place
+elected_are_taken [] place = refl
+elected_are_taken (w ∷ elected) place = ap (λ b. (w.place == place) || b) (elected_are_taken elected place)
+
+pub selected_are_winners : (c : CountedView) (place : ℕ) → is_selected c place ≡ is_taken (winners_of c) place
+selected_are_winners c place =
+    ap (λ b. b || is_taken c.added place) (elected_are_taken c.outcome.elected place)
+    ∙ sym (list_any-append (λ t. t == place) (map (λ w. w.place) c.outcome.elected) c.added)
+
+-- nobody is elected twice, or added twice, or both
+differ : (elected : List ElectedView) (added : List ℕ) → AllPairs AreApart elected → AllPairs (λ place other. place ≢ other) added
+    → All (λ place. is_taken (map (λ w. w.place) elected) place ≡ false) added
+    → AllPairs (λ place other. place ≢ other) (map (λ w. w.place) elected ++ added)
+differ [] added apart once free = once
+differ (w ∷ elected) added apart once free =
+    let later : ElectedView → ℕ = λ v. v.place in
+    let parts : (place : ℕ) → is_taken (w.place ∷ map later elected) place ≡ false → (w.place ≢ place) × (is_taken (map later elected) place ≡ false) =
+    λ place none. let both = or_parts (w.place == place) (is_taken (map later elected) place) none in (eqb-false w.place place both.0, both.1) in
+    AllPairs-cons (λ place other. place ≢ other) w.place (map later elected ++ added)
+    (All-append (λ place. w.place ≢ place) (map later elected) added
+    (All-map (λ place. w.place ≢ place) later elected (λ k d below. apart zero (suc k) d (omega arith) (omega arith)))
+    (All-weaker (λ place. is_taken (w.place ∷ map later elected) place ≡ false) (λ place. w.place ≢ place) (λ place none. (parts place none).0) added free))
+    (differ elected added (λ i j d before below. apart (suc i) (suc j) d (omega arith) (omega arith)) once
+    (All-weaker (λ place. is_taken (w.place ∷ map later elected) place ≡ false) (λ place. is_taken (map later elected) place ≡ false) (λ place none. (parts place none).1) added free))
+
+module _ (e : ElectionView) (h : IsElection e) where
+  filled_differ : (o : OutcomeView) (fills_up : Bool) → AllPairs AreApart o.elected
+      → AllPairs (λ place other. place ≢ other) (map (λ w. w.place) o.elected ++ (counted e fills_up o).added)
+  filled_differ o true apart =
+      let taken = map (λ (w : ElectedView). w.place) o.elected in
+      let left = e.budget - spent_on (support_of e) o.elected in
+      let filled = election_is_filled e taken left h in
+      differ o.elected _ apart (added_differ (support_of e) taken left _ filled) (added_were_not_taken (support_of e) taken left _ filled)
+  filled_differ o false apart = differ o.elected [] apart (λ i j d before below. absurd (omega (arith, below))) (λ k d below. absurd (omega (arith, below)))
+
+  pub winners_differ : (c : CountedView) → IsCounted e c → AllPairs (λ place other. place ≢ other) (winners_of c)
+  winners_differ c result =
+      let told = count_can_be_told e result.0 c.outcome h result.1 in
+      let added : c.added ≡ (counted e c.fills_up c.outcome).added = ap (λ (v : CountedView). v.added) result.2 in
+      subst (λ (l : List ℕ). AllPairs (λ place other. place ≢ other) (map (λ w. w.place) c.outcome.elected ++ l)) (sym added)
+      (filled_differ c.outcome c.fills_up told.apart)
+
+  pub none_fits_at_the_end : (c : CountedView) (place : ℕ) → IsCounted e c → c.fills_up ≡ true
+      → fits (support_of e) (winners_of c) (e.budget - (totals_of e c).spent) place ≡ false
+  none_fits_at_the_end c place result fills =
+      let s = support_of e in
+      let taken = map (λ (w : ElectedView). w.place) c.outcome.elected in
+      let left = e.budget - spent_on s c.outcome.elected in
+      let rule : IsMostVotesFirst s taken left (added_to e c.outcome) = rule_from_filled s taken left _ (election_is_filled e taken left h) in
+      let added : c.added ≡ added_to e c.outcome = ap (λ (v : CountedView). v.added) result.2 ∙ ap (λ b. (counted e b c.outcome).added) fills in
+      let rest : e.budget - (spent_on s c.outcome.elected + sum_by (cost_at s) c.added) ≡ left_after s left c.added = omega arith in
+      rw rest (subst (λ (l : List ℕ). fits s (taken ++ l) (left_after s left l) place ≡ false) (sym added) (rule.none_fits place))
