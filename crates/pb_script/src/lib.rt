@@ -3,6 +3,7 @@
 #![tactic(auto)]
 
 pub mod admission;
+pub mod laws;
 pub mod request_rows;
 mod requests;
 pub mod roll;
