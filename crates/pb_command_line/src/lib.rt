@@ -2,6 +2,7 @@
 #![tactic(auto)]
 
 mod address;
+mod asked;
 mod command_line;
 pub mod parse;
 pub mod task;

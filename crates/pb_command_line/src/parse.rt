@@ -1,7 +1,8 @@
 //! What given arguments ask for.
 
 use crate::address::is_address;
-use crate::command_line::{asked_by, command_line};
+use crate::asked::asked_by;
+use crate::command_line::command_line;
 use crate::task::{Admits, Asked, PageRun, ServeRun, Source, Task};
 use clap::Error;
 use clap::error::ErrorKind;

@@ -1,0 +1,152 @@
+//! What parsed arguments ask for.
+
+use crate::task::{Admits, Asked, AuditRun, Ballots, DeskRun, PageRun, ServeRun, Source, Task};
+use clap::ArgMatches;
+use pb_core::money::Money;
+use pb_rounds::measure::Measure;
+use pb_rounds::options::{Completion, CountOptions};
+
+/// What a page is about where it is not said.
+const NO_TITLE: &str = "Participatory budgeting";
+
+/// What parsed arguments ask for; without a command it is a count of standard input.
+pub(crate) fn asked_by<'a>(matches: &ArgMatches<'a>) -> Asked<'a> {
+    match matches.subcommand() {
+        Some((name, given)) => Asked {
+            task: task_of(name, given),
+            output: given.get_str("output"),
+            shows: shows_by(given),
+            fills_up: fills_up(given),
+            is_strict: given.get_flag("strict"),
+            takes_other: given.get_flag("other-file"),
+        },
+        None => Asked {
+            task: Task::Count(Source::Input, CountOptions::standard()),
+            output: None,
+            shows: None,
+            fills_up: false,
+            is_strict: false,
+            takes_other: false,
+        },
+    }
+}
+
+/// What the arguments of a command ask for.
+fn task_of<'a>(name: &str, given: &ArgMatches<'a>) -> Task<'a> {
+    let file = source_of(given, "FILE");
+    match name {
+        "count" => Task::Count(file, options_of(given)),
+        "projects" => Task::Projects(ballots_of(given, file), options_of(given)),
+        "voters" => Task::Voters(ballots_of(given, file), options_of(given)),
+        "page" => Task::Page(PageRun {
+            ballots: ballots_of(given, file),
+            options: options_of(given),
+            title: given.get_str("title").unwrap_or(NO_TITLE),
+            recount: given.get_str("recount"),
+        }),
+        "export" => Task::Export(ballots_of(given, file), options_of(given)),
+        "check" => Task::Check(file),
+        "desk" => Task::Desk(DeskRun {
+            file,
+            script: source_of(given, "SCRIPT"),
+            clerks: given.get_one("clerks").unwrap_or(1),
+            shuts: given.get_flag("shut"),
+            admits: admits_of(given),
+        }),
+        "serve" => Task::Serve(ServeRun {
+            file: path_of(given, "FILE"),
+            journal: path_of(given, "JOURNAL"),
+            admits: admits_of(given),
+        }),
+        _ => Task::Audit(AuditRun {
+            file,
+            journal: source_of(given, "JOURNAL"),
+            options: options_of(given),
+            requires_shut: given.get_flag("require-shut"),
+            digests: given.get_flag("digests"),
+        }),
+    }
+}
+
+/// Which requests a desk admits.
+fn admits_of<'a>(given: &ArgMatches<'a>) -> Admits<'a> {
+    Admits {
+        by_id: given.get_flag("by-id"),
+        roll: given.get_str("roll"),
+        least: given.get_one("min").unwrap_or(0),
+    }
+}
+
+/// The ballots of this file, or those that a given journal leaves.
+fn ballots_of<'a>(given: &ArgMatches<'a>, file: Source<'a>) -> Ballots<'a> {
+    let journal = match given.get_str("journal") {
+        Some(path) => Some(source_at(path)),
+        None => None,
+    };
+    Ballots { file, journal }
+}
+
+/// Whether it is shown how far the work has come.
+fn shows_by(given: &ArgMatches<'_>) -> Option<bool> {
+    if given.get_flag("quiet") {
+        Some(false)
+    } else if given.get_flag("progress") {
+        Some(true)
+    } else {
+        None
+    }
+}
+
+/// Where a text is read from.
+fn source_of<'a>(given: &ArgMatches<'a>, name: &str) -> Source<'a> {
+    source_at(path_of(given, name))
+}
+
+/// The file with this path, or standard input.
+fn source_at<'a>(path: &'a str) -> Source<'a> {
+    match path {
+        "-" => Source::Input,
+        path => Source::File(path),
+    }
+}
+
+/// A file's path; a parse succeeds only where those that are required are given.
+fn path_of<'a>(given: &ArgMatches<'a>, name: &str) -> &'a str {
+    given.get_str(name).unwrap_or("")
+}
+
+/// Whether what is left is filled up by votes.
+fn fills_up(given: &ArgMatches<'_>) -> bool {
+    matches!(given.get_str("completion"), Some("utilitarian" | "add1u"))
+}
+
+/// Whether the shares are raised, if an option says so.
+fn completion_of(given: &ArgMatches<'_>) -> Option<Completion> {
+    if given.get_flag("plain") {
+        return Some(Completion::Plain);
+    }
+    match given.get_str("completion") {
+        Some("none" | "utilitarian") => Some(Completion::Plain),
+        Some(_) => Some(Completion::Add1),
+        None => None,
+    }
+}
+
+/// The options of a count; those that are not given are the standard ones.
+fn options_of(given: &ArgMatches<'_>) -> CountOptions {
+    let standard = CountOptions::standard();
+    CountOptions {
+        step: match given.get_one::<u32>("step") {
+            Some(hundredths) => Money(u64::from(hundredths)),
+            None => standard.step,
+        },
+        max_raises: given.get_one("raises").unwrap_or(standard.max_raises),
+        workers: given.get_one("workers").unwrap_or(standard.workers),
+        completion: completion_of(given).unwrap_or(standard.completion),
+        measure: match given.get_str("measure") {
+            Some("cost") => Measure::Cost,
+            Some(_) => Measure::Votes,
+            None => standard.measure,
+        },
+    }
+}
