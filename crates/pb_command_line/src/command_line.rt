@@ -608,6 +608,18 @@ fn fills_up(given: &ArgMatches<'_>) -> bool {
     matches!(given.get_str("completion"), Some("utilitarian" | "add1u"))
 }
 
+/// Whether the shares are raised, if an option says so.
+fn completion_of(given: &ArgMatches<'_>) -> Option<Completion> {
+    if given.get_flag("plain") {
+        return Some(Completion::Plain);
+    }
+    match given.get_str("completion") {
+        Some("none" | "utilitarian") => Some(Completion::Plain),
+        Some(_) => Some(Completion::Add1),
+        None => None,
+    }
+}
+
 /// The options of a count; those that are not given are the standard ones.
 fn options_of(given: &ArgMatches<'_>) -> CountOptions {
     let standard = CountOptions::standard();
@@ -618,12 +630,7 @@ fn options_of(given: &ArgMatches<'_>) -> CountOptions {
         },
         max_raises: given.get_one("raises").unwrap_or(standard.max_raises),
         workers: given.get_one("workers").unwrap_or(standard.workers),
-        completion: match given.get_str("completion") {
-            Some("none" | "utilitarian") => Completion::Plain,
-            Some(_) => Completion::Add1,
-            None if given.get_flag("plain") => Completion::Plain,
-            None => standard.completion,
-        },
+        completion: completion_of(given).unwrap_or(standard.completion),
         measure: match given.get_str("measure") {
             Some("cost") => Measure::Cost,
             Some(_) => Measure::Votes,
