@@ -106,42 +106,42 @@ refused_of_both Refuses IsText (Some bytes) None fault r is fails = given_fault 
 refused_of_both Refuses IsText (Some bytes) (Some other) fault r is fails =
     refused_by_reader (λ b. Refuses b other) (λ b. IsText b other) (Some bytes) fault r is fails
 
-pub accepted_by_reader : {fills_up : Bool} (files : Option (List ℕ)) (options : CountOptions) (fault : ReadFault) (r : Result (Unit {0}) AppFault)
+pub accepted_by_reader : (fills_up : Bool) (files : Option (List ℕ)) (options : CountOptions) (fault : ReadFault) (r : Result (Unit {0}) AppFault)
     → IsErrAnd r (λ app. app ≡ merged (Read fault))
     → IfSome files (λ bytes. (e : ElectionView) → StandsFor (records_of bytes) e → IsFromOutside fault.kind)
     → IfSome files (λ bytes. Accepts (CountWrites bytes options fills_up) r)
-accepted_by_reader None options fault r is accepts = tt
-accepted_by_reader (Some bytes) options fault r is accepts = λ text writes.
+accepted_by_reader fills_up None options fault r is accepts = tt
+accepted_by_reader fills_up (Some bytes) options fault r is accepts = λ text writes.
     given_fault IsOutsideFault r (merged (Read fault)) is (read_from_outside fault.kind fault.at (accepts writes.0 writes.1))
 
 -- the count of an election that has a report is refused from outside alone
-pub count_from_outside : {fills_up : Bool} (e : ElectionView) (options : CountOptions) (text : List ℕ) → IsReportOf e options fills_up text
+pub count_from_outside : (fills_up : Bool) (e : ElectionView) (options : CountOptions) (text : List ℕ) → IsReportOf e options fills_up text
     → (fault : CountFault) → IsCountFault e options fault → IsOutsideFault (merged (Count fault))
-count_from_outside e options text report count.WorkerCount refused = absurd (none-some _ (sym report.1.in_range ∙ refused))
-count_from_outside e options text report count.StepRange refused = absurd (none-some _ (sym report.1.in_range ∙ refused))
-count_from_outside e options text report count.RaisesRange refused = absurd (none-some _ (sym report.1.in_range ∙ refused))
-count_from_outside e options text report count.RaisesSpent refused = absurd (none-some _ (sym (spent_is_none e options refused) ∙ is_computed e options report.0 report.1))
-count_from_outside e options text report count.NoMemory refused = refl
+count_from_outside fills_up e options text report count.WorkerCount refused = absurd (none-some _ (sym report.1.in_range ∙ refused))
+count_from_outside fills_up e options text report count.StepRange refused = absurd (none-some _ (sym report.1.in_range ∙ refused))
+count_from_outside fills_up e options text report count.RaisesRange refused = absurd (none-some _ (sym report.1.in_range ∙ refused))
+count_from_outside fills_up e options text report count.RaisesSpent refused = absurd (none-some _ (sym (spent_is_none e options refused) ∙ is_computed e options report.0 report.1))
+count_from_outside fills_up e options text report count.NoMemory refused = refl
 
-pub accepted_by_count : {fills_up : Bool} (files : Option (List ℕ)) (options : CountOptions) (e : ElectionView) (fault : CountFault) (r : Result (Unit {0}) AppFault)
+pub accepted_by_count : (fills_up : Bool) (files : Option (List ℕ)) (options : CountOptions) (e : ElectionView) (fault : CountFault) (r : Result (Unit {0}) AppFault)
     → IsErrAnd r (λ app. app ≡ merged (Count fault)) → IfSome files (λ bytes. StandsFor (records_of bytes) e) → IsCountFault e options fault
     → IfSome files (λ bytes. Accepts (CountWrites bytes options fills_up) r)
-accepted_by_count None options e fault r is stands refused = tt
-accepted_by_count (Some bytes) options e fault r is stands refused = λ text writes.
+accepted_by_count fills_up None options e fault r is stands refused = tt
+accepted_by_count fills_up (Some bytes) options e fault r is stands refused = λ text writes.
     let report = rw (one_election (records_of bytes) writes.0 e writes.1 stands) at writes.2 in
-    given_fault IsOutsideFault r (merged (Count fault)) is (count_from_outside e options text report fault refused)
+    given_fault IsOutsideFault r (merged (Count fault)) is (count_from_outside fills_up e options text report fault refused)
 
-refused_count : {fills_up : Bool} (bytes : List ℕ) (options : CountOptions) (e : ElectionView) (fault : CountFault) → StandsFor (records_of bytes) e → IsCountFault e options fault
+refused_count : (fills_up : Bool) (bytes : List ℕ) (options : CountOptions) (e : ElectionView) (fault : CountFault) → StandsFor (records_of bytes) e → IsCountFault e options fault
     → FailsBy (CountRefuses options) (CountWrites bytes options fills_up) bytes (merged (Count fault))
-refused_count bytes options e count.NoMemory stands refused = tt
-refused_count bytes options e fault stands refused = (e, stands, refused)
+refused_count fills_up bytes options e count.NoMemory stands refused = tt
+refused_count fills_up bytes options e fault stands refused = (e, stands, refused)
 
-pub refused_by_count : {fills_up : Bool} (files : Option (List ℕ)) (options : CountOptions) (e : ElectionView) (fault : CountFault) (r : Result (Unit {0}) AppFault)
+pub refused_by_count : (fills_up : Bool) (files : Option (List ℕ)) (options : CountOptions) (e : ElectionView) (fault : CountFault) (r : Result (Unit {0}) AppFault)
     → IsErrAnd r (λ app. app ≡ merged (Count fault)) → IfSome files (λ bytes. StandsFor (records_of bytes) e) → IsCountFault e options fault
     → IfErr r (λ app. IfSome files (λ bytes. FailsBy (CountRefuses options) (CountWrites bytes options fills_up) bytes app))
-refused_by_count None options e fault r is stands refused = given_fault (λ app. Unit {0}) r (merged (Count fault)) is tt
-refused_by_count {fills_up} (Some bytes) options e fault r is stands refused =
-    given_fault (FailsBy (CountRefuses options) (CountWrites bytes options fills_up) bytes) r (merged (Count fault)) is (refused_count bytes options e fault stands refused)
+refused_by_count fills_up None options e fault r is stands refused = given_fault (λ app. Unit {0}) r (merged (Count fault)) is tt
+refused_by_count fills_up (Some bytes) options e fault r is stands refused =
+    given_fault (FailsBy (CountRefuses options) (CountWrites bytes options fills_up) bytes) r (merged (Count fault)) is (refused_count fills_up bytes options e fault stands refused)
 
 -- a report doesn't say how many prices were computed
 report_of_other : (e : ElectionView) (fills_up : Bool) (o : OutcomeView) (priced : List ℕ)
@@ -151,12 +151,12 @@ report_of_other e true o priced = refl
 report_of_other e false o priced = refl
 
 -- an election and options have one report
-pub one_report : {fills_up : Bool} (e : ElectionView) (options : CountOptions) (a b : List ℕ) → IsReportOf e options fills_up a → IsReportOf e options fills_up b → a ≡ b
-one_report {fills_up} e options a b first second =
+pub one_report : (fills_up : Bool) (e : ElectionView) (options : CountOptions) (a b : List ℕ) → IsReportOf e options fills_up a → IsReportOf e options fills_up b → a ≡ b
+one_report fills_up e options a b first second =
     let outcome = one_outcome e options first.0 second.0 first.1 second.1 in
     first.2 ∙ ap (λ o. report_of e (counted e fills_up o)) outcome ∙ report_of_other e fills_up second.0 first.0.priced ∙ sym second.2
 
-pub one_text : {fills_up : Bool} (bytes : List ℕ) (options : CountOptions) (a b : List ℕ) → CountWrites bytes options fills_up a → CountWrites bytes options fills_up b → a ≡ b
-one_text bytes options a b first second =
+pub one_text : (fills_up : Bool) (bytes : List ℕ) (options : CountOptions) (a b : List ℕ) → CountWrites bytes options fills_up a → CountWrites bytes options fills_up b → a ≡ b
+one_text fills_up bytes options a b first second =
     let report = rw (one_election (records_of bytes) second.0 first.0 second.1 first.1) at second.2 in
-    one_report first.0 options a b first.2 report
+    one_report fills_up first.0 options a b first.2 report

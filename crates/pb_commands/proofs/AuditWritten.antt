@@ -33,57 +33,57 @@ abbrev pub IsElectionFile : List ℕ → Type 0
 IsElectionFile bytes = (e : ElectionView) × StandsFor (records_of bytes) e
 
 -- what was written is what the bytes make `audit` write
-pub audit_written : {fills_up : Bool} (files journals before after : Option (List ℕ)) (options : CountOptions) (e : ElectionView) (d : DeskView) (text : List ℕ) (r : Result (Unit {0}) AppFault)
+pub audit_written : (fills_up : Bool) (files journals before after : Option (List ℕ)) (options : CountOptions) (e : ElectionView) (d : DeskView) (text : List ℕ) (r : Result (Unit {0}) AppFault)
     → OnOk r (Appends before after text) → IsAudited files journals e d → IsTextOf d options fills_up text
     → OnOk r (IfBothKnown files journals (λ bytes journal. HasWritten (AuditWrites bytes journal options fills_up) before after))
-audit_written files journals before after options e d text (Err fault) appends audited written = tt
-audit_written None journals before after options e d text (Ok done) appends audited written = tt
-audit_written (Some bytes) None before after options e d text (Ok done) appends audited written = tt
-audit_written (Some bytes) (Some journal) before after options e d text (Ok done) appends audited written =
+audit_written fills_up files journals before after options e d text (Err fault) appends audited written = tt
+audit_written fills_up None journals before after options e d text (Ok done) appends audited written = tt
+audit_written fills_up (Some bytes) None before after options e d text (Ok done) appends audited written = tt
+audit_written fills_up (Some bytes) (Some journal) before after options e d text (Ok done) appends audited written =
     (text, (d, desk_of bytes journal e d audited, written), appends)
 
 -- what is to be written is known where the bytes are, and then a writer that fails is the fault
-pub write_fails : {fills_up : Bool} (files journals : Option (List ℕ)) (options : CountOptions) (e : ElectionView) (d : DeskView) (text : List ℕ) (r : Result (Unit {0}) AppFault)
+pub write_fails : (fills_up : Bool) (files journals : Option (List ℕ)) (options : CountOptions) (e : ElectionView) (d : DeskView) (text : List ℕ) (r : Result (Unit {0}) AppFault)
     → IfErr r (λ fault. fault ≡ Write) → IsAudited files journals e d → IsTextOf d options fills_up text
     → IfErr r (λ fault. IfBothKnown files journals (λ bytes journal. AuditFails bytes journal options fills_up fault))
-write_fails files journals options e d text (Ok done) is_write audited written = tt
-write_fails None journals options e d text (Err fault) is_write audited written = tt
-write_fails (Some bytes) None options e d text (Err fault) is_write audited written = tt
-write_fails {fills_up} (Some bytes) (Some journal) options e d text (Err fault) is_write audited written =
+write_fails fills_up files journals options e d text (Ok done) is_write audited written = tt
+write_fails fills_up None journals options e d text (Err fault) is_write audited written = tt
+write_fails fills_up (Some bytes) None options e d text (Err fault) is_write audited written = tt
+write_fails fills_up (Some bytes) (Some journal) options e d text (Err fault) is_write audited written =
     let writes : AuditWrites bytes journal options fills_up text = (d, desk_of bytes journal e d audited, written) in
     subst (AuditFails bytes journal options fills_up) (sym is_write) (text, writes)
 
-journal_fails : {fills_up : Bool} (bytes journal : List ℕ) (options : CountOptions) (fault : AuditFault) → (e : ElectionView) × StandsFor (records_of bytes) e × IsFaultOfJournal e program_room (records_of journal) fault
+journal_fails : (fills_up : Bool) (bytes journal : List ℕ) (options : CountOptions) (fault : AuditFault) → (e : ElectionView) × StandsFor (records_of bytes) e × IsFaultOfJournal e program_room (records_of journal) fault
     → AuditFails bytes journal options fills_up (merged (Audit fault))
-journal_fails bytes journal options audit.NoMemory fails = tt
-journal_fails bytes journal options fault fails = fails
+journal_fails fills_up bytes journal options audit.NoMemory fails = tt
+journal_fails fills_up bytes journal options fault fails = fails
 
-pub refused_by_journal : {fills_up : Bool} (files journals : Option (List ℕ)) (options : CountOptions) (e : ElectionView) (fault : AuditFault) (r : Result (Unit {0}) AppFault)
+pub refused_by_journal : (fills_up : Bool) (files journals : Option (List ℕ)) (options : CountOptions) (e : ElectionView) (fault : AuditFault) (r : Result (Unit {0}) AppFault)
     → IsErrAnd r (λ app. app ≡ merged (Audit fault))
     → IfSome files (λ bytes. StandsFor (records_of bytes) e) → IfSome journals (λ journal. IsFaultOfJournal e program_room (records_of journal) fault)
     → IfErr r (λ app. IfBothKnown files journals (λ bytes journal. AuditFails bytes journal options fills_up app))
-refused_by_journal None journals options e fault r is stands fails = given_fault (λ app. Unit {0}) r (merged (Audit fault)) is tt
-refused_by_journal (Some bytes) None options e fault r is stands fails = given_fault (λ app. Unit {0}) r (merged (Audit fault)) is tt
-refused_by_journal {fills_up} (Some bytes) (Some journal) options e fault r is stands fails =
+refused_by_journal fills_up None journals options e fault r is stands fails = given_fault (λ app. Unit {0}) r (merged (Audit fault)) is tt
+refused_by_journal fills_up (Some bytes) None options e fault r is stands fails = given_fault (λ app. Unit {0}) r (merged (Audit fault)) is tt
+refused_by_journal fills_up (Some bytes) (Some journal) options e fault r is stands fails =
     given_fault (AuditFails bytes journal options fills_up) r (merged (Audit fault)) is
-    (journal_fails bytes journal options fault (e, stands, fails))
+    (journal_fails fills_up bytes journal options fault (e, stands, fails))
 
-desk_fails : {fills_up : Bool} (bytes journal : List ℕ) (options : CountOptions) (d : DeskView) (fault : CountFault) → IsDeskOf bytes journal d → IsRefusedDesk d options fault
+desk_fails : (fills_up : Bool) (bytes journal : List ℕ) (options : CountOptions) (d : DeskView) (fault : CountFault) → IsDeskOf bytes journal d → IsRefusedDesk d options fault
     → AuditFails bytes journal options fills_up (merged (Count fault))
-desk_fails bytes journal options d count.WorkerCount is refused = (d.opening.election, is.stands, (d, is, refused.0, refused.1))
-desk_fails bytes journal options d count.StepRange is refused = (d.opening.election, is.stands, (d, is, refused.0, refused.1))
-desk_fails bytes journal options d count.RaisesRange is refused = (d.opening.election, is.stands, (d, is, refused.0, refused.1))
-desk_fails bytes journal options d count.RaisesSpent is refused = (d.opening.election, is.stands, (d, is, refused.0, refused.1))
-desk_fails bytes journal options d count.NoMemory is refused = tt
+desk_fails fills_up bytes journal options d count.WorkerCount is refused = (d.opening.election, is.stands, (d, is, refused.0, refused.1))
+desk_fails fills_up bytes journal options d count.StepRange is refused = (d.opening.election, is.stands, (d, is, refused.0, refused.1))
+desk_fails fills_up bytes journal options d count.RaisesRange is refused = (d.opening.election, is.stands, (d, is, refused.0, refused.1))
+desk_fails fills_up bytes journal options d count.RaisesSpent is refused = (d.opening.election, is.stands, (d, is, refused.0, refused.1))
+desk_fails fills_up bytes journal options d count.NoMemory is refused = tt
 
-pub refused_by_desk : {fills_up : Bool} (files journals : Option (List ℕ)) (options : CountOptions) (e : ElectionView) (d : DeskView) (fault : CountFault) (r : Result (Unit {0}) AppFault)
+pub refused_by_desk : (fills_up : Bool) (files journals : Option (List ℕ)) (options : CountOptions) (e : ElectionView) (d : DeskView) (fault : CountFault) (r : Result (Unit {0}) AppFault)
     → IsErrAnd r (λ app. app ≡ merged (Count fault)) → IsAudited files journals e d → IsRefusedDesk d options fault
     → IfErr r (λ app. IfBothKnown files journals (λ bytes journal. AuditFails bytes journal options fills_up app))
-refused_by_desk None journals options e d fault r is audited refused = given_fault (λ app. Unit {0}) r (merged (Count fault)) is tt
-refused_by_desk (Some bytes) None options e d fault r is audited refused = given_fault (λ app. Unit {0}) r (merged (Count fault)) is tt
-refused_by_desk {fills_up} (Some bytes) (Some journal) options e d fault r is audited refused =
+refused_by_desk fills_up None journals options e d fault r is audited refused = given_fault (λ app. Unit {0}) r (merged (Count fault)) is tt
+refused_by_desk fills_up (Some bytes) None options e d fault r is audited refused = given_fault (λ app. Unit {0}) r (merged (Count fault)) is tt
+refused_by_desk fills_up (Some bytes) (Some journal) options e d fault r is audited refused =
     given_fault (AuditFails bytes journal options fills_up) r (merged (Count fault)) is
-    (desk_fails bytes journal options d fault (desk_of bytes journal e d audited) refused)
+    (desk_fails fills_up bytes journal options d fault (desk_of bytes journal e d audited) refused)
 
 -- an error that is a given fault, judged by the file
 pub judged : (files : Option (List ℕ)) (fault : AppFault) (r : Result (Unit {0}) AppFault)

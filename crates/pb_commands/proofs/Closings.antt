@@ -21,17 +21,17 @@ when_true : (b : Bool) (A B : Type 0) → b ≡ true → A → MatchBool b A B
 when_true b A B is a = subst (λ (t : Bool). MatchBool t A B) (sym is) a
 
 -- the desk's row and the report of a count of its ballots are what is to be written of the desk
-pub report_of_count : {fills_up : Bool} (d : DeskView) (options : CountOptions) (o : OutcomeView) → (standing_of d).is_shut ≡ true → IsCountOf (closed_election d) options o
+pub report_of_count : (fills_up : Bool) (d : DeskView) (options : CountOptions) (o : OutcomeView) → (standing_of d).is_shut ≡ true → IsCountOf (closed_election d) options o
     → IsTextOf d options fills_up (text_of_row (entries_row d) ++ report_of (closed_election d) (counted (closed_election d) fills_up o))
-report_of_count {fills_up} d options o shut is_count =
+report_of_count fills_up d options o shut is_count =
     (report_of (closed_election d) (counted (closed_election d) fills_up o), refl, when_true (standing_of d).is_shut _ _ shut (o, is_count, refl))
 
 -- the report of a shut desk's ballots goes after the desk's row
-pub report_follows : {fills_up : Bool} (d : DeskView) (options : CountOptions) (e : ElectionView) (before middle after : List ℕ) (r : Result (Unit {0}) CountFault) → (standing_of d).is_shut ≡ true
+pub report_follows : (fills_up : Bool) (d : DeskView) (options : CountOptions) (e : ElectionView) (before middle after : List ℕ) (r : Result (Unit {0}) CountFault) → (standing_of d).is_shut ≡ true
     → e ≡ closed_election d → middle ≡ before ++ text_of_row (entries_row d) → OnOk r ((report : List ℕ) × IsReportOf e options fills_up report × (after ≡ middle ++ report))
     → OnOk r ((text : List ℕ) × IsTextOf d options fills_up text × (after ≡ before ++ text))
-report_follows d options e before middle after (Err fault) shut is row_is put = tt
-report_follows {fills_up} d options e before middle after (Ok done) shut is row_is put =
+report_follows fills_up d options e before middle after (Err fault) shut is row_is put = tt
+report_follows fills_up d options e before middle after (Ok done) shut is row_is put =
     let row = text_of_row (entries_row d) in
     let of_closed = subst (λ (e : ElectionView). IsReportOf e options fills_up put.0) is put.1 in (
       row ++ put.0,
@@ -40,19 +40,19 @@ report_follows {fills_up} d options e before middle after (Ok done) shut is row_
     )
 
 -- nothing goes after the row of an open desk
-pub row_alone : {fills_up : Bool} (d : DeskView) (options : CountOptions) (before after : List ℕ) → (standing_of d).is_shut ≡ false → after ≡ before ++ text_of_row (entries_row d)
+pub row_alone : (fills_up : Bool) (d : DeskView) (options : CountOptions) (before after : List ℕ) → (standing_of d).is_shut ≡ false → after ≡ before ++ text_of_row (entries_row d)
     → (text : List ℕ) × IsTextOf d options fills_up text × (after ≡ before ++ text)
-row_alone {fills_up} d options before after unshut is =
+row_alone fills_up d options before after unshut is =
     let row = text_of_row (entries_row d) in
     let none : List ℕ = [] in
     let P : Bool → Type 0 = λ t. MatchBool t (IsReportOf (closed_election d) options fills_up none) (none ≡ none) in
     (row, (none, sym (append-nil row), subst P (sym unshut) refl), is)
 
 -- the report of an election that a desk leaves
-pub report_of_closed : {fills_up : Bool} (d : DeskView) (options : CountOptions) (e : ElectionView) (before after : List ℕ) (r : Result (Unit {0}) CountFault) → e ≡ closed_election d
+pub report_of_closed : (fills_up : Bool) (d : DeskView) (options : CountOptions) (e : ElectionView) (before after : List ℕ) (r : Result (Unit {0}) CountFault) → e ≡ closed_election d
     → OnOk r ((report : List ℕ) × IsReportOf e options fills_up report × (after ≡ before ++ report)) → OnOk r ((report : List ℕ) × IsReportOf (closed_election d) options fills_up report × (after ≡ before ++ report))
-report_of_closed d options e before after (Err fault) is put = tt
-report_of_closed {fills_up} d options e before after (Ok done) is put = (put.0, subst (λ (e : ElectionView). IsReportOf e options fills_up put.0) is put.1, put.2)
+report_of_closed fills_up d options e before after (Err fault) is put = tt
+report_of_closed fills_up d options e before after (Ok done) is put = (put.0, subst (λ (e : ElectionView). IsReportOf e options fills_up put.0) is put.1, put.2)
 
 -- a count of a shut desk's ballots that is refused
 pub refused_desk : (d : DeskView) (options : CountOptions) (e : ElectionView) (r : Result (Unit {0}) CountFault) → (standing_of d).is_shut ≡ true → e ≡ closed_election d

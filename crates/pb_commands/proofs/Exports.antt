@@ -20,7 +20,7 @@ use Rattle.pb_commands.proofs.Accepted.{given_fault, read_from_outside}
 use Rattle.pb_commands.proofs.ClosedDesks.{Bars, Fails, one_left}
 use Rattle.pb_commands.specs.Closed.{ClosedRefuses, Leaves}
 use Rattle.pb_commands.specs.Ends.{Accepts, FailsBy, HasWritten, IfBothKnown, IsOutsideFault}
-use Rattle.pb_commands.specs.Exported.{ClosedExportRefuses, ExportWrites, IsExportOf}
+use Rattle.pb_commands.specs.Exported.{ClosedExportRefuses, ExportRefuses, ExportWrites, IsExportOf}
 use Rattle.pb_commands.specs.Inner.Exporting.{IsStopped}
 use Rattle.pb_faults.specs.Fault.{merged}
 use Rattle.pb_faults.specs.declared.fault.AppFault.{AppFault}
@@ -34,40 +34,57 @@ one_put {X} f n old new x before put is =
 
 module _ (options : CountOptions) where
   -- what stops the making of a file that there is comes from outside
-  from_outside : {fills_up : Bool} (e : ElectionView) (text : List ℕ) → IsExportOf options fills_up e text → (fault : AppFault) → IsStopped options e fault → merged fault ≡ fault → IsOutsideFault fault
-  from_outside e text writes Memory stopped is = refl
-  from_outside e text writes (Count count.WorkerCount) stopped is = absurd (none-some _ (sym writes.counted.in_range ∙ stopped))
-  from_outside e text writes (Count count.StepRange) stopped is = absurd (none-some _ (sym writes.counted.in_range ∙ stopped))
-  from_outside e text writes (Count count.RaisesRange) stopped is = absurd (none-some _ (sym writes.counted.in_range ∙ stopped))
-  from_outside e text writes (Count count.RaisesSpent) stopped is = absurd (none-some _ (sym (spent_is_none e options stopped) ∙ is_computed e options writes.outcome writes.counted))
-  from_outside e text writes (Count count.NoMemory) stopped is = cc is
-  from_outside e text writes (Export export.SectionWord) stopped is = absurd (true≢false (sym stopped.1 ∙ writes.can.words))
-  from_outside e text writes (Export export.CommaInId) stopped is = absurd (true≢false (sym stopped.1.1 ∙ writes.can.commas))
-  from_outside e text writes (Export export.OfNoFile) stopped is = absurd (true≢false (sym writes.can.of_file ∙ stopped.1.2))
-  from_outside e text writes (Export export.NoMemory) stopped is = cc is
-  from_outside e text writes (Read fault) stopped is = absurd stopped
-  from_outside e text writes (Script fault) stopped is = absurd stopped
-  from_outside e text writes ClerkCount stopped is = absurd stopped
-  from_outside e text writes (Audit fault) stopped is = absurd stopped
-  from_outside e text writes OtherFile stopped is = absurd stopped
-  from_outside e text writes OpenDesk stopped is = absurd stopped
-  from_outside e text writes (Open number) stopped is = absurd stopped
-  from_outside e text writes Write stopped is = absurd stopped
-  from_outside e text writes (Warned warning) stopped is = absurd stopped
-  from_outside e text writes (Roll fault) stopped is = absurd stopped
+  from_outside : (fills_up : Bool) (e : ElectionView) (text : List ℕ) → IsExportOf options fills_up e text → (fault : AppFault) → IsStopped options e fault → merged fault ≡ fault → IsOutsideFault fault
+  from_outside fills_up e text writes Memory stopped is = refl
+  from_outside fills_up e text writes (Count count.WorkerCount) stopped is = absurd (none-some _ (sym writes.counted.in_range ∙ stopped))
+  from_outside fills_up e text writes (Count count.StepRange) stopped is = absurd (none-some _ (sym writes.counted.in_range ∙ stopped))
+  from_outside fills_up e text writes (Count count.RaisesRange) stopped is = absurd (none-some _ (sym writes.counted.in_range ∙ stopped))
+  from_outside fills_up e text writes (Count count.RaisesSpent) stopped is = absurd (none-some _ (sym (spent_is_none e options stopped) ∙ is_computed e options writes.outcome writes.counted))
+  from_outside fills_up e text writes (Count count.NoMemory) stopped is = cc is
+  from_outside fills_up e text writes (Export export.SectionWord) stopped is = absurd (true≢false (sym stopped.1 ∙ writes.can.words))
+  from_outside fills_up e text writes (Export export.CommaInId) stopped is = absurd (true≢false (sym stopped.1.1 ∙ writes.can.commas))
+  from_outside fills_up e text writes (Export export.OfNoFile) stopped is = absurd (true≢false (sym writes.can.of_file ∙ stopped.1.2))
+  from_outside fills_up e text writes (Export export.NoMemory) stopped is = cc is
+  from_outside fills_up e text writes (Read fault) stopped is = absurd stopped
+  from_outside fills_up e text writes (Script fault) stopped is = absurd stopped
+  from_outside fills_up e text writes ClerkCount stopped is = absurd stopped
+  from_outside fills_up e text writes (Audit fault) stopped is = absurd stopped
+  from_outside fills_up e text writes OtherFile stopped is = absurd stopped
+  from_outside fills_up e text writes OpenDesk stopped is = absurd stopped
+  from_outside fills_up e text writes (Open number) stopped is = absurd stopped
+  from_outside fills_up e text writes Write stopped is = absurd stopped
+  from_outside fills_up e text writes (Warned warning) stopped is = absurd stopped
+  from_outside fills_up e text writes (Roll fault) stopped is = absurd stopped
 
-  pub accepted_by_reader : {fills_up : Bool} (files : Option (List ℕ)) (fault : ReadFault) (r : Result (Unit {0}) AppFault) → IsErrAnd r (λ app. app ≡ merged (Read fault))
+  pub accepted_by_reader : (fills_up : Bool) (files : Option (List ℕ)) (fault : ReadFault) (r : Result (Unit {0}) AppFault) → IsErrAnd r (λ app. app ≡ merged (Read fault))
       → IfSome files (λ bytes. (e : ElectionView) → StandsFor (records_of bytes) e → IsFromOutside fault.kind)
       → IfSome files (λ bytes. Accepts (ExportWrites options fills_up (StandsFor (records_of bytes))) r)
-  accepted_by_reader None fault r is accepts = tt
-  accepted_by_reader (Some bytes) fault r is accepts = λ text writes.
+  accepted_by_reader fills_up None fault r is accepts = tt
+  accepted_by_reader fills_up (Some bytes) fault r is accepts = λ text writes.
       given_fault IsOutsideFault r (merged (Read fault)) is (read_from_outside fault.kind fault.at (accepts writes.0 writes.1))
 
-  pub stopped_accepts : {fills_up : Bool} (files : Option (List ℕ)) (e : ElectionView) (fault : AppFault) → IfSome files (λ bytes. StandsFor (records_of bytes) e) → IsStopped options e fault → merged fault ≡ fault
+  pub stopped_accepts : (fills_up : Bool) (files : Option (List ℕ)) (e : ElectionView) (fault : AppFault) → IfSome files (λ bytes. StandsFor (records_of bytes) e) → IsStopped options e fault → merged fault ≡ fault
       → IfSome files (λ bytes. Accepts (ExportWrites options fills_up (StandsFor (records_of bytes))) (Err fault))
-  stopped_accepts None e fault stands stopped is = tt
-  stopped_accepts {fills_up} (Some bytes) e fault stands stopped is = λ text writes.
-      from_outside e text (subst (λ (x : ElectionView). IsExportOf options fills_up x text) (one_election (records_of bytes) writes.0 e writes.1 stands) writes.2) fault stopped is
+  stopped_accepts fills_up None e fault stands stopped is = tt
+  stopped_accepts fills_up (Some bytes) e fault stands stopped is = λ text writes.
+      from_outside fills_up e text (subst (λ (x : ElectionView). IsExportOf options fills_up x text) (one_election (records_of bytes) writes.0 e writes.1 stands) writes.2) fault stopped is
+
+  -- the file's own ballots are written as a file
+  pub alone_written : (fills_up : Bool) (files before after : Option (List ℕ)) (e : ElectionView) (text : List ℕ) (r : Result (Unit {0}) AppFault)
+      → OnOk r (Appends before after text) → IfSome files (λ bytes. StandsFor (records_of bytes) e) → IsExportOf options fills_up e text
+      → OnOk r (IfSome files (λ bytes. HasWritten (ExportWrites options fills_up (StandsFor (records_of bytes))) before after))
+  alone_written fills_up files before after e text (Err fault) appends stands told = tt
+  alone_written fills_up None before after e text (Ok done) appends stands told = tt
+  alone_written fills_up (Some bytes) before after e text (Ok done) appends stands told = (text, (e, stands, told), appends)
+
+  pub alone_not_written : (fills_up : Bool) (files : Option (List ℕ)) (e : ElectionView) (text : List ℕ) (r : Result (Unit {0}) AppFault)
+      → IfErr r (λ fault. fault ≡ Write) → IfSome files (λ bytes. StandsFor (records_of bytes) e) → IsExportOf options fills_up e text
+      → IfErr r (λ app. IfSome files (λ bytes. FailsBy (ExportRefuses options) (ExportWrites options fills_up (StandsFor (records_of bytes))) bytes app))
+  alone_not_written fills_up files e text (Ok done) is stands told = tt
+  alone_not_written fills_up None e text (Err fault) is stands told = tt
+  alone_not_written fills_up (Some bytes) e text (Err fault) is stands told =
+      let writes : ExportWrites options fills_up (StandsFor (records_of bytes)) text = (e, stands, told) in
+      subst (FailsBy (ExportRefuses options) (ExportWrites options fills_up (StandsFor (records_of bytes))) bytes) (sym is) (text, writes)
 
   -- what refuses the ballots of a journal before they are counted
   early : (bytes rows : List ℕ) (IsText : List ℕ → Type 0) (fault : AppFault) → FailsBy (ClosedRefuses bytes rows options) (λ _. ⊥) bytes fault → FailsBy (ClosedExportRefuses bytes rows options) IsText bytes fault
@@ -85,17 +102,17 @@ module _ (options : CountOptions) where
   early bytes rows IsText (Warned warning) fails = fails
   early bytes rows IsText (Roll fault) fails = fails
 
-  pub refused_early : {fills_up : Bool} (files journals : Option (List ℕ)) (fault : AppFault) → IfBothKnown files journals (λ bytes rows. Fails bytes rows fault)
+  pub refused_early : (fills_up : Bool) (files journals : Option (List ℕ)) (fault : AppFault) → IfBothKnown files journals (λ bytes rows. Fails bytes rows fault)
       → IfBothKnown files journals (λ bytes rows. FailsBy (ClosedExportRefuses bytes rows options) (ExportWrites options fills_up (Leaves bytes rows)) bytes fault)
-  refused_early None journals fault fails = tt
-  refused_early (Some bytes) None fault fails = tt
-  refused_early {fills_up} (Some bytes) (Some rows) fault fails = early bytes rows (ExportWrites options fills_up (Leaves bytes rows)) fault (fails options)
+  refused_early fills_up None journals fault fails = tt
+  refused_early fills_up (Some bytes) None fault fails = tt
+  refused_early fills_up (Some bytes) (Some rows) fault fails = early bytes rows (ExportWrites options fills_up (Leaves bytes rows)) fault (fails options)
 
-  pub barred_early : {fills_up : Bool} (files journals : Option (List ℕ)) (fault : AppFault) → IfBothKnown files journals (λ bytes rows. Bars bytes rows fault)
+  pub barred_early : (fills_up : Bool) (files journals : Option (List ℕ)) (fault : AppFault) → IfBothKnown files journals (λ bytes rows. Bars bytes rows fault)
       → IfBothKnown files journals (λ bytes rows. Accepts (ExportWrites options fills_up (Leaves bytes rows)) (Err fault))
-  barred_early None journals fault bars = tt
-  barred_early (Some bytes) None fault bars = tt
-  barred_early (Some bytes) (Some rows) fault bars = λ text writes. bars writes.0 writes.1
+  barred_early fills_up None journals fault bars = tt
+  barred_early fills_up (Some bytes) None fault bars = tt
+  barred_early fills_up (Some bytes) (Some rows) fault bars = λ text writes. bars writes.0 writes.1
 
   module _ (e : ElectionView) where
     stopped_fails : (bytes rows : List ℕ) (IsText : List ℕ → Type 0) (fault : AppFault) → Leaves bytes rows e → IsStopped options e fault → FailsBy (ClosedExportRefuses bytes rows options) IsText bytes fault
@@ -114,33 +131,33 @@ module _ (options : CountOptions) where
     stopped_fails bytes rows IsText (Warned warning) leaves stopped = absurd stopped
     stopped_fails bytes rows IsText (Roll fault) leaves stopped = absurd stopped
 
-    pub refused_late : {fills_up : Bool} (files journals : Option (List ℕ)) (fault : AppFault) → IfBothKnown files journals (λ bytes rows. Leaves bytes rows e) → IsStopped options e fault
+    pub refused_late : (fills_up : Bool) (files journals : Option (List ℕ)) (fault : AppFault) → IfBothKnown files journals (λ bytes rows. Leaves bytes rows e) → IsStopped options e fault
         → IfBothKnown files journals (λ bytes rows. FailsBy (ClosedExportRefuses bytes rows options) (ExportWrites options fills_up (Leaves bytes rows)) bytes fault)
-    refused_late None journals fault leaves stopped = tt
-    refused_late (Some bytes) None fault leaves stopped = tt
-    refused_late {fills_up} (Some bytes) (Some rows) fault leaves stopped = stopped_fails bytes rows (ExportWrites options fills_up (Leaves bytes rows)) fault leaves stopped
+    refused_late fills_up None journals fault leaves stopped = tt
+    refused_late fills_up (Some bytes) None fault leaves stopped = tt
+    refused_late fills_up (Some bytes) (Some rows) fault leaves stopped = stopped_fails bytes rows (ExportWrites options fills_up (Leaves bytes rows)) fault leaves stopped
 
-    pub barred_late : {fills_up : Bool} (files journals : Option (List ℕ)) (fault : AppFault) → IfBothKnown files journals (λ bytes rows. Leaves bytes rows e) → IsStopped options e fault → merged fault ≡ fault
+    pub barred_late : (fills_up : Bool) (files journals : Option (List ℕ)) (fault : AppFault) → IfBothKnown files journals (λ bytes rows. Leaves bytes rows e) → IsStopped options e fault → merged fault ≡ fault
         → IfBothKnown files journals (λ bytes rows. Accepts (ExportWrites options fills_up (Leaves bytes rows)) (Err fault))
-    barred_late None journals fault leaves stopped is = tt
-    barred_late (Some bytes) None fault leaves stopped is = tt
-    barred_late {fills_up} (Some bytes) (Some rows) fault leaves stopped is = λ text writes.
-        from_outside e text (subst (λ (x : ElectionView). IsExportOf options fills_up x text) (one_left bytes rows writes.0 e writes.1 leaves) writes.2) fault stopped is
+    barred_late fills_up None journals fault leaves stopped is = tt
+    barred_late fills_up (Some bytes) None fault leaves stopped is = tt
+    barred_late fills_up (Some bytes) (Some rows) fault leaves stopped is = λ text writes.
+        from_outside fills_up e text (subst (λ (x : ElectionView). IsExportOf options fills_up x text) (one_left bytes rows writes.0 e writes.1 leaves) writes.2) fault stopped is
 
-    pub file_written : {fills_up : Bool} (files journals before after : Option (List ℕ)) (text : List ℕ) (r : Result (Unit {0}) AppFault)
+    pub file_written : (fills_up : Bool) (files journals before after : Option (List ℕ)) (text : List ℕ) (r : Result (Unit {0}) AppFault)
         → OnOk r (Appends before after text) → IfBothKnown files journals (λ bytes rows. Leaves bytes rows e) → IsExportOf options fills_up e text
         → OnOk r (IfBothKnown files journals (λ bytes rows. HasWritten (ExportWrites options fills_up (Leaves bytes rows)) before after))
-    file_written files journals before after text (Err fault) appends leaves told = tt
-    file_written None journals before after text (Ok done) appends leaves told = tt
-    file_written (Some bytes) None before after text (Ok done) appends leaves told = tt
-    file_written (Some bytes) (Some rows) before after text (Ok done) appends leaves told = (text, (e, leaves, told), appends)
+    file_written fills_up files journals before after text (Err fault) appends leaves told = tt
+    file_written fills_up None journals before after text (Ok done) appends leaves told = tt
+    file_written fills_up (Some bytes) None before after text (Ok done) appends leaves told = tt
+    file_written fills_up (Some bytes) (Some rows) before after text (Ok done) appends leaves told = (text, (e, leaves, told), appends)
 
-    pub file_not_written : {fills_up : Bool} (files journals : Option (List ℕ)) (text : List ℕ) (r : Result (Unit {0}) AppFault)
+    pub file_not_written : (fills_up : Bool) (files journals : Option (List ℕ)) (text : List ℕ) (r : Result (Unit {0}) AppFault)
         → IfErr r (λ fault. fault ≡ Write) → IfBothKnown files journals (λ bytes rows. Leaves bytes rows e) → IsExportOf options fills_up e text
         → IfErr r (λ app. IfBothKnown files journals (λ bytes rows. FailsBy (ClosedExportRefuses bytes rows options) (ExportWrites options fills_up (Leaves bytes rows)) bytes app))
-    file_not_written files journals text (Ok done) is leaves told = tt
-    file_not_written None journals text (Err fault) is leaves told = tt
-    file_not_written (Some bytes) None text (Err fault) is leaves told = tt
-    file_not_written {fills_up} (Some bytes) (Some rows) text (Err fault) is leaves told =
+    file_not_written fills_up files journals text (Ok done) is leaves told = tt
+    file_not_written fills_up None journals text (Err fault) is leaves told = tt
+    file_not_written fills_up (Some bytes) None text (Err fault) is leaves told = tt
+    file_not_written fills_up (Some bytes) (Some rows) text (Err fault) is leaves told =
         let writes : ExportWrites options fills_up (Leaves bytes rows) text = (e, leaves, told) in
         subst (FailsBy (ClosedExportRefuses bytes rows options) (ExportWrites options fills_up (Leaves bytes rows)) bytes) (sym is) (text, writes)

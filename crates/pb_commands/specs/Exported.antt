@@ -7,7 +7,8 @@ use Rattle.pb_export.specs.Export.{CanBeWritten, IsExportFault}
 use Rattle.pb_export.specs.FileRows.{file_rows}
 use Rattle.pb_price.specs.Supporters.{support_of, supporters_at}
 use Rattle.pb_read.specs.StandsFor.{StandsFor}
-use Rattle.pb_reasons.specs.Counted.{CountedView, counted, is_selected}
+use Rattle.pb_reasons.specs.Counted as counting
+use Rattle.pb_reasons.specs.Counted.{CountedView, is_selected}
 use Rattle.pb_rounds.specs.Counted.{IsCountFault, IsCountOf}
 use Rattle.pb_rounds.specs.Outcome.{OutcomeView}
 use Rattle.pb_rounds.specs.declared.measure.Measure.{Measure}
@@ -51,7 +52,7 @@ pub record IsExportOf (options : CountOptions) (fills_up : Bool) (e : ElectionVi
   pub counted : IsCountOf e options outcome
   pub can : CanBeWritten e
   pub text_is : text
-      ≡ text_of_rows (file_rows e (rule_text options fills_up) (votes_of e) (selected_of e (counted e fills_up outcome)))
+      ≡ text_of_rows (file_rows e (rule_text options fills_up) (votes_of e) (selected_of e (counting.counted e fills_up outcome)))
   pub reads_back : StandsFor (records_of text) e
 
 -- the text is such a file of an election that is such

@@ -86,42 +86,47 @@ fn put_each(
     let projects = election.projects();
     for place in 0..projects.len() {
         let reason = teller.tell(place as u32);
-        put_told(
-            rows,
-            alloc,
-            place as u32,
-            &projects[place],
-            &reason,
-            fills_up,
-        )?;
+        let told = Told {
+            place: place as u32,
+            project: &projects[place],
+            reason: &reason,
+        };
+        put_told(rows, alloc, fills_up, told)?;
     }
     Ok(())
 }
 
-/// Writes the row of the project at this place, for which these are the reasons.
+/// A project at its place, and why it is elected or added, or is neither.
+#[derive(Clone, Copy)]
+struct Told<'a> {
+    place: u32,
+    project: &'a Project,
+    reason: &'a ProjectReason,
+}
+
+/// Writes the row of the project of which this is told.
 fn put_told(
     rows: &mut RowsWriter,
     alloc: Global,
-    place: u32,
-    project: &Project,
-    reason: &ProjectReason,
     fills_up: bool,
+    told: Told,
 ) -> Result<(), NoMemory>
     ensures { OnOk result (rows.new.text ≡ rows.old.text
-        ++ text_of_row (take (if fills_up then 12 else 11) (decimal place ∷ project.now.id ∷ project.now.name ∷ money_text project.now.cost
-        ∷ decimal reason.now.votes ∷ ending_fields reason.now.ending))) }
+        ++ text_of_row (take (if fills_up then 12 else 11) (decimal told.entry.place ∷ told.entry.project.now.id
+        ∷ told.entry.project.now.name ∷ money_text told.entry.project.now.cost
+        ∷ decimal told.entry.reason.now.votes ∷ ending_fields told.entry.reason.now.ending))) }
 {
     let mut place_digits = Buffer::new();
     let mut vote_digits = Buffer::new();
-    let cost = project.cost().text(alloc)?;
+    let cost = told.project.cost().text(alloc)?;
     let opening = Opening {
-        place: place_digits.format(place),
-        id: project.id(),
-        name: project.name(),
+        place: place_digits.format(told.place),
+        id: told.project.id(),
+        name: told.project.name(),
         cost: cost.as_str(),
-        votes: vote_digits.format(reason.votes),
+        votes: vote_digits.format(told.reason.votes),
     };
-    put_project(rows, alloc, fills_up, opening, &reason.ending)
+    put_project(rows, alloc, fills_up, opening, &told.reason.ending)
 }
 
 /// Writes the row of a project that begins and ended so.

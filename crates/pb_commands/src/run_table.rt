@@ -179,7 +179,7 @@ fn put_outcome(
 ) -> Result<(), NoMemory>
     requires { IsCounted election.now counted.now }
     ensures { OnOk result (rows.new.text
-        ≡ rows.old.text ++ table_of table election.now outcome.now) }
+        ≡ rows.old.text ++ table_of table election.now counted.now) }
 {
     match table {
         Table::Projects => put_projects(rows, alloc, election, counted),

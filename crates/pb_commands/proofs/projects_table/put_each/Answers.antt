@@ -1,4 +1,4 @@
-use Rattle.std.proofs.Common.{◌<◌, ◌++◌, ◌∙◌, ap, length}
+use Rattle.std.proofs.Common.{◌≡◌, ◌<◌, ◌++◌, ◌∙◌, ap, arith, length}
 use Rattle.pb_rows.specs.Writing.{text_of_row}
 use Rattle.pb_commands.proofs.TableRows.{columns_put, project_row_read, row_put}
 use Rattle.pb_commands.specs.Tables.{project_table_row}
@@ -17,3 +17,9 @@ loop-place-preserved c = λ old put.
     let row = project_row_read e o place c.index-projects-place.result known (rw c.projects-projects.ensures.projects at c.index-projects-place.is) c.tell-reason.result (rw c.requires.own at c.tell-reason.ensures) in
     row_put (project_columns c.args.fills_up) (project_table_row e o) place old c.loop-place.rows.text c.put_told.new.rows.text (c.loop-place.invariant old put)
     ((rw c.requires.fills_up at c.in_ok-put_told.ensures) ∙ ap (λ fields. c.loop-place.rows.text ++ text_of_row fields) row)
+
+pub returns : goal.returns
+returns c = λ old put.
+    let projects = ap length c.projects-projects.ensures.projects in
+    let all : c.loop-place.place ≡ length c.args.election.now.projects = omega (arith, projects, c.loop-place.auto.place-end, c.loop-place-test.false) in
+    rw (← all) (c.loop-place.invariant old put)

@@ -16,14 +16,14 @@ returns-in_err-text-clause-merged g c = stays_merged (Count c.in_err-text.field-
 
 pub returns-in_err-election-clause-accepts : goal.returns-in_err-election-clause-accepts
 returns-in_err-election-clause-accepts g c = λ none.
-    accepted_by_reader _ c.args.counting.now.options.now c.in_err-election.field-0.0 _ c.from_residual.ensures.1 c.in_err-election.ensures.accepts
+    accepted_by_reader _ _ c.args.counting.now.options.now c.in_err-election.field-0.0 _ c.from_residual.ensures.1 c.in_err-election.ensures.accepts
 
 pub returns-in_err-text-clause-fault : goal.returns-in_err-text-clause-fault
 returns-in_err-text-clause-fault g c =
-    refused_by_count _ c.args.counting.now.options.now c.in_ok-election.election c.in_err-text.field-0.0 _ c.from_residual-in_err-text.ensures.1
+    refused_by_count _ _ c.args.counting.now.options.now c.in_ok-election.election c.in_err-text.field-0.0 _ c.from_residual-in_err-text.ensures.1
     c.in_ok-election.ensures.ok c.in_err-text.ensures.fault
 
 pub returns-in_err-text-clause-accepts : goal.returns-in_err-text-clause-accepts
 returns-in_err-text-clause-accepts g c = λ none.
-    accepted_by_count _ c.args.counting.now.options.now c.in_ok-election.election c.in_err-text.field-0.0 _ c.from_residual-in_err-text.ensures.1
+    accepted_by_count _ _ c.args.counting.now.options.now c.in_ok-election.election c.in_err-text.field-0.0 _ c.from_residual-in_err-text.ensures.1
     c.in_ok-election.ensures.ok c.in_err-text.ensures.fault
