@@ -189,14 +189,7 @@ where
         Task::Desk(asked) => desk(counting, asked, writer, &mut notes.written),
         Task::Audit(asked) => audit(counting, asked, writer, kinship, notes),
         Task::Serve(asked) => {
-            return serve(
-                counting.rt,
-                asked,
-                kinship,
-                writer,
-                notes,
-                typing,
-            );
+            return serve(counting.rt, asked, kinship, writer, notes, typing);
         }
     };
     Ok(done?)

@@ -219,11 +219,7 @@ fn clerks_of(task: &Task<'_>) -> u32 {
 }
 
 /// Says what is wrong with a file that was checked.
-pub(crate) fn say_faults<R: Files + Eprint + AllocGlobal>(
-    rt: &R,
-    task: &Task<'_>,
-    notes: &Notes,
-) {
+pub(crate) fn say_faults<R: Files + Eprint + AllocGlobal>(rt: &R, task: &Task<'_>, notes: &Notes) {
     let faults = notes.faults.as_slice();
     if !faults.is_empty() {
         let (file, _) = task.paths();

@@ -94,12 +94,7 @@ fn put_faults<R: Files>(
 }
 
 /// Puts what is wrong with a record that was refused, or with the end of the file, and what to do.
-fn put_fault<R: Files>(
-    out: &mut Words,
-    text: &Text<'_, R>,
-    known: &Known<'_>,
-    refused: &Refused,
-) {
+fn put_fault<R: Files>(out: &mut Words, text: &Text<'_, R>, known: &Known<'_>, refused: &Refused) {
     let kind = refused.fault.kind;
     if put_looks(out, text, kind) {
         return;

@@ -83,9 +83,10 @@ impl<'w, F: Read> Search<'w, F> {
             if !self.records.advance() {
                 return Ok(());
             }
+            let mark = self.records.mark();
             let id = text_at(&self.records.last, column);
             if self.wanted.has(id) {
-                found.keep(self.alloc, id, self.records.mark())?;
+                found.keep(self.alloc, id, mark)?;
                 if found.len() == self.wanted.len() {
                     return Ok(());
                 }
