@@ -1,4 +1,20 @@
+use Rattle.std.proofs.Common.{ap, rules, subst, sym, ◌∙◌}
+use Rattle.pb_reasons.specs.Counted.{CountedView, counted}
+use Rattle.pb_rounds.specs.Counted.{IsCountOf}
+use Rattle.pb_rounds.specs.Outcome.{OutcomeView}
 use Rattle.pb_app.proofs.page.page_text.Goals as goal
 
-pub page_of-requires : goal.page_of-requires
-page_of-requires g c = c.in_ok-outcome.ensures.counted
+pub page_of-requires-clause-counted : goal.page_of-requires-clause-counted
+page_of-requires-clause-counted g c =
+    let made = c.in_ok-counted.ensures.ok in
+    let same = ap (λ (v : CountedView). v.outcome) made.2 in
+    subst (λ (o : OutcomeView). IsCountOf c.args.election.now c.args.facts.now.options o) (sym same) (rw c.requires.options at made.1)
+
+pub page_of-requires-clause-filled : goal.page_of-requires-clause-filled
+page_of-requires-clause-filled g c =
+    let made = c.in_ok-counted.ensures.ok in
+    let same = ap (λ (v : CountedView). v.outcome) made.2 in
+    (rw c.requires.fills_up at made.2) ∙ ap (counted c.args.election.now c.args.facts.now.fills_up) (sym same)
+
+pub returns-in_err-counted-clause-fault : goal.returns-in_err-counted-clause-fault
+returns-in_err-counted-clause-fault g c = rw (← c.requires.options) (search rules)
