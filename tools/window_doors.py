@@ -166,7 +166,7 @@ def try_ids(window, ann):
         see('Recorded.' in ann.ask('cast', odd, []).seen and window.entries()[-1][2:] == ['cast', odd, '', 'done'],
             f'{odd!r} is an id', window.entries()[-1:])
     page = ann.ask('cast', 'too many', ['12', '7', '99', MARKUP])
-    see('more projects' in page.seen and window.entries()[-1][-1] == 'too-long', 'too many projects are refused by the desk', page.seen)
+    see('too many projects' in page.seen and window.entries()[-1][-1] == 'too-long', 'too many projects are refused by the desk', page.seen)
     # A second sending gets the first's answer; a form of before is not sent.
     form = ann.look('cast', 'twice', ['12'])
     stale = ann.look('cast', 'twice', ['7'])
@@ -250,7 +250,7 @@ def try_files(window, folder):
         see(stat.S_IMODE((folder / path).stat().st_mode) == 0o600, f'{path} is 0600')
     said, status = window.end()
     digest = hashlib.sha256(window.journal.read_bytes()).hexdigest()
-    see(status == 0 and digest in said and f'{len(window.entries())} entries' in said, 'the end of the day is told', said, status)
+    see(status == 0 and digest in said and f'Entries: {len(window.entries())},' in said, 'the end of the day is told', said, status)
     see(window.audit().stdout == f'entries;{len(window.entries())};open\n', 'the journal is at rest and audited', window.audit())
 
 

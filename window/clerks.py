@@ -75,18 +75,15 @@ def main():
     clerks = load(given.clerks) if os.path.exists(given.clerks) or given.what != 'add' else []
     name = given.name.strip()
     clerk = next((it for it in clerks if it['name'] == name), {'number': len(clerks), 'name': name})
-    if not name.isprintable() or not name:
-        sys.exit('clerks.py: a name has at least one character, and only characters that can be seen')
-    if given.what == 'add' and clerk['number'] < len(clerks):
-        sys.exit(f'clerks.py: there is a clerk {name} already; give the new one another name')
-    if given.what != 'add' and clerk['number'] == len(clerks):
-        sys.exit(f"clerks.py: there is no clerk {name}; the clerks are {', '.join(it['name'] for it in clerks)}")
-    if len(clerks) == 64 and given.what == 'add':
-        sys.exit('clerks.py: there can be 64 clerks at most')
+    refusals = {'a name has at least one character, and only characters that can be seen': not name.isprintable() or not name,
+                f'there is a clerk {name} already; give the new one another name': given.what == 'add' and clerk in clerks,
+                f"there is no clerk {name}; the clerks are {', '.join(it['name'] for it in clerks)}": given.what != 'add' and clerk not in clerks,
+                'there can be 64 clerks at most': given.what == 'add' and len(clerks) == 64}
+    for words in filter(refusals.get, refusals):
+        sys.exit(f'clerks.py: {words}')
     clerk.update({'salt': '', 'hash': ''} if given.what == 'close' else typed(name))
     save(given.clerks, clerks[:clerk['number']] + [clerk] + clerks[clerk['number'] + 1:])
-    said = f"{name} is clerk {clerk['number']}{', the head clerk' if clerk['number'] == 0 else ''}"
-    print(said + (', and can no longer sign in' if given.what == 'close' else ''))
+    print(f"{name} is clerk {clerk['number']}", end=', the head clerk' * (clerk['number'] == 0) + ', and can no longer sign in' * (given.what == 'close') + '\n')
 
 
 if __name__ == '__main__':

@@ -6,7 +6,7 @@ use crate::mark::Mark;
 use crate::mark_words::{line_of, put_mark};
 use crate::read_rules::{put_broken, words_of};
 use crate::records::Records;
-use crate::section::OddHead;
+use crate::section::{OddHead, head_of};
 use crate::seen::Seen;
 use crate::text::Text;
 use crate::words::Value::{Number, Own, Quoted};
@@ -120,13 +120,10 @@ pub(crate) fn put_joined(out: &mut Words, joined: Option<JoinedBy>, remedy: &str
 
 /// Puts what to do about a row that seems to be meant as a head.
 pub(crate) fn put_odd_head<R: Files>(out: &mut Words, text: &Text<'_, R>, odd: OddHead) {
+    let head = head_of(odd.section);
     out.fill(
         "Line {} is probably meant as the heading {}: write {} there, without punctuation.\n",
-        &[
-            Number(line_of(text, odd.mark)),
-            Own(odd.head),
-            Own(odd.head),
-        ],
+        &[Number(line_of(text, odd.mark)), Own(head), Own(head)],
     )
 }
 

@@ -25,13 +25,13 @@ pub(crate) struct Names {
 /// A row that seems to be meant as the head of a section, and is none.
 #[derive(Clone, Copy)]
 pub(crate) struct OddHead {
-    /// The section's name, as its head should be.
-    pub(crate) head: &'static str,
+    /// The section that it seems to begin.
+    pub(crate) section: Section,
     pub(crate) mark: Mark,
 }
 
-/// The heads of the sections.
-const HEADS: [&str; 3] = ["META", "PROJECTS", "VOTES"];
+/// The sections, in their order.
+const SECTIONS: [Section; 3] = [Section::Meta, Section::Projects, Section::Votes];
 
 const META: &Names = &Names {
     id_column: "key",
@@ -69,6 +69,15 @@ pub(crate) fn names_of(section: Section) -> &'static Names {
     }
 }
 
+/// The head of a section.
+pub(crate) fn head_of(section: Section) -> &'static str {
+    match section {
+        Section::Meta => "META",
+        Section::Projects => "PROJECTS",
+        Section::Votes => "VOTES",
+    }
+}
+
 /// The section that is read at a stage.
 pub(crate) fn section_of(stage: &Stage) -> Section {
     match stage {
@@ -89,9 +98,9 @@ pub(crate) fn odd_head_of(record: &ByteRecord, mark: Mark) -> Option<OddHead> {
     if name.len() == field.len() {
         return None;
     }
-    for head in HEADS {
-        if name.eq_ignore_ascii_case(head) {
-            return Some(OddHead { head, mark });
+    for section in SECTIONS {
+        if name.eq_ignore_ascii_case(head_of(section)) {
+            return Some(OddHead { section, mark });
         }
     }
     None
