@@ -6,7 +6,7 @@ use crate::mark::Mark;
 use crate::mark_words::{line_of, put_mark};
 use crate::read_rules::words_of;
 use crate::records::Records;
-use crate::section::OddHead;
+use crate::section::{OddHead, names_of};
 use crate::seen::Seen;
 use crate::text::Text;
 use crate::words::Value::{Number, Own, Quoted};
@@ -118,13 +118,10 @@ pub(crate) fn put_joined(out: &mut Words, joined: Option<JoinedBy>, remedy: &str
 
 /// Puts what to do about a row that seems to be meant as a head.
 pub(crate) fn put_odd_head<R: Files>(out: &mut Words, text: &Text<'_, R>, odd: OddHead) {
+    let head = names_of(odd.section).head;
     out.fill(
         "Line {} is probably meant as the head {}: write {} there, without punctuation.\n",
-        &[
-            Number(line_of(text, odd.mark)),
-            Own(odd.head),
-            Own(odd.head),
-        ],
+        &[Number(line_of(text, odd.mark)), Own(head), Own(head)],
     )
 }
 

@@ -8,6 +8,8 @@ use pb_read::{Section, Stage};
 /// What things are called in a section.
 #[derive(Clone, Copy)]
 pub(crate) struct Names {
+    /// The section's head.
+    pub(crate) head: &'static str,
     /// The column of its rows' ids.
     pub(crate) id_column: &'static str,
     /// The other column that its rows need.
@@ -21,15 +23,16 @@ pub(crate) struct Names {
 /// A row that seems to be meant as the head of a section, and is none.
 #[derive(Clone, Copy)]
 pub(crate) struct OddHead {
-    /// The section's name, as its head should be.
-    pub(crate) head: &'static str,
+    /// The section that it should begin.
+    pub(crate) section: Section,
     pub(crate) mark: Mark,
 }
 
-/// The heads of the sections.
-const HEADS: [&str; 3] = ["META", "PROJECTS", "VOTES"];
+/// The sections.
+const SECTIONS: [Section; 3] = [Section::Meta, Section::Projects, Section::Votes];
 
 const META: &Names = &Names {
+    head: "META",
     id_column: "key",
     value_column: "value",
     subject: "key",
@@ -37,6 +40,7 @@ const META: &Names = &Names {
 };
 
 const PROJECTS: &Names = &Names {
+    head: "PROJECTS",
     id_column: "project_id",
     value_column: "cost",
     subject: "project",
@@ -44,6 +48,7 @@ const PROJECTS: &Names = &Names {
 };
 
 const VOTES: &Names = &Names {
+    head: "VOTES",
     id_column: "voter_id",
     value_column: "vote",
     subject: "voter",
@@ -79,9 +84,9 @@ pub(crate) fn odd_head_of(record: &ByteRecord, mark: Mark) -> Option<OddHead> {
     if name.len() == field.len() {
         return None;
     }
-    for head in HEADS {
-        if name.eq_ignore_ascii_case(head) {
-            return Some(OddHead { head, mark });
+    for section in SECTIONS {
+        if name.eq_ignore_ascii_case(names_of(section).head) {
+            return Some(OddHead { section, mark });
         }
     }
     None
