@@ -3,7 +3,7 @@
 use crate::address::is_address;
 use crate::asked::asked_by;
 use crate::command_line::command_line;
-use crate::task::{Admits, Asked, PageRun, ServeRun, Source, Task};
+use crate::task::{Admits, Asked, DeskRun, PageRun, ServeRun, Source, Task};
 use clap::Error;
 use clap::error::ErrorKind;
 use std::alloc::{AllocError, Global};
@@ -38,6 +38,9 @@ pub fn parse<'a, R: Print + Eprint>(
             }
             if let Some(name) = read_twice(&asked.task) {
                 return Ok(Parsed::Ends(refuse_twice(rt, name)));
+            }
+            if has_piped_roll(&asked.task) {
+                return Ok(Parsed::Ends(refuse_roll(rt)));
             }
             if leads_elsewhere(&asked.task) {
                 return Ok(Parsed::Ends(refuse_address(rt)));
@@ -79,6 +82,22 @@ fn needs_path(task: &Task<'_>) -> Option<&'static str> {
     }
 }
 
+/// Whether the roll of a script's desk is standard input, which can be FILE or SCRIPT alone.
+fn has_piped_roll(task: &Task<'_>) -> bool {
+    match task {
+        Task::Desk(
+            DeskRun {
+                admits: Admits {
+                    roll: Some("-"),
+                    ..
+                },
+                ..
+            },
+        ) => true,
+        _ => false,
+    }
+}
+
 /// Whether a page would lead to what no link of it may lead to.
 fn leads_elsewhere(task: &Task<'_>) -> bool {
     match task {
@@ -105,6 +124,12 @@ fn refuse_input<R: Eprint>(rt: &R, name: &str) -> u8 {
     let _ = eprintln!(rt;
         "error: {name} can't be standard input (-), because the requests come from there. Name a file"
     );
+    BAD_ARGUMENTS
+}
+
+/// Refuses a roll that is standard input.
+fn refuse_roll<R: Eprint>(rt: &R) -> u8 {
+    let _ = eprintln!(rt; "error: ROLL can't be standard input (-). Name a file");
     BAD_ARGUMENTS
 }
 
