@@ -181,7 +181,7 @@ const CLERKS: Argument = Argument {
 const SHUT: Argument = Argument {
     name: "shut",
     takes: Takes::Nothing,
-    help: "Shuts the desk after all rows, as clerk 0; with several clerks a shut row in SCRIPT may come too early for the others",
+    help: "Shuts the desk after the last row, in the name of clerk 0; with several clerks, a shut row in SCRIPT may be taken before other clerks' rows",
 };
 
 /// Whether rows name projects by their ids.
@@ -237,14 +237,14 @@ const PLAIN: Argument = Argument {
 const COMPLETION: Argument = Argument {
     name: "completion",
     takes: Takes::Completion,
-    help: "Raises the share (add1) or not (none); add1u is add1 and utilitarian is none, and both then fill up the rest of the budget by votes [default: add1]",
+    help: "none: no raises; add1: raises; utilitarian and add1u: like none and add1, but then the money that is left goes to other projects, most votes first [default: add1]",
 };
 
 /// What a project is worth to those who approve it.
 const MEASURE: Argument = Argument {
     name: "measure",
     takes: Takes::Measure,
-    help: "Elects next the project with the lowest price (votes), or with the lowest price divided by its cost (cost) [default: votes]",
+    help: "votes: the next winner has the lowest price; cost: the lowest price divided by its cost [default: votes]",
 };
 
 /// The file that gets the result.
@@ -272,7 +272,7 @@ const STRICT: Argument = Argument {
 const OTHER_FILE: Argument = Argument {
     name: "other-file",
     takes: Takes::Nothing,
-    help: "Accepts a journal that was made with another .pb file; its ballots then name the projects at the same positions in FILE",
+    help: "Accepts a journal that was made with another .pb file; position 0 in its ballots then means the first project in FILE, and so on",
 };
 
 /// Whether it is not shown how far the work has come.

@@ -85,7 +85,7 @@ fn put_raises(out: &mut Words, deciding: Deciding) {
             "More raises can't help: `--raises` can be 1000000 at most, and that is not enough.\n",
         ),
         Deciding::NotFound => out.put(
-            "You can allow more raises, up to 1000000. How many are needed is not known: the program looked for about as long as the count took.\n",
+            "You can allow more raises, up to 1000000. How many are needed is not known: the program stopped searching after about the time that the count took.\n",
         ),
         Deciding::Unread => out.put(
             "You can allow more raises, up to 1000000. How many are needed is not known: the ballots can't be read a second time.\n",
@@ -102,7 +102,9 @@ fn put_step(out: &mut Words, step: Option<u64>) {
                 &[Number(step)],
             );
             put_amount(out, step);
-            out.put(") the last raise gives each voter the whole budget.\n");
+            out.put(
+                ") the last raise makes each voter's share as large as the budget, which is always enough.\n",
+            );
         }
         None => out.put("You can use a larger step.\n"),
     }

@@ -120,10 +120,9 @@ pub(crate) fn put_joined(out: &mut Words, joined: Option<JoinedBy>, remedy: &str
 
 /// Puts what to do about a row that seems to be meant as a head.
 pub(crate) fn put_odd_head<R: Files>(out: &mut Words, text: &Text<'_, R>, odd: OddHead) {
-    let head = head_of(odd.section);
     out.fill(
-        "Line {} is probably meant as the heading {}: write {} there, without punctuation.\n",
-        &[Number(line_of(text, odd.mark)), Own(head), Own(head)],
+        "Line {} is probably meant as a heading. Write only {} on it, without punctuation.\n",
+        &[Number(line_of(text, odd.mark)), Own(head_of(odd.section))],
     )
 }
 
