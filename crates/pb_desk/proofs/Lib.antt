@@ -2,6 +2,7 @@
 pub mod Ballots
 pub mod Places
 pub mod Slots
+pub mod NextBallots
 pub mod Sources
 pub mod NothingDone
 pub mod RowsRead

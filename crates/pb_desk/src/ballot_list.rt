@@ -155,6 +155,13 @@ impl<A: Allocator> BallotList<A> {
         nth(self.slots.as_slice(), place)
     }
 
+    /// The slots, each with a voter's ballot or a gap.
+    pub(crate) fn slots(&self) -> &[Option<(VoterId<A>, Source)>]
+        ensures { filed result.now ≡ self.now }
+    {
+        self.slots.as_slice()
+    }
+
     /// Adds a voter who has no ballot, after the others.
     fn push(&mut self, alloc: A, voter: &VoterId<A>, source: Source) -> Result<(), NoMemory>
     where

@@ -1,4 +1,5 @@
 -- The lemmas that the proofs of this crate share.
+pub mod Comparing
 pub mod ElectedPlaces
 pub mod Printables
 pub mod Tellable

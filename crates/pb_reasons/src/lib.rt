@@ -2,6 +2,8 @@
 //! who paid what.
 #![tactic(auto)]
 
+pub mod comparison;
+mod content;
 pub mod counted;
 mod ending;
 pub mod laws;
@@ -14,14 +16,19 @@ mod purse;
 mod reasons;
 mod replay;
 mod rounds;
+pub mod rule_row;
 pub mod totals;
 pub mod voter_reason;
 pub mod voter_teller;
+pub mod winners;
 
+pub use comparison::{Comparison, compare};
 pub use counted::Counted;
 pub use payment::Payment;
 pub use project_reason::{Added, Ending, Lost, ProjectReason, Won};
 pub use project_teller::ProjectTeller;
+pub use rule_row::RuleRow;
 pub use totals::Totals;
 pub use voter_reason::VoterReason;
 pub use voter_teller::VoterTeller;
+pub use winners::Winners;

@@ -1,0 +1,135 @@
+//! The winners by a rule.
+
+ghost use Rattle.std.specs.Prelude.{◌≡◌, ◌^◌, ◌<◌, ◌≤◌, All, List, [], IfOk, ℕ, length, map, slice_index, sum_by};
+ghost use Rattle.pb_greedy.specs.MostVotes.{is_taken};
+ghost use Rattle.pb_price.specs.Supporters.{cost_at, support_of};
+ghost use Rattle.pb_reasons.specs.Inner.Comparing.{AreFlags, content_of, row_after};
+
+use crate::content::Content;
+use crate::rule_row::RuleRow;
+use pb_core::election::Election;
+use pb_core::no_memory::NoMemory;
+use pb_core::project::Project;
+use std::alloc::Global;
+use std::marker::Model;
+
+/// The winners by a rule, by place.
+///
+/// A contract sees the election and the places.
+#[derive(Drop)]
+pub struct Winners<'a> {
+    election: &'a Election,
+    places: &'a [u32],
+    /// Whether each project is among them, in file order.
+    flags: Vec<bool>,
+}
+
+impl<'a> Model for Winners<'a> {
+    ghost use Rattle.std.specs.Prelude.{List, length, ℕ};
+    ghost use Rattle.pb_core.specs.Election.{ElectionView};
+    ghost use Rattle.pb_reasons.specs.Inner.Comparing.{AreFlags};
+
+    ghost Value = { ElectionView × List ℕ };
+
+    ghost view = { λ w. (w.election.now, w.places.now) };
+
+    ghost invariant = { λ w. AreFlags (length w.election.now.projects) w.places.now w.flags.items };
+}
+
+impl<'a> Winners<'a> {
+    /// The winners at these places; a place that no project has says nothing.
+    pub fn of(
+        alloc: Global,
+        election: &'a Election,
+        places: &'a [u32],
+    ) -> Result<Winners<'a>, NoMemory>
+        ensures { IfOk result (λ winners. winners ≡ (election.now, places.now)) }
+    {
+        let flags = flags_of(alloc, places, election.projects().len())?;
+        Ok(Winners {
+            election,
+            places,
+            flags,
+        })
+    }
+
+    /// Whether the project at this place is among them.
+    pub fn has(&self, place: u32) -> bool
+        requires { place < length self.now.0.projects }
+        ensures { result ≡ is_taken self.now.1 place }
+    {
+        self.flags[place as usize]
+    }
+
+    /// The row of the rule before the first voter.
+    pub(crate) fn row(&self) -> RuleRow
+        ensures { (other : List ℕ) → result ≡ row_after self.now.0 self.now.1 other [] }
+    {
+        let spent = spent_on(self.election.projects(), self.places);
+        RuleRow {
+            projects: self.places.len(),
+            spent,
+            left: u128::from(self.election.budget().0).saturating_sub(spent),
+            without: 0,
+            choices: 0,
+            worth: 0,
+            more_choices: 0,
+            more_worth: 0,
+        }
+    }
+
+    /// What a ballot has of the winners.
+    pub(crate) fn content(&self, ballot: &[u32]) -> Content
+        requires known { All (λ place. place < length self.now.0.projects) ballot.now }
+        requires few { length ballot.now < 2 ^ 32 }
+        ensures content { result ≡ content_of self.now.0 self.now.1 ballot.now }
+        ensures small { result.worth ≤ 2 ^ 96 }
+    {
+        let projects = self.election.projects();
+        let mut content = Content {
+            choices: 0,
+            worth: 0,
+        };
+        for place in ballot {
+            if self.flags[*place as usize] {
+                content.choices += 1;
+                content.worth += u128::from(projects[*place as usize].cost().0);
+            }
+        }
+        content
+    }
+}
+
+/// Whether each of this many projects is among the winners at these places.
+fn flags_of(alloc: Global, places: &[u32], projects: usize) -> Result<Vec<bool>, NoMemory>
+    ensures { IfOk result (λ flags. AreFlags projects places.now flags.items) }
+{
+    let mut flags = vec![in alloc; false; projects]?;
+    for place in places {
+        if (*place as usize) < projects {
+            flags[*place as usize] = true;
+        }
+    }
+    Ok(flags)
+}
+
+/// What the projects at these places cost together, in hundredths.
+fn spent_on(projects: &[Project], places: &[u32]) -> u128
+    ensures { result ≡ sum_by (slice_index (map (λ p. p.cost) projects.now)) places.now }
+{
+    let mut spent = 0;
+    for place in places {
+        spent += u128::from(cost_of(projects, *place));
+    }
+    spent
+}
+
+/// What the project at this place costs, in hundredths; 0 where no project has the place.
+fn cost_of(projects: &[Project], place: u32) -> u64
+    ensures { result ≡ slice_index (map (λ p. p.cost) projects.now) place }
+{
+    match projects.get(place as usize) {
+        Some(project) => project.cost().0,
+        None => 0,
+    }
+}
