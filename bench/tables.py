@@ -1,11 +1,11 @@
 #!/usr/bin/env python3
-"""Compares what the two tables and the page take for one file with what counting it takes, in one run.
+"""Compares what the tables and the page take for one file with what counting it takes, in one run.
 
 tables.py PROGRAM FILE RUNS [OPTION..]
 
 The options go to each command. Each runs RUNS times, one after the other in turn, and its middle run counts: seconds of
 the processors, since others may use them too, and the most memory. Behind it stand the least and the greatest ratio to
-the count of the same turn. The tables are checked by tools/recheck.py at the end.
+the count of the same turn. The tables of projects and voters are checked by tools/recheck.py at the end.
 """
 import os
 import pathlib
@@ -15,7 +15,7 @@ import sys
 import tempfile
 
 TOP = pathlib.Path(__file__).resolve().parent.parent
-COMMANDS = ("count", "projects", "voters", "page")
+COMMANDS = ("count", "projects", "voters", "compare", "page")
 
 
 def taken(command, output):

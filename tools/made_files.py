@@ -58,6 +58,14 @@ def listed_faults():
     return ''.join(row + '\n' for row in rows).encode()
 
 
+def dearest():
+    """20,000 voters who approve one project, which costs 10^15 hundredths, the largest amount. Each can spend 5 * 10^10, and
+    they pay all of it. What they approve costs 2 * 10^19 hundredths together, which 64 bits do not hold."""
+    rows = ['META', 'key;value', 'budget;10000000000000', 'vote_type;approval', 'PROJECTS', 'project_id;cost', 'a;10000000000000',
+            'VOTES', 'voter_id;vote', *(f'{voter};a' for voter in range(20_000))]
+    return ''.join(row + '\n' for row in rows).encode()
+
+
 MADE = {
     'large.pb': lambda: city(100_000),
     'largest.pb': lambda: city(1_000_000),
@@ -69,6 +77,7 @@ MADE = {
     # as many ids as a roll may have, below a header, and one more
     'full.roll': lambda: b'voter_id\n' + roll(2_000_000),
     'full-and-one.roll': lambda: roll(2_000_001),
+    'dearest.pb': dearest,
     'faulty.pb': many_faults,
     'faulty.rows': listed_faults,
     'two-clerks.script': lambda: two_clerks(True),

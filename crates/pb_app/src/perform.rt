@@ -11,7 +11,7 @@ use crate::serve::serve;
 use crate::terminal::ShownWriter;
 use crate::typing::Typing;
 use crate::words::is_quiet;
-use pb_command_line::{Asked, Ballots, DeskRun, Source, Task};
+use pb_command_line::{Asked, Ballots, CompareRun, DeskRun, Source, Task};
 use pb_commands::run_check::run_check;
 use pb_commands::run_count::run_count_watched;
 use pb_commands::run_desk::run_admitted_desk;
@@ -183,6 +183,16 @@ where
                 &mut notes.seen,
             )
         }
+        Task::Compare(run) => {
+            tell(
+                counting,
+                &run.ballots,
+                compared_by(run),
+                writer,
+                kinship,
+                &mut notes.seen,
+            )
+        }
         Task::Page(run) => page(counting, run, kinship, writer, &mut notes.seen),
         Task::Export(ballots, _) => export(counting, ballots, writer, kinship, &mut notes.seen),
         Task::Check(source) => check(counting, source, writer, notes),
@@ -227,6 +237,15 @@ where
     };
     let (file, journal) = open_with_journal(counting, &ballots.file, journal, kinship)?;
     run_closed_table(counting, file, journal, seen, writer, table)
+}
+
+/// The table that a comparison writes.
+fn compared_by(run: &CompareRun<'_>) -> Table {
+    if run.by_project {
+        Table::RuledProjects
+    } else {
+        Table::Rules
+    }
 }
 
 /// Counts these ballots, and writes their .pb file with what the count came to.

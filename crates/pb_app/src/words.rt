@@ -256,6 +256,7 @@ pub(crate) fn say_tally<R: Eprint + AllocGlobal>(
         Task::Count(..)
         | Task::Projects(..)
         | Task::Voters(..)
+        | Task::Compare(_)
         | Task::Page(..)
         | Task::Export(..)
         | Task::Check(_) => {}

@@ -1,6 +1,8 @@
 //! What parsed arguments ask for.
 
-use crate::task::{Admits, Asked, AuditRun, Ballots, DeskRun, PageRun, ServeRun, Source, Task};
+use crate::task::{
+    Admits, Asked, AuditRun, Ballots, CompareRun, DeskRun, PageRun, ServeRun, Source, Task,
+};
 use clap::ArgMatches;
 use pb_core::money::Money;
 use pb_rounds::measure::Measure;
@@ -38,6 +40,11 @@ fn task_of<'a>(name: &str, given: &ArgMatches<'a>) -> Task<'a> {
         "count" => Task::Count(file, options_of(given)),
         "projects" => Task::Projects(ballots_of(given, file), options_of(given)),
         "voters" => Task::Voters(ballots_of(given, file), options_of(given)),
+        "compare" => Task::Compare(CompareRun {
+            ballots: ballots_of(given, file),
+            options: options_of(given),
+            by_project: given.get_flag("projects"),
+        }),
         "page" => Task::Page(PageRun {
             ballots: ballots_of(given, file),
             options: options_of(given),

@@ -27,10 +27,16 @@ Words:
   share    the money that each voter can spend: at first the budget divided by the number of voters
   raise    adds --step to every voter's share, and counts again, so that less of the budget is left unspent (Add1)
 
+Which rule your city has:
+  With the Method of Equal Shares it is probably --measure cost --completion add1u; the defaults are votes and add1.
+  Without it, the projects with the most votes probably come first; compare shows the result of both rules.
+  A by-law should name the measure, the completion, the step of a raise, and how ties are broken.
+
 Examples:
   pb_app check city.pb
   pb_app count city.pb
   pb_app count city.pb --step 1000 --output city.report
+  pb_app compare city.pb --measure cost --completion add1u
   pb_app desk city.pb requests.script --clerks 2 --output trial.journal
   pb_app audit city.pb city.journal --require-shut
   pb_app serve city.pb city.journal < requests.script
@@ -310,6 +316,13 @@ const DIGESTS: Argument = Argument {
     help: "Prints the SHA-256 of FILE and of JOURNAL before the report",
 };
 
+/// Whether a comparison has a row for each project.
+const BY_PROJECT: Argument = Argument {
+    name: "projects",
+    takes: Takes::Nothing,
+    help: "Prints a row for each project, with 1 or 0 for each rule, instead of a row for each rule",
+};
+
 /// What a page is about.
 const TITLE: Argument = Argument {
     name: "title",
@@ -351,6 +364,15 @@ const COUNTS: &[CommandForm] = &[
         arguments: &[
             ELECTION, LEFT_BY, OTHER_FILE, WORKERS, STEP, RAISES, PLAIN, COMPLETION, MEASURE,
             STRICT, OUTPUT, QUIET, PROGRESS,
+        ],
+    },
+    CommandForm {
+        name: "compare",
+        notes: "Manual pages: man pb_app-election, man 5 pb_app-compare, man pb_app-counting.",
+        about: "Counts a .pb file, and compares the winners with those of another rule: most votes first",
+        arguments: &[
+            ELECTION, BY_PROJECT, LEFT_BY, OTHER_FILE, WORKERS, STEP, RAISES, PLAIN, COMPLETION,
+            MEASURE, STRICT, OUTPUT, QUIET, PROGRESS,
         ],
     },
     CommandForm {

@@ -87,6 +87,15 @@ pub struct AuditRun<'a> {
     pub digests: bool,
 }
 
+/// A count beside most votes first.
+#[derive(Clone, Copy)]
+pub struct CompareRun<'a> {
+    pub ballots: Ballots<'a>,
+    pub options: CountOptions,
+    /// A row for each project, in place of one for each rule.
+    pub by_project: bool,
+}
+
 /// The page of a count.
 #[derive(Clone, Copy)]
 pub struct PageRun<'a> {
@@ -107,6 +116,8 @@ pub enum Task<'a> {
     Projects(Ballots<'a>, CountOptions),
     /// The voters of a count of these ballots: who paid.
     Voters(Ballots<'a>, CountOptions),
+    /// A count of these ballots beside most votes first.
+    Compare(CompareRun<'a>),
     /// The page of a count.
     Page(PageRun<'a>),
     /// The .pb file of these ballots, with what their count came to.
@@ -129,6 +140,7 @@ impl<'a> Task<'a> {
             | Task::Projects(_, options)
             | Task::Voters(_, options)
             | Task::Export(_, options) => *options,
+            Task::Compare(run) => run.options,
             Task::Page(run) => run.options,
             Task::Audit(run) => run.options,
             Task::Desk(..) | Task::Serve(..) | Task::Check(_) => CountOptions::standard(),
@@ -142,6 +154,7 @@ impl<'a> Task<'a> {
             Task::Projects(ballots, _)
             | Task::Voters(ballots, _)
             | Task::Export(ballots, _)
+            | Task::Compare(CompareRun { ballots, .. })
             | Task::Page(PageRun { ballots, .. }) => (ballots.file, ballots.journal),
             Task::Desk(DeskRun { file, script, .. }) => (file, Some(script)),
             Task::Audit(AuditRun { file, journal, .. }) => (file, Some(journal)),

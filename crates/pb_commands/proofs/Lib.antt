@@ -15,6 +15,7 @@ pub mod ClosedTables
 pub mod TablesTell
 pub mod TableRows
 pub mod TableHeads
+pub mod ComparedRows
 pub mod PaymentsText
 pub mod CheckWritten
 mod Exports

@@ -31,7 +31,7 @@ row_put columns row n old before after so_far put =
     row_grown (columns ∷ map row (range_with_len 0 n)) (row n) old before after so_far put
     ∙ ap (λ (rows : List Fields). old ++ text_of_rows (columns ∷ rows)) (sym (map-range_with_len_more row 0 n n (omega arith)))
 
-name_at-known : (e : ElectionView) (place : ℕ) (p : ProjectView) → place < length e.projects → p ≡ get_or e.projects place p → name_at e place ≡ p.name
+pub name_at-known : (e : ElectionView) (place : ℕ) (p : ProjectView) → place < length e.projects → p ≡ get_or e.projects place p → name_at e place ≡ p.name
 name_at-known e place p known is = get_or-map (λ (q : ProjectView). q.name) e.projects place p [] known ∙ ap (λ (q : ProjectView). q.name) (sym is)
 
 -- the row of a project, as it is written

@@ -1,6 +1,7 @@
 -- Words that only private contracts and the invariants of private fields speak of: nobody has to believe them.
 pub mod Audited
 pub mod Checked
+pub mod Compared
 pub mod DeskRun
 pub mod Exporting
 pub mod Tables

@@ -1,4 +1,4 @@
--- The tables of a count: project by project, and voter by voter.
+-- The tables of a count: project by project, voter by voter, and beside most votes first.
 use Rattle.std.specs.Prelude.{ℕ, List, [], ◌∷◌, ◌++◌, codes, decimal, if◌then◌else◌, length, map, slice_index_or, take}
 use Rattle.std.specs.List.{join_with_byte, range_with_len}
 use Rattle.pb_core.specs.Election.{ElectionView, project_ids, voter_ids}
@@ -11,8 +11,9 @@ use Rattle.pb_reasons.specs.declared.project_reason.Ending.{Ending}
 use Rattle.pb_reasons.specs.declared.project_reason.Ending.TheVariants.{Won, Added, Lost}
 use Rattle.pb_rows.specs.Reading.{Fields}
 use Rattle.pb_rows.specs.Writing.{text_of_rows}
+use Rattle.pb_commands.specs.Compared.{ruled_projects_table, rules_table}
 use Rattle.pb_commands.specs.declared.table.Table.{Table}
-use Rattle.pb_commands.specs.declared.table.Table.TheVariants.{Projects, Voters}
+use Rattle.pb_commands.specs.declared.table.Table.TheVariants.{Projects, RuledProjects, Rules, Voters}
 
 -- the name of the project at this place
 abbrev pub name_at : ElectionView → ℕ → List ℕ
@@ -54,3 +55,5 @@ table_of Projects e c =
 table_of Voters e c =
     codes "voter_id;votes;elected;paid;left;payments\n"
     ++ text_of_rows (map (voter_table_row e c) (range_with_len 0 (length e.voters)))
+table_of Rules e c = rules_table e c
+table_of RuledProjects e c = ruled_projects_table e c

@@ -1,4 +1,4 @@
-//! The commands `count`, `projects`, `voters`, `export`, `desk`, `audit` and `check`, from bytes to bytes.
+//! The commands `count`, `projects`, `voters`, `compare`, `export`, `desk`, `audit` and `check`, from bytes to bytes.
 //!
 //! A run reads its inputs in their order, makes its whole text in memory, and then writes it: so a run that is
 //! refused has written nothing. Each refusal has one line and one status.
@@ -10,6 +10,8 @@ mod export_text;
 pub mod laws;
 mod projects_table;
 mod report;
+mod ruled_projects_table;
+mod rules_table;
 pub mod run_audit;
 pub mod run_check;
 pub mod run_count;

@@ -1,4 +1,4 @@
-//! Runs that write a table: who won and why, who lost and by how much, who paid.
+//! Runs that write a table: who won and why, who lost and by how much, who paid, and what another rule elects.
 
 ghost use Rattle.std.specs.Prelude.{◌≡◌, ◌≢◌, ◌++◌, ℕ, List, IfErr, IfOk, IfSome, OnOk, None};
 ghost use Rattle.pb_read.specs.StandsFor.{StandsFor};
@@ -15,6 +15,8 @@ ghost use Rattle.pb_commands.specs.Tables.{table_of};
 use crate::closed_desk::closed_ballots;
 use crate::counting::{Counting, counted};
 use crate::projects_table::put_projects;
+use crate::ruled_projects_table::put_ruled_projects;
+use crate::rules_table::put_rules;
 use crate::run_count::finished;
 use crate::table::Table;
 use crate::voters_table::put_voters;
@@ -184,5 +186,7 @@ fn put_outcome(
     match table {
         Table::Projects => put_projects(rows, alloc, election, counted),
         Table::Voters => put_voters(rows, alloc, election, counted),
+        Table::Rules => put_rules(rows, alloc, election, counted),
+        Table::RuledProjects => put_ruled_projects(rows, alloc, election, counted),
     }
 }

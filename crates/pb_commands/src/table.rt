@@ -7,4 +7,8 @@ pub enum Table {
     Projects,
     /// Who paid: a row for each voter.
     Voters,
+    /// What the count elects beside what most votes first elects: a row for each of both rules.
+    Rules,
+    /// Whom each of both rules elects: a row for each project.
+    RuledProjects,
 }

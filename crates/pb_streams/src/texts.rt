@@ -27,6 +27,7 @@ pub(crate) fn pairs_ids(task: &Task<'_>) -> bool {
         Task::Desk(_) | Task::Voters(..) | Task::Export(..) => true,
         Task::Count(..)
         | Task::Projects(..)
+        | Task::Compare(_)
         | Task::Page(..)
         | Task::Check(_)
         | Task::Audit(_)

@@ -1,5 +1,7 @@
 use Rattle.std.proofs.Common.{length, map}
 use Rattle.std.specs.List.{range_with_len}
+use Rattle.pb_commands.proofs.ComparedRows.{ruled_head, rules_head}
+use Rattle.pb_commands.specs.Compared.{ruled_projects_table, rules_table}
 use Rattle.pb_commands.proofs.TableHeads.{projects_head, voters_head}
 use Rattle.pb_commands.specs.Tables.{project_table_row, table_of, voter_table_row}
 use Rattle.pb_commands.proofs.run_table.put_outcome.Goals as goal
@@ -13,3 +15,11 @@ pub returns-in-Voters : goal.returns-in-Voters
 unfolding table_of
 returns-in-Voters c =
     rw c.in-Voters.is (rw (voters_head (map (voter_table_row c.args.election.now c.args.counted.now) (range_with_len 0 (length c.args.election.now.voters)))) at c.put_voters.ensures)
+
+pub returns-in-Rules : goal.returns-in-Rules
+unfolding table_of rules_table
+returns-in-Rules c = rw c.in-Rules.is (rw (rules_head _) at c.put_rules.ensures)
+
+pub returns-in-RuledProjects : goal.returns-in-RuledProjects
+unfolding table_of ruled_projects_table
+returns-in-RuledProjects c = rw c.in-RuledProjects.is (rw (ruled_head _) at c.put_ruled_projects.ensures)
