@@ -25,7 +25,8 @@ rule_fields rule r =
 -- the row of the project at this place: at the end 1 or 0 for each rule, as the project is among its winners or not
 abbrev pub ruled_project_row : ElectionView → (winners other : List ℕ) → ℕ → Fields
 ruled_project_row e winners other place =
-    decimal place ∷ slice_index_or (project_ids e) place [] ∷ slice_index_or (map (λ p. p.name) e.projects) place []
+    decimal place ∷ slice_index_or (project_ids e) place []
+    ∷ slice_index_or (map (λ p. p.name) e.projects) place []
     ∷ money_text (cost_at (support_of e) place) ∷ decimal (votes_at (support_of e) place)
     ∷ decimal (if is_taken winners place then 1 else 0) ∷ decimal (if is_taken other place then 1 else 0) ∷ []
 

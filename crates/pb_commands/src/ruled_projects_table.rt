@@ -1,6 +1,6 @@
 //! The table of projects by rule: whom a count elects, and whom most votes first elects.
 
-ghost use Rattle.std.specs.Prelude.{◌≡◌, ◌<◌, ◌++◌, ◌∷◌, [], ℕ, Bool, List, OnOk, decimal, if◌then◌else◌, length, map};
+ghost use Rattle.std.specs.Prelude.{◌≡◌, ◌++◌, ◌∷◌, [], ℕ, List, OnOk, decimal, if◌then◌else◌, length, map};
 ghost use Rattle.std.specs.List.{range_with_len};
 ghost use Rattle.pb_core.specs.MoneyText.{money_text};
 ghost use Rattle.pb_price.specs.Supporters.{support_of};
@@ -19,7 +19,8 @@ use pb_reasons::{Counted, Winners};
 use pb_rows::RowsWriter;
 use std::alloc::Global;
 
-/// Writes the columns, and a row for each project in file order: whether this count elects it, and whether most votes first does.
+/// Writes the columns, and a row for each project in file order: whether this count elects or adds it, and whether
+/// most votes first takes it.
 pub(crate) fn put_ruled_projects(
     rows: &mut RowsWriter,
     alloc: Global,
@@ -27,7 +28,8 @@ pub(crate) fn put_ruled_projects(
     counted: &Counted,
 ) -> Result<(), NoMemory>
     ensures { OnOk result (rows.new.text ≡ rows.old.text ++ text_of_rows (ruled_columns
-        ∷ map (ruled_project_row election.now (winners_of counted.now) (elected_by_votes election.now)) (range_with_len 0 (length election.now.projects)))) }
+        ∷ map (ruled_project_row election.now (winners_of counted.now) (elected_by_votes election.now))
+        (range_with_len 0 (length election.now.projects)))) }
 {
     rows.put_row(&[
         "place",
@@ -43,7 +45,8 @@ pub(crate) fn put_ruled_projects(
     put_ruled(rows, alloc, election, winners.as_slice(), other.as_slice())
 }
 
-/// Writes a row for each of the election's projects after the columns: these are the places of the winners by both rules.
+/// Writes a row for each of the election's projects after the columns; these are the places of the winners by both
+/// rules.
 fn put_ruled(
     rows: &mut RowsWriter,
     alloc: Global,
@@ -51,9 +54,10 @@ fn put_ruled(
     winners: &[u32],
     other: &[u32],
 ) -> Result<(), NoMemory>
-    ensures { OnOk result ((old : List ℕ) → rows.old.text ≡ old ++ text_of_row ruled_columns → rows.new.text ≡ old
-        ++ text_of_rows (ruled_columns
-        ∷ map (ruled_project_row election.now winners.now other.now) (range_with_len 0 (length election.now.projects)))) }
+    ensures { OnOk result ((old : List ℕ) → rows.old.text ≡ old ++ text_of_row ruled_columns
+        → rows.new.text ≡ old ++ text_of_rows (ruled_columns
+        ∷ map (ruled_project_row election.now winners.now other.now)
+        (range_with_len 0 (length election.now.projects)))) }
 {
     let winners = Winners::of(alloc, election, winners)?;
     let other = Winners::of(alloc, election, other)?;
@@ -77,9 +81,10 @@ fn put_each(
     requires support { supporters.now ≡ support_of election.now }
     requires winners { winners.now.0 ≡ election.now }
     requires other { other.now.0 ≡ election.now }
-    ensures { OnOk result ((old : List ℕ) → rows.old.text ≡ old ++ text_of_row ruled_columns → rows.new.text ≡ old
-        ++ text_of_rows (ruled_columns
-        ∷ map (ruled_project_row election.now winners.now.1 other.now.1) (range_with_len 0 (length election.now.projects)))) }
+    ensures { OnOk result ((old : List ℕ) → rows.old.text ≡ old ++ text_of_row ruled_columns
+        → rows.new.text ≡ old ++ text_of_rows (ruled_columns
+        ∷ map (ruled_project_row election.now winners.now.1 other.now.1)
+        (range_with_len 0 (length election.now.projects)))) }
 {
     let projects = election.projects();
     for place in 0..projects.len() {
@@ -94,7 +99,7 @@ fn put_each(
     Ok(())
 }
 
-/// How a project fares by both rules.
+/// What a project's row says of it beside its id, name and cost.
 #[derive(Clone, Copy)]
 struct Ruled {
     /// Its place in the file, from 0.
@@ -107,15 +112,15 @@ struct Ruled {
     wins_otherwise: bool,
 }
 
-/// Writes the row of a project that fares so.
+/// Writes the row of a project.
 fn put_project(
     rows: &mut RowsWriter,
     alloc: Global,
     project: &Project,
     ruled: Ruled,
 ) -> Result<(), NoMemory>
-    ensures { OnOk result (rows.new.text ≡ rows.old.text ++ text_of_row (decimal ruled.place ∷ project.now.id ∷ project.now.name
-        ∷ money_text project.now.cost ∷ decimal ruled.votes ∷ decimal (if ruled.wins then 1 else 0)
+    ensures { OnOk result (rows.new.text ≡ rows.old.text ++ text_of_row (decimal ruled.place
+        ∷ project.now.id ∷ project.now.name ∷ money_text project.now.cost ∷ decimal ruled.votes ∷ decimal (if ruled.wins then 1 else 0)
         ∷ decimal (if ruled.wins_otherwise then 1 else 0) ∷ [])) }
 {
     let mut place_digits = Buffer::new();

@@ -25,8 +25,10 @@ pub(crate) fn put_rules(
     counted: &Counted,
 ) -> Result<(), NoMemory>
     ensures { OnOk result (rows.new.text ≡ rows.old.text ++ text_of_rows (rule_columns
-        ∷ rule_fields (codes "equal shares") (comparison_of election.now (winners_of counted.now) (elected_by_votes election.now)).own
-        ∷ rule_fields (codes "most votes") (comparison_of election.now (winners_of counted.now) (elected_by_votes election.now)).other ∷ [])) }
+        ∷ rule_fields (codes "equal shares")
+        (comparison_of election.now (winners_of counted.now) (elected_by_votes election.now)).own
+        ∷ rule_fields (codes "most votes")
+        (comparison_of election.now (winners_of counted.now) (elected_by_votes election.now)).other ∷ [])) }
 {
     let rules = compared(alloc, election, counted)?;
     rows.put_row(&[
@@ -46,7 +48,8 @@ pub(crate) fn put_rules(
 
 /// What this count elects, compared with what most votes first elects.
 fn compared(alloc: Global, election: &Election, counted: &Counted) -> Result<Comparison, NoMemory>
-    ensures { IfOk result (λ rules. rules ≡ comparison_of election.now (winners_of counted.now) (elected_by_votes election.now)) }
+    ensures { IfOk result (λ rules.
+        rules ≡ comparison_of election.now (winners_of counted.now) (elected_by_votes election.now)) }
 {
     let winners = counted.winners(alloc)?;
     let other = elected_by_votes(alloc, election)?;
@@ -87,7 +90,8 @@ fn put_rule(rows: &mut RowsWriter, alloc: Global, rule: &str, row: RuleRow) -> R
     Ok(())
 }
 
-/// An amount as text, which may be larger than those that are read: whole units, a point and two decimals, as `12.30`.
+/// An amount in hundredths as text, which may be larger than those that are read: whole units, a point and two
+/// decimals, as `12.30`.
 fn amount_text(alloc: Global, amount: u128) -> Result<String, NoMemory>
     ensures { IfOk result (λ text. string_bytes text ≡ money_text amount) }
 {

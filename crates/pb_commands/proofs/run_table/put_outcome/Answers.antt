@@ -1,9 +1,11 @@
-use Rattle.std.proofs.Common.{length, map}
+use Rattle.std.proofs.Common.{[], ◌∷◌, codes, length, map}
 use Rattle.std.specs.List.{range_with_len}
 use Rattle.pb_commands.proofs.ComparedRows.{ruled_head, rules_head}
-use Rattle.pb_commands.specs.Compared.{ruled_projects_table, rules_table}
 use Rattle.pb_commands.proofs.TableHeads.{projects_head, voters_head}
+use Rattle.pb_commands.specs.Compared.{elected_by_votes, rule_fields, ruled_project_row, ruled_projects_table, rules_table}
 use Rattle.pb_commands.specs.Tables.{project_table_row, table_of, voter_table_row}
+use Rattle.pb_reasons.specs.Comparison.{comparison_of}
+use Rattle.pb_reasons.specs.Counted.{winners_of}
 use Rattle.pb_commands.proofs.run_table.put_outcome.Goals as goal
 
 pub returns-in-Projects : goal.returns-in-Projects
@@ -18,8 +20,13 @@ returns-in-Voters c =
 
 pub returns-in-Rules : goal.returns-in-Rules
 unfolding table_of rules_table
-returns-in-Rules c = rw c.in-Rules.is (rw (rules_head _) at c.put_rules.ensures)
+returns-in-Rules c =
+    let e = c.args.election.now in
+    let rules = comparison_of e (winners_of c.args.counted.now) (elected_by_votes e) in
+    rw c.in-Rules.is (rw (rules_head (rule_fields (codes "equal shares") rules.own ∷ rule_fields (codes "most votes") rules.other ∷ [])) at c.put_rules.ensures)
 
 pub returns-in-RuledProjects : goal.returns-in-RuledProjects
 unfolding table_of ruled_projects_table
-returns-in-RuledProjects c = rw c.in-RuledProjects.is (rw (ruled_head _) at c.put_ruled_projects.ensures)
+returns-in-RuledProjects c =
+    let e = c.args.election.now in
+    rw c.in-RuledProjects.is (rw (ruled_head (map (ruled_project_row e (winners_of c.args.counted.now) (elected_by_votes e)) (range_with_len 0 (length e.projects)))) at c.put_ruled_projects.ensures)
