@@ -8,4 +8,6 @@ pub mod parse;
 pub mod task;
 
 pub use parse::Parsed;
-pub use task::{Admits, Asked, AuditRun, Ballots, DeskRun, PageRun, ServeRun, Source, Task};
+pub use task::{
+    Admits, Asked, AuditRun, Ballots, BallotsRun, DeskRun, PageRun, ServeRun, Source, Task,
+};

@@ -17,4 +17,10 @@ pub mod TableRows
 pub mod TableHeads
 pub mod PaymentsText
 pub mod CheckWritten
+pub mod BallotsRuns
+pub mod LastGiven
+pub mod BallotsOnce
+pub mod GivenBallots
+pub mod BallotRows
+pub mod IdsText
 mod Exports
