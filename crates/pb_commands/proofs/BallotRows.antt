@@ -1,5 +1,6 @@
 -- The rows of ballots, written one after the other.
-use Rattle.std.proofs.Common.{◌≡◌, ℕ, Bool, true, false, cond, List, [], ◌∷◌, ◌++◌, filter, map, append_assoc, append-nil, codes, decimal, Option, refl, sym, ◌∙◌, ap}
+use Rattle.std.proofs.Common.{◌≡◌, ℕ, Bool, true, false, cond, List, [], ◌∷◌, ◌++◌, filter, map, append_assoc, append-nil, codes, decimal, Option, Ok, Err, refl, sym, ◌∙◌, ap}
+use Rattle.std.specs.Prelude.{OnOk, Result}
 use Rattle.std.specs.Option.{option_map_or}
 use Rattle.csv.specs.Writing.{escaped, fields_text, is_blank}
 use Rattle.pb_rows.specs.Reading.{Fields}
@@ -14,10 +15,11 @@ pub ballots_head : (rows : List Fields) → text_of_rows (ballot_columns ∷ row
 unfolding text_of_row fields_text is_blank escaped
 ballots_head rows = text_of_rows-cons ballot_columns rows
 
--- the columns, and then rows
-pub head_and_rows : (columns : Fields) (rows : List Fields) (old middle new : List ℕ) → middle ≡ old ++ text_of_row columns → new ≡ middle ++ text_of_rows rows
-    → new ≡ old ++ text_of_rows (columns ∷ rows)
-head_and_rows columns rows old middle new first then =
+-- the columns, and then rows, where memory suffices
+pub head_then : {E : Type 0} (r : Result (Unit {0}) E) (columns : Fields) (rows : List Fields) (old middle new : List ℕ)
+    → middle ≡ old ++ text_of_row columns → OnOk r (new ≡ middle ++ text_of_rows rows) → OnOk r (new ≡ old ++ text_of_rows (columns ∷ rows))
+head_then (Err fault) columns rows old middle new first then = tt
+head_then (Ok done) columns rows old middle new first then =
     then ∙ ap (λ (t : List ℕ). t ++ text_of_rows rows) first ∙ append_assoc old (text_of_row columns) (text_of_rows rows)
     ∙ ap (λ (t : List ℕ). old ++ t) (sym (text_of_rows-cons columns rows))
 
