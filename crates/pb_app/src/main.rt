@@ -4,6 +4,7 @@
 
 mod admitted;
 mod audit;
+mod ballots;
 mod counted;
 mod journal;
 mod kinship;
@@ -106,6 +107,7 @@ where
     let mut notes = Notes {
         written: Tally::new(),
         audited: Tally::new(),
+        has_no_ballot: false,
         faults: Vec::new(rt.alloc()),
         checked: Warnings::new(rt.alloc()),
         seen: ResultWarnings::new(rt.alloc(), asked.is_strict),
@@ -117,6 +119,7 @@ where
     let code = match result {
         Ok(()) => {
             words::say_tally(rt, asked, &notes.written, &notes.audited);
+            words::say_no_ballot(rt, asked, notes.has_no_ballot);
             words::say_faults(rt, &asked.task, &notes);
             words::say_warnings(rt, &asked.task, &notes);
             status_of(notes.faults.as_slice())

@@ -3,6 +3,7 @@
 use crate::Terminals;
 use crate::admitted::{Told, rules_of};
 use crate::audit::audit;
+use crate::ballots::ballots;
 use crate::counted::CountedWriter;
 use crate::journal::open_with_journal;
 use crate::kinship::Kinship;
@@ -71,6 +72,8 @@ pub(crate) struct Notes {
     pub(crate) written: Tally,
     /// The entries of a journal that was audited.
     pub(crate) audited: Tally,
+    /// The voter whose ballot was asked for has none.
+    pub(crate) has_no_ballot: bool,
     /// The faults of a file that was checked.
     pub(crate) faults: Vec<ReadFault>,
     /// The warnings of that file.
@@ -198,6 +201,7 @@ where
         Task::Check(source) => check(counting, source, writer, notes),
         Task::Desk(asked) => desk(counting, asked, writer, &mut notes.written),
         Task::Audit(asked) => audit(counting, asked, writer, kinship, notes),
+        Task::Ballots(asked) => ballots(counting, asked, writer, kinship, notes),
         Task::Serve(asked) => {
             return serve(counting.rt, asked, kinship, writer, notes, typing);
         }

@@ -78,7 +78,7 @@ fn ballots_again<R: Files + AllocGlobal>(rt: &R, task: &Task<'_>) -> Option<Elec
 /// The journal that leaves a task's ballots, if there is one.
 fn journal_of<'a>(task: &Task<'a>) -> Option<Source<'a>> {
     match task {
-        Task::Desk(..) | Task::Serve(..) => None,
+        Task::Desk(..) | Task::Serve(..) | Task::Ballots(..) => None,
         _ => task.texts().1,
     }
 }

@@ -2,7 +2,7 @@
 
 use crate::perform::{Notes, Refusal};
 use crate::spent::look_further;
-use pb_command_line::{Asked, Source, Task};
+use pb_command_line::{Asked, BallotsRun, Source, Task};
 use pb_commands::AppFault;
 use pb_desk::desk::MOST_CLERKS;
 use pb_durable::file_beside::file_path;
@@ -11,6 +11,7 @@ use pb_export::ExportFault;
 use pb_rounds::count_fault::CountFault;
 use pb_script::{RowRefusal, ScriptFault};
 use pb_streams::{Bar, Output, Progress};
+use pb_words::ballot_words::no_ballot_words;
 use pb_words::belonging_words::{adopted_words, other_file_words, unread_file_words};
 use pb_words::count_words::{count_words, spent_words};
 use pb_words::journal_words::journal_words;
@@ -237,7 +238,7 @@ pub(crate) fn say_warnings<R: Files + Eprint + AllocGlobal>(
     let (file, _) = task.paths();
     match task {
         Task::Check(_) => say_words(rt, notes.checked.words(rt, file)),
-        Task::Desk(..) | Task::Serve(..) => {}
+        Task::Desk(..) | Task::Serve(..) | Task::Ballots(..) => {}
         _ => say_words(rt, notes.seen.words(rt, file)),
     }
 }
@@ -259,9 +260,31 @@ pub(crate) fn say_tally<R: Eprint + AllocGlobal>(
         | Task::Compare(_)
         | Task::Page(..)
         | Task::Export(..)
+        | Task::Ballots(..)
         | Task::Check(_) => {}
         Task::Desk(..) | Task::Serve(..) => { say_words(rt, written.words(rt.alloc(), "recorded")) }
         Task::Audit(..) => say_words(rt, audited.words(rt.alloc(), "checked")),
+    }
+}
+
+/// Says that the voter whose ballot was asked for has none, where that is so and `--quiet` is not given.
+pub(crate) fn say_no_ballot<R: Eprint + AllocGlobal>(
+    rt: &R,
+    asked: &Asked<'_>,
+    has_no_ballot: bool,
+) {
+    if !has_no_ballot || is_quiet(asked) {
+        return;
+    }
+    let (_, journal) = asked.task.paths();
+    match &asked.task {
+        Task::Ballots(
+            BallotsRun {
+                voter: Some(voter),
+                ..
+            },
+        ) => say_words(rt, no_ballot_words(rt.alloc(), journal, voter.trim())),
+        _ => {}
     }
 }
 

@@ -1,7 +1,7 @@
 //! What parsed arguments ask for.
 
 use crate::task::{
-    Admits, Asked, AuditRun, Ballots, CompareRun, DeskRun, PageRun, ServeRun, Source, Task,
+    Admits, Asked, AuditRun, Ballots, CompareRun, BallotsRun, DeskRun, PageRun, ServeRun, Source, Task,
 };
 use clap::ArgMatches;
 use pb_core::money::Money;
@@ -59,6 +59,11 @@ fn task_of<'a>(name: &str, given: &ArgMatches<'a>) -> Task<'a> {
             clerks: given.get_one("clerks").unwrap_or(1),
             shuts: given.get_flag("shut"),
             admits: admits_of(given),
+        }),
+        "ballots" => Task::Ballots(BallotsRun {
+            file,
+            journal: source_of(given, "JOURNAL"),
+            voter: given.get_str("voter"),
         }),
         "serve" => Task::Serve(ServeRun {
             file: path_of(given, "FILE"),

@@ -93,6 +93,20 @@ Exit status:
 
 Manual pages: man pb_app-script, man pb_app-journal, man pb_app-office.";
 
+/// What stands below the arguments of `ballots`.
+const AFTER_BALLOTS: &str =
+    "Each row is voter_id;entry;project_ids. entry is the number of the journal's entry that gave the ballot, counted from 1;
+if it is empty, the ballot is still the one in FILE. project_ids are the ids of the ballot's projects, with `,` between
+them. A serve may be using JOURNAL at the same time.
+
+The table shows who votes for what. A new file that --output creates is for its owner alone.
+
+Examples:
+  pb_app ballots city.pb city.journal
+  pb_app ballots city.pb city.journal --voter ann
+
+Manual pages: man pb_app-election, man pb_app-journal, man 5 pb_app-ballots.";
+
 /// What an argument of a command takes.
 #[derive(Clone, Copy)]
 enum Takes {
@@ -260,6 +274,13 @@ const OUTPUT: Argument = Argument {
     help: "Writes the result to this file; an older file is replaced only when the result is complete",
 };
 
+/// The voter whose ballot is asked for.
+const VOTER: Argument = Argument {
+    name: "voter",
+    takes: Takes::Text("ID"),
+    help: "Prints only the ballot of the voter with this id",
+};
+
 /// Whether an open desk is refused.
 const REQUIRE_SHUT: Argument = Argument {
     name: "require-shut",
@@ -293,6 +314,13 @@ const QUIET_DESK: Argument = Argument {
     name: "quiet",
     takes: Takes::Nothing,
     help: "Shows no progress and no summary; refusals and warnings are still shown",
+};
+
+/// Whether nothing is told of a voter without a ballot either.
+const QUIET_BALLOTS: Argument = Argument {
+    name: "quiet",
+    takes: Takes::Nothing,
+    help: "Shows no progress, and does not say that the voter of --voter has no ballot",
 };
 
 /// Whether nothing is told of the rows that are served.
@@ -430,6 +458,20 @@ const DESKS: &[CommandForm] = &[
             STRICT,
             OUTPUT,
             QUIET_DESK,
+            PROGRESS,
+        ],
+    },
+    CommandForm {
+        name: "ballots",
+        notes: AFTER_BALLOTS,
+        about: "Checks a journal against its .pb file, and prints the ballots that the voters have now",
+        arguments: &[
+            ELECTION,
+            JOURNAL,
+            VOTER,
+            OTHER_FILE,
+            OUTPUT,
+            QUIET_BALLOTS,
             PROGRESS,
         ],
     },

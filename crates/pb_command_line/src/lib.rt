@@ -9,5 +9,5 @@ pub mod task;
 
 pub use parse::Parsed;
 pub use task::{
-    Admits, Asked, AuditRun, Ballots, CompareRun, DeskRun, PageRun, ServeRun, Source, Task,
+    Admits, Asked, AuditRun, Ballots, CompareRun, BallotsRun, DeskRun, PageRun, ServeRun, Source, Task,
 };

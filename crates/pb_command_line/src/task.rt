@@ -96,6 +96,16 @@ pub struct CompareRun<'a> {
     pub by_project: bool,
 }
 
+/// The ballots that a journal leaves on the desk of a .pb file.
+#[derive(Clone, Copy)]
+pub struct BallotsRun<'a> {
+    /// The .pb file.
+    pub file: Source<'a>,
+    pub journal: Source<'a>,
+    /// The voter whose ballot is asked for, as it was given; with none all are.
+    pub voter: Option<&'a str>,
+}
+
 /// The page of a count.
 #[derive(Clone, Copy)]
 pub struct PageRun<'a> {
@@ -128,6 +138,8 @@ pub enum Task<'a> {
     Desk(DeskRun<'a>),
     /// An audit of a journal on a .pb file.
     Audit(AuditRun<'a>),
+    /// The ballots that a journal leaves on the desk of a .pb file.
+    Ballots(BallotsRun<'a>),
     /// A desk of a .pb file that stands on a journal.
     Serve(ServeRun<'a>),
 }
@@ -143,7 +155,9 @@ impl<'a> Task<'a> {
             Task::Compare(run) => run.options,
             Task::Page(run) => run.options,
             Task::Audit(run) => run.options,
-            Task::Desk(..) | Task::Serve(..) | Task::Check(_) => CountOptions::standard(),
+            Task::Desk(..) | Task::Serve(..) | Task::Check(_) | Task::Ballots(_) => {
+                CountOptions::standard()
+            }
         }
     }
 
@@ -157,7 +171,8 @@ impl<'a> Task<'a> {
             | Task::Compare(CompareRun { ballots, .. })
             | Task::Page(PageRun { ballots, .. }) => (ballots.file, ballots.journal),
             Task::Desk(DeskRun { file, script, .. }) => (file, Some(script)),
-            Task::Audit(AuditRun { file, journal, .. }) => (file, Some(journal)),
+            Task::Audit(AuditRun { file, journal, .. })
+            | Task::Ballots(BallotsRun { file, journal, .. }) => (file, Some(journal)),
             Task::Serve(ServeRun { file, journal, .. }) => {
                 (Source::File(file), Some(Source::File(journal)))
             }

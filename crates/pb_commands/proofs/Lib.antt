@@ -18,4 +18,10 @@ pub mod TableHeads
 pub mod ComparedRows
 pub mod PaymentsText
 pub mod CheckWritten
+pub mod BallotsRuns
+pub mod LastGiven
+pub mod BallotsOnce
+pub mod GivenBallots
+pub mod BallotRows
+pub mod IdsText
 mod Exports

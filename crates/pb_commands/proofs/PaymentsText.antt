@@ -13,7 +13,7 @@ join-push c p [] x = refl
 join-push c p (q ∷ qs) x =
     ap (λ (t : List ℕ). p ++ c ∷ t) (join-push c q qs x) ∙ sym (append_assoc p (c ∷ join_with_byte c (q ∷ qs)) (c ∷ x))
 
-join_more : (c : ℕ) (ps : List (List ℕ)) (x : List ℕ) → 0 < length ps → join_with_byte c (ps ++ x ∷ []) ≡ join_with_byte c ps ++ c ∷ x
+pub join_more : (c : ℕ) (ps : List (List ℕ)) (x : List ℕ) → 0 < length ps → join_with_byte c (ps ++ x ∷ []) ≡ join_with_byte c ps ++ c ∷ x
 join_more c [] x some = absurd (omega arith)
 join_more c (p ∷ ps) x some = join-push c p ps x
 

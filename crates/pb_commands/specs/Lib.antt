@@ -6,6 +6,7 @@ pub mod Tabled
 pub mod Ends
 pub mod Counted
 pub mod Audited
+pub mod Ballots
 pub mod DeskRun
 pub mod Checked
 pub mod Closed

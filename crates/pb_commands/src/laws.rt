@@ -1,11 +1,15 @@
 //! Laws of the definitions.
 
-ghost use Rattle.std.specs.Prelude.{◌≡◌, ◌↔◌, ◌<◌, ◌==◌, ◌++◌, ℕ, All, Bool, List, [], ◌∷◌, filter, map, true};
+ghost use Rattle.std.specs.Prelude.{◌≡◌, ◌≢◌, ◌↔◌, ◌⊎◌, ◌<◌, ◌==◌, ◌+◌, ◌++◌, ℕ, All, Bool, Contains, List, [], ◌∷◌, None, Some, filter, length, map, true};
 ghost use Rattle.std.specs.Bool.{MatchBool};
-ghost use Rattle.pb_core.specs.Request.{EntryView, Shut};
+ghost use Rattle.pb_core.specs.Election.{IsElection};
+ghost use Rattle.pb_core.specs.Request.{EntryView, Cast, Replace, Shut};
 ghost use Rattle.pb_desk.specs.Audit.{IsSound};
 ghost use Rattle.pb_desk.specs.Desk.{DeskView, closed_election, standing_of};
+ghost use Rattle.pb_desk.specs.Opening.{OpeningView};
+ghost use Rattle.pb_desk.specs.Replay.{IsLegal, replay};
 ghost use Rattle.pb_desk.specs.Rows.{journal_text};
+ghost use Rattle.pb_desk.specs.Step.{voter_of};
 ghost use Rattle.pb_read.specs.StandsFor.{StandsFor};
 ghost use Rattle.pb_rows.specs.Reading.{records_of};
 ghost use Rattle.pb_rows.specs.Writing.{text_of_row};
@@ -18,6 +22,7 @@ ghost use Rattle.pb_script.specs.Scripts.{IsScript};
 ghost use Rattle.pb_script.specs.Serving.{program_room};
 ghost use Rattle.pb_faults.specs.DeskRow.{entries_row};
 ghost use Rattle.pb_commands.specs.Audited.{AuditWrites, IsDeskOf, IsTextOf};
+ghost use Rattle.pb_commands.specs.Ballots.{last_given};
 ghost use Rattle.pb_commands.specs.Counted.{CountWrites};
 ghost use Rattle.pb_commands.specs.DeskRun.{DeskWrites, admission_on};
 ghost use Rattle.pb_commands.specs.declared.run_desk.Rules.{Rules};
@@ -65,4 +70,23 @@ pub fn journals_recount()
         → (standing_of d).is_shut ≡ true → IsCountOf (closed_election d) options o
         → IsTextOf d options fills_up
         (text_of_row (entries_row d) ++ report_of (closed_election d) (counted (closed_election d) fills_up o)) }
+{}
+
+/// What the number in a row of the table of ballots says. Of each ballot that a legal journal leaves on the desk of an
+/// election: the entry with this number was done, and cast this very ballot for the voter or put it in place of another;
+/// after it nothing was done for the voter. Where the row has no number, the ballot is the file's, and nothing was done for
+/// the voter at all.
+pub fn ballots_name_their_entries()
+    ensures given { (o : OpeningView) (journal : List EntryView) (voter ballot : List ℕ) (number : ℕ)
+        → IsElection o.election → IsLegal o journal → Contains (replay o journal).ballots (voter, ballot)
+        → last_given voter journal ≡ Some number
+        → (before : List EntryView) × (x : EntryView) × (after : List EntryView)
+        × (journal ≡ before ++ x ∷ after) × (number ≡ length before + 1) × (x.answer ≡ Answer.Done)
+        × ((x.request ≡ Cast voter ballot) ⊎ (x.request ≡ Replace voter ballot))
+        × All (λ y. y.answer ≡ Answer.Done → y.request ≢ Shut → voter_of y.request ≢ voter) after }
+    ensures own { (o : OpeningView) (journal : List EntryView) (voter ballot : List ℕ)
+        → IsElection o.election → IsLegal o journal → Contains (replay o journal).ballots (voter, ballot)
+        → last_given voter journal ≡ None
+        → Contains o.election.voters (record { id = voter; ballot = ballot })
+        × All (λ y. y.answer ≡ Answer.Done → y.request ≢ Shut → voter_of y.request ≢ voter) journal }
 {}

@@ -1,9 +1,10 @@
-//! The commands `count`, `projects`, `voters`, `compare`, `export`, `desk`, `audit` and `check`, from bytes to bytes.
+//! The commands `count`, `projects`, `voters`, `compare`, `export`, `desk`, `audit`, `ballots` and `check`, from bytes to bytes.
 //!
 //! A run reads its inputs in their order, makes its whole text in memory, and then writes it: so a run that is
 //! refused has written nothing. Each refusal has one line and one status.
 #![tactic(auto)]
 
+mod ballots_table;
 mod closed_desk;
 mod counting;
 mod export_text;
@@ -13,6 +14,7 @@ mod report;
 mod ruled_projects_table;
 mod rules_table;
 pub mod run_audit;
+pub mod run_ballots;
 pub mod run_check;
 pub mod run_count;
 pub mod run_desk;

@@ -24,7 +24,7 @@ pub(crate) fn makes_journal(task: &Task<'_>) -> bool {
 /// Whether the result pairs ids with ballots.
 pub(crate) fn pairs_ids(task: &Task<'_>) -> bool {
     match task {
-        Task::Desk(_) | Task::Voters(..) | Task::Export(..) => true,
+        Task::Desk(_) | Task::Voters(..) | Task::Export(..) | Task::Ballots(_) => true,
         Task::Count(..)
         | Task::Projects(..)
         | Task::Compare(_)

@@ -8,6 +8,7 @@
 
 mod audit_paths;
 mod audited;
+pub mod ballot_words;
 pub mod belonging_words;
 mod claims;
 mod complaint;

@@ -1,0 +1,56 @@
+-- The ballots that a desk has, as a table, and what a run of `ballots` writes and refuses.
+use Rattle.std.specs.Prelude.{◌≡◌, ℕ, suc, Bool, true, false, List, [], ◌∷◌, ◌++◌, Option, Some, None, codes, decimal, filter, map, if◌then◌else◌, slice_index_or}
+use Rattle.std.specs.List.{join_with_byte}
+use Rattle.std.specs.Option.{option_map_or}
+use Rattle.std.specs.Str.{bytes_eq}
+use Rattle.pb_core.specs.Election.{ElectionView, project_ids}
+use Rattle.pb_core.specs.Request.{EntryView, RequestView, Cast, Replace}
+use Rattle.pb_core.specs.declared.answer.Answer.{Answer}
+use Rattle.pb_core.specs.declared.answer.Answer.TheVariants.{Done}
+use Rattle.pb_desk.specs.Audit.{IsFaultOfJournal}
+use Rattle.pb_desk.specs.Desk.{DeskView, standing_of}
+use Rattle.pb_rows.specs.Reading.{Fields, records_of}
+use Rattle.pb_rows.specs.Writing.{text_of_rows}
+use Rattle.pb_script.specs.Serving.{program_room}
+use Rattle.pb_commands.specs.Audited.{IsDeskOf}
+use Rattle.pb_faults.specs.declared.fault.AppFault.{AppFault}
+use Rattle.pb_faults.specs.declared.fault.AppFault.TheVariants.{Audit}
+
+-- the voter to whom a request that is answered so gives a ballot: a cast or a replacement that is done does
+abbrev pub given_to : Answer → RequestView → Option (List ℕ)
+given_to Done (Cast voter ballot) = Some voter
+given_to Done (Replace voter ballot) = Some voter
+given_to answer request = None
+
+-- the entry gave this voter a ballot
+abbrev pub gave : List ℕ → EntryView → Bool
+gave voter x = option_map_or (bytes_eq voter) (given_to x.answer x.request) false
+
+-- the number of the last entry, from 1, that gave this voter a ballot, if one did
+abbrev pub last_given : List ℕ → List EntryView → Option ℕ
+last_given voter [] = None
+last_given voter (x ∷ xs) =
+    option_map_or (λ number. Some (suc number)) (last_given voter xs) (if gave voter x then Some 1 else None)
+
+-- the row of a ballot: its voter; the number of the entry that gave it, empty where the file did; and the ids of its
+-- projects, with `,` between two
+abbrev pub ballot_row : DeskView → List ℕ × List ℕ → Fields
+ballot_row d b =
+    b.0 ∷ option_map_or decimal (last_given b.0 d.journal) []
+    ∷ join_with_byte 44 (map (λ place. slice_index_or (project_ids d.opening.election) place []) b.1) ∷ []
+
+-- the ballots of a desk as text: the columns, and then a row each, in the order of the replay; of one voter alone where
+-- one is named
+unfoldable pub ballots_table : Option (List ℕ) → DeskView → List ℕ
+ballots_table voter d =
+    codes "voter_id;entry;project_ids\n"
+    ++ text_of_rows (map (ballot_row d) (filter (λ b. option_map_or (bytes_eq b.0) voter true) (standing_of d).ballots))
+
+-- what these bytes make a run of `ballots` write
+abbrev pub BallotsWrites : Option (List ℕ) → List ℕ → List ℕ → List ℕ → Type 0
+BallotsWrites voter bytes journal text = (d : DeskView) × IsDeskOf bytes journal d × (text ≡ ballots_table voter d)
+
+-- what refuses an election in a run of `ballots` on these bytes: the journal's first fault
+abbrev pub BallotsRefuses : List ℕ → ElectionView → AppFault → Type 0
+BallotsRefuses rows e (Audit fault) = IsFaultOfJournal e program_room (records_of rows) fault
+BallotsRefuses rows e fault = ⊥
