@@ -1,15 +1,16 @@
 //! A record of a .pb file that has a fault, and what is wrong with it, in words.
 
-use crate::fields::{JoinedBy, bytes_at, column_of, joined, place_of_no_text, text_at};
-use crate::mark::Mark;
 use crate::mark_words::put_subject;
 use crate::read_rules::{put_broken, words_of};
-use crate::section::{Names, OddHead, is_again, names_of, odd_head_of, section_of, wrong_head};
-use crate::seen::Seen;
+use crate::section::{Names, is_again, names_of, wrong_head};
 use crate::words::Value::{Bytes, Number, Own, Quoted};
 use crate::words::Words;
 use csv::ByteRecord;
 use pb_read::{ReadKind, Section, Stage};
+use pb_witness::fields::{JoinedBy, bytes_at, column_of, joined, place_of_no_text, text_at};
+use pb_witness::heads::{OddHead, odd_head_of, section_of};
+use pb_witness::mark::Mark;
+use pb_witness::seen::Seen;
 
 /// What to do about the column names of VOTES among the projects.
 const NO_VOTES: &str =

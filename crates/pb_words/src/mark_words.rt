@@ -1,10 +1,10 @@
 //! Where a record stands in its text, in words.
 
-use crate::mark::Mark;
-use crate::quote::{Span, span_of};
-use crate::text::Text;
 use crate::words::Value::{Name, Number, Own, Quoted};
 use crate::words::Words;
+use pb_witness::mark::Mark;
+use pb_witness::quote::{Span, span_of};
+use pb_witness::text::Text;
 use std::rt::Files;
 
 /// What is said of a quotation mark that is never closed.

@@ -1,18 +1,18 @@
 //! Words for a record of a .pb file that is refused, and for the end of one that is refused there.
 
 use crate::faulty_record::FaultyRecord;
-use crate::ids::{Ids, Known};
-use crate::mark::Mark;
 use crate::mark_words::{line_of, put_mark, put_quotes, put_subject, put_unclosed};
 use crate::meta_words::{
     put_joined, put_late_meta, put_missing_key, put_odd_head, put_value_words,
 };
 use crate::read_rules::words_of;
 use crate::section::{due_at_end, end_remedy};
-use crate::text::Text;
 use crate::words::Value::{Name, Number, Own, Quoted};
 use crate::words::Words;
 use pb_read::{ReadKind, Stage};
+use pb_witness::ids::{Ids, Known};
+use pb_witness::mark::Mark;
+use pb_witness::text::Text;
 use std::rt::Files;
 
 /// What to do about a vote for a project whose row has a fault.

@@ -1,14 +1,15 @@
 //! Words for warnings: where, what, and what to do.
 
 use crate::count_words::put_amount;
-use crate::fields::text_at;
 use crate::mark_words::{put_mark, put_record_number, put_subject};
-use crate::oddities::{ALL, Odd, Oddities, Subject};
-use crate::text::Text;
 use crate::words::Value::{Number, Own, Quoted};
 use crate::words::Words;
 use pb_core::money::Money;
 use pb_read::Oddity;
+use pb_witness::fields::text_at;
+use pb_witness::oddities::{ALL, Odd, Oddities, Subject};
+use pb_witness::text::Text;
+use std::alloc::{AllocError, Global};
 use std::rt::Files;
 
 /// What is said of an oddity.
@@ -107,8 +108,22 @@ fn said_of(oddity: Oddity, is_vote: bool) -> &'static Said {
     }
 }
 
+/// Words for the warnings that were found in the file with this path, by their names; no path is standard input.
+pub fn warning_words<R: Files>(
+    rt: &R,
+    alloc: Global,
+    path: Option<&str>,
+    found: Option<&Oddities>,
+) -> Result<String, AllocError> {
+    let mut out = Words::new(alloc);
+    if let Some(oddities) = found {
+        put_oddities(&mut out, &Text::new(rt, alloc, path, "record"), oddities);
+    }
+    out.finish()
+}
+
 /// Puts what is said of each warning, by their names.
-pub(crate) fn put_oddities<R: Files>(out: &mut Words, text: &Text<'_, R>, oddities: &Oddities) {
+fn put_oddities<R: Files>(out: &mut Words, text: &Text<'_, R>, oddities: &Oddities) {
     if !oddities.is_whole() {
         return out.fail();
     }
