@@ -288,7 +288,7 @@ pub(crate) fn say_open_row<R: Eprint>(rt: &R) {
 }
 
 /// Says why the row that was typed last is none.
-pub(crate) fn say_bad_row<R: Eprint>(rt: &R, row: &TypedRow) {
+pub(crate) fn say_bad_row<R: Eprint + AllocGlobal>(rt: &R, row: &TypedRow) {
     say_words(rt, typed_words(rt.alloc(), row));
 }
 
