@@ -89,12 +89,15 @@ impl State {
     }
 }
 
-/// What the bytes say of the record with this mark, in a file that is read again.
-pub fn span_of<R: Files>(text: &Text<'_, R>, mark: Mark) -> Option<Span> {
-    let mut file = text.open_at(mark.byte)?;
+/// What the bytes say of the record with this mark, where the text is a file that can be read again. Of another text no
+/// more is known than the mark.
+pub fn span_of<R: Files>(text: &Text<'_, R>, mark: Mark) -> Span {
+    let Some(mut file) = text.open_at(mark.byte) else {
+        return Span::new(mark.line);
+    };
     let span = scan(&mut file, mark.line);
     drop(file);
-    Some(span)
+    span
 }
 
 /// Reads a record to its end.

@@ -76,7 +76,7 @@ fn what_and_remedy(fault: AuditFault) -> &'static str {
 /// Looks at the faulty row again, and puts what is wrong there; answers whether it was found.
 fn put_found<R: Files>(out: &mut Words, audited: &Audited<'_, R>) -> bool {
     if let Some(desk) = audited.answer(ROOM) {
-        put_mark(out, &audited.journal, desk.mark);
+        let _ = put_mark(out, &audited.journal, desk.mark);
         put_wrong_answer(out, &desk.row, Some(&desk));
         drop(desk);
         return true;
@@ -90,16 +90,16 @@ fn put_found<R: Files>(out: &mut Words, audited: &Audited<'_, R>) -> bool {
 }
 
 fn put_row<R: Files>(out: &mut Words, audited: &Audited<'_, R>, row: &ByteRecord, mark: Mark) {
-    put_mark(out, &audited.journal, mark);
+    let span = put_mark(out, &audited.journal, mark);
     match audited.fault {
         AuditFault::BadRow(0) => out.fill(
             ": this program can't read journals of version {}; the first line should be `journal;2`.\nIf a newer pb_app wrote the journal, use that program. Otherwise get the desk's own copy of the journal.\n",
             &[Bytes(bytes_at(row, 1))],
         ),
         AuditFault::BadRow(_) => {
-            if !put_unclosed(out, &audited.journal, mark) {
+            if !put_unclosed(out, span) {
                 put_bad_row(out, row, remedy_at(audited));
-                put_quotes(out, &audited.journal, mark);
+                let _ = put_quotes(out, span);
             }
         }
         AuditFault::WrongNumber(at) => out.fill(

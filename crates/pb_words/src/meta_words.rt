@@ -59,7 +59,7 @@ pub(crate) fn put_value_words<R: Files>(
     let Some(records) = text.record_at(last) else {
         return false;
     };
-    put_mark(out, text, last);
+    let _ = put_mark(out, text, last);
     put_value(out, key, kind, text_at(&records.last, 1));
     drop(records);
     if first.at != last.at {
@@ -81,7 +81,7 @@ pub(crate) fn put_missing_key<R: Files>(
     seen: &Seen,
     mark: Mark,
 ) {
-    put_mark(out, text, mark);
+    let _ = put_mark(out, text, mark);
     let remedy = if seen.keys.budget().is_none() {
         out.put(": META has no row for the key `budget`.\n");
         ADD_BUDGET

@@ -12,6 +12,7 @@ use crate::words::Words;
 use pb_read::{ReadKind, Stage};
 use pb_witness::ids::{Ids, Known};
 use pb_witness::mark::Mark;
+use pb_witness::quote::span_of;
 use pb_witness::text::Text;
 use std::rt::Files;
 
@@ -49,8 +50,8 @@ fn put_record<R: Files>(
     faulty: &FaultyRecord<'_>,
 ) {
     let ids = known.ids;
-    put_mark(out, text, faulty.mark);
-    if put_unclosed(out, text, faulty.mark) {
+    let span = put_mark(out, text, faulty.mark);
+    if put_unclosed(out, span) {
         return;
     }
     let mut remedy = words_of(faulty.kind).remedy;
@@ -70,7 +71,7 @@ fn put_record<R: Files>(
         }
         _ => faulty.put(out),
     }
-    put_quotes(out, text, faulty.mark);
+    let _ = put_quotes(out, span);
     put_remedy(out, text, faulty, remedy);
 }
 
@@ -134,15 +135,16 @@ pub(crate) fn put_end<R: Files>(
     end: &FaultyRecord<'_>,
 ) -> bool {
     let (due, last) = (due_at_end(end.stage), end.seen.last);
+    let span = span_of(text, last);
     if last.at > 0 {
         out.fill(
             "{}: the file ends after line {}, and {}",
-            &[Name(text.path), Number(line_of(text, last)), Own(due)],
+            &[Name(text.path), Number(span.begins), Own(due)],
         );
     } else {
         out.fill("{}: the file ends, and {}", &[Name(text.path), Own(due)]);
     }
-    if put_quotes(out, text, last) {
+    if put_quotes(out, span) {
         return true;
     }
     match end.seen.odd_head {

@@ -81,11 +81,10 @@ fn put_row<R: Files>(out: &mut Words, text: &Text<'_, R>, at: u64, clerks: u32) 
     let Some(records) = text.records_at(Mark::start(), at) else {
         return false;
     };
-    let mark = records.mark();
-    put_mark(out, text, mark);
-    if !put_unclosed(out, text, mark) {
+    let span = put_mark(out, text, records.mark());
+    if !put_unclosed(out, span) {
         put_row_words(out, &records.last, clerks);
-        put_quotes(out, text, mark);
+        let _ = put_quotes(out, span);
     }
     drop(records);
     true

@@ -163,7 +163,7 @@ fn put_row<R: Files>(out: &mut Words, text: &Text<'_, R>, odd: &Odd, said: &Said
     let Some(records) = text.record_at(odd.mark) else {
         return false;
     };
-    put_mark(out, text, odd.mark);
+    let _ = put_mark(out, text, odd.mark);
     put_subject(
         out,
         odd.subject.word(),
