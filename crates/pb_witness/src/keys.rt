@@ -24,8 +24,8 @@ impl Keys {
         Keys { given: [None; 3] }
     }
 
-    /// Takes a row of META with this key, and answers whether it repeats one of these.
-    pub fn take(&mut self, key: &str, mark: Mark) -> bool {
+    /// Takes a row of META with this key, and answers where it stood last, if it is one of these and repeated.
+    pub fn take(&mut self, key: &str, mark: Mark) -> Option<Mark> {
         for place in 0..3usize {
             if key.eq_ignore_ascii_case(KEYS[place]) {
                 let before = self.given[place];
@@ -34,10 +34,13 @@ impl Keys {
                     None => mark,
                 };
                 self.given[place] = Some(Given { first, last: mark });
-                return before.is_some();
+                return match before {
+                    Some(given) => Some(given.last),
+                    None => None,
+                };
             }
         }
-        false
+        None
     }
 
     /// The rows that gave `budget`.

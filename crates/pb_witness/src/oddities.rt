@@ -55,6 +55,8 @@ pub struct Odd {
     pub number: u64,
     /// What the number should not pass, where META says so.
     pub limit: Option<u64>,
+    /// Where the key stood before, if it is repeated.
+    pub before: Option<Mark>,
 }
 
 impl Odd {
@@ -68,6 +70,7 @@ impl Odd {
             value_place: places.1,
             number: 0,
             limit: None,
+            before: None,
         }
     }
 

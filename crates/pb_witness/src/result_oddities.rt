@@ -84,8 +84,12 @@ impl ResultOddities {
     fn take_key(&mut self, row: &ByteRecord, mark: Mark, out: &mut Oddities) {
         self.claims.take(row, mark);
         let key = text_at(row, 0);
-        if self.keys.take(key, mark) {
-            out.take(Odd::of_key(Oddity::RepeatedKey, mark, 0));
+        let before = self.keys.take(key, mark);
+        if before.is_some() {
+            out.take(Odd {
+                before,
+                ..Odd::of_key(Oddity::RepeatedKey, mark, 0)
+            });
         }
         if key.eq_ignore_ascii_case("budget") {
             self.thousands = None;

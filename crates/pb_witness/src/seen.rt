@@ -38,7 +38,7 @@ impl Seen {
             Part::Head(_) => self.odd_head = None,
             Part::Key => {
                 self.take_head(record, mark);
-                self.keys.take(text_at(record, 0), mark);
+                let _ = self.keys.take(text_at(record, 0), mark);
             }
             Part::Project(_) => self.take_head(record, mark),
             Part::Names => self.names = mark,

@@ -140,7 +140,7 @@ fn put_wrong_answer(out: &mut Words, row: &ByteRecord, desk: Option<&DeskAnswer>
         &[Bytes(bytes_at(row, 2)), Bytes(bytes_at(row, 5))],
     );
     match desk {
-        Some(desk) => put_answer(out, desk, raw_text(row, 2)),
+        Some(desk) => put_answer(out, desk, raw_text(row, 2), raw_text(row, 5)),
         None => out.put(", but the right answer is another one.\n"),
     }
     out.put(
@@ -148,12 +148,16 @@ fn put_wrong_answer(out: &mut Words, row: &ByteRecord, desk: Option<&DeskAnswer>
     )
 }
 
-/// Puts the answer to this request, and why it is given.
-fn put_answer(out: &mut Words, desk: &DeskAnswer, request: &str) {
+/// Puts the answer to this request, and why it is given and not the one that the journal says.
+fn put_answer(out: &mut Words, desk: &DeskAnswer, request: &str, said: &str) {
     match desk.answer {
         Answer::UnknownPlace(place) => out.fill(
-            ", but the right answer is `unknown-place {}`, because positions count from 0 and the number of projects is {}.\n",
-            &[Number(u64::from(place)), Number(desk.projects)],
+            ", but the right answer is `unknown-place {}`, because {} is the first position in the ballot that no project has: the number of projects is {}, and positions count from 0.\n",
+            &[
+                Number(u64::from(place)),
+                Number(u64::from(place)),
+                Number(desk.projects),
+            ],
         ),
         Answer::TooLong => out.fill(
             ", but the right answer is `too-long`, because `max_length` is {}.\n",
@@ -163,7 +167,13 @@ fn put_answer(out: &mut Words, desk: &DeskAnswer, request: &str) {
         Answer::AlreadyCast => put_plain(out, "already-cast", "the voter has a ballot"),
         Answer::NoBallot => put_plain(out, "no-ballot", "the voter has no ballot"),
         Answer::VoterLimit => put_plain(out, "voter-limit", "the desk has 1,000,000 ballots"),
-        Answer::Done => put_plain(out, "done", why_done(request)),
+        Answer::Done => {
+            out.put(", but the right answer is `done`, because ");
+            if said == "too-long" && desk.is_unlimited {
+                out.put("a journal of version 1 has no limit on a ballot's length, and ");
+            }
+            out.fill("{}.\n", &[Own(why_done(request))])
+        }
     }
 }
 

@@ -10,12 +10,14 @@ use std::rt::Files;
 /// What is said of a quotation mark that is never closed.
 const UNCLOSED: &str =
     "{} quotation mark opens on line {} and is never closed, so the rest of the file is read as one field.
-Close it. If it belongs to the text, write it twice and put the field in quotation marks.
+Close it. If it belongs to the text, write `\"\"` for it, and put quotation marks around the whole field, like `\"Playground \"\"Otter\"`.
 ";
 
 /// What is said of a field in quotes that runs over several lines.
 const OVER_LINES: &str =
-    "A quotation mark opens on line {} and is closed on line {}, so the lines between are one field.\n";
+    "A quotation mark opens on line {} and is closed on line {}, so these lines are read as one field.
+If they should not be, delete both quotation marks, or close the first one on its own line.
+";
 
 /// Puts where a record stands that was not read again: `standard input: record 32`.
 pub(crate) fn put_record_number<R>(out: &mut Words, text: &Text<'_, R>, at: u64) {

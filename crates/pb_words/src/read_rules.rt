@@ -58,7 +58,7 @@ const FAULTS: &[FaultWords] = &[
     // MissingKey
     FaultWords {
         what: "META has no row for `budget`, or none for `vote_type`",
-        remedy: "Add the row, in the form `budget;AMOUNT`; or, if the votes are approval votes, `vote_type;approval`.\n",
+        remedy: "Add the row that is missing: `budget;AMOUNT`, or `vote_type;approval` (only if the votes are approval votes).\n",
     },
     // VoteType
     FaultWords {

@@ -54,7 +54,7 @@ pub fn refused_words(alloc: Global, refused: &RefusedRow<'_>) -> Result<String, 
 pub fn like_a_place_words(alloc: Global, id: &str) -> Result<String, AllocError> {
     let mut out = Words::new(alloc);
     out.fill(
-        "Careful: a project has the id {}, but in a request {} is a position: positions count from 0.\nTo write ids in requests, run again with `--by-id`.\n",
+        "Careful: a project has the id {}. But in a request the number {} is a position, and positions count from 0.\nTo write ids in requests, run again with `--by-id`.\n",
         &[Quoted(id), Name(Some(id))],
     );
     out.finish()

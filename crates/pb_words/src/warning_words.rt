@@ -1,7 +1,7 @@
 //! Words for warnings: where, what, and what to do.
 
 use crate::count_words::put_amount;
-use crate::mark_words::{put_mark, put_record_number, put_subject};
+use crate::mark_words::{line_of, put_mark, put_record_number, put_subject};
 use crate::words::Value::{Number, Own, Quoted};
 use crate::words::Words;
 use pb_core::money::Money;
@@ -88,7 +88,7 @@ fn said_of(oddity: Oddity, is_vote: bool) -> &'static Said {
             remedy: "If the point or comma separates thousands, delete it. Otherwise write two decimals.\n",
         },
         Oddity::RepeatedKey => &Said {
-            what: "the key is repeated, here with {}; only the last row of a key counts",
+            what: "the last row of a key counts: this row, with {}, replaces the one on line {}",
             alone: "a key is repeated; only the last row of a key counts",
             ends_in_number: false,
             remedy: "Delete the wrong row.\n",
@@ -170,9 +170,13 @@ fn put_row<R: Files>(out: &mut Words, text: &Text<'_, R>, odd: &Odd, said: &Said
         text_at(&records.last, odd.id_place),
     );
     out.put(": ");
+    let before = line_of(text, odd.before.unwrap_or(odd.mark));
     out.fill(
         said.what,
-        &[Quoted(text_at(&records.last, odd.value_place))],
+        &[
+            Quoted(text_at(&records.last, odd.value_place)),
+            Number(before),
+        ],
     );
     if odd.oddity == Oddity::ThousandsMark {
         put_as_read(out, text_at(&records.last, odd.value_place));
