@@ -7,6 +7,7 @@ use pb_commands::run_desk::Rules;
 use pb_ids::IdTable;
 use pb_script::{Admission, Notice, RowRefusal, read_roll};
 use pb_streams::open_file;
+use pb_words::refused_words::RefusedRow;
 use std::cell::Cell;
 use std::rt::Files;
 
@@ -57,7 +58,14 @@ impl<R: Eprint + AllocGlobal> Notice for Told<'_, R> {
             return;
         }
         self.by_rules.set(self.by_rules.get().saturating_add(1));
-        words::say_refused_row(self.rt, row, why, unknown, self.least, self.refuses_script);
+        let refused = RefusedRow {
+            row,
+            why,
+            unknown,
+            least: self.least,
+            refuses_script: self.refuses_script,
+        };
+        words::say_refused_row(self.rt, &refused);
     }
 }
 

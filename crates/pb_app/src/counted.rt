@@ -1,6 +1,6 @@
 //! The text of a journal, of which the entries are counted as they go by.
 
-use pb_words::Tally;
+use pb_witness::tally::Tally;
 use std::io::{Read, Result, Write};
 
 /// A reader whose bytes a tally takes. A contract sees what it has left, where it sees that of the reader underneath.

@@ -14,7 +14,7 @@ use pb_core::gate::Gate;
 use pb_page::{Facts, Source, page_of};
 use pb_rounds::count_fault::CountFault;
 use pb_streams::{Digested, Hex, Progress, open_shown};
-use pb_words::warnings::ResultWarnings;
+use pb_witness::warnings::ResultWarnings;
 use std::alloc::Global;
 use std::cell::Cell;
 use std::fs::File;

@@ -19,7 +19,7 @@ use pb_script::{Admission, ROOM};
 use pb_serving::run_serve::run_admitted;
 use pb_serving::{AtHand, Incoming, Paced, ServingFault};
 use pb_streams::{Digested, open_file};
-use pb_words::Witness;
+use pb_witness::witness::Witness;
 use std::cell::Cell;
 use std::fs::File;
 use std::io::{Error, ErrorKind, Write};

@@ -1,7 +1,7 @@
 //! Requests that are typed at a terminal: it is said how to ask, and of a row why it is none or that it goes on.
 
 use crate::words;
-use pb_words::TypedRow;
+use pb_witness::typed_row::TypedRow;
 use std::cell::Cell;
 use std::io::{Read, Result, Write};
 

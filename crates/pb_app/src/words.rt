@@ -9,9 +9,12 @@ use pb_durable::file_beside::file_path;
 use pb_durable::moved::kept_path;
 use pb_export::ExportFault;
 use pb_rounds::count_fault::CountFault;
-use pb_script::{RowRefusal, ScriptFault};
+use pb_script::ScriptFault;
 use pb_streams::{Bar, Output, Progress};
 use pb_words::ballot_words::no_ballot_words;
+use pb_witness::audited::AuditPaths;
+use pb_witness::tally::Tally;
+use pb_witness::typed_row::TypedRow;
 use pb_words::belonging_words::{adopted_words, other_file_words, unread_file_words};
 use pb_words::count_words::{count_words, spent_words};
 use pb_words::journal_words::journal_words;
@@ -19,15 +22,13 @@ use pb_words::output_words::{
     beside_output_words, journal_output_words, read_output_words, served_output_words,
 };
 use pb_words::read_words::{list_words, read_words};
-use pb_words::refused_words::{
-    like_a_place_words, not_on_roll_words, roll_words, too_few_words, unknown_id_words,
-};
-use pb_words::script_words::script_words;
+use pb_words::refused_words::{RefusedRow, like_a_place_words, refused_words, roll_words};
+use pb_words::script_words::{script_words, typed_words};
 use pb_words::serve_words::{
     bad_rows_words, locked_words, lost_words, moved_words, spelling_words, torn_words,
     unanswered_words, unkept_words, unopened_words,
 };
-use pb_words::{AuditPaths, Tally, TypedRow, mistaken_words, open_words, write_words};
+use pb_words::{mistaken_words, open_words, tally_words, warning_words, write_words};
 use std::alloc::{AllocError, Global};
 use std::fs;
 use std::io::Error;
@@ -176,7 +177,7 @@ fn words_of<R: Files + AllocGlobal>(
                 file: first,
                 journal: second,
             };
-            journal_words(rt, alloc, paths, *fault, &notes.audited)
+            journal_words(rt, alloc, paths, *fault)
         }
         AppFault::Count(fault) => count_words(alloc, first, *fault, &asked.task.options()),
         AppFault::Open(1) => open_words(rt, alloc, first.unwrap_or("-")),
@@ -237,9 +238,14 @@ pub(crate) fn say_warnings<R: Files + Eprint + AllocGlobal>(
 ) {
     let (file, _) = task.paths();
     match task {
-        Task::Check(_) => say_words(rt, notes.checked.words(rt, file)),
+        Task::Check(_) => {
+            say_words(
+                rt,
+                warning_words(rt, rt.alloc(), file, notes.checked.found()),
+            )
+        }
         Task::Desk(..) | Task::Serve(..) | Task::Ballots(..) => {}
-        _ => say_words(rt, notes.seen.words(rt, file)),
+        _ => say_words(rt, warning_words(rt, rt.alloc(), file, notes.seen.found())),
     }
 }
 
@@ -262,8 +268,10 @@ pub(crate) fn say_tally<R: Eprint + AllocGlobal>(
         | Task::Export(..)
         | Task::Ballots(..)
         | Task::Check(_) => {}
-        Task::Desk(..) | Task::Serve(..) => { say_words(rt, written.words(rt.alloc(), "recorded")) }
-        Task::Audit(..) => say_words(rt, audited.words(rt.alloc(), "checked")),
+        Task::Desk(..) | Task::Serve(..) => {
+            say_words(rt, tally_words(rt.alloc(), written, "recorded"))
+        }
+        Task::Audit(..) => say_words(rt, tally_words(rt.alloc(), audited, "checked")),
     }
 }
 
@@ -304,8 +312,8 @@ pub(crate) fn say_open_row<R: Eprint>(rt: &R) {
 }
 
 /// Says why the row that was typed last is none.
-pub(crate) fn say_bad_row<R: Eprint>(rt: &R, row: &TypedRow) {
-    say_words(rt, row.bad_words());
+pub(crate) fn say_bad_row<R: Eprint + AllocGlobal>(rt: &R, row: &TypedRow) {
+    say_words(rt, typed_words(rt.alloc(), row));
 }
 
 /// Says how the program is used, where it would wait for what nobody types.
@@ -372,23 +380,9 @@ fn words_of_adopted(alloc: Global, journal: &str, digest: &str) -> Result<String
     words
 }
 
-/// Says why a rule refuses the row with this number, from 1, and what of it: `unknown` is the id that no project has, where
-/// that is why.
-pub(crate) fn say_refused_row<R: Eprint + AllocGlobal>(
-    rt: &R,
-    row: u64,
-    why: RowRefusal,
-    unknown: &str,
-    least: u32,
-    refuses_script: bool,
-) {
-    let alloc = rt.alloc();
-    let words = match why {
-        RowRefusal::UnknownId => unknown_id_words(alloc, row, unknown, refuses_script),
-        RowRefusal::TooFew => too_few_words(alloc, row, least, refuses_script),
-        RowRefusal::NotOnRoll | RowRefusal::Bad => not_on_roll_words(alloc, row, refuses_script),
-    };
-    say_words(rt, words);
+/// Says why a rule refuses a row, and what comes of it.
+pub(crate) fn say_refused_row<R: Eprint + AllocGlobal>(rt: &R, refused: &RefusedRow<'_>) {
+    say_words(rt, refused_words(rt.alloc(), refused));
 }
 
 /// Says that this id of a project reads as a place.

@@ -60,8 +60,8 @@ Manual pages:
 /// What stands below the arguments of `serve`.
 const AFTER_SERVE: &str =
     "Standard input has one request on each row, in the form CLERK;REQUEST;VOTER;PLACES. PLACES are the positions of the
-projects in FILE, counted from 0, with `,` between them. The answer to a request is its row of the journal, printed once
-that row is on the disk.
+projects in FILE, counted from 0, with `,` between them. The answer to a request is its row of the journal, printed
+as soon as that row is on the disk.
 
 A refused row is not recorded. Its answer is fault;script;CODE;NAME;ROW.
 

@@ -24,6 +24,7 @@
 #![tactic(auto)]
 
 pub mod audit_fault;
+mod audit_watch;
 mod ballot_box;
 mod ballot_list;
 pub mod desk;
@@ -42,10 +43,11 @@ mod version;
 pub mod write_fault;
 
 pub use audit_fault::AuditFault;
+pub use audit_watch::{AuditWatch, NoAuditWatch};
 pub use desk::{Desk, MOST_CLERKS};
 pub use desk_fault::DeskFault;
 pub use into_fault::IntoFault;
-pub use journal_audit::audit;
+pub use journal_audit::{audit, audit_watched};
 pub use request_fields::{RequestFields, Strictness, read_request};
 pub use standing_ballots::StandingBallots;
 pub use start_fault::StartFault;

@@ -14,8 +14,8 @@ pub fn other_file_words(
 ) -> Result<String, AllocError> {
     let mut out = Words::new(alloc);
     out.fill(
-        "{} is not the file of {}: its SHA-256 is not the one in {}.\nThe journal names projects by their positions in the file, and in another file the same positions can be other projects. Name the .pb file with which the desk was opened.\nIf you want to use {}, give `--other-file`. Do so only if the projects have the same order as before: names and costs may differ, and projects may be added at the end.\n",
-        &[Name(file), Name(journal), Name(Some(beside)), Name(file)],
+        "{} was made with another .pb file: the SHA-256 of {} differs from the one noted in {}.\nThe journal names projects by their positions in the file, and in another file the same positions can be other projects. Name the .pb file with which the desk was opened.\nIf you want to use {}, give `--other-file`. Do so only if the projects have the same order as before: names and costs may differ, and projects may be added at the end.\n",
+        &[Name(journal), Name(file), Name(Some(beside)), Name(file)],
     );
     out.finish()
 }
@@ -29,7 +29,7 @@ pub fn adopted_words(
 ) -> Result<String, AllocError> {
     let mut out = Words::new(alloc);
     out.fill(
-        "{} was missing, so the program can't tell to which .pb file {} belongs.\nIt was made for the .pb file that you named, whose SHA-256 is {}.\nCompare this with the SHA-256 that you noted when the desk was opened. If they differ, stop, and find the right .pb file.\n",
+        "{} was missing, so the program can't tell to which .pb file {} belongs.\nThe program has now made it for the .pb file that you named, whose SHA-256 is {}.\nCompare this with the SHA-256 that you noted when the desk was opened. If they differ, stop, and find the right .pb file.\n",
         &[Name(Some(beside)), Name(Some(journal)), Own(digest)],
     );
     out.finish()

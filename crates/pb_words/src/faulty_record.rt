@@ -1,15 +1,16 @@
 //! A record of a .pb file that has a fault, and what is wrong with it, in words.
 
-use crate::fields::{JoinedBy, bytes_at, column_of, joined, place_of_no_text, text_at};
-use crate::mark::Mark;
 use crate::mark_words::put_subject;
 use crate::read_rules::{put_broken, words_of};
-use crate::section::{Names, OddHead, is_again, names_of, odd_head_of, section_of, wrong_head};
-use crate::seen::Seen;
+use crate::section::{Names, is_again, names_of, wrong_head};
 use crate::words::Value::{Bytes, Number, Own, Quoted};
-use crate::words::Words;
+use crate::words::{Words, is_hidden};
 use csv::ByteRecord;
 use pb_read::{ReadKind, Section, Stage};
+use pb_witness::fields::{JoinedBy, bytes_at, column_of, joined, place_of_no_text, text_at};
+use pb_witness::heads::{OddHead, odd_head_of, section_of};
+use pb_witness::mark::Mark;
+use pb_witness::seen::Seen;
 
 /// What to do about the column names of VOTES among the projects.
 const NO_VOTES: &str =
@@ -25,6 +26,10 @@ const ONCE: &str =
 
 /// What to do about a project's row that ends too early.
 const SHORT_PROJECT: &str = "Complete the row, or delete it if it does not belong here.\n";
+
+/// What to do about a row of invisible characters.
+const INVISIBLE: &str =
+    "The line has only an invisible character, which some programs put at the end of a file: delete the line.\n";
 
 /// A record with its fault.
 #[derive(Clone, Copy)]
@@ -76,6 +81,7 @@ impl<'r> FaultyRecord<'r> {
             }
             (ReadKind::NoHeader, _) => Some(self.names().add_header),
             (ReadKind::MissingColumn, _) => Some(self.names().add_column),
+            (ReadKind::MissingField, _) if is_invisible(self.record) => Some(INVISIBLE),
             (ReadKind::MissingField, Stage::InProjects(_)) => Some(SHORT_PROJECT),
             _ => None,
         }
@@ -190,4 +196,15 @@ impl<'r> FaultyRecord<'r> {
         put_subject(out, self.names().subject, id);
         put_broken(out, self.kind, value)
     }
+}
+
+/// Whether a row has only one field, and nothing in it that can be seen.
+fn is_invisible(record: &ByteRecord) -> bool {
+    let text = text_at(record, 0);
+    for c in text.chars() {
+        if !is_hidden(u32::from(c)) {
+            return false;
+        }
+    }
+    record.len() == 1 && !text.is_empty()
 }

@@ -1,27 +1,24 @@
 //! Words for files: those that cannot be opened, read or written.
 
 use crate::mark_words::put_record_number;
-use crate::text::{Text, is_file};
 use crate::words::Value::Name;
 use crate::words::Words;
+use pb_witness::failures::{is_folder, opening_failure, reading_failure};
+use pb_witness::text::{Text, is_file};
 use std::alloc::{AllocError, Global};
-use std::fs;
-use std::io::{Error, ErrorKind, Read};
+use std::io::{Error, ErrorKind};
 use std::rt::Files;
 
 /// Words for a file that could not be opened. It is tried once more, for the system's reason.
 pub fn open_words<R: Files>(rt: &R, alloc: Global, path: &str) -> Result<String, AllocError> {
     let mut out = Words::new(alloc);
     out.put_name(path);
-    match fs::open(rt, path) {
-        Ok(file) => {
-            drop(file);
-            out.put(": the file could not be opened.\nRun again.\n");
-        }
-        Err(error) => {
+    match opening_failure(rt, path) {
+        Some(error) => {
             out.put_error(&error);
             out.put(open_remedy(error.kind()));
         }
+        None => out.put(": the file could not be opened.\nRun again.\n"),
     }
     out.finish()
 }
@@ -87,48 +84,15 @@ pub(crate) fn put_reading_failed<R: Files>(out: &mut Words, text: &Text<'_, R>, 
     }
     put_record_number(out, text, at);
     if is_file(text.rt, path) {
-        put_failure(text.rt, out, path);
+        match reading_failure(text.rt, path) {
+            Some(error) => out.put_error(&error),
+            None => out.put(": reading failed, but a second try read the whole file.\n"),
+        }
     } else {
         out.put(": reading failed.\n");
     }
     out.put("Check the disk or the connection, then run again.\n");
     true
-}
-
-fn is_folder<R: Files>(rt: &R, path: &str) -> bool {
-    match fs::metadata(rt, path) {
-        Ok(metadata) => metadata.is_dir(),
-        Err(_) => false,
-    }
-}
-
-/// Reads a file once more, and puts the system's reason where that fails too.
-fn put_failure<R: Files>(rt: &R, out: &mut Words, path: &str) {
-    let failure = match fs::open(rt, path) {
-        Ok(mut file) => {
-            let failure = read_all(&mut file);
-            drop(file);
-            failure
-        }
-        Err(error) => Some(error),
-    };
-    match &failure {
-        Some(error) => out.put_error(error),
-        None => out.put(": reading failed, but a second try read the whole file.\n"),
-    }
-}
-
-/// Why a file cannot be read to its end; none where it can.
-fn read_all<F: Read>(file: &mut F) -> Option<Error> {
-    let mut buffer = [0u8; 4096];
-    for _ in 0..u64::MAX {
-        match file.read(&mut buffer) {
-            Ok(0) => return None,
-            Ok(_) => {}
-            Err(error) => return Some(error),
-        }
-    }
-    None
 }
 
 /// Words for a command line that names a file in place of a command.

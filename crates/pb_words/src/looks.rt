@@ -1,42 +1,28 @@
 //! What a file looks like that is none of the program's texts.
 
-use crate::text::Text;
-use std::io::Read;
+use pb_witness::text::Text;
 use std::rt::Files;
 
-/// What a file looks like that begins with certain bytes.
-#[derive(Clone, Copy)]
-struct Look {
-    begins: &'static [u8],
-    /// What it looks like, and what to do with it.
-    words: &'static str,
-}
-
-const LOOKS: &[Look] = &[
-    Look {
-        begins: b"\x1f\x8b",
-        words: ": the file looks like a gzip archive.\nUnpack it first, for example with `gunzip`.\n",
-    },
-    Look {
-        begins: b"PK\x03\x04",
-        words: ": the file looks like a zip archive, or a document of an office program.\nUnpack it first, or save the document as text with `;` between the fields.\n",
-    },
-    Look {
-        begins: b"\xff\xfe",
-        words: UTF_16,
-    },
-    Look {
-        begins: b"\xfe\xff",
-        words: UTF_16,
-    },
-    Look {
-        begins: b"journal;",
-        words: ": this is the journal of a desk, not a .pb file.\nTo check it and count its ballots, run `pb_app audit FILE JOURNAL`. FILE is the .pb file of the desk.\n",
-    },
-    Look {
-        begins: b"%PDF",
-        words: ": the file looks like a PDF document.\nGet the .pb file itself, which is text.\n",
-    },
+/// What files look like that begin with certain bytes, and what to do with them.
+const LOOKS: &[(&[u8], &str)] = &[
+    (
+        b"\x1f\x8b",
+        ": the file looks like a gzip archive.\nUnpack it first, for example with `gunzip`.\n",
+    ),
+    (
+        b"PK\x03\x04",
+        ": the file looks like a zip archive, or a document of an office program.\nUnpack it first, or save the document as text with `;` between the fields.\n",
+    ),
+    (b"\xff\xfe", UTF_16),
+    (b"\xfe\xff", UTF_16),
+    (
+        b"journal;",
+        ": this is the journal of a desk, not a .pb file.\nTo check it and count its ballots, run `pb_app audit FILE JOURNAL`. FILE is the .pb file of the desk.\n",
+    ),
+    (
+        b"%PDF",
+        ": the file looks like a PDF document.\nGet the .pb file itself, which is text.\n",
+    ),
 ];
 
 const UTF_16: &str =
@@ -49,18 +35,16 @@ const WEB_PAGE: &str =
 
 /// What a text that is a file looks like by its first bytes, and what to do; none where they say nothing.
 pub(crate) fn looks_of<R: Files>(text: &Text<'_, R>) -> Option<&'static str> {
-    let mut file = text.open_at(0)?;
     let mut buffer = [0u8; 512];
-    let count = file.read(&mut buffer).unwrap_or(0);
-    drop(file);
-    looks_by(&buffer[..count])
+    let count = text.read_start(&mut buffer)?;
+    looks_by(&buffer[..count.min(512)])
 }
 
 /// What a text looks like that begins with these bytes.
 fn looks_by(bytes: &[u8]) -> Option<&'static str> {
-    for look in LOOKS {
-        if bytes.starts_with(look.begins) {
-            return Some(look.words);
+    for (begins, words) in LOOKS {
+        if bytes.starts_with(begins) {
+            return Some(words);
         }
     }
     if bytes.is_empty() {

@@ -1,39 +1,39 @@
 //! Where a record stands in its text, in words.
 
-use crate::mark::Mark;
-use crate::quote::{Span, span_of};
-use crate::text::Text;
 use crate::words::Value::{Name, Number, Own, Quoted};
 use crate::words::Words;
+use pb_witness::mark::Mark;
+use pb_witness::quote::{Span, span_of};
+use pb_witness::text::Text;
 use std::rt::Files;
 
 /// What is said of a quotation mark that is never closed.
 const UNCLOSED: &str =
     "{} quotation mark opens on line {} and is never closed, so the rest of the file is read as one field.
-Close it. If it belongs to the text, write it twice and put the field in quotation marks.
+Close it. If it belongs to the text, write `\"\"` for it, and put quotation marks around the whole field, like `\"Playground \"\"Otter\"`.
 ";
 
 /// What is said of a field in quotes that runs over several lines.
 const OVER_LINES: &str =
-    "A quotation mark opens on line {} and is closed on line {}, so the lines between are one field.\n";
+    "A quotation mark opens on line {} and is closed on line {}, so these lines are read as one field.
+If they should not be, delete both quotation marks, or close the first one on its own line.
+";
 
 /// Puts where a record stands that was not read again: `standard input: record 32`.
 pub(crate) fn put_record_number<R>(out: &mut Words, text: &Text<'_, R>, at: u64) {
     out.fill("{}: {} {}", &[Name(text.path), Own(text.unit), Number(at)])
 }
 
-/// Puts where a record begins: `city.pb: line 39`.
-pub(crate) fn put_mark<R: Files>(out: &mut Words, text: &Text<'_, R>, mark: Mark) {
-    let line = line_of(text, mark);
-    out.fill("{}: line {}", &[Name(text.path), Number(line)])
+/// Puts where a record begins: `city.pb: line 39`; answers what its bytes say.
+pub(crate) fn put_mark<R: Files>(out: &mut Words, text: &Text<'_, R>, mark: Mark) -> Span {
+    let span = span_of(text, mark);
+    out.fill("{}: line {}", &[Name(text.path), Number(span.begins)]);
+    span
 }
 
 /// The line at which a record begins.
 pub(crate) fn line_of<R: Files>(text: &Text<'_, R>, mark: Mark) -> u64 {
-    match span_of(text, mark) {
-        Some(span) => span.begins,
-        None => mark.line,
-    }
+    span_of(text, mark).begins
 }
 
 /// Puts whose row it is, where it has an id: `, project "p7"`.
@@ -44,10 +44,7 @@ pub(crate) fn put_subject(out: &mut Words, subject: &str, id: &str) {
 }
 
 /// Puts that a quotation mark in this record is never closed, if one is; answers whether it is so.
-pub(crate) fn put_unclosed<R: Files>(out: &mut Words, text: &Text<'_, R>, mark: Mark) -> bool {
-    let Some(span) = span_of(text, mark) else {
-        return false;
-    };
+pub(crate) fn put_unclosed(out: &mut Words, span: Span) -> bool {
     let Some(opened) = span.unclosed() else {
         return false;
     };
@@ -57,14 +54,7 @@ pub(crate) fn put_unclosed<R: Files>(out: &mut Words, text: &Text<'_, R>, mark: 
 
 /// Puts what is to be said of quotation marks, where the record runs over several lines by one; answers
 /// whether one is never closed.
-pub(crate) fn put_quotes<R: Files>(out: &mut Words, text: &Text<'_, R>, mark: Mark) -> bool {
-    match span_of(text, mark) {
-        Some(span) => put_span(out, &span),
-        None => false,
-    }
-}
-
-fn put_span(out: &mut Words, span: &Span) -> bool {
+pub(crate) fn put_quotes(out: &mut Words, span: Span) -> bool {
     if let Some(opened) = span.unclosed() {
         out.fill(UNCLOSED, &[Own("A"), Number(opened)]);
         return true;

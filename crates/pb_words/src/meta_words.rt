@@ -1,18 +1,16 @@
 //! Words for META: its values, which are judged at the head of PROJECTS, and its head.
 
-use crate::fields::{JoinedBy, joined, text_at};
-use crate::keys::Given;
-use crate::mark::Mark;
 use crate::mark_words::{line_of, put_mark};
 use crate::read_rules::{put_broken, words_of};
-use crate::records::Records;
-use crate::section::{OddHead, head_of};
-use crate::seen::Seen;
-use crate::text::Text;
 use crate::words::Value::{Number, Own, Quoted};
 use crate::words::Words;
 use pb_read::ReadKind;
-use std::io::Read;
+use pb_witness::fields::{JoinedBy, text_at};
+use pb_witness::heads::{OddHead, head_of, late_meta};
+use pb_witness::keys::Given;
+use pb_witness::mark::Mark;
+use pb_witness::seen::Seen;
+use pb_witness::text::Text;
 use std::rt::Files;
 
 /// What to do where META has no budget.
@@ -38,9 +36,6 @@ const NO_QUOTES_AT: &str =
 const REPEATED_KEY: &str =
     "The key is on line {} as well. When a key is repeated, the last row counts. Delete the wrong row.\n";
 
-/// META's head is looked for in so many records after a first one that is none.
-const MOST_BEFORE_META: u64 = 1_000;
-
 /// The key of META that a fault at the head of PROJECTS is about, and the rows that gave it.
 fn key_of(kind: ReadKind, seen: &Seen) -> (&'static str, Option<Given>) {
     match kind {
@@ -64,7 +59,7 @@ pub(crate) fn put_value_words<R: Files>(
     let Some(records) = text.record_at(last) else {
         return false;
     };
-    put_mark(out, text, last);
+    let _ = put_mark(out, text, last);
     put_value(out, key, kind, text_at(&records.last, 1));
     drop(records);
     if first.at != last.at {
@@ -86,7 +81,7 @@ pub(crate) fn put_missing_key<R: Files>(
     seen: &Seen,
     mark: Mark,
 ) {
-    put_mark(out, text, mark);
+    let _ = put_mark(out, text, mark);
     let remedy = if seen.keys.budget().is_none() {
         out.put(": META has no row for the key `budget`.\n");
         ADD_BUDGET
@@ -94,18 +89,10 @@ pub(crate) fn put_missing_key<R: Files>(
         out.put(": META has no row for the key `vote_type`.\n");
         ADD_VOTE_TYPE
     };
-    match joined_at(text, seen.last) {
+    match text.joined_at(seen.last) {
         Some(JoinedBy::Quotes) => out.fill(NO_QUOTES_AT, &[Number(line_of(text, seen.last))]),
         joined => put_joined(out, joined, remedy),
     }
-}
-
-/// Why the record with this mark is one field that seems to be a whole row, if it is one.
-fn joined_at<R: Files>(text: &Text<'_, R>, mark: Mark) -> Option<JoinedBy> {
-    let records = text.record_at(mark)?;
-    let joined = joined(&records.last);
-    drop(records);
-    joined
 }
 
 /// Puts what to do where a whole row is one field, or another remedy where it is not.
@@ -136,24 +123,4 @@ pub(crate) fn put_late_meta<R: Files>(out: &mut Words, text: &Text<'_, R>, first
         &[Number(line_of(text, mark))],
     );
     true
-}
-
-/// Where META's head stands behind the record with this mark.
-fn late_meta<R: Files>(text: &Text<'_, R>, first: Mark) -> Option<Mark> {
-    let mut records = text.record_at(first)?;
-    let mark = next_meta(&mut records);
-    drop(records);
-    mark
-}
-
-fn next_meta<F: Read>(records: &mut Records<F>) -> Option<Mark> {
-    for _ in 0..MOST_BEFORE_META {
-        if !records.advance() {
-            return None;
-        }
-        if text_at(&records.last, 0).eq_ignore_ascii_case("META") {
-            return Some(records.mark());
-        }
-    }
-    None
 }

@@ -2,17 +2,17 @@
 
 use crate::faulty_record::FaultyRecord;
 use crate::file_words::put_reading_failed;
-use crate::ids::Known;
 use crate::looks::looks_of;
 use crate::mark_words::put_record_number;
 use crate::read_rules::words_of;
 use crate::record_words::{put_end, put_found};
-use crate::text::Text;
-use crate::voters::first_rows;
-use crate::witness::{Refused, Witness};
 use crate::words::Value::{Name, Own};
 use crate::words::Words;
-use pb_read::{ReadFault, ReadKind, read_pb_watched};
+use pb_read::{ReadFault, ReadKind};
+use pb_witness::ids::Known;
+use pb_witness::text::Text;
+use pb_witness::voters::first_rows;
+use pb_witness::witness::{Refused, Witness};
 use std::alloc::{AllocError, Global};
 use std::rt::Files;
 
@@ -30,22 +30,10 @@ pub fn read_words<R: Files>(
         return list_words(rt, alloc, path, &faults, witness);
     }
     let mut again = Witness::new(alloc);
-    read_again(&Text::new(rt, alloc, path, "record"), &mut again);
+    again.look_again(&Text::new(rt, alloc, path, "record"));
     let words = list_words(rt, alloc, path, &faults, &again);
     drop(again);
     words
-}
-
-/// Lets a witness look on while a text is read once more, if it is a file.
-fn read_again<R: Files>(text: &Text<'_, R>, witness: &mut Witness) {
-    let Some(file) = text.open_at(0) else {
-        return;
-    };
-    match read_pb_watched(text.alloc, file, witness) {
-        Ok(election) => drop(election),
-        Err(again) if again.kind == ReadKind::NoMemory => witness.is_whole = false,
-        Err(_) => {}
-    }
 }
 
 /// Words for these faults of the .pb file with this path, their records rising; no path is standard input. The witness has

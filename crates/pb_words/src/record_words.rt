@@ -1,18 +1,19 @@
 //! Words for a record of a .pb file that is refused, and for the end of one that is refused there.
 
 use crate::faulty_record::FaultyRecord;
-use crate::ids::{Ids, Known};
-use crate::mark::Mark;
 use crate::mark_words::{line_of, put_mark, put_quotes, put_subject, put_unclosed};
 use crate::meta_words::{
     put_joined, put_late_meta, put_missing_key, put_odd_head, put_value_words,
 };
 use crate::read_rules::words_of;
 use crate::section::{due_at_end, end_remedy};
-use crate::text::Text;
 use crate::words::Value::{Name, Number, Own, Quoted};
 use crate::words::Words;
 use pb_read::{ReadKind, Stage};
+use pb_witness::ids::{Ids, Known};
+use pb_witness::mark::Mark;
+use pb_witness::quote::span_of;
+use pb_witness::text::Text;
 use std::rt::Files;
 
 /// What to do about a vote for a project whose row has a fault.
@@ -49,8 +50,8 @@ fn put_record<R: Files>(
     faulty: &FaultyRecord<'_>,
 ) {
     let ids = known.ids;
-    put_mark(out, text, faulty.mark);
-    if put_unclosed(out, text, faulty.mark) {
+    let span = put_mark(out, text, faulty.mark);
+    if put_unclosed(out, span) {
         return;
     }
     let mut remedy = words_of(faulty.kind).remedy;
@@ -70,7 +71,7 @@ fn put_record<R: Files>(
         }
         _ => faulty.put(out),
     }
-    put_quotes(out, text, faulty.mark);
+    let _ = put_quotes(out, span);
     put_remedy(out, text, faulty, remedy);
 }
 
@@ -134,15 +135,16 @@ pub(crate) fn put_end<R: Files>(
     end: &FaultyRecord<'_>,
 ) -> bool {
     let (due, last) = (due_at_end(end.stage), end.seen.last);
+    let span = span_of(text, last);
     if last.at > 0 {
         out.fill(
             "{}: the file ends after line {}, and {}",
-            &[Name(text.path), Number(line_of(text, last)), Own(due)],
+            &[Name(text.path), Number(span.begins), Own(due)],
         );
     } else {
         out.fill("{}: the file ends, and {}", &[Name(text.path), Own(due)]);
     }
-    if put_quotes(out, text, last) {
+    if put_quotes(out, span) {
         return true;
     }
     match end.seen.odd_head {

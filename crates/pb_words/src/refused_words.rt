@@ -2,64 +2,51 @@
 
 use crate::words::Value::{Name, Number, Own, Quoted};
 use crate::words::Words;
-use pb_script::RollFault;
+use pb_script::{RollFault, RowRefusal};
 use std::alloc::{AllocError, Global};
 
-/// Puts what comes of a row that is refused, and what to do, before which this has to be done.
-fn put_effect(out: &mut Words, refuses_script: bool, first: &str) {
-    let form = if refuses_script {
+/// A row that a desk refuses by its rules.
+#[derive(Clone, Copy)]
+pub struct RefusedRow<'a> {
+    /// Its number, from 1.
+    pub row: u64,
+    /// Why it is refused.
+    pub why: RowRefusal,
+    /// The id that no project has, where that is why.
+    pub unknown: &'a str,
+    /// How many projects a ballot has at least.
+    pub least: u32,
+    /// Whether its script is refused by it.
+    pub refuses_script: bool,
+}
+
+/// Words for a row that a desk refuses by its rules.
+pub fn refused_words(alloc: Global, refused: &RefusedRow<'_>) -> Result<String, AllocError> {
+    let mut out = Words::new(alloc);
+    out.fill("Row {}: ", &[Number(refused.row)]);
+    let remedy = match refused.why {
+        RowRefusal::UnknownId => {
+            out.fill("no project has the id {}.", &[Quoted(refused.unknown)]);
+            "Correct the id"
+        }
+        RowRefusal::TooFew => {
+            out.fill(
+                "the ballot names too few projects: `--min` asks for {} at least.",
+                &[Number(u64::from(refused.least))],
+            );
+            "Add projects to the ballot"
+        }
+        RowRefusal::NotOnRoll | RowRefusal::Bad => {
+            out.put("the voter is not on the roll.");
+            "Correct the voter's id, or add the voter to the roll"
+        }
+    };
+    let form = if refused.refuses_script {
         " The script is refused.\n{}, and run again.\n"
     } else {
         " The request is not recorded.\n{}, and send the request again.\n"
     };
-    out.fill(form, &[Own(first)])
-}
-
-/// Words for a row, from 1, with an id that no project has.
-pub fn unknown_id_words(
-    alloc: Global,
-    row: u64,
-    id: &str,
-    refuses_script: bool,
-) -> Result<String, AllocError> {
-    let mut out = Words::new(alloc);
-    out.fill(
-        "Row {}: no project has the id {}.",
-        &[Number(row), Quoted(id)],
-    );
-    put_effect(&mut out, refuses_script, "Correct the id");
-    out.finish()
-}
-
-/// Words for a row, from 1, whose voter is not on the roll.
-pub fn not_on_roll_words(
-    alloc: Global,
-    row: u64,
-    refuses_script: bool,
-) -> Result<String, AllocError> {
-    let mut out = Words::new(alloc);
-    out.fill("Row {}: the voter is not on the roll.", &[Number(row)]);
-    put_effect(
-        &mut out,
-        refuses_script,
-        "Correct the voter's id, or add the voter to the roll",
-    );
-    out.finish()
-}
-
-/// Words for a row, from 1, with fewer projects than there have to be.
-pub fn too_few_words(
-    alloc: Global,
-    row: u64,
-    least: u32,
-    refuses_script: bool,
-) -> Result<String, AllocError> {
-    let mut out = Words::new(alloc);
-    out.fill(
-        "Row {}: the ballot names too few projects: `--min` asks for {} at least.",
-        &[Number(row), Number(u64::from(least))],
-    );
-    put_effect(&mut out, refuses_script, "Add projects to the ballot");
+    out.fill(form, &[Own(remedy)]);
     out.finish()
 }
 
@@ -67,7 +54,7 @@ pub fn too_few_words(
 pub fn like_a_place_words(alloc: Global, id: &str) -> Result<String, AllocError> {
     let mut out = Words::new(alloc);
     out.fill(
-        "Careful: a project has the id {}, but in a request {} is a position: positions count from 0.\nTo write ids in requests, run again with `--by-id`.\n",
+        "Careful: a project has the id {}. But in a request the number {} is a position, and positions count from 0.\nTo write ids in requests, run again with `--by-id`.\n",
         &[Quoted(id), Name(Some(id))],
     );
     out.finish()

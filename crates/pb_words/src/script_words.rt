@@ -1,23 +1,23 @@
 //! Words for the faults of a script.
 
-use crate::complaint::{Complaint, no_text};
 use crate::count_words::put_range;
-use crate::fields::{joined, place_of_no_text, raw_text};
 use crate::file_words::put_reading_failed;
-use crate::mark::Mark;
 use crate::mark_words::{put_mark, put_quotes, put_record_number, put_unclosed};
 use crate::meta_words::put_joined;
-use crate::row_form::{bad_asking, bad_places, put_field_count};
-use crate::text::Text;
+use crate::row_words::{SCRIPT_FIELDS, put_field_count, put_flaw, script_remedy};
+use crate::words::Value::Number;
 use crate::words::Words;
 use csv::ByteRecord;
+use pb_desk::desk::MOST_CLERKS;
 use pb_rows::read_number;
 use pb_script::ScriptFault;
+use pb_witness::fields::{joined, raw_text};
+use pb_witness::mark::Mark;
+use pb_witness::row_flaw::{Condition, flaw_of_script_row};
+use pb_witness::text::Text;
+use pb_witness::typed_row::TypedRow;
 use std::alloc::{AllocError, Global};
 use std::rt::Files;
-
-/// The fields of a script's row.
-const FIELDS: [&str; 4] = ["clerk", "request", "voter", "places"];
 
 /// What to do about a row of other than four fields.
 const FOUR_FIELDS: &str = "Write it as CLERK;REQUEST;VOTER;PLACES, with three `;`.\n";
@@ -81,27 +81,42 @@ fn put_row<R: Files>(out: &mut Words, text: &Text<'_, R>, at: u64, clerks: u32) 
     let Some(records) = text.records_at(Mark::start(), at) else {
         return false;
     };
-    let mark = records.mark();
-    put_mark(out, text, mark);
-    if !put_unclosed(out, text, mark) {
+    let span = put_mark(out, text, records.mark());
+    if !put_unclosed(out, span) {
         put_row_words(out, &records.last, clerks);
-        put_quotes(out, text, mark);
+        let _ = put_quotes(out, span);
     }
     drop(records);
     true
 }
 
-/// Puts which condition a row breaks, and what to do.
-pub(crate) fn put_row_words(out: &mut Words, row: &ByteRecord, clerks: u32) {
+/// Words for why the row that was typed last is none.
+pub fn typed_words(alloc: Global, row: &TypedRow) -> Result<String, AllocError> {
+    let mut out = Words::new(alloc);
+    out.fill("row {}", &[Number(row.number())]);
+    let mut records = row.records();
+    if records.advance() {
+        put_row_words(&mut out, &records.last, MOST_CLERKS);
+    }
+    drop(records);
+    out.finish()
+}
+
+/// Puts which condition a row breaks, in a run of so many clerks, and what to do.
+fn put_row_words(out: &mut Words, row: &ByteRecord, clerks: u32) {
     if is_of_journal(row) {
         return out.put(JOURNAL_ROW);
     }
-    if row.len() != 4 && place_of_no_text(row).is_none() {
-        put_field_count(out, row, 4);
-        return put_joined(out, joined(row), FOUR_FIELDS);
-    }
-    match complaint_of(row, clerks.min(64)) {
-        Some(complaint) => complaint.put(out, complaint.condition.remedy),
+    match flaw_of_script_row(row, clerks) {
+        Some(flaw) if flaw.condition == Condition::FieldCount => {
+            put_field_count(out, row, SCRIPT_FIELDS.len());
+            put_joined(out, joined(row), FOUR_FIELDS)
+        }
+        Some(flaw) => {
+            let clerks = clerks.min(MOST_CLERKS);
+            let remedy = script_remedy(flaw.condition, clerks);
+            put_flaw(out, &flaw, SCRIPT_FIELDS, clerks, remedy)
+        }
         None => out.put(": the row is refused.\n"),
     }
 }
@@ -110,12 +125,4 @@ pub(crate) fn put_row_words(out: &mut Words, row: &ByteRecord, clerks: u32) {
 fn is_of_journal(row: &ByteRecord) -> bool {
     let is_entry = row.len() == 6 && read_number(raw_text(row, 0)).is_some();
     is_entry || raw_text(row, 0) == "journal"
-}
-
-/// The first condition that a row of four fields breaks.
-fn complaint_of(row: &ByteRecord, clerks: u32) -> Option<Complaint<'_>> {
-    let request = raw_text(row, 1);
-    no_text(row, &FIELDS)
-        .or(bad_asking(raw_text(row, 0), clerks, request, raw_text(row, 2)))
-        .or(bad_places(request, raw_text(row, 3)))
 }

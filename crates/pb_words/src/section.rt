@@ -1,8 +1,5 @@
 //! What things are called in the sections of a .pb file, and what is missing in one.
 
-use crate::fields::{joined, text_at};
-use crate::mark::Mark;
-use csv::ByteRecord;
 use pb_read::{Section, Stage};
 
 /// What things are called in a section.
@@ -21,17 +18,6 @@ pub(crate) struct Names {
     /// What to do where the row of column names lacks a column.
     pub(crate) add_column: &'static str,
 }
-
-/// A row that seems to be meant as the head of a section, and is none.
-#[derive(Clone, Copy)]
-pub(crate) struct OddHead {
-    /// The section that it seems to begin.
-    pub(crate) section: Section,
-    pub(crate) mark: Mark,
-}
-
-/// The sections, in their order.
-const SECTIONS: [Section; 3] = [Section::Meta, Section::Projects, Section::Votes];
 
 const META: &Names = &Names {
     id_column: "key",
@@ -67,43 +53,6 @@ pub(crate) fn names_of(section: Section) -> &'static Names {
         Section::Projects => PROJECTS,
         Section::Votes => VOTES,
     }
-}
-
-/// The head of a section.
-pub(crate) fn head_of(section: Section) -> &'static str {
-    match section {
-        Section::Meta => "META",
-        Section::Projects => "PROJECTS",
-        Section::Votes => "VOTES",
-    }
-}
-
-/// The section that is read at a stage.
-pub(crate) fn section_of(stage: &Stage) -> Section {
-    match stage {
-        Stage::Start | Stage::InMeta(_) => Section::Meta,
-        Stage::Header(section) => *section,
-        Stage::InProjects(_) => Section::Projects,
-        Stage::InVotes(_) => Section::Votes,
-    }
-}
-
-/// The head that a record seems to be meant as, where it is none: punctuation stands beside a section's name.
-pub(crate) fn odd_head_of(record: &ByteRecord, mark: Mark) -> Option<OddHead> {
-    if joined(record).is_some() {
-        return None;
-    }
-    let field = text_at(record, 0);
-    let name = field.trim_matches(|c: char| c.is_ascii_punctuation() || c.is_whitespace());
-    if name.len() == field.len() {
-        return None;
-    }
-    for section in SECTIONS {
-        if name.eq_ignore_ascii_case(head_of(section)) {
-            return Some(OddHead { section, mark });
-        }
-    }
-    None
 }
 
 /// Whether the section with this head has begun already at a stage where its head is refused.

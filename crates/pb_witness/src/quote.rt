@@ -7,7 +7,7 @@ use std::rt::Files;
 
 /// How far the bytes of a record were looked at.
 #[derive(Clone, Copy, PartialEq, Eq)]
-pub(crate) enum State {
+pub enum State {
     /// Before the record: line ends may come that are no record's.
     Before,
     /// A field begins.
@@ -24,15 +24,15 @@ pub(crate) enum State {
 
 /// What the bytes of a record say.
 #[derive(Clone, Copy)]
-pub(crate) struct Span {
+pub struct Span {
     state: State,
     line: u64,
     /// The line at which the record begins, from 1.
-    pub(crate) begins: u64,
+    pub begins: u64,
     /// The line of the last quotation mark that opened a field.
     opened: u64,
     /// The lines of the first quoted field that runs over several: where it opens and where it closes.
-    pub(crate) over: Option<(u64, u64)>,
+    pub over: Option<(u64, u64)>,
 }
 
 impl Span {
@@ -47,7 +47,7 @@ impl Span {
     }
 
     /// The line of a quotation mark that is never closed.
-    pub(crate) fn unclosed(&self) -> Option<u64> {
+    pub fn unclosed(&self) -> Option<u64> {
         match self.state {
             State::Quoted => Some(self.opened),
             _ => None,
@@ -75,7 +75,7 @@ impl Span {
 
 impl State {
     /// The state behind the next byte.
-    pub(crate) fn behind(self, byte: u8) -> State {
+    pub fn behind(self, byte: u8) -> State {
         match (self, byte) {
             (State::Done, _) => State::Done,
             (State::Before, b'\n' | b'\r') => State::Before,
@@ -89,12 +89,15 @@ impl State {
     }
 }
 
-/// What the bytes say of the record with this mark, in a file that is read again.
-pub(crate) fn span_of<R: Files>(text: &Text<'_, R>, mark: Mark) -> Option<Span> {
-    let mut file = text.open_at(mark.byte)?;
+/// What the bytes say of the record with this mark, where the text is a file that can be read again. Of another text no
+/// more is known than the mark.
+pub fn span_of<R: Files>(text: &Text<'_, R>, mark: Mark) -> Span {
+    let Some(mut file) = text.open_at(mark.byte) else {
+        return Span::new(mark.line);
+    };
     let span = scan(&mut file, mark.line);
     drop(file);
-    Some(span)
+    span
 }
 
 /// Reads a record to its end.

@@ -1,28 +1,28 @@
 //! What a witness keeps of the records of a .pb file that it was shown.
 
 use crate::fields::text_at;
+use crate::heads::{OddHead, odd_head_of, section_of};
 use crate::keys::Keys;
 use crate::mark::Mark;
-use crate::section::{OddHead, odd_head_of, section_of};
 use csv::ByteRecord;
 use pb_read::{Part, Section, Stage};
 
 /// What the records say that were shown so far.
 #[derive(Clone, Copy)]
-pub(crate) struct Seen {
+pub struct Seen {
     /// The rows of META that gave the keys that the count uses.
-    pub(crate) keys: Keys,
+    pub keys: Keys,
     /// The first row of META or PROJECTS, whichever is read, that seems to be meant as a head.
-    pub(crate) odd_head: Option<OddHead>,
+    pub odd_head: Option<OddHead>,
     /// The last record that is not blank.
-    pub(crate) last: Mark,
+    pub last: Mark,
     /// The last row of column names.
-    pub(crate) names: Mark,
+    pub names: Mark,
 }
 
 impl Seen {
     /// Nothing was shown yet.
-    pub(crate) fn nothing() -> Seen {
+    pub fn nothing() -> Seen {
         Seen {
             keys: Keys::none(),
             odd_head: None,
@@ -32,13 +32,13 @@ impl Seen {
     }
 
     /// Takes a record that the reader accepts.
-    pub(crate) fn take(&mut self, record: &ByteRecord, mark: Mark, part: Part) {
+    pub fn take(&mut self, record: &ByteRecord, mark: Mark, part: Part) {
         match part {
             Part::Other => return,
             Part::Head(_) => self.odd_head = None,
             Part::Key => {
                 self.take_head(record, mark);
-                self.keys.take(text_at(record, 0), mark);
+                let _ = self.keys.take(text_at(record, 0), mark);
             }
             Part::Project(_) => self.take_head(record, mark),
             Part::Names => self.names = mark,
@@ -48,7 +48,7 @@ impl Seen {
     }
 
     /// Takes the record that the reader refuses at this stage.
-    pub(crate) fn leave_out(&mut self, record: &ByteRecord, mark: Mark, stage: &Stage) {
+    pub fn leave_out(&mut self, record: &ByteRecord, mark: Mark, stage: &Stage) {
         self.last = mark;
         match section_of(stage) {
             Section::Votes => {}

@@ -5,11 +5,8 @@ ghost use Rattle.std.specs.Prelude.{◌≡◌, Option};
 use crate::fields::text_at;
 use crate::mark::Mark;
 use crate::oddities::{Odd, Oddities};
-use crate::oddity_words::put_oddities;
 use crate::result_oddities::ResultOddities;
-use crate::text::Text;
 use crate::witness::Witness;
-use crate::words::Words;
 use csv::ByteRecord;
 use pb_core::no_memory::NoMemory;
 use pb_ids::IdTable;
@@ -18,7 +15,6 @@ use pb_read::{
     Watch,
 };
 use std::alloc::{AllocError, Global};
-use std::rt::Files;
 
 /// The most warnings of one name that a check lists.
 const MOST: u64 = 100;
@@ -60,14 +56,13 @@ impl Warnings {
         }
     }
 
-    /// Words for the warnings of the file with this path; no path is standard input.
-    pub fn words<R: Files>(&self, rt: &R, path: Option<&str>) -> Result<String, AllocError> {
-        let mut out = Words::new(self.alloc);
+    /// What was found, once the file has ended and may end there.
+    pub fn found(&self) -> Option<&Oddities> {
         if self.has_ended {
-            let text = Text::new(rt, self.alloc, path, "record");
-            put_oddities(&mut out, &text, &self.oddities);
+            Some(&self.oddities)
+        } else {
+            None
         }
-        out.finish()
     }
 
     /// Takes a project that is accepted.
@@ -210,14 +205,13 @@ impl ResultWarnings {
         }
     }
 
-    /// Words for the warnings of the file with this path, each name once; no path is standard input.
-    pub fn words<R: Files>(&self, rt: &R, path: Option<&str>) -> Result<String, AllocError> {
-        let mut out = Words::new(self.alloc);
+    /// What was found, each kind once, where anything was.
+    pub fn found(&self) -> Option<&Oddities> {
         if self.first.is_some() {
-            let text = Text::new(rt, self.alloc, path, "record");
-            put_oddities(&mut out, &text, &self.oddities);
+            Some(&self.oddities)
+        } else {
+            None
         }
-        out.finish()
     }
 }
 

@@ -7,7 +7,7 @@ use pb_core::money::Money;
 
 /// A number that a row of META says.
 #[derive(Clone, Copy)]
-pub(crate) struct Claim {
+pub struct Claim {
     /// Where its record begins.
     mark: Mark,
     /// None where the value is no whole number.
@@ -16,17 +16,17 @@ pub(crate) struct Claim {
 
 /// What META says that warnings rest on; of a repeated key the last value counts.
 #[derive(Clone, Copy)]
-pub(crate) struct Claims {
-    pub(crate) votes: Option<Claim>,
-    pub(crate) projects: Option<Claim>,
-    pub(crate) max_length: Option<u64>,
-    pub(crate) min_length: Option<u64>,
-    pub(crate) budget: Option<u64>,
+pub struct Claims {
+    pub votes: Option<Claim>,
+    pub projects: Option<Claim>,
+    pub max_length: Option<u64>,
+    pub min_length: Option<u64>,
+    pub budget: Option<u64>,
 }
 
 impl Claims {
     /// META has said nothing yet.
-    pub(crate) fn none() -> Claims {
+    pub fn none() -> Claims {
         Claims {
             votes: None,
             projects: None,
@@ -37,7 +37,7 @@ impl Claims {
     }
 
     /// Takes a row of META, which begins here.
-    pub(crate) fn take(&mut self, row: &ByteRecord, mark: Mark) {
+    pub fn take(&mut self, row: &ByteRecord, mark: Mark) {
         let key = text_at(row, 0);
         let value = text_at(row, 1);
         let number = whole_number(value);
@@ -64,7 +64,7 @@ impl Claims {
 }
 
 /// Where a claim's record begins, where the claim is of other than so many.
-pub(crate) fn broken(claim: Option<Claim>, count: u64) -> Option<Mark> {
+pub fn broken(claim: Option<Claim>, count: u64) -> Option<Mark> {
     let claim = claim?;
     if claim.number == Some(count) {
         return None;

@@ -3,32 +3,34 @@
 use crate::ids::Ids;
 use crate::mark::Mark;
 use crate::seen::Seen;
+use crate::text::Text;
 use csv::ByteRecord;
-use pb_read::{MOST_FAULTS, Part, ReadFault, Stage, Watch};
+use pb_read::{MOST_FAULTS, Part, ReadFault, ReadKind, Stage, Watch, read_pb_watched};
 use std::alloc::{AllocError, Global};
+use std::rt::Files;
 
 /// A record that the reader refused.
 #[derive(Drop)]
-pub(crate) struct Refused {
-    pub(crate) fault: ReadFault,
+pub struct Refused {
+    pub fault: ReadFault,
     /// Its fields; none where there is no record that is text.
-    pub(crate) record: ByteRecord,
+    pub record: ByteRecord,
     /// Where it begins.
-    pub(crate) mark: Mark,
+    pub mark: Mark,
     /// How far the file was read before it.
-    pub(crate) stage: Stage,
+    pub stage: Stage,
     /// What the records before it say.
-    pub(crate) seen: Seen,
+    pub seen: Seen,
 }
 
 /// Looks on while a .pb file is read, and keeps what words need of the first 1,000 records that are refused.
 #[derive(Drop)]
 pub struct Witness {
     seen: Seen,
-    pub(crate) ids: Ids,
-    pub(crate) refused: Vec<Refused>,
+    pub ids: Ids,
+    pub refused: Vec<Refused>,
     /// Whether all was kept: no memory was refused.
-    pub(crate) is_whole: bool,
+    pub is_whole: bool,
 }
 
 impl Witness {
@@ -42,8 +44,20 @@ impl Witness {
         }
     }
 
+    /// Looks on while a text is read once more, if it is a file.
+    pub fn look_again<R: Files>(&mut self, text: &Text<'_, R>) {
+        let Some(file) = text.open_at(0) else {
+            return;
+        };
+        match read_pb_watched(text.alloc, file, self) {
+            Ok(election) => drop(election),
+            Err(again) if again.kind == ReadKind::NoMemory => self.is_whole = false,
+            Err(_) => {}
+        }
+    }
+
     /// Where the row of the column names begins that was shown last.
-    pub(crate) fn names_mark(&self) -> Mark {
+    pub fn names_mark(&self) -> Mark {
         self.seen.names
     }
 

@@ -17,11 +17,11 @@ const MOST_COMPARED: u32 = 100;
 
 /// The ids of projects, each with where its first row stands.
 #[derive(Drop)]
-pub(crate) struct Ids {
+pub struct Ids {
     alloc: Global,
-    pub(crate) projects: Firsts,
+    pub projects: Firsts,
     /// The projects that were left out.
-    pub(crate) left_out: Firsts,
+    pub left_out: Firsts,
     /// The ids of the projects that were not left out.
     project_ids: Vec<String>,
     compared: Cell<u32>,
@@ -29,7 +29,7 @@ pub(crate) struct Ids {
 
 impl Ids {
     /// No id yet.
-    pub(crate) fn new(alloc: Global) -> Ids {
+    pub fn new(alloc: Global) -> Ids {
         Ids {
             alloc,
             projects: Firsts::new(alloc),
@@ -40,12 +40,7 @@ impl Ids {
     }
 
     /// Keeps the id of a project that the reader accepts.
-    pub(crate) fn take(
-        &mut self,
-        record: &ByteRecord,
-        mark: Mark,
-        part: Part,
-    ) -> Result<(), AllocError> {
+    pub fn take(&mut self, record: &ByteRecord, mark: Mark, part: Part) -> Result<(), AllocError> {
         match part {
             Part::Project(columns) => self.keep_project(text_at(record, columns.id), mark),
             _ => Ok(()),
@@ -53,7 +48,7 @@ impl Ids {
     }
 
     /// Keeps the id of a project that is left out.
-    pub(crate) fn leave_out(
+    pub fn leave_out(
         &mut self,
         record: &ByteRecord,
         mark: Mark,
@@ -76,7 +71,7 @@ impl Ids {
     }
 
     /// The first id that a vote names and that no project has.
-    pub(crate) fn unknown_of<'v>(&self, vote: &'v str) -> &'v str {
+    pub fn unknown_of<'v>(&self, vote: &'v str) -> &'v str {
         for piece in vote.split(',') {
             let id = piece.trim();
             if !id.is_empty() && !self.projects.has(id) {
@@ -87,7 +82,7 @@ impl Ids {
     }
 
     /// Whether a piece of a vote is ids of projects that blanks separate.
-    pub(crate) fn are_apart_by_blanks(&self, piece: &str) -> bool {
+    pub fn are_apart_by_blanks(&self, piece: &str) -> bool {
         let mut count = 0u64;
         for id in piece.split_whitespace() {
             if !self.projects.has(id) {
@@ -100,7 +95,7 @@ impl Ids {
 
     /// The id of a project that is nearest to this one, if one is near: it differs in case alone, or in at most a third
     /// of the characters. It is looked for a limited number of times.
-    pub(crate) fn nearest(&self, id: &str) -> Result<Option<&str>, AllocError> {
+    pub fn nearest(&self, id: &str) -> Result<Option<&str>, AllocError> {
         let compared = self.compared.get();
         if compared >= MOST_COMPARED {
             return Ok(None);
@@ -112,10 +107,10 @@ impl Ids {
 
 /// The ids of a file that words look up.
 #[derive(Clone, Copy)]
-pub(crate) struct Known<'i> {
-    pub(crate) ids: &'i Ids,
+pub struct Known<'i> {
+    pub ids: &'i Ids,
     /// Where the first rows of the voters stand whose ids are repeated.
-    pub(crate) voters: &'i Firsts,
+    pub voters: &'i Firsts,
 }
 
 fn nearest<'i>(

@@ -7,19 +7,19 @@ use std::io::Read;
 
 /// The records of a text, read one at a time.
 #[derive(Drop)]
-pub(crate) struct Records<F: Read> {
+pub struct Records<F: Read> {
     reader: Reader<F>,
     /// The record that was read last.
-    pub(crate) last: ByteRecord,
+    pub last: ByteRecord,
     /// The number of that record.
-    pub(crate) at: u64,
+    pub at: u64,
     /// Where reading began.
     start: Mark,
 }
 
 impl<F: Read> Records<F> {
     /// The records of the text that a reader gives from this mark on.
-    pub(crate) fn new(alloc: Global, reader: F, start: Mark) -> Records<F> {
+    pub fn new(alloc: Global, reader: F, start: Mark) -> Records<F> {
         let reader = ReaderBuilder::new()
             .delimiter(b';')
             .has_headers(false)
@@ -34,7 +34,7 @@ impl<F: Read> Records<F> {
     }
 
     /// Reads the next record, and answers whether there was one; a reader that fails has none.
-    pub(crate) fn advance(&mut self) -> bool {
+    pub fn advance(&mut self) -> bool {
         match self.reader.read_byte_record(&mut self.last) {
             Ok(true) => {
                 self.at = self.at.saturating_add(1);
@@ -49,7 +49,7 @@ impl<F: Read> Records<F> {
     }
 
     /// Reads on to the record with this number, and answers whether there is one.
-    pub(crate) fn advance_to(&mut self, at: u64) -> bool {
+    pub fn advance_to(&mut self, at: u64) -> bool {
         for _ in self.at..at {
             if !self.advance() {
                 return false;
@@ -59,7 +59,7 @@ impl<F: Read> Records<F> {
     }
 
     /// Where the record begins that was read last.
-    pub(crate) fn mark(&self) -> Mark {
+    pub fn mark(&self) -> Mark {
         let position = self.last.position().unwrap_or(Position::new());
         Mark {
             at: self.at,

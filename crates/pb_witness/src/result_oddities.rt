@@ -11,11 +11,11 @@ use pb_read::{Oddity, Part, ProjectColumns, Stage, VoteColumns};
 
 /// What the records say so far.
 #[derive(Clone, Copy)]
-pub(crate) struct ResultOddities {
-    pub(crate) claims: Claims,
+pub struct ResultOddities {
+    pub claims: Claims,
     /// How many rows PROJECTS and VOTES have, those that are left out too.
-    pub(crate) projects: u64,
-    pub(crate) votes: u64,
+    pub projects: u64,
+    pub votes: u64,
     /// How many fields the row of the section's column names has.
     columns: usize,
     /// The rows of META that gave the keys that the count uses.
@@ -25,7 +25,7 @@ pub(crate) struct ResultOddities {
     /// How many projects are accepted, what they cost together, and what the last one costs.
     costs: u64,
     sum: u64,
-    pub(crate) cost: u64,
+    pub cost: u64,
     /// The last row of PROJECTS, by which it may be a footer.
     last_project: Option<Odd>,
     /// How many ballots approve nothing, and the last row, if it is such a one.
@@ -35,7 +35,7 @@ pub(crate) struct ResultOddities {
 
 impl ResultOddities {
     /// Nothing was read yet.
-    pub(crate) fn none() -> ResultOddities {
+    pub fn none() -> ResultOddities {
         ResultOddities {
             claims: Claims::none(),
             projects: 0,
@@ -53,7 +53,7 @@ impl ResultOddities {
     }
 
     /// Counts the row that is left out at this stage.
-    pub(crate) fn leave_out(&mut self, stage: &Stage) {
+    pub fn leave_out(&mut self, stage: &Stage) {
         match stage {
             Stage::InProjects(_) => self.projects = self.projects.saturating_add(1),
             Stage::InVotes(_) => self.votes = self.votes.saturating_add(1),
@@ -62,7 +62,7 @@ impl ResultOddities {
     }
 
     /// Takes a record that is accepted.
-    pub(crate) fn take(&mut self, row: &ByteRecord, at: u32, part: Part, out: &mut Oddities) {
+    pub fn take(&mut self, row: &ByteRecord, at: u32, part: Part, out: &mut Oddities) {
         match part {
             Part::Other | Part::Head(_) => {}
             Part::Names => self.take_names(row, out),
@@ -84,8 +84,12 @@ impl ResultOddities {
     fn take_key(&mut self, row: &ByteRecord, mark: Mark, out: &mut Oddities) {
         self.claims.take(row, mark);
         let key = text_at(row, 0);
-        if self.keys.take(key, mark) {
-            out.take(Odd::of_key(Oddity::RepeatedKey, mark, 0));
+        let before = self.keys.take(key, mark);
+        if before.is_some() {
+            out.take(Odd {
+                before,
+                ..Odd::of_key(Oddity::RepeatedKey, mark, 0)
+            });
         }
         if key.eq_ignore_ascii_case("budget") {
             self.thousands = None;
@@ -133,7 +137,7 @@ impl ResultOddities {
     }
 
     /// Takes the end of the file.
-    pub(crate) fn end(&self, out: &mut Oddities) {
+    pub fn end(&self, out: &mut Oddities) {
         put_broken(Oddity::VotesMissing, self.claims.votes, self.votes, out);
         put_broken(
             Oddity::ProjectsMissing,

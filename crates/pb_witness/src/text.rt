@@ -1,33 +1,29 @@
 //! The text that words speak of. Where it is a file it is read again.
 
+use crate::fields::{JoinedBy, joined};
 use crate::mark::Mark;
 use crate::records::Records;
 use std::alloc::Global;
 use std::fs;
-use std::io::{Seek, SeekFrom};
+use std::io::{Read, Seek, SeekFrom};
 use std::rt::Files;
 
 /// The text that words speak of, with what it takes to read it again.
 #[derive(Drop)]
-pub(crate) struct Text<'a, R> {
-    pub(crate) rt: &'a R,
-    pub(crate) alloc: Global,
+pub struct Text<'a, R> {
+    pub rt: &'a R,
+    pub alloc: Global,
     /// Its path; none is standard input.
-    pub(crate) path: Option<&'a str>,
+    pub path: Option<&'a str>,
     /// What its records are called: a .pb file's `record`, a script's or a journal's `row`.
-    pub(crate) unit: &'static str,
+    pub unit: &'static str,
     /// How many records come before the one with number 1.
-    pub(crate) before: u64,
+    pub before: u64,
 }
 
 impl<'a, R> Text<'a, R> {
     /// The text with this path, whose records are called so; no path is standard input.
-    pub(crate) fn new(
-        rt: &'a R,
-        alloc: Global,
-        path: Option<&'a str>,
-        unit: &'static str,
-    ) -> Text<'a, R> {
+    pub fn new(rt: &'a R, alloc: Global, path: Option<&'a str>, unit: &'static str) -> Text<'a, R> {
         Text {
             rt,
             alloc,
@@ -40,7 +36,7 @@ impl<'a, R> Text<'a, R> {
 
 impl<'a, R: Files> Text<'a, R> {
     /// Whether it is a file, which can be read again.
-    pub(crate) fn is_file(&self) -> bool {
+    pub fn is_file(&self) -> bool {
         match self.path {
             Some(path) => is_file(self.rt, path),
             None => false,
@@ -48,7 +44,7 @@ impl<'a, R: Files> Text<'a, R> {
     }
 
     /// Opens the text again behind so many bytes, if it is a file.
-    pub(crate) fn open_at(&self, byte: u64) -> Option<R::File> {
+    pub fn open_at(&self, byte: u64) -> Option<R::File> {
         let path = self.path?;
         if !is_file(self.rt, path) {
             return None;
@@ -56,19 +52,35 @@ impl<'a, R: Files> Text<'a, R> {
         behind(fs::open(self.rt, path).ok()?, byte)
     }
 
+    /// Puts its first bytes into a buffer, if it is a file, and answers how many they are.
+    pub fn read_start(&self, buffer: &mut [u8]) -> Option<usize> {
+        let mut file = self.open_at(0)?;
+        let count = file.read(buffer).unwrap_or(0);
+        drop(file);
+        Some(count)
+    }
+
+    /// Why the record with this mark is one field that seems to be a whole row, if it is one.
+    pub fn joined_at(&self, mark: Mark) -> Option<JoinedBy> {
+        let records = self.record_at(mark)?;
+        let joined = joined(&records.last);
+        drop(records);
+        joined
+    }
+
     /// Its records from this mark on, if it is a file that can be read again.
-    pub(crate) fn records_from(&self, start: Mark) -> Option<Records<R::File>> {
+    pub fn records_from(&self, start: Mark) -> Option<Records<R::File>> {
         let file = self.open_at(start.byte)?;
         Some(Records::new(self.alloc, file, start))
     }
 
     /// The record that begins at this mark, which is read last; none where there is no such record any more.
-    pub(crate) fn record_at(&self, mark: Mark) -> Option<Records<R::File>> {
+    pub fn record_at(&self, mark: Mark) -> Option<Records<R::File>> {
         self.records_at(mark.before(), mark.at)
     }
 
     /// Its records from the one with this number on, which is read last; none where it has no such record.
-    pub(crate) fn records_at(&self, start: Mark, at: u64) -> Option<Records<R::File>> {
+    pub fn records_at(&self, start: Mark, at: u64) -> Option<Records<R::File>> {
         let mut records = self.records_from(start)?;
         if records.advance_to(at) {
             return Some(records);
@@ -79,7 +91,7 @@ impl<'a, R: Files> Text<'a, R> {
 }
 
 /// Whether a path names a file. A pipe or a device is none: it has given what it had.
-pub(crate) fn is_file<R: Files>(rt: &R, path: &str) -> bool {
+pub fn is_file<R: Files>(rt: &R, path: &str) -> bool {
     match fs::metadata(rt, path) {
         Ok(metadata) => metadata.is_file(),
         Err(_) => false,

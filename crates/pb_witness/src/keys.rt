@@ -7,25 +7,25 @@ const KEYS: [&str; 3] = ["budget", "vote_type", "max_length"];
 
 /// The rows of META that gave a key: the first, and the last, which counts.
 #[derive(Clone, Copy)]
-pub(crate) struct Given {
-    pub(crate) first: Mark,
-    pub(crate) last: Mark,
+pub struct Given {
+    pub first: Mark,
+    pub last: Mark,
 }
 
 /// The rows of META that gave these keys.
 #[derive(Clone, Copy)]
-pub(crate) struct Keys {
+pub struct Keys {
     given: [Option<Given>; 3],
 }
 
 impl Keys {
     /// No key was given yet.
-    pub(crate) fn none() -> Keys {
+    pub fn none() -> Keys {
         Keys { given: [None; 3] }
     }
 
-    /// Takes a row of META with this key, and answers whether it repeats one of these.
-    pub(crate) fn take(&mut self, key: &str, mark: Mark) -> bool {
+    /// Takes a row of META with this key, and answers where it stood last, if it is one of these and repeated.
+    pub fn take(&mut self, key: &str, mark: Mark) -> Option<Mark> {
         for place in 0..3usize {
             if key.eq_ignore_ascii_case(KEYS[place]) {
                 let before = self.given[place];
@@ -34,24 +34,27 @@ impl Keys {
                     None => mark,
                 };
                 self.given[place] = Some(Given { first, last: mark });
-                return before.is_some();
+                return match before {
+                    Some(given) => Some(given.last),
+                    None => None,
+                };
             }
         }
-        false
+        None
     }
 
     /// The rows that gave `budget`.
-    pub(crate) fn budget(&self) -> Option<Given> {
+    pub fn budget(&self) -> Option<Given> {
         self.given[0]
     }
 
     /// The rows that gave `vote_type`.
-    pub(crate) fn vote_type(&self) -> Option<Given> {
+    pub fn vote_type(&self) -> Option<Given> {
         self.given[1]
     }
 
     /// The rows that gave `max_length`.
-    pub(crate) fn max_length(&self) -> Option<Given> {
+    pub fn max_length(&self) -> Option<Given> {
         self.given[2]
     }
 }

@@ -6,7 +6,7 @@ use pb_read::{Oddity, ProjectColumns, VoteColumns, Warning, WarningRow};
 use std::alloc::Global;
 
 /// The oddities in the order in which warnings are written.
-pub(crate) const ALL: [Oddity; 12] = [
+pub const ALL: [Oddity; 12] = [
     Oddity::VotesMissing,
     Oddity::ProjectsMissing,
     Oddity::SurplusFields,
@@ -23,7 +23,7 @@ pub(crate) const ALL: [Oddity; 12] = [
 
 /// What a row is of.
 #[derive(Clone, Copy, PartialEq, Eq)]
-pub(crate) enum Subject {
+pub enum Subject {
     Key,
     Project,
     Voter,
@@ -31,7 +31,7 @@ pub(crate) enum Subject {
 
 impl Subject {
     /// What words call it.
-    pub(crate) fn word(self) -> &'static str {
+    pub fn word(self) -> &'static str {
         match self {
             Subject::Key => "key",
             Subject::Project => "project",
@@ -42,65 +42,64 @@ impl Subject {
 
 /// A record that is odd, with what words need to speak of it.
 #[derive(Clone, Copy)]
-pub(crate) struct Odd {
-    pub(crate) oddity: Oddity,
+pub struct Odd {
+    pub oddity: Oddity,
     /// Where the record begins.
-    pub(crate) mark: Mark,
+    pub mark: Mark,
     /// What its row is of.
-    pub(crate) subject: Subject,
+    pub subject: Subject,
     /// The places of its id and of the value that is spoken of.
-    pub(crate) id_place: usize,
-    pub(crate) value_place: usize,
+    pub id_place: usize,
+    pub value_place: usize,
     /// What it is measured by, as how many rows there are.
-    pub(crate) number: u64,
+    pub number: u64,
     /// What the number should not pass, where META says so.
-    pub(crate) limit: Option<u64>,
+    pub limit: Option<u64>,
+    /// Where the key stood before, if it is repeated.
+    pub before: Option<Mark>,
 }
 
 impl Odd {
-    /// A row of META that is odd, measured by this number.
-    pub(crate) fn of_key(oddity: Oddity, mark: Mark, number: u64) -> Odd {
+    /// A row that is odd, with its id and its value at these places.
+    fn of(oddity: Oddity, mark: Mark, subject: Subject, places: (usize, usize)) -> Odd {
         Odd {
             oddity,
             mark,
-            subject: Subject::Key,
-            id_place: 0,
-            value_place: 1,
-            number,
+            subject,
+            id_place: places.0,
+            value_place: places.1,
+            number: 0,
             limit: None,
+            before: None,
+        }
+    }
+
+    /// A row of META that is odd, measured by this number.
+    pub fn of_key(oddity: Oddity, mark: Mark, number: u64) -> Odd {
+        Odd {
+            number,
+            ..Odd::of(oddity, mark, Subject::Key, (0, 1))
         }
     }
 
     /// A row of PROJECTS that is odd.
-    pub(crate) fn of_project(oddity: Oddity, mark: Mark, columns: ProjectColumns) -> Odd {
-        Odd {
-            oddity,
-            mark,
-            subject: Subject::Project,
-            id_place: columns.id,
-            value_place: columns.cost,
-            number: 0,
-            limit: None,
-        }
+    pub fn of_project(oddity: Oddity, mark: Mark, columns: ProjectColumns) -> Odd {
+        Odd::of(oddity, mark, Subject::Project, (columns.id, columns.cost))
     }
 
     /// A row of VOTES that is odd, measured by this number.
-    pub(crate) fn of_vote(oddity: Oddity, mark: Mark, columns: VoteColumns, number: u64) -> Odd {
+    pub fn of_vote(oddity: Oddity, mark: Mark, columns: VoteColumns, number: u64) -> Odd {
+        let places = (columns.voter, columns.vote);
         Odd {
-            oddity,
-            mark,
-            subject: Subject::Voter,
-            id_place: columns.voter,
-            value_place: columns.vote,
             number,
-            limit: None,
+            ..Odd::of(oddity, mark, Subject::Voter, places)
         }
     }
 }
 
 /// What was found: so many odd records of each kind at most, and how many there are of each.
 #[derive(Drop)]
-pub(crate) struct Oddities {
+pub struct Oddities {
     alloc: Global,
     most: u64,
     found: Vec<Odd>,
@@ -111,7 +110,7 @@ pub(crate) struct Oddities {
 
 impl Oddities {
     /// Nothing was found yet; of each kind this many are kept.
-    pub(crate) fn new(alloc: Global, most: u64) -> Oddities {
+    pub fn new(alloc: Global, most: u64) -> Oddities {
         Oddities {
             alloc,
             most,
@@ -123,7 +122,7 @@ impl Oddities {
     }
 
     /// Takes an odd record.
-    pub(crate) fn take(&mut self, odd: Odd) {
+    pub fn take(&mut self, odd: Odd) {
         let place = odd.oddity as usize;
         if self.counts[place] == 0 {
             self.firsts[place] = odd.mark.at;
@@ -135,27 +134,27 @@ impl Oddities {
     }
 
     /// Says that memory was refused.
-    pub(crate) fn fail(&mut self) {
+    pub fn fail(&mut self) {
         self.is_whole = false;
     }
 
     /// Whether no memory was refused.
-    pub(crate) fn is_whole(&self) -> bool {
+    pub fn is_whole(&self) -> bool {
         self.is_whole
     }
 
     /// How many there are of a kind beyond those that are kept.
-    pub(crate) fn more(&self, oddity: Oddity) -> u64 {
+    pub fn more(&self, oddity: Oddity) -> u64 {
         self.counts[oddity as usize].saturating_sub(self.most)
     }
 
     /// Those that are kept, in the order in which they were found.
-    pub(crate) fn found(&self) -> &[Odd] {
+    pub fn found(&self) -> &[Odd] {
         self.found.as_slice()
     }
 
     /// The first of the first kind that was found.
-    pub(crate) fn first(&self) -> Option<Warning> {
+    pub fn first(&self) -> Option<Warning> {
         for oddity in ALL {
             if self.counts[oddity as usize] > 0 {
                 let at = self.firsts[oddity as usize];
@@ -166,7 +165,7 @@ impl Oddities {
     }
 
     /// The rows of all, by their kinds, with how many more there are of each.
-    pub(crate) fn rows(&self) -> Result<Vec<WarningRow>, NoMemory> {
+    pub fn rows(&self) -> Result<Vec<WarningRow>, NoMemory> {
         if !self.is_whole {
             return Err(NoMemory);
         }

@@ -4,7 +4,7 @@ use csv::ByteRecord;
 use std::str;
 
 /// The bytes of a field; none where the record ends before it.
-pub(crate) fn bytes_at(record: &ByteRecord, place: usize) -> &[u8] {
+pub fn bytes_at(record: &ByteRecord, place: usize) -> &[u8] {
     match record.get(place) {
         Some(field) => field,
         None => b"",
@@ -12,7 +12,7 @@ pub(crate) fn bytes_at(record: &ByteRecord, place: usize) -> &[u8] {
 }
 
 /// The text of a field as it stands; the empty text where it is none.
-pub(crate) fn raw_text(record: &ByteRecord, place: usize) -> &str {
+pub fn raw_text(record: &ByteRecord, place: usize) -> &str {
     match str::from_utf8(bytes_at(record, place)) {
         Ok(text) => text,
         Err(_) => "",
@@ -20,12 +20,12 @@ pub(crate) fn raw_text(record: &ByteRecord, place: usize) -> &str {
 }
 
 /// The text of a field without the white space at its ends; the empty text where it is none.
-pub(crate) fn text_at(record: &ByteRecord, place: usize) -> &str {
+pub fn text_at(record: &ByteRecord, place: usize) -> &str {
     raw_text(record, place).trim()
 }
 
 /// The first place at which the record has this word, in any case.
-pub(crate) fn column_of(record: &ByteRecord, name: &str) -> Option<usize> {
+pub fn column_of(record: &ByteRecord, name: &str) -> Option<usize> {
     for place in 0..record.len() {
         if text_at(record, place).eq_ignore_ascii_case(name) {
             return Some(place);
@@ -35,7 +35,7 @@ pub(crate) fn column_of(record: &ByteRecord, name: &str) -> Option<usize> {
 }
 
 /// The first place of a field that is no text.
-pub(crate) fn place_of_no_text(record: &ByteRecord) -> Option<usize> {
+pub fn place_of_no_text(record: &ByteRecord) -> Option<usize> {
     for place in 0..record.len() {
         if str::from_utf8(bytes_at(record, place)).is_err() {
             return Some(place);
@@ -46,7 +46,7 @@ pub(crate) fn place_of_no_text(record: &ByteRecord) -> Option<usize> {
 
 /// Why a whole row is one field.
 #[derive(Clone, Copy)]
-pub(crate) enum JoinedBy {
+pub enum JoinedBy {
     /// It stands in quotation marks, with its `;`.
     Quotes,
     /// It has no `;`, and these seem to separate its fields.
@@ -55,7 +55,7 @@ pub(crate) enum JoinedBy {
 }
 
 /// Why a record is one field that seems to be a whole row, if it is one.
-pub(crate) fn joined(record: &ByteRecord) -> Option<JoinedBy> {
+pub fn joined(record: &ByteRecord) -> Option<JoinedBy> {
     if record.len() != 1 {
         return None;
     }

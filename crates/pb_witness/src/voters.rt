@@ -12,10 +12,7 @@ use std::rt::Files;
 
 /// Where the first rows of the voters stand whose ids are repeated, if the text is a file. A witness keeps no table of all
 /// voters, so the rows of VOTES are read again for them, until each was found.
-pub(crate) fn first_rows<R: Files>(
-    text: &Text<'_, R>,
-    witness: &Witness,
-) -> Result<Firsts, AllocError> {
+pub fn first_rows<R: Files>(text: &Text<'_, R>, witness: &Witness) -> Result<Firsts, AllocError> {
     let mut found = Firsts::new(text.alloc);
     let wanted = repeated(text.alloc, witness)?;
     if wanted.len() > 0 {

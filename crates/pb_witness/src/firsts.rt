@@ -6,7 +6,7 @@ use std::alloc::{AllocError, Global};
 
 /// Ids, each with where it stood first.
 #[derive(Drop)]
-pub(crate) struct Firsts {
+pub struct Firsts {
     /// The ids, each with its place in `marks`.
     places: IdTable,
     marks: Vec<Mark>,
@@ -14,7 +14,7 @@ pub(crate) struct Firsts {
 
 impl Firsts {
     /// No id yet.
-    pub(crate) fn new(alloc: Global) -> Firsts {
+    pub fn new(alloc: Global) -> Firsts {
         Firsts {
             places: IdTable::new(alloc),
             marks: Vec::new(alloc),
@@ -22,22 +22,22 @@ impl Firsts {
     }
 
     /// How many ids are there.
-    pub(crate) fn len(&self) -> usize {
+    pub fn len(&self) -> usize {
         self.marks.len()
     }
 
     /// Whether an id is there.
-    pub(crate) fn has(&self, id: &str) -> bool {
+    pub fn has(&self, id: &str) -> bool {
         self.places.get(id).is_some()
     }
 
     /// Where an id stood first.
-    pub(crate) fn mark(&self, id: &str) -> Option<Mark> {
+    pub fn mark(&self, id: &str) -> Option<Mark> {
         self.marks.get(self.places.get(id)? as usize).copied()
     }
 
     /// Keeps where an id stands, unless it stood before.
-    pub(crate) fn keep(&mut self, alloc: Global, id: &str, mark: Mark) -> Result<(), AllocError> {
+    pub fn keep(&mut self, alloc: Global, id: &str, mark: Mark) -> Result<(), AllocError> {
         if self.has(id) {
             return Ok(());
         }

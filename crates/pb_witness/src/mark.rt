@@ -4,18 +4,18 @@ use csv::{ByteRecord, Position};
 
 /// Where a record begins in its text. The bytes before it may end with blank lines that are no records.
 #[derive(Clone, Copy)]
-pub(crate) struct Mark {
+pub struct Mark {
     /// The record's number, from 1.
-    pub(crate) at: u64,
+    pub at: u64,
     /// How many bytes come before it.
-    pub(crate) byte: u64,
+    pub byte: u64,
     /// The line of those bytes' end, from 1.
-    pub(crate) line: u64,
+    pub line: u64,
 }
 
 impl Mark {
     /// The start of a text.
-    pub(crate) fn start() -> Mark {
+    pub fn start() -> Mark {
         Mark {
             at: 0,
             byte: 0,
@@ -24,7 +24,7 @@ impl Mark {
     }
 
     /// Where the record with this number begins, as its reader says.
-    pub(crate) fn of(record: &ByteRecord, at: u64) -> Mark {
+    pub fn of(record: &ByteRecord, at: u64) -> Mark {
         let position = record.position().unwrap_or(Position::new());
         Mark {
             at,
@@ -34,7 +34,7 @@ impl Mark {
     }
 
     /// The same place, where the record that begins here is still to be read.
-    pub(crate) fn before(self) -> Mark {
+    pub fn before(self) -> Mark {
         Mark {
             at: self.at.saturating_sub(1),
             ..self

@@ -1,13 +1,9 @@
-//! The row that is being typed: whether it goes on with the next line, and why it is none.
+//! The row that is being typed, and whether it goes on with the next line.
 
 use crate::mark::Mark;
 use crate::quote::State;
 use crate::records::Records;
-use crate::script_words::put_row_words;
-use crate::words::Value::Number;
-use crate::words::Words;
-use pb_desk::desk::MOST_CLERKS;
-use std::alloc::{AllocError, Global};
+use std::alloc::Global;
 
 /// The most bytes of a row that are kept: words show less of it.
 const MOST_KEPT: usize = 1 << 16;
@@ -62,15 +58,13 @@ impl TypedRow {
         self.state == State::Quoted
     }
 
-    /// Words for why the row that was typed last is none.
-    pub fn bad_words(&self) -> Result<String, AllocError> {
-        let mut out = Words::new(self.alloc);
-        out.fill("row {}", &[Number(self.number)]);
-        let mut records = Records::new(self.alloc, self.bytes.as_slice(), Mark::start());
-        if records.advance() {
-            put_row_words(&mut out, &records.last, MOST_CLERKS);
-        }
-        drop(records);
-        out.finish()
+    /// Its number, from 1.
+    pub fn number(&self) -> u64 {
+        self.number
+    }
+
+    /// Its records, of which it is the first.
+    pub fn records(&self) -> Records<&[u8]> {
+        Records::new(self.alloc, self.bytes.as_slice(), Mark::start())
     }
 }

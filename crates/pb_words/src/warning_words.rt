@@ -1,14 +1,15 @@
 //! Words for warnings: where, what, and what to do.
 
 use crate::count_words::put_amount;
-use crate::fields::text_at;
-use crate::mark_words::{put_mark, put_record_number, put_subject};
-use crate::oddities::{ALL, Odd, Oddities, Subject};
-use crate::text::Text;
+use crate::mark_words::{line_of, put_mark, put_record_number, put_subject};
 use crate::words::Value::{Number, Own, Quoted};
 use crate::words::Words;
 use pb_core::money::Money;
 use pb_read::Oddity;
+use pb_witness::fields::text_at;
+use pb_witness::oddities::{ALL, Odd, Oddities, Subject};
+use pb_witness::text::Text;
+use std::alloc::{AllocError, Global};
 use std::rt::Files;
 
 /// What is said of an oddity.
@@ -87,7 +88,7 @@ fn said_of(oddity: Oddity, is_vote: bool) -> &'static Said {
             remedy: "If the point or comma separates thousands, delete it. Otherwise write two decimals.\n",
         },
         Oddity::RepeatedKey => &Said {
-            what: "the key is repeated, here with {}; only the last row of a key counts",
+            what: "the last row of a key counts: this row, with {}, replaces the one on line {}",
             alone: "a key is repeated; only the last row of a key counts",
             ends_in_number: false,
             remedy: "Delete the wrong row.\n",
@@ -107,8 +108,22 @@ fn said_of(oddity: Oddity, is_vote: bool) -> &'static Said {
     }
 }
 
+/// Words for the warnings that were found in the file with this path, by their names; no path is standard input.
+pub fn warning_words<R: Files>(
+    rt: &R,
+    alloc: Global,
+    path: Option<&str>,
+    found: Option<&Oddities>,
+) -> Result<String, AllocError> {
+    let mut out = Words::new(alloc);
+    if let Some(oddities) = found {
+        put_oddities(&mut out, &Text::new(rt, alloc, path, "record"), oddities);
+    }
+    out.finish()
+}
+
 /// Puts what is said of each warning, by their names.
-pub(crate) fn put_oddities<R: Files>(out: &mut Words, text: &Text<'_, R>, oddities: &Oddities) {
+fn put_oddities<R: Files>(out: &mut Words, text: &Text<'_, R>, oddities: &Oddities) {
     if !oddities.is_whole() {
         return out.fail();
     }
@@ -148,16 +163,20 @@ fn put_row<R: Files>(out: &mut Words, text: &Text<'_, R>, odd: &Odd, said: &Said
     let Some(records) = text.record_at(odd.mark) else {
         return false;
     };
-    put_mark(out, text, odd.mark);
+    let _ = put_mark(out, text, odd.mark);
     put_subject(
         out,
         odd.subject.word(),
         text_at(&records.last, odd.id_place),
     );
     out.put(": ");
+    let before = line_of(text, odd.before.unwrap_or(odd.mark));
     out.fill(
         said.what,
-        &[Quoted(text_at(&records.last, odd.value_place))],
+        &[
+            Quoted(text_at(&records.last, odd.value_place)),
+            Number(before),
+        ],
     );
     if odd.oddity == Oddity::ThousandsMark {
         put_as_read(out, text_at(&records.last, odd.value_place));

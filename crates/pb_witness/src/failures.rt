@@ -1,0 +1,48 @@
+//! Why a file can't be opened or read, which is tried once more for the system's reason.
+
+use std::fs;
+use std::io::{Error, Read};
+use std::rt::Files;
+
+/// Whether a path names a folder.
+pub fn is_folder<R: Files>(rt: &R, path: &str) -> bool {
+    match fs::metadata(rt, path) {
+        Ok(metadata) => metadata.is_dir(),
+        Err(_) => false,
+    }
+}
+
+/// Why the file with this path cannot be opened; none where it can.
+pub fn opening_failure<R: Files>(rt: &R, path: &str) -> Option<Error> {
+    match fs::open(rt, path) {
+        Ok(file) => {
+            drop(file);
+            None
+        }
+        Err(error) => Some(error),
+    }
+}
+
+/// Why the file with this path cannot be read to its end; none where it can.
+pub fn reading_failure<R: Files>(rt: &R, path: &str) -> Option<Error> {
+    match fs::open(rt, path) {
+        Ok(mut file) => {
+            let failure = read_all(&mut file);
+            drop(file);
+            failure
+        }
+        Err(error) => Some(error),
+    }
+}
+
+fn read_all<F: Read>(file: &mut F) -> Option<Error> {
+    let mut buffer = [0u8; 4096];
+    for _ in 0..u64::MAX {
+        match file.read(&mut buffer) {
+            Ok(0) => return None,
+            Ok(_) => {}
+            Err(error) => return Some(error),
+        }
+    }
+    None
+}

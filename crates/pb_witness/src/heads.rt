@@ -1,0 +1,82 @@
+//! The heads of a .pb file's sections: rows that seem to be meant as one, and META's head where it comes late.
+
+use crate::fields::{joined, text_at};
+use crate::mark::Mark;
+use crate::records::Records;
+use crate::text::Text;
+use csv::ByteRecord;
+use pb_read::{Section, Stage};
+use std::io::Read;
+use std::rt::Files;
+
+/// META's head is looked for in so many records after a first one that is none.
+const MOST_BEFORE_META: u64 = 1_000;
+
+/// A row that seems to be meant as the head of a section, and is none.
+#[derive(Clone, Copy)]
+pub struct OddHead {
+    /// The section that it seems to begin.
+    pub section: Section,
+    /// Where the row begins.
+    pub mark: Mark,
+}
+
+/// The sections, in their order.
+const SECTIONS: [Section; 3] = [Section::Meta, Section::Projects, Section::Votes];
+
+/// The head of a section.
+pub fn head_of(section: Section) -> &'static str {
+    match section {
+        Section::Meta => "META",
+        Section::Projects => "PROJECTS",
+        Section::Votes => "VOTES",
+    }
+}
+
+/// The section that is read at a stage.
+pub fn section_of(stage: &Stage) -> Section {
+    match stage {
+        Stage::Start | Stage::InMeta(_) => Section::Meta,
+        Stage::Header(section) => *section,
+        Stage::InProjects(_) => Section::Projects,
+        Stage::InVotes(_) => Section::Votes,
+    }
+}
+
+/// The head that a record seems to be meant as, where it is none: punctuation stands beside a section's name.
+pub fn odd_head_of(record: &ByteRecord, mark: Mark) -> Option<OddHead> {
+    if joined(record).is_some() {
+        return None;
+    }
+    let field = text_at(record, 0);
+    let name = field.trim_matches(|c: char| c.is_ascii_punctuation() || c.is_whitespace());
+    if name.len() == field.len() {
+        return None;
+    }
+    for section in SECTIONS {
+        if name.eq_ignore_ascii_case(head_of(section)) {
+            return Some(OddHead { section, mark });
+        }
+    }
+    None
+}
+
+/// Where META's head stands behind the record with this mark.
+pub fn late_meta<R: Files>(text: &Text<'_, R>, first: Mark) -> Option<Mark> {
+    let mut records = text.record_at(first)?;
+    let mark = next_meta(&mut records);
+    drop(records);
+    mark
+}
+
+fn next_meta<F: Read>(records: &mut Records<F>) -> Option<Mark> {
+    for _ in 0..MOST_BEFORE_META {
+        if !records.advance() {
+            return None;
+        }
+        if text_at(&records.last, 0).eq_ignore_ascii_case("META") {
+            return Some(records.mark());
+        }
+    }
+    None
+}
