@@ -1,5 +1,5 @@
 -- Runs of `ballots` whose bytes may be known.
-use Rattle.std.proofs.Common.{◌≡◌, ℕ, List, Option, Some, None, Ok, Err, refl, sym, ◌∙◌, subst}
+use Rattle.std.proofs.Common.{◌≡◌, ℕ, List, Option, Some, None, Ok, Err, refl, sym, ◌∙◌, ap, subst}
 use Rattle.std.specs.Io.KnownBytes.{Appends}
 use Rattle.std.specs.Prelude.{IfErr, IfSome, IsErrAnd, OnOk, Result}
 use Rattle.pb_core.specs.Election.{ElectionView}
@@ -20,7 +20,13 @@ use Rattle.pb_faults.specs.Fault.{merged}
 use Rattle.pb_faults.specs.declared.fault.AppFault.{AppFault}
 use Rattle.pb_faults.specs.declared.fault.AppFault.TheVariants.{Read, Audit, Write, Memory}
 use Rattle.pb_commands.proofs.Accepted.{given_fault, read_from_outside}
-use Rattle.pb_commands.proofs.AuditAccepted.{IsAudited, desk_of, journal_from_outside}
+use Rattle.pb_commands.proofs.AuditAccepted.{IsAudited, desk_of, journal_from_outside, one_desk}
+
+-- a file and a journal have one table
+pub one_table : (voter : Option (List ℕ)) (bytes journal first second : List ℕ) → BallotsWrites voter bytes journal first → BallotsWrites voter bytes journal second
+    → first ≡ second
+one_table voter bytes journal first second one other =
+    one.2 ∙ ap (ballots_table voter) (one_desk bytes journal one.0 other.0 one.1 other.1) ∙ sym other.2
 
 module _ (voter : Option (List ℕ)) where
   abbrev Fails : List ℕ → List ℕ → AppFault → Type 0

@@ -1,6 +1,6 @@
 //! Laws of the definitions.
 
-ghost use Rattle.std.specs.Prelude.{◌≡◌, ◌≢◌, ◌↔◌, ◌⊎◌, ◌<◌, ◌==◌, ◌+◌, ◌++◌, ℕ, All, Bool, Contains, List, [], ◌∷◌, None, Some, filter, length, map, true};
+ghost use Rattle.std.specs.Prelude.{◌≡◌, ◌≢◌, ◌↔◌, ◌⊎◌, ◌<◌, ◌==◌, ◌+◌, ◌++◌, ℕ, All, Bool, Contains, List, [], ◌∷◌, None, Option, Some, filter, length, map, true};
 ghost use Rattle.std.specs.Bool.{MatchBool};
 ghost use Rattle.pb_core.specs.Election.{IsElection};
 ghost use Rattle.pb_core.specs.Request.{EntryView, Cast, Replace, Shut};
@@ -22,7 +22,7 @@ ghost use Rattle.pb_script.specs.Scripts.{IsScript};
 ghost use Rattle.pb_script.specs.Serving.{program_room};
 ghost use Rattle.pb_faults.specs.DeskRow.{entries_row};
 ghost use Rattle.pb_commands.specs.Audited.{AuditWrites, IsDeskOf, IsTextOf};
-ghost use Rattle.pb_commands.specs.Ballots.{last_given};
+ghost use Rattle.pb_commands.specs.Ballots.{BallotsWrites, last_given};
 ghost use Rattle.pb_commands.specs.Counted.{CountWrites};
 ghost use Rattle.pb_commands.specs.DeskRun.{DeskWrites, admission_on};
 ghost use Rattle.pb_commands.specs.declared.run_desk.Rules.{Rules};
@@ -31,13 +31,15 @@ ghost use Rattle.pb_commands.specs.Report.{report_of};
 use pb_core::answer::Answer;
 
 /// What is written is a function of the bytes that are read and of the options: a file has one report at
-/// most, and a file and a journal have one text at most.
+/// most, and a file and a journal have one text and one table of ballots at most.
 pub fn one_report()
     ensures counted { (bytes : List ℕ) (options : CountOptions) (fills_up : Bool) (first second : List ℕ)
         → CountWrites bytes options fills_up first → CountWrites bytes options fills_up second → first ≡ second }
     ensures audited { (bytes journal : List ℕ) (options : CountOptions) (fills_up : Bool) (first second : List ℕ)
         → AuditWrites bytes journal options fills_up first → AuditWrites bytes journal options fills_up second
         → first ≡ second }
+    ensures ballots { (voter : Option (List ℕ)) (bytes journal first second : List ℕ)
+        → BallotsWrites voter bytes journal first → BallotsWrites voter bytes journal second → first ≡ second }
 {}
 
 /// The recount. For every file that stands for an election, and every legal journal of its desk that fits the
