@@ -15,4 +15,4 @@ pub mod Results
 pub mod VoterTold
 pub mod WinnerSums
 pub mod PlaceSums
-pub mod Winners
+pub mod AllWinners

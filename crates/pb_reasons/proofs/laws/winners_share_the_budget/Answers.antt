@@ -1,5 +1,5 @@
 use Rattle.pb_reasons.proofs.Results.{result_is_added}
-use Rattle.pb_reasons.proofs.Winners.{none_fits_at_the_end, selected_are_winners, winners_differ}
+use Rattle.pb_reasons.proofs.AllWinners.{none_fits_at_the_end, selected_are_winners, winners_differ}
 use Rattle.pb_reasons.proofs.laws.winners_share_the_budget.Goals as goal
 
 pub returns : goal.returns
