@@ -37,7 +37,7 @@ def try_deaths(program, work):
         see('no answer came' in ann.get('/').seen, 'and does not settle it')
         see('Entry 3 ' in ben.ask('cast', 'v3', ['7']).seen, "another clerk's ballot")
         page = ann.post('/voter', {'voter': 'v3'})
-        see('Now the last entry of this voter is number 3: cast, by Ben' in page.seen and 'Is this what was asked for?' in page.seen,
+        see('Now the last entry is number 3: cast, by Ben' in page.seen and 'Is this what was asked for?' in page.seen,
             'is shown, and asked about', page.seen)
         page = ann.post('/settle', {'voter': 'v3', 'form': page.field('form', '/settle')})
         see('no answer came' not in page.seen + ann.get('/').seen, 'it is settled')
@@ -70,7 +70,7 @@ def try_deaths(program, work):
         window.kill_serve()
         os.truncate(window.journal, text.index(b'\n2;') + 1)
         page = ann.ask('cast', 'v5', ['12'])
-        see('Nothing was sent' in page.seen and f'lacks entry {count + 1}' in page.seen and len(window.entries()) == 1,
+        see('nothing was sent' in page.seen and f'lacks entry {count + 1}' in page.seen and len(window.entries()) == 1,
             'a shortened journal stops the desk', page.seen)
         head.get('/head')
         head.post('/again', {})
@@ -154,8 +154,9 @@ def try_shut(program, work):
         page = ann.post('/voter', {'voter': 'v1', 'form': page.field('form')})
         see(page.text.count(' checked') == 1 and 'The new choices are ticked below.' in page.seen,
             'what was ticked is ticked again', page.seen)
-        pages = ann.look('cast', 'v2', ['7']).seen + ann.look('withdraw', 'v1').seen
-        see('is deleted' not in pages and 'The old ballot' not in pages, 'no other check page says so', pages)
+        pages = [ann.look('cast', 'v2', ['7']).seen, ann.look('withdraw', 'v1').seen]
+        see('is deleted' not in ''.join(pages) and 'The old ballot' not in pages[0] and 'The old ballot' in pages[1],
+            'no other check page says so', pages)
         page = ben.post('/voter', {'voter': 'old1'})
         see('it came with the file' in page.seen and 'class="ballot"' not in page.text and whole in page.seen,
             'a ballot of the file is secret too')
