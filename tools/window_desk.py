@@ -84,6 +84,9 @@ def try_deaths(program, work):
         page = ann.ask('cast', 'v5', ['12'])
         see('not known' in page.seen, 'a journal that was moved: no answer', page.seen)
         see('has stopped' in ann.get('/').seen and 'fault;moved;2' in head.get('/head').seen, 'the fault is told', head.get('/head').seen)
+        page = ann.post('/voter', {'voter': 'v5'})
+        see('Look again once the desk runs.' in page.seen and 'It was not recorded' not in page.seen and 'is settled' not in page.seen,
+            'what came of the request is not told before the journal is read', page.seen)
         head.get('/head')
         page = head.post('/again', {})
         seen = head.get('/head').seen
@@ -95,6 +98,7 @@ def try_deaths(program, work):
         head.get('/head')
         head.post('/again', {})
         see('is open' in head.get('/head').seen, 'the head clerk starts the desk again', head.get('/head').seen)
+        see('It was not recorded.' in ann.post('/voter', {'voter': 'v5'}).seen, 'and then it is')
         see(f'Entry {count + 2} ' in ann.ask('cast', 'v6', ['12']).seen, 'the day goes on')
         window.kill_serve()
         said, status = window.end(signal.SIGTERM)
