@@ -69,6 +69,7 @@ class Window:
         self.child = subprocess.Popen([str(word) for word in words], cwd=self.folder, stdin=subprocess.DEVNULL,
                                       stdout=subprocess.PIPE, stderr=subprocess.STDOUT, text=True, start_new_session=True)
         if is_awaited:
+            assert select.select([self.child.stdout], [], [], LIMIT)[0], 'the window does not start'
             self.first = self.child.stdout.readline()
             assert 'is open at' in self.first, self.first
         return self

@@ -126,7 +126,8 @@ def try_words(program, work):
     wordy = folder / 'wordy'
     wordy.write_text(WORDY.format(program))
     wordy.chmod(0o755)
-    with Window(wordy, folder).start() as window:
+    with Window(wordy, folder) as window:
+        window.start()
         ann, words = Clerk(window), folder / 'city.journal.words'
         ann.sign_in('Ann')
         see('Entry 1 ' in ann.ask('cast', 'v1', ['12']).seen, 'a ballot beside many words')
