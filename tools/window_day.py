@@ -168,6 +168,10 @@ def try_day(window, ann, ben, head, pictures):
     see('it came with the file' in ann.text() and 'taken' not in ann.run('document.title'), 'a voter of markup', ann.text())
     ann.type('<script>')
     ann.enter(loads=False)
+    ann.enter()
+    ann.press_button('Change it')
+    see('The new choices are ticked below.' in ann.text() and ann.run('document.querySelectorAll(":checked").length') == 1,
+        'changing it begins with what was ticked', ann.text())
     ann.press('Escape')
     see('Press Escape once more' in ann.text('#count'), 'a tick is not lost by one key', ann.text('#count'))
     ann.press('Escape', loads=True)

@@ -35,7 +35,7 @@ if (form) {
 addEventListener('keydown', event => {
   if (event.key !== 'Escape' || !document.getElementById('next')) return;
   event.preventDefault();       // The browser's own Escape would stop the page that is about to load.
-  if (warned || !form || [...form.elements].every(it => it.checked === it.defaultChecked)) return location.assign('/');
+  if (warned || !form?.querySelector(':checked')) return location.assign('/');
   warned = true;
   count.textContent = 'Press Escape once more to leave this voter. Nothing was sent.';
 });
