@@ -1,7 +1,7 @@
 """A tab of a browser with cookies of its own, used by the keyboard, as a clerk uses it."""
 import json, time
 
-KEYS = {'Tab': (9, ''), 'Enter': (13, '\r'), ' ': (32, ' '), 'Escape': (27, '')}
+KEYS = {'Tab': (9, ''), 'Enter': (13, '\r'), ' ': (32, ' '), 'Escape': (27, ''), 'Backspace': (8, '')}
 DOMAINS = ('Page', 'Network', 'Log', 'Runtime')
 
 
@@ -73,6 +73,13 @@ class Tab:
                 pass
         self.loaded(act) if loads else act()
 
+    def scan(self, text, apart=0.01):
+        """Presses the keys of a text and Enter, as many seconds apart: by a scanner, or by a hand. The browser is told when each
+        key came, so that it matters not how fast this runs."""
+        begun = time.time()
+        for at, key in enumerate([*text, 'Enter']):
+            self.press(key, timestamp=begun + at * apart)
+
     def enter(self, loads=True):
         self.press('Enter', loads)
 
@@ -88,11 +95,11 @@ class Tab:
             self.press('Tab')
         raise AssertionError(f'Tab never comes to {name}')
 
-    def press_button(self, words):
+    def press_button(self, words, loads=True):
         """Presses Tab until a button with these words has the focus, and then Enter."""
         for _ in range(60):
             if self.focus() == words:
-                return self.enter()
+                return self.enter(loads)
             self.press('Tab')
         raise AssertionError(f'Tab never comes to {words}')
 

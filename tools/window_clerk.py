@@ -69,6 +69,7 @@ class Window:
         self.child = subprocess.Popen([str(word) for word in words], cwd=self.folder, stdin=subprocess.DEVNULL,
                                       stdout=subprocess.PIPE, stderr=subprocess.STDOUT, text=True, start_new_session=True)
         if is_awaited:
+            assert select.select([self.child.stdout], [], [], LIMIT)[0], 'the window does not start'
             self.first = self.child.stdout.readline()
             assert 'is open at' in self.first, self.first
         return self
@@ -79,12 +80,15 @@ class Window:
         said = self.child.communicate(timeout=LIMIT)[0]
         return said, self.child.returncode
 
-    def serve_id(self):
-        """The process of the `serve` that the window has started."""
-        found = pathlib.Path(f'/proc/{self.child.pid}/task/{self.child.pid}/children').read_text().split()
+    def serves(self):
+        """The processes that the window has started."""
         threads = pathlib.Path(f'/proc/{self.child.pid}/task').glob('*/children')
-        found += [word for path in threads for word in path.read_text().split()]
-        return int(found[0]) if found else None
+        return sorted({int(word) for path in threads for word in path.read_text().split()})
+
+    def serve_id(self):
+        """The process of the `serve` that has the journal."""
+        has_journal = lambda number: str(self.journal) in pathlib.Path(f'/proc/{number}/cmdline').read_text().split('\0')
+        return next(filter(has_journal, self.serves()), None)
 
     def processor_time(self):
         """How many seconds of a processor the window has taken, without `serve`."""

@@ -248,6 +248,7 @@ def try_files(window, folder):
     """Files for this account alone; the window is ended in order."""
     for path in ('city.journal', 'city.journal.log', 'city.journal.words', 'clerks.json'):
         see(stat.S_IMODE((folder / path).stat().st_mode) == 0o600, f'{path} is 0600')
+    see(all(line.startswith('{"time": ') for line in (folder / 'city.journal.log').read_text().splitlines()), 'each line of the log is JSON')
     said, status = window.end()
     digest = hashlib.sha256(window.journal.read_bytes()).hexdigest()
     see(status == 0 and digest in said and f'Entries: {len(window.entries())},' in said, 'the end of the day is told', said, status)

@@ -78,6 +78,7 @@ def main():
     refusals = {'a name has at least one character, and only characters that can be seen': not name.isprintable() or not name,
                 f'there is a clerk {name} already; give the new one another name': given.what == 'add' and clerk in clerks,
                 f"there is no clerk {name}; the clerks are {', '.join(it['name'] for it in clerks)}": given.what != 'add' and clerk not in clerks,
+                'the head clerk cannot be closed: nobody else can shut the desk': given.what == 'close' and clerk['number'] == 0,
                 'there can be 64 clerks at most': given.what == 'add' and len(clerks) == 64}
     for words in filter(refusals.get, refusals):
         sys.exit(f'clerks.py: {words}')

@@ -1,5 +1,5 @@
 """The desk: `pb_app serve --by-id`, the window's child, which alone writes the journal. Here its answers are read."""
-import collections, contextlib, csv, io, os, subprocess, threading, time
+import collections, contextlib, csv, io, os, secrets, subprocess, threading, time
 
 from election import Fault, records
 from log import opened
@@ -13,12 +13,27 @@ NOTHING = Entry(0, 0, '', '', '', '')
 Outcome = collections.namedtuple('Outcome', 'kind value', defaults=[None])
 
 
-class Asked:
-    """A request that was sent."""
+class Request:
+    """What a clerk has looked at and may send, once: a request, with the number of the voter's last entry as it was shown."""
 
-    def __init__(self, form, clerk, request, voter):
-        self.form, self.clerk, self.request, self.voter = form, clerk, request, voter
-        self.outcome, self.ended = Outcome('unknown'), threading.Event()
+    def __init__(self, clerk, request, voter='', ids=(), seen=0, form=None):
+        self.form, self.clerk, self.request, self.voter = form or secrets.token_urlsafe(16), clerk, request, voter
+        self.ids, self.seen, self.outcome, self.turn, self.ended = ids, seen, None, threading.Lock(), threading.Event()
+
+
+def started(command, errors):
+    """Starts a `serve`: gives it, and the rows that it writes."""
+    # A session of its own: Ctrl-C at the window's terminal is no signal to the child.
+    child = subprocess.Popen(command, stdin=subprocess.PIPE, stdout=subprocess.PIPE, stderr=errors, start_new_session=True)
+    return child, records(io.TextIOWrapper(child.stdout, encoding='utf-8', newline=''))
+
+
+def send(child, *row):
+    """Writes a row to a `serve`."""
+    text = io.StringIO()
+    csv.writer(text, delimiter=';', lineterminator='\n').writerow(row)
+    child.stdin.write(text.getvalue().encode())
+    child.stdin.flush()
 
 
 class Desk:
@@ -27,54 +42,44 @@ class Desk:
     def __init__(self, serve, file, journal, log, votes):
         self.command, self.files, self.words = [*serve, file, journal], (file, journal), opened(f'{journal}.words')
         self.log, self.votes, self.sending = log, votes, threading.RLock()
-        self.waiting, self.busy, self.is_shut = collections.deque(), set(), False
-        self.child, self.fault, self.marks, self.newest = None, None, None, NOTHING
-        self.unknown = {form: Asked(form, it['clerk'], it['request'], it['voter'])
-                        for form, it in log.without_answer().items()}
+        self.waiting, self.busy, self.newest, self.shut, self.mark = collections.deque(), set(), NOTHING, None, None
+        # The child that runs, the line with which one has stopped, and why none was started after that.
+        self.child, self.fault, self.failure = None, None, None
+        self.unknown = {form: Request(it['clerk'], it['request'], it['voter'], seen=it.get('seen', -1), form=form)
+                        for form, it in log.asked.items()}
 
     def start(self):
         """Starts the child and reads the journal as it stands. Where another run has it, it tries for some seconds."""
-        if self.marks and self.marks != self.marks_of_files():
-            raise Fault('FILE or JOURNAL is not the one that this window began with, so nothing was started')
+        mark = [getattr(os.stat(self.files[0]), it) for it in ('st_dev', 'st_ino', 'st_size', 'st_mtime_ns')]
+        if self.mark not in (None, mark):
+            raise Fault(f'{self.files[0]} is not the file that this window began with')
         journal, until = self.files[1], time.monotonic() + LOCKED
         if os.path.exists(f'{journal}.kept'):
-            raise Fault(f'{journal}.kept is here, so somebody has moved or replaced {journal}. Copy both to another '
-                        f'folder. Give the one with more entries the name {journal}. Leave no .kept file here')
+            raise Fault(f'{journal}.kept is here: {journal} was moved or replaced. Copy both elsewhere, give the one with '
+                        f'more entries the name {journal}, and leave no .kept file here')
         if self.log.entries and not os.path.exists(journal):
             raise Fault(self.lacking(self.log.entries, 0))
-        while True:
-            # A session of its own: Ctrl-C at the window's terminal is no signal to the child.
-            child = subprocess.Popen(self.command, stdin=subprocess.PIPE, stdout=subprocess.PIPE, stderr=self.words,
-                                     start_new_session=True)
-            rows = records(io.TextIOWrapper(child.stdout, encoding='utf-8', newline=''))
-            first = next(rows, [])
-            if first[:1] == ['torn']:
-                self.log.write('torn', bytes=first[1])
-                first = next(rows, [])
-            if first[:1] == ['entries']:
-                break
-            child.communicate()
-            if first[:2] != ['fault', 'locked'] or time.monotonic() > until:
-                raise Fault(f"{';'.join(first) or 'pb_app serve did not start'}; its words are in {journal}.words")
-            time.sleep(0.2)
+        first = []
+        while first[:1] != ['entries']:
+            child, rows = started(self.command, self.words)
+            first = next((row for row in rows if row[0] != 'torn'), [])
+            if first[:1] != ['entries']:
+                child.communicate()
+                if first[:2] != ['fault', 'locked'] or time.monotonic() > until:
+                    raise Fault(f"{';'.join(first) or 'pb_app serve did not start'}; its words are in {journal}.words")
+                time.sleep(0.2)
         lacking = self.read_journal(int(first[1]))
         if lacking:
             child.communicate()
             raise Fault(lacking)
-        self.is_shut, self.marks, self.child, self.fault = first[2] == 'shut', self.marks_of_files(), child, None
+        self.mark, self.child, self.fault, self.failure = mark, child, None, None
         self.log.write('started', entries=int(first[1]), state=first[2])
         self.listener = threading.Thread(target=self.listen, args=(child, rows), daemon=True)
         self.listener.start()
 
-    def marks_of_files(self):
-        """What says that both files are still the same ones, or None; of the two only the journal may grow."""
-        with contextlib.suppress(OSError):
-            file, journal = map(os.stat, self.files)
-            return file.st_dev, file.st_ino, file.st_size, file.st_mtime_ns, journal.st_dev, journal.st_ino
-
     def read_journal(self, count):
         """Takes the entries of the journal. Says so where the newest one that was answered before is not among them."""
-        before, self.newest = self.newest, NOTHING
+        before, self.newest, self.shut = self.newest, NOTHING, None
         # The last entry of each voter, the one by which a ballot stands, and how many there are of each kind.
         self.last, self.standing, self.counts = {}, {}, collections.Counter()
         with open(self.files[1], encoding='utf-8', newline='') as text:
@@ -95,7 +100,7 @@ class Desk:
         self.last[entry.voter] = self.newest = entry
         if entry.answer == 'done':
             self.standing[entry.voter] = entry
-            self.is_shut = self.is_shut or entry.request == 'shut'
+            self.shut = entry if entry.request == 'shut' else self.shut
         self.counts[entry.clerk, entry.answer.split()[0]] += 1
         return entry
 
@@ -129,6 +134,7 @@ class Desk:
         asked = self.waiting[0]
         if row[0] == 'fault':
             asked.outcome, told = Outcome('refused', row[3]), {'refused': row[3]}
+            self.log.refused[asked.clerk, row[3]] += 1
         elif row[1:4] == [str(asked.clerk), asked.request, asked.voter]:
             entry = self.note(row)
             asked.outcome, told = Outcome('entry', entry), {'entry': entry.number, 'answer': entry.answer}
@@ -136,17 +142,20 @@ class Desk:
             raise ValueError('the answer of another request')
         self.log.write('answered', form=asked.form, clerk=asked.clerk, request=asked.request, **told)
         self.unknown.pop(asked.form, None)
+        for it in list(self.unknown.values()):
+            if it.voter == asked.voter and told.get('answer') == 'done':
+                self.settle(it.form, asked.clerk)
         self.end_first()
 
     def keep_up(self, is_after_fault=False):
         """Starts the child again where it has died without a word; after a fault only the head clerk does."""
         with self.sending:
-            if not (self.child or self.is_shut) and (is_after_fault or not self.fault):
+            if not (self.child or self.shut) and (is_after_fault or not self.fault):
                 try:
                     self.start()
                 except (Fault, OSError) as why:
-                    self.fault = str(why)
-                    self.log.write('not-started', fault=self.fault)
+                    self.fault, self.failure = self.fault or 'pb_app serve has ended without a word', str(why)
+                    self.log.write('not-started', fault=self.failure)
 
     def end(self):
         """Ends the child in order: its input ends, and it leaves the journal at rest, also where it had died before."""
@@ -163,37 +172,34 @@ class Desk:
     def has_ballot(self, voter):
         return self.standing[voter].request != 'withdraw' if voter in self.standing else voter in self.votes
 
-    def why_not(self, voter, seen):
-        """Why nothing is sent."""
-        if self.fault or self.is_shut or not self.child:
-            return Outcome('stopped')
-        return Outcome('changed') if voter in self.busy or self.number_of(voter) != seen else None
-
-    def ask(self, form, clerk, request, voter, ids, seen):
-        """Sends a request, and waits for its answer. Nothing is ever sent again."""
-        self.keep_up()
-        if self.why_not(voter, seen):
-            return self.why_not(voter, seen)
-        self.log.write('asked', is_synced=True, form=form, clerk=clerk, request=request, voter=voter)
-        asked, row = Asked(form, clerk, request, voter), io.StringIO()
-        csv.writer(row, delimiter=';', lineterminator='\n').writerow([clerk, request, voter, ids])
-        with self.sending:
-            self.keep_up()
-            outcome = self.why_not(voter, seen)
-            if outcome:
-                self.log.write('unsent', form=form, why=outcome.kind)
-                return outcome
-            self.busy.add(voter)
-            self.waiting.append(asked)
-            with contextlib.suppress(OSError):  # Where the child has ended, whoever listens to it ends the request.
-                self.child.stdin.write(row.getvalue().encode())
-                self.child.stdin.flush()
-        if not asked.ended.wait(ANSWERS):
-            self.unknown[form] = asked
+    def ask(self, asked):
+        """Sends a request, and waits for its answer. A second call only waits: nothing is ever sent again."""
+        with asked.turn:
+            if not asked.outcome:
+                self.put(asked)
+        if asked.outcome.kind == 'unknown' and not asked.ended.wait(ANSWERS):
+            self.unknown[asked.form] = asked
+            if asked.outcome.kind != 'unknown':     # The answer came at this moment.
+                self.unknown.pop(asked.form, None)
         return asked.outcome
 
+    def put(self, asked):
+        """Sends a request, or says why not."""
+        self.log.write('asked', True, **{it: vars(asked)[it] for it in ('form', 'clerk', 'request', 'voter', 'seen')})
+        with self.sending:
+            self.keep_up()
+            is_stopped = self.fault or self.shut or not self.child
+            if is_stopped or asked.voter in self.busy or self.number_of(asked.voter) != asked.seen:
+                asked.outcome = Outcome('stopped' if is_stopped else 'changed')
+                return self.log.write('unsent', form=asked.form, why=asked.outcome.kind)
+            asked.outcome = Outcome('unknown')
+            self.busy.add(asked.voter)
+            self.waiting.append(asked)
+            with contextlib.suppress(OSError):  # Where the child has ended, whoever listens to it ends the request.
+                send(self.child, asked.clerk, asked.request, asked.voter, ','.join(asked.ids))
+
     def settle(self, form, clerk):
-        """The clerk who asked, or the head clerk, has looked what came of a request without an answer."""
+        """The clerk who asked, or the head clerk, has seen what came of a request without an answer."""
         if form in self.unknown and clerk in (0, self.unknown[form].clerk):
             self.unknown.pop(form, None)
             self.log.write('settled', form=form, clerk=clerk)

@@ -30,10 +30,10 @@ def ids_of(text):
 
 
 class Election:
-    """The projects in the file's order, the most that a ballot may have or None, and the file's ballots by voter."""
+    """The projects in the file's order, how many a ballot may have at least and at most, and the file's ballots by voter."""
 
-    def __init__(self, program, file):
-        self.projects, self.votes, self.longest, section = [], {}, None, None
+    def __init__(self, program, file, least):
+        self.projects, self.votes, self.least, self.longest, section = [], {}, least, float('inf'), None
         rows = records(io.StringIO(told_by(program, 'export', file, '--plain').decode(), newline=''))
         for row in rows:
             if row in (['META'], ['PROJECTS'], ['VOTES']):
@@ -45,11 +45,15 @@ class Election:
             elif row[0] == 'max_length':
                 self.longest = int(row[1])
         self.by_id = {project.id: project for project in self.projects}
+        at_most = [f'{self.longest} at most'] * (self.longest < float('inf'))
+        self.limits = ', '.join([f'{least} at least'] * (least > 0) + at_most)
 
     def chosen(self, ids):
         """The projects of a ballot; an id that no project has stands there alone."""
         return [self.by_id.get(it) or Project(it, 'No project has this id.', '') for it in ids]
 
     def held(self, voter, entry):
-        """The ids of the ballot that an entry put there, or that came with the file."""
-        return [self.projects[int(it)].id for it in entry.places.split(',') if it] if entry else ids_of(self.votes[voter])
+        """The projects of the ballot that an entry put there, or that came with the file."""
+        if not entry:
+            return self.chosen(ids_of(self.votes[voter]))
+        return [self.projects[int(it)] for it in entry.places.split(',') if it]

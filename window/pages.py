@@ -5,7 +5,7 @@ from flask import Flask, Response, abort, g, make_response, redirect, render_tem
 from markupsafe import Markup
 from werkzeug.exceptions import HTTPException
 
-import election, sessions
+import desk, election
 
 app = Flask(__name__)
 app.jinja_env.trim_blocks = app.jinja_env.lstrip_blocks = True
@@ -14,7 +14,7 @@ KEY = os.urandom(32)
 HEADERS = {'Cache-Control': 'no-store', 'Referrer-Policy': 'no-referrer', 'X-Content-Type-Options': 'nosniff',
            'Content-Security-Policy': "default-src 'none'; frame-ancestors 'none'; base-uri 'none'; form-action 'self'; "
                                       "style-src 'self'; script-src 'self'; img-src data:"}
-# What the desk answers, and after that why it takes a row for none.
+# What the desk answers; after that why it refuses a row, which is then no entry, and why there is no answer.
 ANSWERS = {'done': 'Recorded.', 'already-cast': 'Not recorded: this voter has a ballot already.',
            'no-ballot': 'Not recorded: this voter has no ballot.',
            'too-long': 'Not recorded: the ballot has too many projects.',
@@ -22,7 +22,8 @@ ANSWERS = {'done': 'Recorded.', 'already-cast': 'Not recorded: this voter has a 
            'desk-shut': 'Not recorded: the desk is shut.',
            'UnknownId': 'Not recorded: no project has an id that the ballot names.',
            'NotOnRoll': 'Not recorded: this voter is not on the roll.',
-           'TooFew': 'Not recorded: the ballot has too few projects.'}
+           'TooFew': 'Not recorded: the ballot has too few projects.', 'changed': 'Nothing was sent.',
+           'stopped': 'Not recorded: nothing was sent.', 'unknown': 'It is not known whether this was recorded.'}
 STALE = 'The form is too old, or you were signed out. Nothing was sent to the desk just now. Look up the voter to see what is recorded.'
 
 
@@ -82,7 +83,7 @@ def check():
 def words():
     """What each page knows."""
     held = cookie('session') if g.session else g.get('fresh', cookie('sign-in'))
-    return {'clerk': g.clerk, 'desk': office.desk, 'longest': office.election.longest, 'answers': list(ANSWERS)[:6],
+    return {'clerk': g.clerk, 'desk': office.desk, 'election': office.election, 'unknown': list(office.desk.unknown.values()),
             'said': lambda name: ANSWERS.get(name.split()[0], f'Not recorded: {name}.'),
             'name_of': office.door.name_of, 'who': lambda it: f"{office.door.name_of(it)} (clerk {it}{', you' * (it == g.clerk)})",
             'token': Markup('<input type="hidden" name="token" value="%s">') % token_of(held)}
@@ -101,8 +102,7 @@ def failed(why):
         return say(why.name, 'Nothing was sent to the desk.', why.code)
     if isinstance(why, election.Fault):
         return say('The program refused', str(why), 500)
-    place = traceback.extract_tb(why.__traceback__)[-1]
-    office.log.write('failed', kind=type(why).__name__, file=os.path.basename(place.filename), line=place.lineno)
+    office.log.write('failed', kind=type(why).__name__, where=traceback.format_tb(why.__traceback__)[-1].splitlines()[0].strip())
     return say('The window failed', 'Look at the voter again: it is not known whether anything was recorded.', 500)
 
 
@@ -110,8 +110,7 @@ def failed(why):
 def start():
     if g.session:
         office.desk.keep_up()
-        return page('start', 'Next voter',
-                    missed=[it for it in list(office.desk.unknown.values()) if it.clerk == g.clerk])
+        return page('start', 'Next voter')
     g.fresh = cookie('sign-in') or secrets.token_urlsafe(32)
     return keep(page('sign_in', 'Sign in'), 'sign-in', g.fresh)
 
@@ -122,7 +121,7 @@ def sign_in():
     clerk, wait = office.door.judge(name, request.form.get('passphrase', ''), address, cookie('head'))
     if not clerk:
         office.log.write('not-signed-in', address=address, wait=round(wait))
-        why = f'Wait {int(wait) + 1} seconds, and try again.' if wait else 'The name or the passphrase is wrong.'
+        why = f'Wait {int(wait) + 2} seconds, and try again.' if wait else 'The name or the passphrase is wrong.'
         return page('sign_in', 'Sign in', words=why), 429 if wait else 403
     office.log.write('signed-in', clerk=clerk['number'], address=address)
     office.sessions.pop(cookie('session'), None)
@@ -147,24 +146,25 @@ def asked_voter():
     return voter
 
 
-def show(voter, ids=None, is_asked_for=False):
-    """The page of a voter. A ballot is shown to the clerk who took it, and to the head clerk who asks for it."""
-    desk = office.desk
-    desk.keep_up()
-    entry, has_ballot = desk.standing.get(voter), desk.has_ballot(voter)
+def ballot_of(voter, is_asked_for=False):
+    """The projects of a voter's ballot: for the clerk who took it, and for the head clerk who asks; else None."""
+    entry = office.desk.standing.get(voter)
     is_own = entry is not None and entry.clerk == g.clerk
-    held = office.election.held(voter, entry) if has_ballot and (is_own or is_asked_for) else None
-    ticked = ids if ids is not None else held if is_own else None
-    return page('voter', 'Voter', voter=voter, entry=entry, has_ballot=has_ballot, is_own=is_own, ids=ids,
-                held=None if held is None else office.election.chosen(held), projects=office.election.projects,
-                ticked=ticked or [], last=desk.last.get(voter),
-                missed=[it for it in list(desk.unknown.values()) if it.voter == voter])
+    if office.desk.has_ballot(voter) and (is_own or is_asked_for):
+        return office.election.held(voter, entry)
+
+
+def show(voter, ids=None, is_asked_for=False):
+    """The page of a voter. It begins without ticks, or with those that the clerk has just made."""
+    office.desk.keep_up()
+    return page('voter', 'Voter', voter=voter, ids=ids, held=ballot_of(voter, is_asked_for),
+                is_off_roll=office.roll is not None and office.roll.lacks(voter))
 
 
 @app.post('/voter')
 def voter():
-    form = g.session.forms.get(request.form.get('form'))
-    return show(form.voter, form.ids if form.request != 'withdraw' else None) if form else show(asked_voter())
+    asked = g.session.forms.get(request.form.get('form'))
+    return show(asked.voter, asked.ids if asked.request != 'withdraw' else None) if asked else show(asked_voter())
 
 
 @app.post('/show')
@@ -180,23 +180,25 @@ def look():
     if wanted not in ('cast', 'replace', 'withdraw') or not seen.isdecimal():
         abort(400)
     ids = election.ids_of(','.join(request.form.getlist('id'))) if wanted != 'withdraw' else []
-    form = g.session.add(sessions.Form(wanted, asked_voter(), ids, int(seen)))
-    return page('look', 'Check before you record', form=form, chosen=office.election.chosen(ids))
+    asked = desk.Request(g.clerk, wanted, asked_voter(), ids, int(seen))
+    g.session.add(asked)
+    chosen = office.election.chosen(ids)
+    return page('look', 'Check before you record', asked=asked, chosen=chosen, held=ballot_of(asked.voter))
 
 
 @app.post('/record')
 def record():
     """Sends what was looked at. A second sending gets the first one's answer."""
-    form = g.session.forms.get(request.form.get('form'))
-    if form is None or request.form.get('seen') != str(form.seen):
+    asked = g.session.forms.get(request.form.get('form'))
+    if asked is None or request.form.get('seen') != str(asked.seen):
         return say('Not sent', STALE, 409)
-    return answer(form)
+    return answer(asked)
 
 
-def answer(form):
-    outcome = form.send(office.desk, g.clerk)
+def answer(asked):
+    outcome = office.desk.ask(asked)
     words = office.end() if outcome.kind == 'entry' and outcome.value[2::3] == ('shut', 'done') else None
-    return page('start', 'Answer', outcome=outcome, form=form, last=office.desk.last.get(form.voter), words=words)
+    return page('start', 'Answer', outcome=outcome, asked=asked, last=office.desk.last.get(asked.voter), words=words)
 
 
 @app.post('/settle')
@@ -207,7 +209,10 @@ def settle():
 
 @app.get('/head')
 def head(words='', status=200):
-    return page('head', 'The head clerk', words=words, counts=office.desk.counts.copy()), status
+    counts, clerks = office.desk.counts + office.log.refused, office.door.clerks()
+    told = [it for it in ANSWERS if it == 'done' or any(answer == it for _, answer in counts)]
+    others = {it.clerk['number'] for it in list(office.sessions.values()) if not it.is_over(clerks)} - {0}
+    return page('head', 'The head clerk', words=words, counts=counts, answers=told, others=others), status
 
 
 @app.post('/again')
@@ -219,17 +224,16 @@ def again():
 @app.post('/shut')
 def shut():
     is_typed = request.form.get('word', '').strip() == 'shut'
-    return answer(sessions.Form('shut')) if is_typed else head('The desk is not shut. Type the word “shut”.', 400)
+    return answer(desk.Request(g.clerk, 'shut')) if is_typed else head('The desk is not shut. Type the word “shut”.', 400)
 
 
 @app.get('/result')
 @app.get('/result/<name>')
 def result(name=None):
     """The report of the shut desk, or a file to be kept."""
-    if not office.desk.is_shut:
+    if not office.desk.shut:
         return say('No result yet', 'The desk is open.', 409)
-    report, shown = office.result()
+    made = office.result()
     if name is None:
-        return page('result', 'The result', report=report.decode())
-    kept = {'report.txt': report, 'result.html': shown}.get(name) or abort(404)
-    return Response(kept, mimetype='application/octet-stream', headers={'Content-Disposition': f'attachment; filename="{name}"'})
+        return page('result', 'The result', report=made['report.txt'].decode())
+    return Response(made.get(name) or abort(404), mimetype='application/octet-stream', headers={'Content-Disposition': f'attachment; filename="{name}"'})

@@ -4,7 +4,7 @@ import argparse, datetime, hashlib, ipaddress, os, shlex, signal, sys, threading
 
 sys.dont_write_bytecode = True
 try:
-    import desk, election, log, pages, server, sessions, sign_in
+    import desk, election, log, pages, roll, server, sessions, sign_in
 except ImportError as why:
     sys.exit(f"run.py: {why}. Install Debian's python3-flask and python3-cheroot, and run it by /usr/bin/python3")
 
@@ -16,7 +16,7 @@ OPTIONS = {
     '--key': dict(metavar='PEM', help='its key'),
     '--backup': dict(metavar='FOLDER', help='copies the journal and its digest there in the evening'),
     '--roll': dict(metavar='ROLL', help='takes requests only for the voters in this file'),
-    '--min': dict(metavar='N', help='the smallest number of projects that a new ballot may name'),
+    '--min': dict(metavar='N', type=int, default=0, help='the smallest number of projects that a new ballot may name'),
     '--title': dict(metavar='TEXT', help='the title of the page of the result'),
     '--count': dict(metavar='OPTIONS', default='', help='the options of the count in one word, such as --count="--measure cost"'),
     '--program': dict(metavar='PATH', default='pb_app', help='where pb_app is, if it is not on the PATH'),
@@ -54,12 +54,13 @@ class Day:
     def __init__(self, given):
         self.given, self.scheme, self.port, self.hosts = given, given.scheme, given.address[1], given.hosts
         self.door, self.sessions, self.ending = sign_in.Door(given.clerks), sessions.Sessions(), threading.Lock()
-        self.election = election.Election(given.program, given.file)
+        self.election = election.Election(given.program, given.file, given.min)
         self.log = log.Log(f'{given.journal}.log')
-        serve = ['--by-id', *(word for key in ('roll', 'min') if vars(given)[key] for word in (f'--{key}', vars(given)[key]))]
-        self.desk = desk.Desk([given.program, 'serve', *serve], given.file, given.journal, self.log, self.election.votes)
+        serve = [given.program, 'serve', '--by-id', *(['--roll', given.roll] if given.roll else []), f'--min={given.min}']
+        self.roll = roll.Roll(given.program, given.roll) if given.roll else None
+        self.desk = desk.Desk(serve, given.file, given.journal, self.log, self.election.votes)
         self.desk.start()
-        if self.desk.is_shut:
+        if self.desk.shut:
             self.desk.end()
 
     def end(self):
@@ -78,16 +79,18 @@ class Day:
                         file.write(data)
                         file.flush()
                         os.fsync(file.fileno())
+                    print(f'Copied to {file.name}', flush=True)
             except OSError as why:
                 self.log.write('not-copied', why=str(why))
                 return f'The journal was not copied: {why}. Copy it by hand. If it was moved, it is in {self.given.journal}.kept.'
 
     def result(self):
-        """The report of the shut desk with its digests, and the page of the result."""
+        """The report of the shut desk with its digests, and the page of the result, by the names of their files."""
         given, rule = self.given, shlex.split(self.given.count)
         title = ['--title', given.title] if given.title else []
-        return (election.told_by(given.program, 'audit', given.file, given.journal, '--digests', '--require-shut', *rule),
-                election.told_by(given.program, 'page', given.file, '--journal', given.journal, *title, *rule))
+        report = [given.program, 'audit', given.file, given.journal, '--digests', '--require-shut', *rule]
+        shown = [given.program, 'page', given.file, '--journal', given.journal, *title, *rule]
+        return {'report.txt': election.told_by(*report), 'result.html': election.told_by(*shown)}
 
 
 def main():
@@ -103,8 +106,8 @@ def main():
         signal.signal(number, lambda *_: stop.set())
     try:
         web.prepare()
-        print(f'The window is open at {given.scheme}://{given.hosts[0]}/ and Ctrl-C ends the day.',
-              f'Entries in the journal: {day.desk.newest.number}.', flush=True)
+        where, count = f'{given.scheme}://{given.hosts[0]}/', day.desk.newest.number
+        print(f'The window is open at {where} and Ctrl-C ends the day. Entries in the journal: {count}.', flush=True)
         threading.Thread(target=web.serve, daemon=True).start()
         stop.wait()
         web.stop()

@@ -1,9 +1,9 @@
 """The web server: Debian's cheroot, with a limit for each address, a time for each part of a request, and TLS."""
-import contextlib, io, socket, ssl, threading, time
+import contextlib, io, socket, threading, time
 
 from cheroot import wsgi
-from cheroot.makefile import MakeFile
 from cheroot.server import HTTPConnection, HTTPRequest
+from cheroot.ssl import builtin
 
 # Bytes of a body and of the headers, seconds for each of them and for sending a page, connections of an address.
 BODY, HEADERS, SECONDS, SENDING, CONNECTIONS = 65536, 16384, 10, 60, 16
@@ -38,20 +38,15 @@ class Request(HTTPRequest):
 class Connection(HTTPConnection):
     """A connection that is cut when its time is over."""
     RequestHandlerClass = Request
-    until, is_counted = None, False
+    until = None
 
     def close(self):
         self.server.open.discard(self)
         super().close()
 
 
-class Tls:
-    """What cheroot asks of TLS. The thread of a connection makes the handshake, so that no client holds up the others."""
-    makefile, bind = staticmethod(MakeFile), staticmethod(lambda sock: sock)
-
-    def __init__(self, certificate, key):
-        self.context = ssl.create_default_context(ssl.Purpose.CLIENT_AUTH)
-        self.context.load_cert_chain(certificate, key)
+class Tls(builtin.BuiltinSSLAdapter):
+    """TLS. The thread of a connection makes the handshake, so that no client holds up the others."""
 
     def wrap(self, sock):
         return self.context.wrap_socket(sock, server_side=True, do_handshake_on_connect=False), {}
@@ -68,9 +63,8 @@ class Server(wsgi.Server):
 
     def process_conn(self, conn):
         """A new connection is counted, and waits without a thread until its first byte comes."""
-        if conn.is_counted:
+        if conn in self.open:
             return super().process_conn(conn)
-        conn.is_counted = True
         self.open.add(conn)
         if sum(it.remote_addr == conn.remote_addr for it in self.open.copy()) <= CONNECTIONS:
             return self.put_conn(conn)

@@ -5,20 +5,6 @@ import secrets, threading, time
 IDLE, LONGEST, FORMS = 30 * 60, 12 * 3600, 100
 
 
-class Form:
-    """What a clerk has looked at and may send, once: a request, with the voter's last entry as it was shown."""
-
-    def __init__(self, request, voter='', ids='', seen=0):
-        self.id, self.lock, self.outcome = secrets.token_urlsafe(16), threading.Lock(), None
-        self.request, self.voter, self.ids, self.seen = request, voter, ids, seen
-
-    def send(self, desk, clerk):
-        """Sends it, or gives what the first sending came to."""
-        with self.lock:
-            self.outcome = self.outcome or desk.ask(self.id, clerk, self.request, self.voter, ','.join(self.ids), self.seen)
-            return self.outcome
-
-
 class Session:
     """A clerk who is signed in."""
 
@@ -30,11 +16,11 @@ class Session:
         now = time.monotonic()
         return now - self.used > IDLE or now - self.begun > LONGEST or self.clerk not in clerks
 
-    def add(self, form):
-        self.forms[form.id] = form
+    def add(self, asked):
+        """Remembers what the clerk looks at now."""
+        self.forms[asked.form] = asked
         if len(self.forms) > FORMS:
             del self.forms[next(iter(self.forms))]
-        return form
 
 
 class Sessions(dict):

@@ -1,11 +1,10 @@
 """Who may sign in: one passphrase is tried at a time, and wrong ones delay the next try, more each time."""
-import collections, hashlib, hmac, os, threading, time
+import hashlib, hmac, os, threading, time
 
 import clerks
 
-# The longest delay, how long a wrong passphrase is remembered (both in seconds), how many of an address are free, and how
-# many tries of an address may wait for their turn.
-LONGEST, MEMORY, FREE, LINE = 60, 1800, 4, 3
+# The longest delay, how long a wrong passphrase is remembered (both in seconds), and how many of an address are free.
+LONGEST, MEMORY, FREE = 60, 1800, 4
 
 
 class Door:
@@ -13,8 +12,7 @@ class Door:
     browser in which the head has signed in before, in that browser: so nobody else can lock the head clerk out."""
 
     def __init__(self, path):
-        self.path, self.stamp = path, None
-        self.turn, self.count, self.line, self.wrong = threading.Lock(), threading.Lock(), collections.Counter(), {}
+        self.path, self.stamp, self.turn, self.wrong = path, None, threading.Lock(), {}
         self.clerks()
 
     def clerks(self):
@@ -45,20 +43,12 @@ class Door:
         is_head = clerk is self.known[0]
         is_marked = is_head and hmac.compare_digest(mark.encode(), self.mark_of(mark.split('.')[0]).encode())
         keys = [('browser', mark)] if is_marked else [('head', address)] if is_head else [('name', name), ('address', address)]
-        with self.count:
-            if self.line[address] >= LINE and not is_marked:
-                return None, 1
-            self.line[address] += 1
-        try:
-            with self.turn:
-                wait = max(self.wrong.get(key, (0, 0))[1] - time.monotonic() for key in keys)
-                if wait > 0:
-                    return None, wait
-                if clerks.is_right(clerk, passphrase):
-                    self.wrong.pop(keys[0], None)
-                    return clerk, 0
-                self.note_wrong(keys)
-                return None, 0
-        finally:
-            with self.count:
-                self.line[address] -= 1
+        with self.turn:
+            wait = max(self.wrong.get(key, (0, 0))[1] - time.monotonic() for key in keys)
+            if wait > 0:
+                return None, wait
+            if clerks.is_right(clerk, passphrase):
+                self.wrong.pop(keys[0], None)
+                return clerk, 0
+            self.note_wrong(keys)
+            return None, 0

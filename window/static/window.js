@@ -1,48 +1,50 @@
 // Search as you type, Enter to tick, the count of the chosen, Escape for the next voter. Without it all works by Tab and Space.
 document.documentElement.classList.add('scripted');
-let form = document.getElementById('ballot'), warned = false, typed = -Infinity;
+const form = document.getElementById('ballot'), search = document.getElementById('search'), count = document.getElementById('count');
+let warned = false, typed = -Infinity, fast = 0;
 if (form) {
-  const search = document.getElementById('search'), count = document.getElementById('count');
   const plain = text => text.normalize('NFD').replace(/\p{M}/gu, '').toLowerCase();
   const rows = [...form.querySelectorAll('.project')].map(row => ({
     row, box: row.querySelector('input'), id: plain(row.querySelector('.id').textContent),
     name: plain(row.querySelector('.name').textContent) }));
-  const left = () => rows.filter(it => !it.row.hidden && !it.box.disabled);
   const tell = before => {
-    const chosen = rows.filter(it => it.box.checked), longest = count.dataset.longest;
-    const over = longest && chosen.length > Number(longest) ? ' That is too many.' : '';
-    count.textContent = `${before}${chosen.length}${longest && ` of at most ${longest}`} chosen`
-      + `${chosen.length ? ': ' : ''}${chosen.map(it => it.box.value).join(', ')}.${over}`;
+    const chosen = rows.filter(it => it.box.checked).map(it => it.box.value), {longest, limits} = count.dataset;
+    count.textContent = `${before}Chosen so far: ${chosen.join(', ') || 'nothing'} (${chosen.length} in all${limits && `; ${limits}`}).`
+      + (chosen.length > Number(longest) ? ' That is too many.' : '');
   };
   const find = () => {
     const wanted = plain(search.value.trim());
     for (const it of rows) it.row.hidden = !(it.id.startsWith(wanted) || it.name.includes(wanted));
+    tell('');
   };
   search.addEventListener('input', find);
   form.addEventListener('change', () => tell(''));
   search.addEventListener('keydown', event => {
-    if (event.key !== 'Enter' || !search.value.trim()) return;
+    const wanted = plain(search.value.trim()), shown = rows.filter(it => !it.row.hidden && !it.box.disabled);
+    if (event.key !== 'Enter' || !wanted) return;
     event.preventDefault();
-    const wanted = plain(search.value.trim()), exact = left().filter(it => it.id === wanted);
-    const found = exact.length === 1 ? exact : left();
+    const exact = shown.filter(it => it.id === wanted), found = exact.length === 1 ? exact : shown;
     if (found.length !== 1) return void (count.textContent = `${found.length || 'No'} projects match. Type more, or something else.`);
     found[0].box.checked = !found[0].box.checked;
     search.value = '';
     find();
-    tell(`${found[0].box.checked ? 'Ticked' : 'Taken off'}: ${found[0].box.value}. `);
+    tell(`${found[0].box.checked ? 'Ticked' : 'Took off'} project ${found[0].box.value}. `);
   });
   tell('');
 }
 addEventListener('keydown', event => {
   if (event.key !== 'Escape' || !document.getElementById('next')) return;
-  const changed = form && [...form.elements].some(it => it.checked !== it.defaultChecked);
   event.preventDefault();       // The browser's own Escape would stop the page that is about to load.
-  if (!changed || warned) return location.assign('/');
+  if (warned || !form?.querySelector(':checked')) return location.assign('/');
   warned = true;
-  document.getElementById('count').textContent = 'Press Escape once more to leave this voter. Nothing was sent.';
+  count.textContent = 'Press Escape once more to leave this voter. Nothing was sent.';
 });
-// On the check page an Enter or a space within a tenth of a second of a typed character is a scanner's: it is ignored.
-if (document.querySelector('form[action="/record"]')) addEventListener('keydown', event => {
-  if ((event.key === 'Enter' || event.key === ' ') && event.timeStamp - typed < 100) event.preventDefault();
-  if (event.key.length === 1) typed = event.timeStamp;
-});
+// A scanner types faster than a hand, and ends with Enter: on the check page that records nothing, and elsewhere it ticks nothing.
+if (form || document.querySelector('form[action="/record"]')) addEventListener('keydown', event => {
+  const since = event.timeStamp - typed, isScanned = since < 100 && (fast > 2 || !form);
+  if (isScanned && (event.key === 'Enter' || (event.key === ' ' && !form))) {
+    event.preventDefault();
+    event.stopPropagation();
+    if (form) count.textContent = 'That came as fast as from a scanner: nothing was ticked. Escape leads to the next voter; Enter ticks.';
+  } else if (event.key.length === 1) [fast, typed] = [since < 40 ? fast + 1 : 0, event.timeStamp];
+}, true);
