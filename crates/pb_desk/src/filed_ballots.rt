@@ -13,8 +13,8 @@ use pb_core::voter_id::VoterId;
 use std::alloc::{Allocator, Global};
 use std::marker::Model;
 
-/// The slots that are left, and where their ballots are. A contract sees the ballots, each a voter's id and the places that
-/// the voter approves.
+/// The slots that are left, and where their ballots are. A contract sees the ballots, each a voter's id and
+/// the places that the voter approves.
 #[derive(Drop)]
 pub(crate) struct FiledBallots<'a, A: Allocator = Global> {
     pub(crate) voters: &'a [Voter<A>],

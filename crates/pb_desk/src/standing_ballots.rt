@@ -8,8 +8,8 @@ use pb_core::voter_id::VoterId;
 use std::alloc::{Allocator, Global};
 use std::marker::Model;
 
-/// Goes through the ballots of a desk, in the order in which they were cast; it takes one pass. A contract sees those that
-/// are left, each a voter's id and the places that the voter approves.
+/// Goes through the ballots of a desk, in the order in which they were cast; it takes one pass. A contract
+/// sees those that are left, each a voter's id and the places that the voter approves.
 #[derive(Drop)]
 pub struct StandingBallots<'a, A: Allocator = Global> {
     pub(crate) left: FiledBallots<'a, A>,
