@@ -32,15 +32,15 @@ last_given voter [] = None
 last_given voter (x ∷ xs) =
     option_map_or (λ number. Some (suc number)) (last_given voter xs) (if gave voter x then Some 1 else None)
 
--- the row of a ballot: its voter; the number of the entry that gave it, empty where the file did; and the ids of its
--- projects, with `,` between two
+-- the row of a ballot: its voter; the number of the entry that gave it, empty where the file did; and the
+-- ids of its projects, with `,` between two
 abbrev pub ballot_row : DeskView → List ℕ × List ℕ → Fields
 ballot_row d b =
     b.0 ∷ option_map_or decimal (last_given b.0 d.journal) []
     ∷ join_with_byte 44 (map (λ place. slice_index_or (project_ids d.opening.election) place []) b.1) ∷ []
 
--- the ballots of a desk as text: the columns, and then a row each, in the order of the replay; of one voter alone where
--- one is named
+-- the ballots of a desk as text: the columns, and then a row each, in the order of the replay; of one voter
+-- alone where one is named
 unfoldable pub ballots_table : Option (List ℕ) → DeskView → List ℕ
 ballots_table voter d =
     codes "voter_id;entry;project_ids\n"

@@ -74,10 +74,10 @@ pub fn journals_recount()
         (text_of_row (entries_row d) ++ report_of (closed_election d) (counted (closed_election d) fills_up o)) }
 {}
 
-/// What the number in a row of the table of ballots says. Of each ballot that a legal journal leaves on the desk of an
-/// election: the entry with this number was done, and cast this very ballot for the voter or put it in place of another;
-/// after it nothing was done for the voter. Where the row has no number, the ballot is the file's, and nothing was done for
-/// the voter at all.
+/// What the number in a row of the table of ballots says. Of each ballot that a legal journal leaves on the
+/// desk of an election: the entry with this number was done, and cast this very ballot for the voter or put
+/// it in place of another; after it nothing was done for the voter. Where the row has no number, the ballot
+/// is the file's, and nothing was done for the voter at all.
 pub fn ballots_name_their_entries()
     ensures given { (o : OpeningView) (journal : List EntryView) (voter ballot : List ℕ) (number : ℕ)
         → IsElection o.election → IsLegal o journal → Contains (replay o journal).ballots (voter, ballot)

@@ -14,11 +14,11 @@ use pb_script::ROOM;
 use std::alloc::Global;
 use std::io::{Read, Write};
 
-/// Reads a .pb file and a journal, audits the journal, and writes the ballots that the desk has after its last entry: a row
-/// for each, or for that of this voter alone. The desk may be open.
+/// Reads a .pb file and a journal, audits the journal, and writes the ballots that the desk has after its
+/// last entry: a row for each, or for that of this voter alone. The desk may be open.
 ///
-/// The file is refused before the journal, and nothing is written but the whole table. Where the fault is `Write` some of it
-/// may have gone out; on any other fault the writer is as it was.
+/// The file is refused before the journal, and nothing is written but the whole table. Where the fault is
+/// `Write` some of it may have gone out; on any other fault the writer is as it was.
 pub fn run_ballots<P: Read + Drop, J: Read + Drop, W: Write>(
     alloc: Global,
     file: P,

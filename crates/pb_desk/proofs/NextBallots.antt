@@ -1,6 +1,6 @@
 -- Going through the ballots of a desk.
 use Rattle.std.proofs.Common.{◌≡◌, ◌<◌, ℕ, List, [], ◌∷◌, length, Option, Some, None, sym, ap, subst, ◌∙◌, arith}
-use Rattle.std.specs.Iterator.{MakesProgress, item_count}
+use Rattle.std.specs.Iterator.{YieldsFirstBy}
 use Rattle.std.specs.Option.{option_map}
 use Rattle.std.proofs.lemmas.Option.{none-some, same_Some}
 use Rattle.pb_core.specs.Election.{VoterView}
@@ -17,13 +17,9 @@ module _ (voters : List VoterView) (journal : List EntryView) (sources rest : Li
 -- a call that answers the first item of what was left, and leaves the rest
 module _ {I : Type 0} (view : I → List ℕ × List ℕ) (r : Option I) (b : List ℕ × List ℕ) (all rest : List (List ℕ × List ℕ))
     (got : option_map view r ≡ Some b) (is : all ≡ b ∷ rest) where
-  pub next_goes : (can : List (List ℕ × List ℕ) → Type 0) → ((l : List (List ℕ × List ℕ)) → can l) → MakesProgress can (item_count (λ l. l)) all r rest
-  next_goes can always = by r got
+  pub first_taken : YieldsFirstBy view (λ l. l) all r rest
+  first_taken = by r got
     where
-      by : (r : Option I) → option_map view r ≡ Some b → MakesProgress can (item_count (λ l. l)) all r rest
+      by : (r : Option I) → option_map view r ≡ Some b → YieldsFirstBy view (λ l. l) all r rest
       by None none = absurd (none-some b none)
-      by (Some x) some = record {
-        on = λ _. (always rest, tt, subst (λ (l : List (List ℕ × List ℕ)). length rest < length l) (sym is) (omega arith));
-        keeps = always rest;
-        rests = λ _. tt;
-      }
+      by (Some x) some = is ∙ ap (λ (first : List ℕ × List ℕ). first ∷ rest) (sym (same_Some (view x) b some))

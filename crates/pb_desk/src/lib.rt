@@ -30,6 +30,7 @@ mod ballot_list;
 pub mod desk;
 pub mod desk_fault;
 mod entry_writer;
+mod filed_ballots;
 pub mod into_fault;
 mod journal_audit;
 mod journal_rows;
