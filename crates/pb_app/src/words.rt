@@ -28,7 +28,9 @@ use pb_words::serve_words::{
     bad_rows_words, locked_words, lost_words, moved_words, spelling_words, torn_words,
     unanswered_words, unkept_words, unopened_words,
 };
-use pb_words::{mistaken_words, open_words, tally_words, warning_words, write_words};
+use pb_words::tally_words::tally_words;
+use pb_words::warning_words::warning_words;
+use pb_words::{mistaken_words, open_words, write_words};
 use std::alloc::{AllocError, Global};
 use std::fs;
 use std::io::Error;

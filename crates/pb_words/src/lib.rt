@@ -24,12 +24,10 @@ mod row_words;
 pub mod script_words;
 mod section;
 pub mod serve_words;
-mod tally_words;
+pub mod tally_words;
 mod terminal;
-mod warning_words;
+pub mod warning_words;
 mod words;
 
 pub use file_words::{mistaken_words, open_words, write_words};
-pub use tally_words::tally_words;
 pub use terminal::for_terminal;
-pub use warning_words::warning_words;
