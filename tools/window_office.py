@@ -2,7 +2,7 @@
 with many words, an evening's copy."""
 import concurrent.futures, hashlib, os, pathlib, shutil, signal, stat, subprocess, time
 
-from window_clerk import PYTHON, RUN, TOP, Clerk, Window
+from window_clerk import LIMIT, PYTHON, RUN, TOP, Clerk, Window
 from window_seen import NAMES, new_folder, see
 
 # Runs the window with another number of seconds for an answer.
@@ -22,7 +22,7 @@ exec '{}' "$@"
 '''
 
 
-def until(is_so, seconds=30):
+def until(is_so, seconds=LIMIT):
     """Waits until something is so, for some seconds at most."""
     end = time.monotonic() + seconds
     while not is_so() and time.monotonic() < end:
@@ -79,7 +79,7 @@ def try_roll(program, work):
     see(window.audit().stdout == 'entries;1;open\n', 'the journal is audited', window.audit())
     for words, said in ((['--roll', folder / 'nowhere'], 'fault;open;3'), (['--min', 'two'], '--min'), (['--min', '-1'], '--min')):
         done = subprocess.run([str(it) for it in (PYTHON, RUN, window.file, window.journal, '--clerks', folder / 'clerks.json',
-                                                  '--program', program, *words)], capture_output=True, text=True, timeout=60)
+                                                  '--program', program, *words)], capture_output=True, text=True, timeout=LIMIT)
         see(done.returncode in (1, 2) and said in done.stderr + (folder / 'city.journal.words').read_text(), f'{words} is refused', done)
 
 
