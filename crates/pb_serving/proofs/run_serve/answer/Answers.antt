@@ -1,13 +1,12 @@
-use Rattle.std.proofs.Common.{◌≡◌, ◌∙◌, ◌++◌, length, List, Err, IsErrAnd, ap, sym, subst}
+use Rattle.std.proofs.Common.{◌≡◌, ◌∙◌, ◌++◌, ◌+◌, ◌≤◌, ℕ, length, List, Err, IsErrAnd, arith, refl, ap, sym, subst}
 use Rattle.pb_durable.proofs.Openings.{if_err}
 use Rattle.pb_durable.specs.declared.durable_fault.DurableFault.{DurableFault}
-use Rattle.pb_faults.specs.declared.fault.AppFault.TheVariants.{Write}
-use Rattle.pb_rows.specs.Reading.{Fields}
+use Rattle.pb_faults.specs.declared.fault.AppFault.TheVariants.{Memory, Write}
 use Rattle.pb_serving.specs.Answered.{IsBehind}
 use Rattle.pb_serving.specs.Fault.{of_durable}
 use Rattle.pb_serving.specs.declared.serving_fault.ServingFault.{ServingFault}
-use Rattle.pb_serving.specs.declared.serving_fault.ServingFault.TheVariants.{App}
-use Rattle.pb_serving.proofs.Causes.{behind_durable, cause_of, err_is, not_durable}
+use Rattle.pb_serving.specs.declared.serving_fault.ServingFault.TheVariants.{App, Output}
+use Rattle.pb_serving.proofs.Causes.{behind_durable, cause_of, err_is, from_fault, not_durable, not_output}
 use Rattle.std.specs.Io.KnownBytes.{Appends}
 use Rattle.pb_desk.specs.Desk.{DeskView}
 use Rattle.pb_desk.specs.declared.version.Version.TheVariants.{One}
@@ -35,7 +34,34 @@ returns-clause-said g c =
 pub returns-in_err-answers-clause-other : goal.returns-in_err-answers-clause-other
 returns-in_err-answers-clause-other g c =
     let why = c.in_err-answers.field-0.0 in
-    if_err c.from_residual.result (of_durable why) (λ (fault : ServingFault). (rows : List Fields) → IsBehind fault rows) c.from_residual.ensures.1 (behind_durable why)
+    if_err c.from_residual.result (of_durable why) (λ (fault : ServingFault). (answered served unserved : ℕ) → served + unserved ≤ 4097 → (fault ≡ Output → unserved ≡ 0) → IsBehind fault answered served unserved)
+    c.from_residual.ensures.1 (λ answered served unserved few none. behind_durable why answered served unserved few)
+
+pub returns-in_err-text-clause-other : goal.returns-in_err-text-clause-other
+returns-in_err-text-clause-other g c =
+    if_err c.from_residual-in_err-text.result (App Memory) (λ (fault : ServingFault). (answered served unserved : ℕ) → served + unserved ≤ 4097 → (fault ≡ Output → unserved ≡ 0) → IsBehind fault answered served unserved)
+    c.from_residual-in_err-text.ensures.1 (λ answered served unserved few none. few)
+
+pub returns-clause-other : goal.returns-clause-other
+returns-clause-other g c =
+    from_fault c.write_out.result Output (λ (fault : ServingFault). (answered served unserved : ℕ) → served + unserved ≤ 4097 → (fault ≡ Output → unserved ≡ 0) → IsBehind fault answered served unserved)
+    c.write_out.ensures.fault (λ answered served unserved few none. (omega (arith, few), none refl))
+
+pub returns-in_err-answers-clause-asked : goal.returns-in_err-answers-clause-asked
+returns-in_err-answers-clause-asked g c =
+    let why = c.in_err-answers.field-0.0 in
+    let asked = c.serve_all.ensures.asked in
+    (asked.0, asked.1, λ said. absurd (not_output why (subst (λ r. IsErrAnd r (λ x. x ≡ of_durable why)) said c.from_residual.ensures.1)))
+
+pub returns-in_err-text-clause-asked : goal.returns-in_err-text-clause-asked
+returns-in_err-text-clause-asked g c =
+    let answered = c.in_ok-answers.ensures.answered in
+    (c.in_ok-answers.answers.items, answered.1, λ said. answered.0)
+
+pub returns-clause-asked : goal.returns-clause-asked
+returns-clause-asked g c =
+    let answered = c.in_ok-answers.ensures.answered in
+    (c.in_ok-answers.answers.items, answered.1, λ said. answered.0)
 
 pub returns-in_err-answers-clause-not_read : goal.returns-in_err-answers-clause-not_read
 returns-in_err-answers-clause-not_read g c = λ i said.
