@@ -1,5 +1,5 @@
 -- The answers to rows of the input, batch by batch.
-use Rattle.std.proofs.Common.{◌≡◌, ◌∙◌, ℕ, suc, ◌+◌, List, [], ◌∷◌, ◌++◌, length, map, take, Option, Some, None, IfSome, IfErr, OnOk, Result, Ok, Err, refl, sym, ap, subst, arith, append_assoc, length-append}
+use Rattle.std.proofs.Common.{◌≡◌, ◌∙◌, ℕ, suc, ◌+◌, List, [], ◌∷◌, ◌++◌, length, map, take, Option, Some, None, IfSome, IfErr, OnOk, IsSome, Result, Ok, Err, refl, sym, ap, subst, arith, append_assoc, length-append}
 use Rattle.std.specs.List.{AllZip, filter_map}
 use Rattle.std.specs.Result.{result_ok}
 use Rattle.std.specs.Io.KnownBytes.{Appends}
@@ -15,6 +15,7 @@ use Rattle.pb_durable.specs.DurableDesk.{entries_of}
 use Rattle.pb_durable.specs.declared.asked.Asked.{Asked}
 use Rattle.pb_rows.proofs.RowsText.{text_of_rows-append}
 use Rattle.pb_rows.specs.Reading.{Fields}
+use Rattle.pb_rows.specs.declared.fault.RecordsFault.{RecordsFault}
 use Rattle.pb_rows.specs.Writing.{text_of_row, text_of_rows}
 use Rattle.pb_script.specs.Admission.{Judges}
 use Rattle.pb_script.specs.ScriptReading.{fault_of_row}
@@ -41,6 +42,10 @@ unfolding rows_from
 rows_from-append n [] b = ap (λ (k : ℕ). rows_from k b) (omega arith)
 rows_from-append n (x ∷ a) b =
     ap (λ (l : List Fields). row_of n x ∷ l) (rows_from-append (suc n) a b ∙ ap (λ (k : ℕ). rows_from (suc n) a ++ rows_from k b) (omega arith))
+
+pub nothing_said : (w : Option (List ℕ)) (n : ℕ) → Appends w w (text_of_rows (rows_from n []))
+unfolding rows_from text_of_rows
+nothing_said w n = Appends-nil w
 
 -- the last rows of a journal's text are those of its last entries
 pub said_rows : (before after more : List EntryView) (rows : List ℕ) (n : ℕ) → n ≡ length before → after ≡ before ++ more
@@ -243,15 +248,19 @@ rest_of : Option (List Fields) → List Fields
 rest_of None = []
 rest_of (Some rows) = rows
 
-rows_are : (all end : Option (List Fields)) (gone served unserved : List Fields) → HaveGone all (gone ++ (served ++ unserved)) end → IfSome all (λ rows. rows ≡ gone ++ (served ++ (unserved ++ rest_of end)))
+rows_are : (all end : Option (List Fields)) (gone served unserved : List Fields) → HaveGone all (gone ++ (served ++ unserved)) end → IfSome all (λ rows. rows ≡ gone ++ served ++ unserved ++ rest_of end)
+unfolding rest_of
 rows_are None end gone served unserved have = tt
 rows_are (Some rows) None gone served unserved have = absurd have
-rows_are (Some rows) (Some rest) gone served unserved have =
-    have ∙ append_assoc gone (served ++ unserved) rest ∙ ap (λ (l : List Fields). gone ++ l) (append_assoc served unserved rest)
+rows_are (Some rows) (Some rest) gone served unserved have = have ∙ ap (λ (l : List Fields). l ++ rest) (sym (append_assoc gone served unserved))
 
 -- the text of the answers so far
 abbrev pub text_so_far : (ad : Admission) (all left : Option (List Fields)) (old now : List EntryView) (before after : Option (List ℕ)) (row bad : ℕ) → Progress ad all left old now before after row bad → List ℕ
 text_so_far ad all left old now before after row bad p = answers_from (length old + 1) 1 p.became
+
+-- what was not stopped has not failed
+pub not_stopped : (rows : RowsView) → rows.fault ≡ None → ¬ HasFailed rows
+not_stopped rows is failed = cc (subst (λ (fault : Option RecordsFault). IsSome fault) is failed.0)
 
 -- that the input failed is told
 abbrev pub IsTold : ServingFault → Type 0
@@ -265,7 +274,7 @@ pub halts : (ad : Admission) (fault : ServingFault) (start end : RowsView) (left
     → Halts ad fault start end old now last (text_so_far ad start.left left old now w0 w1 row bad p)
 halts ad fault start end left after old now last w0 w1 row bad served unserved became p gone each grown given behind told_so =
     let size : length p.gone ≡ row = zip-length (Becomes ad) p.gone p.became p.each ∙ p.row_is in
-    let sizes : row + (length served + length unserved) ≡ length (p.gone ++ (served ++ unserved)) = omega (arith, size, length-append p.gone (served ++ unserved), length-append served unserved) in (
+    let sizes : row + (length served + length unserved) ≡ length (p.gone ++ served ++ unserved) = omega (arith, size, length-append (p.gone ++ served) unserved, length-append p.gone served) in (
       p.gone,
       served,
       unserved,
@@ -299,30 +308,32 @@ halts_here ad fault start end left old now w0 w1 row bad p given behind told_so 
 
 -- nothing was read
 pub halts_unbegun : (ad : Admission) (fault : ServingFault) (start : RowsView) (old : List EntryView) → IsBehind fault 0 0 0 → Halts ad fault start start old old old []
+unfolding started
 halts_unbegun ad fault start old behind =
     halts_here ad fault start start start.left old old None None 0 0 (started ad start.left old None) (λ fits. omega arith) (λ answered is. subst (λ (n : ℕ). IsBehind fault n 0 0) (sym is) behind)
     (λ sound failed. absurd (sound failed))
 
-with_nil : (left : Option (List Fields)) (records : List Fields) → IfSome left (λ rows. rows ≡ records) → IfSome left (λ rows. rows ≡ records ++ [])
+with_nil : (left : Option (List Fields)) (records : List Fields) → IfSome left (λ rows. rows ≡ records) → IfSome left (λ rows. rows ≡ records ++ [] ++ [] ++ [])
 with_nil None records are = tt
-with_nil (Some rows) records are = are ∙ sym (append-nil records)
+with_nil (Some rows) records are = are ∙ sym (append-nil (records ++ [] ++ []) ∙ append-nil (records ++ []) ∙ append-nil records)
 
 -- all rows were read and answered
 pub halts_behind_all : (ad : Admission) (fault : ServingFault) (start end : RowsView) (old now : List EntryView) (text : List ℕ) (records : List Fields) → IfSome start.left (λ left. left ≡ records)
     → HasGiven start end (length records) → Answers ad records old now text → ((answered : ℕ) → IsBehind fault answered 0 0) → ¬ HasFailed end → Halts ad fault start end old now now text
-halts_behind_all ad fault start end old now text records are given answers behind sound = (
-  records,
-  [],
-  [],
-  [],
-  [],
-  with_nil start.left records are,
-  subst (λ (r : List Fields). HasGiven start end (length r)) (sym (append-nil records)) given,
-  answers,
-  (answers.0, subst (λ (r : List Fields). AllZip (Becomes ad) r answers.0) (sym (append-nil records)) answers.1, answers.2, append-nil text ∙ answers.3),
-  behind (length records),
-  λ before failed none. absurd (sound failed),
-)
+halts_behind_all ad fault start end old now text records are given answers behind sound =
+    let all : records ≡ records ++ [] = sym (append-nil records) in (
+      records,
+      [],
+      [],
+      [],
+      [],
+      with_nil start.left records are,
+      subst (λ (r : List Fields). HasGiven start end (length r)) (all ∙ sym (append-nil (records ++ []))) given,
+      answers,
+      (answers.0, subst (λ (r : List Fields). AllZip (Becomes ad) r answers.0) all answers.1, answers.2, append-nil text ∙ answers.3),
+      behind (length records),
+      λ before failed empty. absurd (sound failed),
+    )
 
 -- what follows from what holds of an answer
 pub on_ok : {T E : Type 0} (r : Result T E) (A B : Type 0) → OnOk r A → (A → B) → OnOk r B

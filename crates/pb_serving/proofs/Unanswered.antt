@@ -105,7 +105,7 @@ module _ (ad : Admission) (fault : ServingFault) (start end : RowsView) (left af
             (grown ∙ ap (λ (l : List EntryView). now ++ l) (sym (filter_map-append result_ok (map Ok entries) b.whys ∙ ap (λ (l : List EntryView). added (map Ok entries) ++ l) b.none ∙ append-nil (added (map Ok entries)) ∙ added-some entries)))
             (subst (λ (n : ℕ). HasGiven start end n) (omega (arith, size, here, long, count)) given)
             (λ answered is. behind answered (length served) 0 (omega (arith, size, here, long, count, one, few)) (λ same. refl))
-                (λ sound failed empty. absurd (omega (arith, size, here, long, some, ap length empty, length-append served [])))
+            (λ sound failed empty. absurd (omega (arith, size, here, long, some, ap length empty, length-append served [])))
         | inr other ↦
             let unserved = first.unserved ++ b.behind in
             let long = length-append first.unserved b.behind in
@@ -115,5 +115,5 @@ module _ (ad : Admission) (fault : ServingFault) (start end : RowsView) (left af
             (grown ∙ ap (λ (l : List EntryView). now ++ l) (sym (added-some entries)))
             (subst (λ (n : ℕ). HasGiven start end n) (omega (arith, size, sizes, long, count)) given)
             (λ answered is. behind answered (length first.served) (length unserved) (omega (arith, size, sizes, long, count, one, few)) (λ same. absurd (other same)))
-                (λ sound failed empty. absurd (omega (arith, size, sizes, long, some, ap length empty, length-append first.served unserved)))
+            (λ sound failed empty. absurd (omega (arith, size, sizes, long, some, ap length empty, length-append first.served unserved)))
       ]

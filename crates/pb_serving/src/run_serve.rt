@@ -210,10 +210,10 @@ fn answer<D: Device, W: Write>(
         (StandsForEither (journal_text desk.old.desk.opening.version desk.old.desk.journal)
         (journal_text desk.old.desk.opening.version desk.new.desk.journal)) }
 {
+    let before = desk.desk().entries();
     if asks.is_empty() {
         return Ok(());
     }
-    let before = desk.desk().entries();
     let answers = desk.serve_all(alloc, asks)?;
     drop(answers);
     let text = desk.desk().rows_after(alloc, before)?;

@@ -4,7 +4,7 @@ use Rattle.pb_script.specs.RowsView.{HasGiven}
 use Rattle.pb_script.specs.declared.request_rows.RequestRow.{RequestRow}
 use Rattle.pb_script.specs.declared.request_rows.RequestRow.TheVariants as row
 use Rattle.pb_durable.specs.declared.asked.Asked.{Asked}
-use Rattle.pb_serving.proofs.Answering.{gives}
+use Rattle.pb_serving.proofs.Answering.{gives, not_stopped}
 use Rattle.pb_serving.proofs.Batches.{asks_more, HasRows}
 use Rattle.pb_serving.proofs.batch.next_batch.Goals as goal
 
@@ -22,7 +22,7 @@ loop-preserved g c =
       read = subst (HasRows c.args.session.now.admission.now c.args.rows.now.left c.next.new.self.left) (sym grown)
           (asks_more c.args.session.now.admission.now c.args.rows.now.left c.loop.rows.left c.next.new.self.left c.loop.asks.items p.field-0 a is p.ensures.next inv.read);
       given = subst (HasGiven c.args.rows.now c.next.new.self) (sym (ap length grown ∙ size)) (gives c.args.rows.now c.loop.rows c.next.new.self (length c.loop.asks.items) 1 inv.given given);
-      sound = λ sound failed. cc (p.ensures.goes_on, failed.0);
+      sound = λ sound. not_stopped c.next.new.self p.ensures.goes_on;
     }
 
 pub returns-then-not-has_row-clause-batch : goal.returns-then-not-has_row-clause-batch

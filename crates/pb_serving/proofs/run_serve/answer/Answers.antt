@@ -1,4 +1,4 @@
-use Rattle.std.proofs.Common.{◌≡◌, ◌∙◌, ◌++◌, ◌+◌, ◌≤◌, ℕ, length, List, Err, IsErrAnd, arith, refl, ap, sym, subst}
+use Rattle.std.proofs.Common.{◌≡◌, ◌∙◌, ◌++◌, ◌+◌, ◌≤◌, ℕ, length, List, [], Err, IsErrAnd, arith, refl, ap, sym, subst}
 use Rattle.pb_durable.proofs.Openings.{if_err}
 use Rattle.pb_durable.specs.declared.durable_fault.DurableFault.{DurableFault}
 use Rattle.pb_faults.specs.declared.fault.AppFault.TheVariants.{Memory, Write}
@@ -11,7 +11,12 @@ use Rattle.std.specs.Io.KnownBytes.{Appends}
 use Rattle.pb_desk.specs.Desk.{DeskView}
 use Rattle.pb_desk.specs.declared.version.Version.TheVariants.{One}
 use Rattle.pb_durable.specs.DurableDesk.{entries_of}
-use Rattle.pb_serving.proofs.Answering.{on_ok, said_rows}
+use Rattle.pb_serving.proofs.Answering.{nothing_said, on_ok, said_rows}
+use Rattle.pb_durable.specs.declared.asked.Asked.{Asked}
+use Rattle.std.proofs.lemmas.List.{append-nil, nil_from_length}
+use Rattle.std.proofs.lemmas.Grind.{common_steps}
+use Rattle.pb_desk.specs.Rows.{rows_from}
+use Rattle.pb_rows.specs.Writing.{text_of_rows}
 use Rattle.pb_serving.proofs.run_serve.answer.Goals as goal
 
 pub returns-clause-said : goal.returns-clause-said
@@ -30,6 +35,18 @@ returns-clause-said g c =
       answered.1,
       subst (Appends (g.W.Write.contents c.args.writer.now) (g.W.Write.contents c.write_out.new.writer)) (c.as_slice.ensures.value ∙ rows) appends,
     ))
+
+pub returns-then-is_empty-clause-said : goal.returns-then-is_empty-clause-said
+returns-then-is_empty-clause-said g c =
+    let asks = c.args.asks.now in
+    let old = c.args.desk.now.desk.journal in
+    let w = g.W.Write.contents c.args.writer.now in
+    let none : asks ≡ [] = nil_from_length asks (grind (arith, common_steps, c.is_empty.ensures, c.if-is_empty.true)) in (
+      [],
+      sym (ap length none),
+      subst (λ (a : List Asked). old ≡ old ++ entries_of a []) (sym none) (sym (append-nil old)),
+      subst (λ (a : List Asked). Appends w w (text_of_rows (rows_from (length old + 1) (entries_of a [])))) (sym none) (nothing_said w (length old + 1)),
+    )
 
 pub returns-in_err-answers-clause-other : goal.returns-in_err-answers-clause-other
 returns-in_err-answers-clause-other g c =

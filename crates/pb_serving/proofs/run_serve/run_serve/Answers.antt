@@ -9,7 +9,7 @@ use Rattle.pb_serving.specs.Fault.{of_device}
 use Rattle.pb_serving.specs.declared.serving_fault.ServingFault.{ServingFault}
 use Rattle.pb_serving.specs.declared.serving_fault.ServingFault.TheVariants.{App, Output}
 use Rattle.pb_faults.specs.declared.fault.AppFault.TheVariants.{Memory, Write}
-use Rattle.pb_serving.proofs.Answering.{halts_behind_all, halts_unbegun, HasAnswered}
+use Rattle.pb_serving.proofs.Answering.{halts_behind_all, halts_unbegun, not_stopped, HasAnswered}
 use Rattle.pb_serving.proofs.Batches.{adds_none}
 use Rattle.pb_serving.proofs.Causes.{behind_device}
 use Rattle.pb_serving.proofs.Standings.{begins, closes, kept_all, kept_closing}
@@ -73,7 +73,7 @@ returns-in_err-close-clause-stopped g c =
     let why = of_device c.in_err-close.field-0.0 in
     let a = c.in_ok-refused.ensures.answered in
     let halts = halts_behind_all c.args.session.now.admission.now why c.args.rows.now c.serve_rows.new.rows old.desk.journal now.desk.journal a.1 a.0 a.2 a.3 a.4
-    (λ answered. behind_device c.in_err-close.field-0.0 answered 0 0 (omega arith)) (λ failed. cc (c.in_ok-refused.ensures.read, failed.0)) in
+    (λ answered. behind_device c.in_err-close.field-0.0 answered 0 0 (omega arith)) (not_stopped c.serve_rows.new.rows c.in_ok-refused.ensures.read) in
     if_err c.from_residual-in_err-close.result why _ c.from_residual-in_err-close.ensures.1 (
       now.desk.journal,
       a.1,

@@ -191,7 +191,7 @@ returns-in-NoMemory-clause-stopped g c =
       halts_here c.args.session.now.admission.now (App Memory) c.args.rows.now c.next_batch-end.new.rows ends.0 old.desk.journal new.desk.journal (g.W.Write.contents c.args.writer.now) (g.W.Write.contents c.answer.new.writer) (c.loop.row + length asks) c.loop.refused so_far
           (subst (λ (n : ℕ). HasGiven c.args.rows.now c.next_batch-end.new.rows n) sizes given)
           (λ answered is. omega arith)
-          (λ sound failed. cc (c.in-NoMemory.is, c.next_batch-end.ensures.told (inv.sound sound) failed)),
+          (λ sound failed. absurd (cc (c.in-NoMemory.is, c.next_batch-end.ensures.told (inv.sound sound) failed))),
       λ other. so_far.said,
       λ tells f left. kept_all g.D.Device.moment g.D.Device.left_since g.D.Device.seen g.D.Device.may_leave new (c.in_ok-answer.ensures.durable tells) f left,
     )

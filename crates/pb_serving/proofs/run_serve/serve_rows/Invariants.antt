@@ -20,8 +20,8 @@ invariant-loop g l = record {
   given : HasGiven l.initial.rows l.rows l.row;
   opening : l.desk.desk.opening ≡ l.initial.desk.desk.opening;
   durable : g.D.Device.tells → IsDurable g.D.Device.seen g.D.Device.may_leave l.desk;
-  grown : AddsOnRoll l.session.admission l.initial.desk.desk.journal l.desk.desk.journal;
-  progress : Progress l.session.admission l.initial.rows.left l.rows.left l.initial.desk.desk.journal l.desk.desk.journal
+  grown : AddsOnRoll l.session.admission.now l.initial.desk.desk.journal l.desk.desk.journal;
+  progress : Progress l.session.admission.now l.initial.rows.left l.rows.left l.initial.desk.desk.journal l.desk.desk.journal
       (g.W.Write.contents l.initial.writer) (g.W.Write.contents l.writer) l.row l.refused;
   any_moment : g.D.Device.tells → LeavesOnly g.D.Device.moment g.D.Device.left_since l.initial.desk.file.device l.desk.file.device
       (StandsWithin l.initial.desk.desk.opening.version l.initial.desk.desk.journal l.desk.desk.journal);
