@@ -20,7 +20,7 @@ use pb_commands::run_export::{run_closed_export, run_export};
 use pb_commands::run_table::{run_closed_table, run_table};
 use pb_commands::{AppFault, Counting, Table};
 use pb_core::gate::NoGate;
-use pb_read::ReadFault;
+use pb_read::{ReadFault, read_pb};
 use pb_streams::{Bar, Output, Progress, Shown, Unplaced, open_both, open_shown};
 use pb_witness::tally::Tally;
 use pb_witness::warnings::{ResultWarnings, Warnings};
@@ -287,7 +287,8 @@ where
     Ok(())
 }
 
-/// Lets clerks serve a script on the desk of a .pb file. What is typed at a terminal is not shown a second time.
+/// Lets clerks serve a script on the desk of a .pb file. What is typed at a terminal is not shown a second time. A fault of the
+/// file is told before one of the roll.
 fn desk<R, W: Write>(
     counting: &Counting<'_, R, Progress<'_, R>>,
     asked: &DeskRun<'_>,
@@ -303,8 +304,8 @@ where
     let rules = match rules_of(rt, &asked.admits) {
         Ok(rules) => rules,
         Err(fault) => {
-            drop(file);
             drop(script);
+            drop(read_pb(alloc, file)?);
             return Err(fault);
         }
     };

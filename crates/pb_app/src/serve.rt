@@ -15,9 +15,9 @@ use pb_durable::file_device::{FileDevice, FileFailure, FileFault, fault_of, keep
 use pb_durable::{Belonging, Beside, Device, DeviceFault, DurableDesk, JournalFile, Opened};
 use pb_read::read_pb_watched;
 use pb_rows::read_number;
-use pb_script::{Admission, ROOM};
-use pb_serving::run_serve::run_admitted;
-use pb_serving::{AtHand, Incoming, Paced, ServingFault};
+use pb_script::{Admission, ROOM, RequestRows};
+use pb_serving::run_serve::run_serve;
+use pb_serving::{AtHand, Paced, ServingFault, Session};
 use pb_streams::{Digested, open_file};
 use pb_witness::witness::Witness;
 use std::cell::Cell;
@@ -330,17 +330,16 @@ where
     let at_hand = AtHand::new();
     let served = match Paced::new(rt.alloc(), TypedReader::new(rt, hearing.typing), &at_hand) {
         Ok(input) => {
-            let pace = &at_hand;
-            let incoming = Incoming { input, pace };
-            run_admitted(
-                rt.alloc(),
-                &mut desk,
+            let mut rows = RequestRows::new(rt.alloc(), input);
+            let session = Session {
                 torn,
-                incoming,
-                hearing.admission,
-                &hearing.told,
-                writer,
-            )
+                pace: &at_hand,
+                admission: hearing.admission,
+                notice: &hearing.told,
+            };
+            let served = run_serve(rt.alloc(), &mut desk, &mut rows, &session, writer);
+            drop(rows);
+            served
         }
         Err(_) => Err(ServingFault::App(AppFault::Memory)),
     };

@@ -9,9 +9,9 @@ use pb_commands::AppFault;
 use pb_core::devices::FailsAfter;
 use pb_durable::{Device, DeviceFault, DurableDesk, JournalFile, Opened, open};
 use pb_read::read_pb;
-use pb_script::ScriptFault;
+use pb_script::{Admission, NoNotice, RequestRows, ScriptFault};
 use pb_serving::run_serve::run_serve;
-use pb_serving::{Always, Incoming, Pace, ServingFault};
+use pb_serving::{Always, Pace, ServingFault, Session};
 use std::alloc::Global;
 use std::cell::Cell;
 use std::io::{Read, Result, Write};
@@ -192,11 +192,34 @@ fn opened<'a>(
     (DurableDesk::on(desk, file), torn)
 }
 
+/// Serves the rows of this input on a desk that is open to all.
+fn served<R: Read + Drop, P: Pace, W: Write>(
+    alloc: Global,
+    (mut desk, torn): (DurableDesk<Disk<'_>>, usize),
+    input: R,
+    pace: &P,
+    writer: &mut W,
+) -> std::result::Result<u64, ServingFault> {
+    let admission = Admission::open();
+    let mut rows = RequestRows::new(alloc, input);
+    let session = Session {
+        torn,
+        pace,
+        admission: &admission,
+        notice: &NoNotice,
+    };
+    let ended = run_serve(alloc, &mut desk, &mut rows, &session, writer);
+    drop(rows);
+    drop(admission);
+    drop(desk);
+    ended
+}
+
 /// Each row is waited for only once all before it are answered on the screen.
 #[test]
 fn no_answer_is_held_back(rt: HostRuntime) {
     let seen = Seen::new();
-    let (mut desk, torn) = opened(&rt, rt.alloc(), &seen, "");
+    let opened = opened(&rt, rt.alloc(), &seen, "");
     let mut screen = Screen {
         seen: &seen,
         lines: 0,
@@ -205,12 +228,7 @@ fn no_answer_is_held_back(rt: HostRuntime) {
         seen: &seen,
         rest: b"",
     };
-    let incoming = Incoming {
-        input: clerk,
-        pace: &Never,
-    };
-    let bad_rows = run_serve(rt.alloc(), &mut desk, torn, incoming, &mut screen);
-    drop(desk);
+    let bad_rows = served(rt.alloc(), opened, clerk, &Never, &mut screen);
     same(&rt, bad_rows, Ok(1), "rows not of the form");
     same(&rt, seen.late.get(), false, "a row waited for");
     same(&rt, seen.shown.get(), 4, "lines");
@@ -220,15 +238,10 @@ fn no_answer_is_held_back(rt: HostRuntime) {
 #[test]
 fn rows_at_hand_share_their_syncs(rt: HostRuntime) {
     let seen = Seen::new();
-    let (mut desk, torn) = opened(&rt, rt.alloc(), &seen, "journal;2\n\ngarbage");
+    let opened = opened(&rt, rt.alloc(), &seen, "journal;2\n\ngarbage");
     seen.syncs.set(0);
     let mut text = Vec::new(rt.alloc());
-    let incoming = Incoming {
-        input: AT_HAND.as_bytes(),
-        pace: &Always,
-    };
-    let bad_rows = run_serve(rt.alloc(), &mut desk, torn, incoming, &mut text);
-    drop(desk);
+    let bad_rows = served(rt.alloc(), opened, AT_HAND.as_bytes(), &Always, &mut text);
     same(&rt, bad_rows, Ok(0), "rows not of the form");
     same(&rt, seen.syncs.get(), 3, "syncs");
     same(&rt, text.as_slice() == ANSWERS.as_bytes(), true, "answers");
@@ -239,14 +252,10 @@ fn rows_at_hand_share_their_syncs(rt: HostRuntime) {
 #[test]
 fn rows_before_a_failed_read_are_answered(rt: HostRuntime) {
     let seen = Seen::new();
-    let (mut desk, torn) = opened(&rt, rt.alloc(), &seen, "journal;2\n\ngarbage");
+    let opened = opened(&rt, rt.alloc(), &seen, "journal;2\n\ngarbage");
     let mut text = Vec::new(rt.alloc());
-    let incoming = Incoming {
-        input: FailsAfter::new(AT_HAND.as_bytes()),
-        pace: &Always,
-    };
-    let ended = run_serve(rt.alloc(), &mut desk, torn, incoming, &mut text);
-    drop(desk);
+    let input = FailsAfter::new(AT_HAND.as_bytes());
+    let ended = served(rt.alloc(), opened, input, &Always, &mut text);
     let fault = ServingFault::App(AppFault::Script(ScriptFault::ReadFailed(4)));
     same(&rt, ended, Err(fault), "the fault");
     same(&rt, text.as_slice() == ANSWERS.as_bytes(), true, "answers");

@@ -5,6 +5,7 @@ pub mod Scripts
 pub mod ScriptFault
 pub mod ScriptReading
 pub mod RequestRows
+pub mod RowsView
 pub mod Serving
 pub mod Served
 pub mod Roll

@@ -1,8 +1,9 @@
 //! The rows of requests, read one at a time while they come in.
 
-ghost use Rattle.std.specs.Prelude.{◌≡◌, [], option_map, true, IfOk, IfSome, IsErrOf, IsSome, MatchOption};
+ghost use Rattle.std.specs.Prelude.{◌≡◌, [], None, option_map, true, IfOk, IfSome, IsErrOf, MatchOption, OnErr, OnOk};
 ghost use Rattle.pb_rows.specs.Reading.{records_of, Fields, IsNext};
 ghost use Rattle.pb_script.specs.RequestRows.{IsRequestRow};
+ghost use Rattle.pb_script.specs.RowsView.{HasFailed, HasGiven};
 
 use crate::admission::{Admission, Notice, RowRefusal};
 use crate::script::read_row;
@@ -48,27 +49,34 @@ impl From<NoMemory> for RowsFault {
 }
 
 /// The rows of requests that a reader gives, for 64 clerks, read one at a time. One that is refused stops
-/// nothing. A contract sees `left`, the records that are still to come, as it does for `Records`.
+/// nothing. A contract sees `left`, the records that are still to come, and `fault`, as it does for `Records`; and
+/// `count`, how many rows were given, as far as 64 bits count them.
 #[derive(Drop)]
 pub struct RequestRows<R: Read> {
     records: Records<R>,
     places: Vec<u32>,
-    /// How many rows were read.
+    /// How many rows were given.
     count: u64,
 }
 
 impl<R: Read> Model for RequestRows<R> {
-    ghost use Rattle.pb_rows.specs.Reading.{Left};
+    ghost use Rattle.pb_script.specs.RowsView.{RowsView};
 
-    ghost Value = { Left };
+    ghost Value = { RowsView };
 
-    ghost view = { λ rows. rows.records };
+    ghost view = { λ rows. record {
+      left = rows.records.left;
+      fault = rows.records.fault;
+      count = rows.count;
+    } };
 }
 
 impl<R: Read> RequestRows<R> {
     /// The rows that `reader` gives.
     pub fn new(alloc: Global, reader: R) -> RequestRows<R>
-        ensures { result.left ≡ option_map records_of (R.remaining reader) }
+        ensures left { result.left ≡ option_map records_of (R.remaining reader) }
+        ensures fault { result.fault ≡ None }
+        ensures count { result.count ≡ 0 }
     {
         RequestRows {
             records: Records::new(alloc, reader),
@@ -77,7 +85,7 @@ impl<R: Read> RequestRows<R> {
         }
     }
 
-    /// The next row, if there is one. Stop at the first fault.
+    /// The next row, if there is one. Stop at the first fault: no row is given with it.
     pub fn next<N: Notice>(
         &mut self,
         alloc: Global,
@@ -87,7 +95,14 @@ impl<R: Read> RequestRows<R> {
         ensures next { IfOk result (λ next. MatchOption next (IfSome self.old.left (λ left. left ≡ []))
             (λ row. (fields : Fields) × IsNext self.old.left self.new.left true fields
             × IsRequestRow admission.now fields row)) }
-        ensures blame { IsErrOf result RowsFault.ReadFailed → IsSome self.new.fault }
+        ensures given { IfOk result (λ next. MatchOption next (self.new.count ≡ self.old.count)
+            (λ _. HasGiven self.old self.new 1)) }
+        ensures none_given { OnErr result (self.new.count ≡ self.old.count) }
+        ensures goes_on { OnOk result (self.new.fault ≡ None) }
+
+        // The reader is blamed where it failed, and only there.
+        ensures blame { IsErrOf result RowsFault.ReadFailed → HasFailed self.new }
+        ensures memory { IsErrOf result RowsFault.NoMemory → ¬ HasFailed self.new }
     {
         let mut row = ByteRecord::new(alloc);
         match self.records.read_bytes(&mut row) {
@@ -96,13 +111,14 @@ impl<R: Read> RequestRows<R> {
             Err(RecordsFault::NoMemory) => return Err(RowsFault::NoMemory),
             Err(_) => return Err(RowsFault::ReadFailed),
         }
-        self.count = self.count.wrapping_add(1);
-        let row = match StringRecord::from_byte_record(row) {
-            Ok(row) => row,
+        let Ok(row) = StringRecord::from_byte_record(row) else {
+            self.count = self.count.saturating_add(1);
             // A field is no text.
-            Err(_) => return Ok(Some(RequestRow::Refused(RowRefusal::Bad))),
+            return Ok(Some(RequestRow::Refused(RowRefusal::Bad)));
         };
-        match read_row(alloc, &row, &mut self.places, MOST_CLERKS, admission)? {
+        let judged = read_row(alloc, &row, &mut self.places, MOST_CLERKS, admission)?;
+        self.count = self.count.saturating_add(1);
+        match judged {
             Ok(said) => Ok(Some(RequestRow::Asks(said.clerk, said.request))),
             Err(why) => {
                 notice.refused(

@@ -1,5 +1,5 @@
 -- The answers to rows of the input, batch by batch.
-use Rattle.std.proofs.Common.{◌≡◌, ◌∙◌, ℕ, suc, ◌+◌, List, [], ◌∷◌, ◌++◌, length, map, take, Option, Some, None, IfSome, IfErr, OnOk, Result, Ok, Err, refl, sym, ap, subst, arith, append_assoc, length-append}
+use Rattle.std.proofs.Common.{◌≡◌, ◌∙◌, ℕ, suc, ◌+◌, List, [], ◌∷◌, ◌++◌, length, map, take, Option, Some, None, IfSome, IfErr, OnOk, IsSome, Result, Ok, Err, refl, sym, ap, subst, arith, append_assoc, length-append}
 use Rattle.std.specs.List.{AllZip, filter_map}
 use Rattle.std.specs.Result.{result_ok}
 use Rattle.std.specs.Io.KnownBytes.{Appends}
@@ -15,16 +15,21 @@ use Rattle.pb_durable.specs.DurableDesk.{entries_of}
 use Rattle.pb_durable.specs.declared.asked.Asked.{Asked}
 use Rattle.pb_rows.proofs.RowsText.{text_of_rows-append}
 use Rattle.pb_rows.specs.Reading.{Fields}
+use Rattle.pb_rows.specs.declared.fault.RecordsFault.{RecordsFault}
 use Rattle.pb_rows.specs.Writing.{text_of_row, text_of_rows}
 use Rattle.pb_script.specs.Admission.{Judges}
 use Rattle.pb_script.specs.ScriptReading.{fault_of_row}
+use Rattle.pb_script.specs.RowsView.{HasFailed, HasGiven, RowsView}
 use Rattle.pb_script.specs.declared.admission.Admission.{Admission}
 use Rattle.pb_script.specs.declared.admission.RowRefusal.{RowRefusal}
 use Rattle.pb_script.specs.Inner.ScriptReading.{HaveGone, NoneLeft}
 use Rattle.pb_faults.specs.Fault.{line, told}
 use Rattle.pb_faults.specs.declared.fault.AppFault.TheVariants.{Script}
-use Rattle.pb_serving.specs.Answered.{answers_from, Answers, Becomes}
+use Rattle.pb_script.specs.declared.script_fault.ScriptFault.TheVariants.{ReadFailed}
+use Rattle.pb_serving.specs.Answered.{answers_from, Answers, Becomes, Halts, IsBehind}
 use Rattle.pb_serving.specs.Inner.Batch.{IsRowAsking}
+use Rattle.pb_serving.specs.declared.serving_fault.ServingFault.{ServingFault}
+use Rattle.pb_serving.specs.declared.serving_fault.ServingFault.TheVariants.{App}
 
 abbrev pub Outcome : Type 0
 Outcome = Result EntryView RowRefusal
@@ -38,6 +43,10 @@ rows_from-append n [] b = ap (λ (k : ℕ). rows_from k b) (omega arith)
 rows_from-append n (x ∷ a) b =
     ap (λ (l : List Fields). row_of n x ∷ l) (rows_from-append (suc n) a b ∙ ap (λ (k : ℕ). rows_from (suc n) a ++ rows_from k b) (omega arith))
 
+pub nothing_said : (w : Option (List ℕ)) (n : ℕ) → Appends w w (text_of_rows (rows_from n []))
+unfolding rows_from text_of_rows
+nothing_said w n = Appends-nil w
+
 -- the last rows of a journal's text are those of its last entries
 pub said_rows : (before after more : List EntryView) (rows : List ℕ) (n : ℕ) → n ≡ length before → after ≡ before ++ more
     → journal_text One (take n after) ++ rows ≡ journal_text One after → rows ≡ text_of_rows (rows_from (length before + 1) more)
@@ -50,7 +59,7 @@ said_rows before after more rows n count grown is =
     front : take n after ≡ before
     front = ap (λ (l : List EntryView). take n l) grown ∙ take_at before more n (sym count)
 
-added-some : (entries : List EntryView) → added (map Ok entries) ≡ entries
+pub added-some : (entries : List EntryView) → added (map Ok entries) ≡ entries
 added-some [] = refl
 added-some (x ∷ entries) = ap (λ (l : List EntryView). x ∷ l) (added-some entries)
 
@@ -76,7 +85,7 @@ answers-append entry row (Ok x ∷ a) b =
     ∙ ap (λ (k : ℕ). (said ++ answers_from (suc entry) (suc row) a) ++ answers_from (suc entry + length (added a)) k b) at
     ∙ ap (λ (k : ℕ). (said ++ answers_from (suc entry) (suc row) a) ++ answers_from k (row + length (Ok x ∷ a)) b) next
 
-zip-append : {X Y : Type 0} (R : X → Y → Type 0) (xs more : List X) (ys others : List Y) → AllZip R xs ys → AllZip R more others → AllZip R (xs ++ more) (ys ++ others)
+pub zip-append : {X Y : Type 0} (R : X → Y → Type 0) (xs more : List X) (ys others : List Y) → AllZip R xs ys → AllZip R more others → AllZip R (xs ++ more) (ys ++ others)
 zip-append R [] more [] others f g = g
 zip-append R [] more (y ∷ ys) others f g = absurd f
 zip-append R (x ∷ xs) more [] others f g = absurd f
@@ -203,40 +212,128 @@ moved ad all left old now before after later row bad row_now bad_now writer rows
     subst (λ (w : Option (List ℕ)). Progress ad all left old now before w row_now bad_now) (sym writer)
     (subst (λ (r : ℕ). Progress ad all left old now before after r bad_now) (sym rows) (subst (λ (b : ℕ). Progress ad all left old now before after row b) (sym bads) p))
 
--- all rows were answered
-pub done : (ad : Admission) (all left : Option (List Fields)) (old now : List EntryView) (before after : Option (List ℕ)) (row bad : ℕ) → Progress ad all left old now before after row bad → NoneLeft left
-    → IfSome all (λ records. (text : List ℕ) × Answers ad records old now text × Appends before after text × (bad + length now ≡ length records + length old))
-done ad None left old now before after row bad p none = tt
-done ad (Some records) None old now before after row bad p none = absurd p.have_gone
-done ad (Some records) (Some (fields ∷ rest)) old now before after row bad p none = cc none
-done ad (Some records) (Some []) old now before after row bad p none =
-    let all : records ≡ p.gone = p.have_gone ∙ append-nil p.gone in
+all_gone : (all left : Option (List Fields)) (gone : List Fields) → HaveGone all gone left → NoneLeft left → IfSome all (λ rows. rows ≡ gone)
+all_gone None left gone have none = tt
+all_gone (Some rows) None gone have none = absurd have
+all_gone (Some rows) (Some []) gone have none = have ∙ append-nil gone
+all_gone (Some rows) (Some (fields ∷ rest)) gone have none = cc none
+
+-- rows were given, and then others
+pub gives : (start mid end : RowsView) (m n : ℕ) → HasGiven start mid m → HasGiven mid end n → HasGiven start end (m + n)
+gives start mid end m n first second fits =
+    let here = first (omega (arith, fits)) in
+    let there = second (omega (arith, fits, here)) in
+    omega (arith, here, there)
+
+-- all rows have their answers
+abbrev pub HasAnswered : Admission → RowsView → RowsView → List EntryView → List EntryView → (List ℕ → Type 0) → ℕ → Type 0
+HasAnswered ad before after old now IsSaid bad = (records : List Fields) × (text : List ℕ) × IfSome before.left (λ left. left ≡ records)
+    × HasGiven before after (length records) × Answers ad records old now text × IsSaid text × (bad + length now ≡ length records + length old)
+
+pub done : (ad : Admission) (start end : RowsView) (left : Option (List Fields)) (old now : List EntryView) (before after : Option (List ℕ)) (row bad : ℕ) → Progress ad start.left left old now before after row bad → NoneLeft left
+    → HasGiven start end row → HasAnswered ad start end old now (Appends before after) bad
+done ad start end left old now before after row bad p none given =
     let sums = p.bad_is in
-    let known = p.row_is in
-    let size = zip-length (Becomes ad) p.gone p.became p.each in (
+    let size : length p.gone ≡ row = zip-length (Becomes ad) p.gone p.became p.each ∙ p.row_is in (
+      p.gone,
       answers_from (length old + 1) 1 p.became,
-      record { became = p.became; each = subst (λ (r : List Fields). AllZip (Becomes ad) r p.became) (sym all) p.each; journal = p.journal; text_is = refl },
+      all_gone start.left left p.gone p.have_gone none,
+      subst (λ (n : ℕ). HasGiven start end n) (sym size) given,
+      (p.became, p.each, p.journal, refl),
       p.said,
-      omega (arith, sums, known, size, ap length all),
+      omega (arith, sums, size),
     )
 
--- the first rows were answered
-pub halted : (ad : Admission) (B : List Fields → Type 0) (X : List EntryView → Type 0) (all left : Option (List Fields)) (old now : List EntryView) (before after : Option (List ℕ)) (row bad : ℕ)
-    → Progress ad all left old now before after row bad → ((gone : List Fields) → length gone ≡ row → B gone) → X now
-    → IfSome all (λ records. (first rest : List Fields) × (text : List ℕ) × (kept : List EntryView) × (records ≡ first ++ rest) × Answers ad first old kept text × Appends before after text × B first × X kept)
-halted ad B X None left old now before after row bad p behind here = tt
-halted ad B X (Some records) None old now before after row bad p behind here = absurd p.have_gone
-halted ad B X (Some records) (Some rest) old now before after row bad p behind here = (
-  p.gone,
-  rest,
-  answers_from (length old + 1) 1 p.became,
-  now,
-  p.have_gone,
-  record { became = p.became; each = p.each; journal = p.journal; text_is = refl },
-  p.said,
-  behind p.gone (zip-length (Becomes ad) p.gone p.became p.each ∙ p.row_is),
-  here,
-)
+rest_of : Option (List Fields) → List Fields
+rest_of None = []
+rest_of (Some rows) = rows
+
+rows_are : (all end : Option (List Fields)) (gone served unserved : List Fields) → HaveGone all (gone ++ (served ++ unserved)) end → IfSome all (λ rows. rows ≡ gone ++ served ++ unserved ++ rest_of end)
+unfolding rest_of
+rows_are None end gone served unserved have = tt
+rows_are (Some rows) None gone served unserved have = absurd have
+rows_are (Some rows) (Some rest) gone served unserved have = have ∙ ap (λ (l : List Fields). l ++ rest) (sym (append_assoc gone served unserved))
+
+-- the text of the answers so far
+abbrev pub text_so_far : (ad : Admission) (all left : Option (List Fields)) (old now : List EntryView) (before after : Option (List ℕ)) (row bad : ℕ) → Progress ad all left old now before after row bad → List ℕ
+text_so_far ad all left old now before after row bad p = answers_from (length old + 1) 1 p.became
+
+-- what was not stopped has not failed
+pub not_stopped : (rows : RowsView) → rows.fault ≡ None → ¬ HasFailed rows
+not_stopped rows is failed = cc (subst (λ (fault : Option RecordsFault). IsSome fault) is failed.0)
+
+-- that the input failed is told
+abbrev pub IsTold : ServingFault → Type 0
+IsTold fault = (i : ℕ) × (fault ≡ App (Script (ReadFailed i)))
+
+-- some rows were read, and not answered: some of them are served
+pub halts : (ad : Admission) (fault : ServingFault) (start end : RowsView) (left after : Option (List Fields)) (old now last : List EntryView) (w0 w1 : Option (List ℕ)) (row bad : ℕ) (served unserved : List Fields) (became : List Outcome)
+    → (p : Progress ad start.left left old now w0 w1 row bad) → HaveGone left (served ++ unserved) after → AllZip (Becomes ad) served became → last ≡ now ++ added became
+    → HasGiven start end (row + (length served + length unserved)) → ((answered : ℕ) → answered ≡ row → IsBehind fault answered (length served) (length unserved))
+    → (¬ HasFailed start → HasFailed end → served ++ unserved ≡ [] → IsTold fault)
+    → Halts ad fault start end old now last (text_so_far ad start.left left old now w0 w1 row bad p)
+halts ad fault start end left after old now last w0 w1 row bad served unserved became p gone each grown given behind told_so =
+    let size : length p.gone ≡ row = zip-length (Becomes ad) p.gone p.became p.each ∙ p.row_is in
+    let sizes : row + (length served + length unserved) ≡ length (p.gone ++ served ++ unserved) = omega (arith, size, length-append (p.gone ++ served) unserved, length-append p.gone served) in (
+      p.gone,
+      served,
+      unserved,
+      rest_of after,
+      answers_from (length old + 1 + length (added p.became)) (1 + length p.became) became,
+      rows_are start.left after p.gone served unserved (gone-append start.left left after p.gone (served ++ unserved) p.have_gone gone),
+      subst (λ (n : ℕ). HasGiven start end n) sizes given,
+      (p.became, p.each, p.journal, refl),
+      (
+        p.became ++ became,
+        zip-append (Becomes ad) p.gone served p.became became p.each each,
+        grown ∙ ap (λ (l : List EntryView). l ++ added became) p.journal ∙ append_assoc old (added p.became) (added became) ∙ ap (λ (l : List EntryView). old ++ l) (sym (filter_map-append result_ok p.became became)),
+        sym (answers-append (length old + 1) 1 p.became became),
+      ),
+      behind (length p.gone) size,
+      told_so,
+    )
+
+pub nothing_gone : (left : Option (List Fields)) → HaveGone left ([] ++ []) left
+nothing_gone None = tt
+nothing_gone (Some rows) = refl
+
+-- no more rows were read
+pub halts_here : (ad : Admission) (fault : ServingFault) (start end : RowsView) (left : Option (List Fields)) (old now : List EntryView) (w0 w1 : Option (List ℕ)) (row bad : ℕ)
+    → (p : Progress ad start.left left old now w0 w1 row bad) → HasGiven start end row → ((answered : ℕ) → answered ≡ row → IsBehind fault answered 0 0)
+    → (¬ HasFailed start → HasFailed end → IsTold fault)
+    → Halts ad fault start end old now now (text_so_far ad start.left left old now w0 w1 row bad p)
+halts_here ad fault start end left old now w0 w1 row bad p given behind told_so =
+    let same : row ≡ row + (0 + 0) = omega arith in
+    halts ad fault start end left left old now now w0 w1 row bad [] [] [] p (nothing_gone left) tt (sym (append-nil now)) (subst (λ (n : ℕ). HasGiven start end n) same given) behind (λ sound failed none. told_so sound failed)
+
+-- nothing was read
+pub halts_unbegun : (ad : Admission) (fault : ServingFault) (start : RowsView) (old : List EntryView) → IsBehind fault 0 0 0 → Halts ad fault start start old old old []
+unfolding started
+halts_unbegun ad fault start old behind =
+    halts_here ad fault start start start.left old old None None 0 0 (started ad start.left old None) (λ fits. omega arith) (λ answered is. subst (λ (n : ℕ). IsBehind fault n 0 0) (sym is) behind)
+    (λ sound failed. absurd (sound failed))
+
+with_nil : (left : Option (List Fields)) (records : List Fields) → IfSome left (λ rows. rows ≡ records) → IfSome left (λ rows. rows ≡ records ++ [] ++ [] ++ [])
+with_nil None records are = tt
+with_nil (Some rows) records are = are ∙ sym (append-nil (records ++ [] ++ []) ∙ append-nil (records ++ []) ∙ append-nil records)
+
+-- all rows were read and answered
+pub halts_behind_all : (ad : Admission) (fault : ServingFault) (start end : RowsView) (old now : List EntryView) (text : List ℕ) (records : List Fields) → IfSome start.left (λ left. left ≡ records)
+    → HasGiven start end (length records) → Answers ad records old now text → ((answered : ℕ) → IsBehind fault answered 0 0) → ¬ HasFailed end → Halts ad fault start end old now now text
+halts_behind_all ad fault start end old now text records are given answers behind sound =
+    let all : records ≡ records ++ [] = sym (append-nil records) in (
+      records,
+      [],
+      [],
+      [],
+      [],
+      with_nil start.left records are,
+      subst (λ (r : List Fields). HasGiven start end (length r)) (all ∙ sym (append-nil (records ++ []))) given,
+      answers,
+      (answers.0, subst (λ (r : List Fields). AllZip (Becomes ad) r answers.0) all answers.1, answers.2, append-nil text ∙ answers.3),
+      behind (length records),
+      λ before failed empty. absurd (sound failed),
+    )
 
 -- what follows from what holds of an answer
 pub on_ok : {T E : Type 0} (r : Result T E) (A B : Type 0) → OnOk r A → (A → B) → OnOk r B

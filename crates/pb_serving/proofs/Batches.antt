@@ -10,7 +10,7 @@ use Rattle.pb_durable.specs.DurableDesk.{entries_of}
 use Rattle.pb_script.specs.Admission.{is_on_roll}
 use Rattle.pb_script.specs.declared.admission.RowRefusal.{RowRefusal}
 use Rattle.pb_script.specs.declared.admission.RowRefusal.TheVariants as refusal
-use Rattle.pb_serving.specs.Answered.{AddsOnRoll}
+use Rattle.pb_serving.specs.Inner.OnRoll.{AddsOnRoll}
 use Rattle.pb_desk.specs.Replay.{most_clerks}
 use Rattle.pb_rows.specs.Reading.{Fields, IsNext}
 use Rattle.pb_script.specs.RequestRows.{IsRequestRow}

@@ -1,8 +1,7 @@
 -- What the faults of a run tell of their causes.
-use Rattle.std.proofs.Common.{◌≡◌, ◌∙◌, ◌⊎◌, inl, inr, ℕ, ◌+◌, ◌^◌, ◌<◌, ◌≤◌, ◌++◌, length, List, Result, Ok, Err, IsErrAnd, refl, sym, ap, subst, arith}
+use Rattle.std.proofs.Common.{◌≡◌, ◌∙◌, ◌⊎◌, inl, inr, ℕ, ◌+◌, ◌^◌, ◌<◌, ◌≤◌, ◌++◌, length, List, Result, Ok, Err, IfErr, IsErrAnd, refl, sym, ap, subst, arith}
 use Rattle.std.proofs.lemmas.Bool.{cases_lt}
 use Rattle.pb_core.specs.Request.{EntryView}
-use Rattle.pb_rows.specs.Reading.{Fields}
 use Rattle.pb_desk.specs.Desk.{DeskView}
 use Rattle.pb_desk.specs.Opening.{OpeningView}
 use Rattle.pb_desk.specs.Rows.{journal_text}
@@ -14,18 +13,19 @@ use Rattle.pb_durable.specs.declared.durable_fault.DurableFault.TheVariants as d
 use Rattle.pb_serving.specs.Answered.{HasNoRoom, IsBehind}
 use Rattle.pb_faults.specs.declared.fault.AppFault.TheVariants.{Script, Write}
 use Rattle.pb_script.specs.declared.script_fault.ScriptFault.TheVariants.{ReadFailed}
-use Rattle.pb_serving.specs.declared.serving_fault.ServingFault.TheVariants.{App}
+use Rattle.pb_serving.specs.declared.serving_fault.ServingFault.{ServingFault}
+use Rattle.pb_serving.specs.declared.serving_fault.ServingFault.TheVariants.{App, Moved, Output, Spelling}
 use Rattle.pb_serving.specs.Fault.{of_device, of_durable}
 
-pub behind_device : (why : DeviceFault) (rows : List Fields) → IsBehind (of_device why) rows
-behind_device device.NoMemory rows = tt
-behind_device device.Failed rows = tt
-behind_device device.Full rows = tt
+pub behind_device : (why : DeviceFault) (answered served unserved : ℕ) → served + unserved ≤ 4097 → IsBehind (of_device why) answered served unserved
+behind_device device.NoMemory answered served unserved few = few
+behind_device device.Failed answered served unserved few = few
+behind_device device.Full answered served unserved few = few
 
-pub behind_durable : (why : DurableFault) (rows : List Fields) → IsBehind (of_durable why) rows
-behind_durable (durable.Desk desk.NoMemory) rows = tt
-behind_durable (durable.Desk desk.JournalFull) rows = tt
-behind_durable (durable.Device why) rows = behind_device why rows
+pub behind_durable : (why : DurableFault) (answered served unserved : ℕ) → served + unserved ≤ 4097 → IsBehind (of_durable why) answered served unserved
+behind_durable (durable.Desk desk.NoMemory) answered served unserved few = few
+behind_durable (durable.Desk desk.JournalFull) answered served unserved few = few
+behind_durable (durable.Device why) answered served unserved few = behind_device why answered served unserved few
 
 pub not_failed : (before now : ℕ) → before ≤ now → (before < now → ⊥) → now ≡ before
 not_failed before now later none = elim (cases_lt before now) [
@@ -56,6 +56,24 @@ not_durable (durable.Desk desk.JournalFull) i is = cc is
 not_durable (durable.Device device.NoMemory) i is = cc is
 not_durable (durable.Device device.Failed) i is = cc is
 not_durable (durable.Device device.Full) i is = cc is
+
+pub not_output : (why : DurableFault) → Output ≡ of_durable why → ⊥
+not_output (durable.Desk desk.NoMemory) is = cc is
+not_output (durable.Desk desk.JournalFull) is = cc is
+not_output (durable.Device device.NoMemory) is = cc is
+not_output (durable.Device device.Failed) is = cc is
+not_output (durable.Device device.Full) is = cc is
+
+pub from_fault : {T E : Type 0} (r : Result T E) (why : E) (P : E → Type 0) → IfErr r (λ e. e ≡ why) → P why → IfErr r P
+from_fault (Ok x) why P is p = tt
+from_fault (Err e) why P is p = subst P (sym is) p
+
+-- the writer failed, or it was something else
+pub output_or : (why : ServingFault) → (why ≡ Output) ⊎ (why ≡ Output → ⊥)
+output_or (App fault) = inr (λ is. cc is)
+output_or Spelling = inr (λ is. cc is)
+output_or Moved = inr (λ is. cc is)
+output_or Output = inl refl
 
 pub cause_of : (why : DurableFault) (X Y Z : Type 0) → App Write ≡ of_durable why → (why ≡ durable.Device device.Failed → X) → (why ≡ durable.Desk desk.JournalFull → Y)
     → (why ≡ durable.Device device.Full → Z) → X ⊎ Y ⊎ Z

@@ -3,5 +3,5 @@ mod Answering
 mod Batches
 mod Causes
 mod Handing
-mod Saying
 mod Standings
+mod Unanswered

@@ -17,12 +17,8 @@ use Rattle.pb_serving.specs.Answered.{StandsWithin}
 -- the file stands for a journal between two
 within : (version : Version) (first journal last more rest : List EntryView) (c : List ℕ) → journal ≡ first ++ more → last ≡ journal ++ rest → StandsForText (journal_text version journal) c
     → StandsWithin version first last c
-within version first journal last more rest c begins ends stands = record {
-  more = more;
-  rest = rest;
-  stands = subst (λ (j : List EntryView). StandsForText (journal_text version j) c) begins stands;
-  last_is = ends ∙ ap (λ (j : List EntryView). j ++ rest) begins;
-}
+within version first journal last more rest c begins ends stands =
+    (more, rest, subst (λ (j : List EntryView). StandsForText (journal_text version j) c) begins stands, ends ∙ ap (λ (j : List EntryView). j ++ rest) begins)
 
 -- or for one of two
 within_either : (version : Version) (first journal last more rest : List EntryView) (c : List ℕ) → journal ≡ first ++ more → last ≡ journal ++ rest
@@ -33,12 +29,8 @@ within_either version first journal last more rest c begins ends (inr stands) =
 
 -- more entries come
 within_more : (version : Version) (first last after rest : List EntryView) (c : List ℕ) → after ≡ last ++ rest → StandsWithin version first last c → StandsWithin version first after c
-within_more version first last after rest c grown w = record {
-  more = w.more;
-  rest = w.rest ++ rest;
-  stands = w.stands;
-  last_is = grown ∙ ap (λ (j : List EntryView). j ++ rest) w.last_is ∙ append_assoc (first ++ w.more) w.rest rest;
-}
+within_more version first last after rest c grown w =
+    (w.0, w.1 ++ rest, w.2, grown ∙ ap (λ (j : List EntryView). j ++ rest) w.3 ∙ append_assoc (first ++ w.0) w.1 rest)
 
 module _ {D : Type 0} (moment : D → ℕ) (left_since : D → ℕ → List ℕ → Type 0) (seen : D → List ℕ) (may_leave : D → List ℕ → Type 0) where
   -- a desk at rest stands

@@ -1,5 +1,5 @@
 -- What a run of `serve` says.
-use Rattle.std.specs.Prelude.{◌≡◌, ◌⊎◌, ◌<◌, ◌≤◌, ℕ, ⊤, suc, ◌+◌, ◌-◌, ◌^◌, ◌++◌, ◌==◌, min, List, [], ◌∷◌, Result, Ok, Err, All, true, codes, decimal, filter_map, length, if◌then◌else◌}
+use Rattle.std.specs.Prelude.{◌≡◌, ◌⊎◌, ◌<◌, ◌≤◌, ℕ, suc, ◌+◌, ◌-◌, ◌^◌, ◌++◌, ◌==◌, min, List, [], ◌∷◌, IfSome, Result, Ok, Err, codes, decimal, filter_map, length, if◌then◌else◌}
 use Rattle.std.specs.List.{AllZip}
 use Rattle.std.specs.Result.{result_ok}
 use Rattle.pb_core.specs.Request.{EntryView}
@@ -10,7 +10,8 @@ use Rattle.pb_desk.specs.declared.version.Version.{Version}
 use Rattle.pb_durable.specs.JournalFile.{StandsForText}
 use Rattle.pb_rows.specs.Reading.{Fields}
 use Rattle.pb_rows.specs.Writing.{text_of_row}
-use Rattle.pb_script.specs.Admission.{Judges, is_on_roll}
+use Rattle.pb_script.specs.Admission.{Judges}
+use Rattle.pb_script.specs.RowsView.{HasFailed, HasGiven, RowsView}
 use Rattle.pb_script.specs.ScriptReading.{fault_of_row}
 use Rattle.pb_script.specs.declared.admission.Admission.{Admission}
 use Rattle.pb_script.specs.declared.admission.RowRefusal.{RowRefusal}
@@ -39,32 +40,37 @@ answers_from entry row (Err why ∷ more) =
 answers_from entry row (Ok x ∷ more) = text_of_row (row_of entry x) ++ answers_from (suc entry) (suc row) more
 
 -- these rows of the input were answered by this text, and their entries came to the journal
-pub record Answers (a : Admission) (rows : List Fields) (before after : List EntryView) (text : List ℕ) : Type 0 where
-  pub became : List (Result EntryView RowRefusal)
-  pub each : AllZip (Becomes a) rows became
-  pub journal : after ≡ before ++ filter_map result_ok became
-  pub text_is : text ≡ answers_from (length before + 1) 1 became
-
--- all entries that came to the journal are for voters of the roll, or shut the desk
-abbrev pub AddsOnRoll : Admission → List EntryView → List EntryView → Type 0
-AddsOnRoll a before after = (more : List EntryView) × (after ≡ before ++ more)
-    × All (λ x. is_on_roll a x.request ≡ true) more
+abbrev pub Answers : Admission → List Fields → List EntryView → List EntryView → List ℕ → Type 0
+Answers a rows before after text = (became : List (Result EntryView RowRefusal)) × AllZip (Becomes a) rows became
+    × (after ≡ before ++ filter_map result_ok became) × (text ≡ answers_from (length before + 1) 1 became)
 
 -- the file stands for a journal that begins with the first of these journals, and is a first part of the second
-pub record StandsWithin (version : Version) (first last : List EntryView) (file : List ℕ) : Type 0 where
-  pub more : List EntryView
-  pub rest : List EntryView
-  pub stands : StandsForText (journal_text version (first ++ more)) file
-  pub last_is : last ≡ (first ++ more) ++ rest
+abbrev pub StandsWithin : Version → List EntryView → List EntryView → List ℕ → Type 0
+StandsWithin version first last file = (more rest : List EntryView)
+    × StandsForText (journal_text version (first ++ more)) file × (last ≡ (first ++ more) ++ rest)
 
--- what a run may end by behind these rows: a reader that failed is told with the number of the row behind them
-abbrev pub IsBehind : ServingFault → List Fields → Type 0
-IsBehind (App (Script (ReadFailed i))) rows = i ≡ min (length rows + 1) (2 ^ 32 - 1)
-IsBehind (App (Script TooManyRows)) rows = 2 ^ 50 ≤ length rows
-IsBehind (App Memory) rows = ⊤
-IsBehind (App Write) rows = ⊤
-IsBehind Output rows = ⊤
-IsBehind fault rows = ⊥
+-- what a run may end by that has answered so many rows, and behind them has read, but not answered, so many that are
+-- served, and so many that are not: a reader that failed is told with the number of the next row
+abbrev pub IsBehind : ServingFault → (answered served unserved : ℕ) → Type 0
+IsBehind (App (Script (ReadFailed i))) answered served unserved =
+    (i ≡ min (answered + 1) (2 ^ 32 - 1)) × (served + unserved ≡ 0)
+IsBehind (App (Script TooManyRows)) answered served unserved = (2 ^ 50 ≤ answered) × (served + unserved ≡ 0)
+IsBehind (App Memory) answered served unserved = served + unserved ≤ 4097
+IsBehind (App Write) answered served unserved = served + unserved ≤ 4097
+IsBehind Output answered served unserved = (served ≤ 4097) × (unserved ≡ 0)
+IsBehind fault answered served unserved = ⊥
+
+-- Where a run has ended early: some first rows were answered by this text, with which the journal had come so far. Those
+-- that are served behind them are what the journal has besides; those that are not served left nothing in it. All
+-- these were read, and no others. That the input failed is told, unless a row that was read before has no answer.
+abbrev pub Halts : Admission → ServingFault → RowsView → RowsView → (old kept now : List EntryView) → List ℕ → Type 0
+Halts a fault before after old kept now text = (answered served unserved rest : List Fields) × (unsaid : List ℕ)
+    × IfSome before.left (λ rows. rows ≡ answered ++ served ++ unserved ++ rest)
+    × HasGiven before after (length (answered ++ served ++ unserved))
+    × Answers a answered old kept text × Answers a (answered ++ served) old now (text ++ unsaid)
+    × IsBehind fault (length answered) (length served) (length unserved)
+    × (¬ HasFailed before → HasFailed after → served ++ unserved ≡ []
+    → (i : ℕ) × (fault ≡ App (Script (ReadFailed i))))
 
 -- at some entry the journal, or its file, had no room for a batch more
 abbrev pub HasNoRoom : DeskView → Type 0

@@ -1,11 +1,13 @@
 //! The rows of the input that are served together.
 
-ghost use Rattle.std.specs.Prelude.{◌≡◌, ◌<◌, ◌≤◌, ◌+◌, [], length, IsSome};
-ghost use Rattle.pb_serving.specs.Inner.Batch.{IsBatch};
+ghost use Rattle.std.specs.Prelude.{◌≡◌, ◌<◌, ◌≤◌, ◌+◌, [], length, None};
+ghost use Rattle.pb_script.specs.RowsView.{HasFailed, HasGiven};
+ghost use Rattle.pb_serving.specs.Inner.Batch.{refused, IsBatch};
 
 use crate::pace::Pace;
+use crate::session::Session;
 use pb_durable::Asked;
-use pb_script::{Admission, Notice, RequestRow, RequestRows, RowRefusal, RowsFault};
+use pb_script::{Notice, RequestRow, RequestRows, RowRefusal, RowsFault};
 use std::alloc::Global;
 use std::io::Read;
 
@@ -23,7 +25,7 @@ pub(crate) enum BatchEnd {
     Over,
     /// The reader failed at the row behind it.
     ReadFailed,
-    /// Memory was refused at the row behind it.
+    /// Memory was refused before the row behind it was given.
     NoMemory,
 }
 
@@ -32,31 +34,33 @@ pub(crate) enum BatchEnd {
 pub(crate) fn next_batch<R: Read, P: Pace, N: Notice>(
     alloc: Global,
     rows: &mut RequestRows<R>,
-    pace: &P,
-    admission: &Admission,
-    notice: &N,
+    session: &Session<'_, P, N>,
     asks: &mut Vec<Asked>,
 ) -> BatchEnd
     requires { asks.old.items ≡ [] }
     ensures few { length asks.new.items ≤ 4096 }
-    ensures batch { IsBatch admission.now rows.old.left rows.new.left asks.new.items result }
-    ensures blame { result ≡ BatchEnd.ReadFailed → IsSome rows.new.fault }
+    ensures batch { IsBatch session.now.admission.now rows.old.left rows.new.left asks.new.items result }
+    ensures given { HasGiven rows.old rows.new (length asks.new.items + refused result) }
+    ensures blame { result ≡ BatchEnd.ReadFailed → HasFailed rows.new }
+    ensures told { ¬ HasFailed rows.old → HasFailed rows.new → result ≡ BatchEnd.ReadFailed }
+    ensures over { result ≡ BatchEnd.Over → rows.new.fault ≡ None }
     ensures some { result ≡ BatchEnd.More → 0 < length asks.new.items }
 {
     for _ in 0..MOST_ROWS {
-        match rows.next(alloc, admission, notice) {
+        // A row is taken only where there is room for it.
+        if asks.reserve(1).is_err() {
+            return BatchEnd::NoMemory;
+        }
+        match rows.next(alloc, session.admission, session.notice) {
             Ok(Some(RequestRow::Asks(clerk, request))) => {
-                match asks.push(Asked { clerk, request }) {
-                    Ok(()) => {}
-                    Err(_) => return BatchEnd::NoMemory,
-                }
+                asks.push_reserved(Asked { clerk, request });
             }
             Ok(Some(RequestRow::Refused(why))) => return BatchEnd::Refused(why),
             Ok(None) => return BatchEnd::Over,
             Err(RowsFault::ReadFailed) => return BatchEnd::ReadFailed,
             Err(RowsFault::NoMemory) => return BatchEnd::NoMemory,
         }
-        if !pace.has_row() {
+        if !session.pace.has_row() {
             break;
         }
     }

@@ -6,13 +6,13 @@
 
 mod batch;
 mod heading;
-mod incoming;
 pub mod pace;
 mod paced;
 pub mod run_serve;
 pub mod serving_fault;
+mod session;
 
-pub use incoming::Incoming;
 pub use pace::{Always, Pace};
 pub use paced::{AtHand, Paced};
 pub use serving_fault::ServingFault;
+pub use session::Session;

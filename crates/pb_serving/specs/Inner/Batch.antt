@@ -1,5 +1,5 @@
 -- The rows of the input that are served together.
-use Rattle.std.specs.Prelude.{List, Option, Ok, Err, [], ◌∷◌, ◌++◌}
+use Rattle.std.specs.Prelude.{ℕ, List, Option, Ok, Err, [], ◌∷◌, ◌++◌}
 use Rattle.std.specs.List.{AllZip}
 use Rattle.pb_core.specs.Request.{asked}
 use Rattle.pb_desk.specs.Replay.{most_clerks}
@@ -10,6 +10,11 @@ use Rattle.pb_script.specs.Inner.ScriptReading.{HaveGone, NoneLeft}
 use Rattle.pb_durable.specs.declared.asked.Asked.{Asked}
 use Rattle.pb_serving.specs.declared.batch.BatchEnd.{BatchEnd}
 use Rattle.pb_serving.specs.declared.batch.BatchEnd.TheVariants.{More, Refused, Over, ReadFailed, NoMemory}
+
+-- how many refused rows are read behind the rows that ask
+abbrev pub refused : BatchEnd → ℕ
+refused (Refused why) = 1
+refused end = 0
 
 -- the row asks this
 abbrev pub IsRowAsking : Admission → Fields → Asked → Type 0

@@ -1,17 +1,122 @@
-use Rattle.std.proofs.Common.{◌≢◌, List, ℕ, IfErr, IfSome, subst}
-use Rattle.pb_rows.specs.Reading.{records_of}
-use Rattle.pb_script.specs.declared.admission.Admission.{Admission}
-use Rattle.pb_serving.specs.Answered.{heading, IsBehind, StandsWithin}
-use Rattle.pb_serving.specs.declared.serving_fault.ServingFault.TheVariants.{Output}
-use Rattle.pb_serving.proofs.Saying.{HasStopped}
+use Rattle.std.proofs.Common.{◌≡◌, ◌∙◌, ◌++◌, inl, inr, ℕ, List, [], Err, IsErrAnd, refl, ap, sym, subst, arith}
+use Rattle.std.specs.Io.KnownBytes.{Appends}
+use Rattle.std.proofs.KnownBytes.{Appends-trans}
+use Rattle.pb_desk.specs.Desk.{DeskView}
+use Rattle.pb_durable.proofs.Openings.{if_err}
+use Rattle.pb_durable.specs.Device.{LeavesOnly}
+use Rattle.pb_serving.specs.Answered.{heading, Halts, StandsWithin}
+use Rattle.pb_serving.specs.Fault.{of_device}
+use Rattle.pb_serving.specs.declared.serving_fault.ServingFault.{ServingFault}
+use Rattle.pb_serving.specs.declared.serving_fault.ServingFault.TheVariants.{App, Output}
+use Rattle.pb_faults.specs.declared.fault.AppFault.TheVariants.{Memory, Write}
+use Rattle.pb_serving.proofs.Answering.{halts_behind_all, halts_unbegun, not_stopped, HasAnswered}
+use Rattle.pb_serving.proofs.Batches.{adds_none}
+use Rattle.pb_serving.proofs.Causes.{behind_device}
+use Rattle.pb_serving.proofs.Standings.{begins, closes, kept_all, kept_closing}
 use Rattle.pb_serving.proofs.run_serve.run_serve.Goals as goal
 
-pub returns-clause-stopped : goal.returns-clause-stopped
-returns-clause-stopped g c =
+pub returns-in_err-opened-clause-stopped : goal.returns-in_err-opened-clause-stopped
+returns-in_err-opened-clause-stopped g c =
     let old = c.args.desk.now in
-    let new = c.run_admitted-ended.new.desk in
-    subst (λ (a : Admission). IfErr c.run_admitted-ended.result (λ fault. fault ≢ Output
-    → IfSome (g.R.Read.remaining c.args.incoming.input) (λ bytes. HasStopped a (IsBehind fault)
-    (λ kept. g.D.Device.tells → (f : List ℕ) → g.D.Device.may_leave new.file.device f → StandsWithin new.desk.opening.version kept new.desk.journal f)
-    old.desk.journal (g.W.Write.contents c.args.writer.now) (g.W.Write.contents c.run_admitted-ended.new.writer) (heading c.args.torn old.desk) (records_of bytes))))
-    c.open-open.ensures c.run_admitted-ended.ensures.stopped
+    if_err c.from_residual.result (App Memory) _ c.from_residual.ensures.1 (
+      old.desk.journal,
+      [],
+      halts_unbegun c.args.session.now.admission.now (App Memory) c.args.rows.now old.desk.journal (omega arith),
+      λ other. inr (refl, refl, refl),
+      λ tells f left. kept_all g.D.Device.moment g.D.Device.left_since g.D.Device.seen g.D.Device.may_leave old (c.requires tells) f left,
+    )
+
+pub returns-in_err-opened-clause-any_moment : goal.returns-in_err-opened-clause-any_moment
+returns-in_err-opened-clause-any_moment g c = λ tells. begins g.D.Device.moment g.D.Device.left_since g.D.Device.seen g.D.Device.may_leave g.met.D.Device.only_now c.args.desk.now (c.requires tells)
+
+pub returns-in_err-write_out-clause-stopped : goal.returns-in_err-write_out-clause-stopped
+returns-in_err-write_out-clause-stopped g c =
+    let old = c.args.desk.now in
+    let why = c.in_err-write_out.field-0.0 in
+    let is : why ≡ Output = c.in_err-write_out.ensures.fault in
+    if_err c.from_residual-in_err-write_out.result why _ c.from_residual-in_err-write_out.ensures.1 (
+      old.desk.journal,
+      [],
+      subst (λ (fault : ServingFault). Halts c.args.session.now.admission.now fault c.args.rows.now c.args.rows.now old.desk.journal old.desk.journal old.desk.journal []) (sym is)
+          (halts_unbegun c.args.session.now.admission.now Output c.args.rows.now old.desk.journal (omega arith, refl)),
+      λ other. absurd (other is),
+      λ tells f left. kept_all g.D.Device.moment g.D.Device.left_since g.D.Device.seen g.D.Device.may_leave old (c.requires tells) f left,
+    )
+
+pub returns-in_err-write_out-clause-any_moment : goal.returns-in_err-write_out-clause-any_moment
+returns-in_err-write_out-clause-any_moment g c = λ tells. begins g.D.Device.moment g.D.Device.left_since g.D.Device.seen g.D.Device.may_leave g.met.D.Device.only_now c.args.desk.now (c.requires tells)
+
+pub returns-in_err-refused-clause-stopped : goal.returns-in_err-refused-clause-stopped
+returns-in_err-refused-clause-stopped g c =
+    let old = c.args.desk.now in
+    let before = g.W.Write.contents c.args.writer.now in
+    let head = heading c.args.session.now.torn old.desk in
+    let mid = g.W.Write.contents c.write_out.new.writer in
+    let after = g.W.Write.contents c.serve_rows.new.writer in
+    let head_is : c.as_slice.result.now ≡ head = c.as_slice.ensures.value ∙ c.in_ok-opened.ensures ∙ ap (λ (d : DeskView). heading c.args.session.now.torn d) c.desk-2.ensures in
+    let opened = subst (Appends before mid) head_is c.in_ok-write_out.ensures.ok in
+    let s = c.in_err-refused.ensures.stopped in
+    if_err c.from_residual-in_err-refused.result c.in_err-refused.field-0.0 _ c.from_residual-in_err-refused.ensures.1
+    (s.0, s.1, s.2, λ other. inl (Appends-trans before mid after head s.1 opened (s.3 other)), s.4)
+
+pub returns-in_err-close-clause-stopped : goal.returns-in_err-close-clause-stopped
+returns-in_err-close-clause-stopped g c =
+    let old = c.args.desk.now in
+    let before = g.W.Write.contents c.args.writer.now in
+    let head = heading c.args.session.now.torn old.desk in
+    let mid = g.W.Write.contents c.write_out.new.writer in
+    let after = g.W.Write.contents c.serve_rows.new.writer in
+    let head_is : c.as_slice.result.now ≡ head = c.as_slice.ensures.value ∙ c.in_ok-opened.ensures ∙ ap (λ (d : DeskView). heading c.args.session.now.torn d) c.desk-2.ensures in
+    let opened = subst (Appends before mid) head_is c.in_ok-write_out.ensures.ok in
+    let now = c.serve_rows.new.desk in
+    let end = c.close.new.self in
+    let why = of_device c.in_err-close.field-0.0 in
+    let a = c.in_ok-refused.ensures.answered in
+    let halts = halts_behind_all c.args.session.now.admission.now why c.args.rows.now c.serve_rows.new.rows old.desk.journal now.desk.journal a.1 a.0 a.2 a.3 a.4
+    (λ answered. behind_device c.in_err-close.field-0.0 answered 0 0 (omega arith)) (not_stopped c.serve_rows.new.rows c.in_ok-refused.ensures.read) in
+    if_err c.from_residual-in_err-close.result why _ c.from_residual-in_err-close.ensures.1 (
+      now.desk.journal,
+      a.1,
+      subst (λ (d : DeskView). Halts c.args.session.now.admission.now why c.args.rows.now c.serve_rows.new.rows old.desk.journal now.desk.journal d.journal a.1) (sym c.close.ensures.desk) halts,
+      λ other. inl (Appends-trans before mid after head a.1 opened a.5),
+      λ tells f here. subst (λ (d : DeskView). StandsWithin d.opening.version now.desk.journal d.journal f) (sym c.close.ensures.desk)
+          (kept_closing g.D.Device.moment g.D.Device.left_since g.D.Device.seen g.D.Device.may_leave g.met.D.Device.counts_now now end.file.device (c.close.ensures.any_moment tells) f here),
+    )
+
+pub returns-in_err-close-clause-any_moment : goal.returns-in_err-close-clause-any_moment
+returns-in_err-close-clause-any_moment g c = λ tells.
+    let old = c.args.desk.now in
+    subst (λ (d : DeskView). LeavesOnly g.D.Device.moment g.D.Device.left_since old.file.device c.close.new.self.file.device (StandsWithin old.desk.opening.version old.desk.journal d.journal)) (sym c.close.ensures.desk)
+    (closes g.D.Device.moment g.D.Device.left_since g.D.Device.seen g.D.Device.may_leave old c.serve_rows.new.desk c.close.new.self.file.device c.in_ok-refused.ensures.grown.0 c.serve_rows.ensures.opening c.in_ok-refused.ensures.grown.1
+    (c.serve_rows.ensures.any_moment tells) (c.close.ensures.any_moment tells))
+
+pub returns-clause-any_moment : goal.returns-clause-any_moment
+returns-clause-any_moment g c = λ tells.
+    let old = c.args.desk.now in
+    subst (λ (d : DeskView). LeavesOnly g.D.Device.moment g.D.Device.left_since old.file.device c.close.new.self.file.device (StandsWithin old.desk.opening.version old.desk.journal d.journal)) (sym c.close.ensures.desk)
+    (closes g.D.Device.moment g.D.Device.left_since g.D.Device.seen g.D.Device.may_leave old c.serve_rows.new.desk c.close.new.self.file.device c.in_ok-refused.ensures.grown.0 c.serve_rows.ensures.opening c.in_ok-refused.ensures.grown.1
+    (c.serve_rows.ensures.any_moment tells) (c.close.ensures.any_moment tells))
+
+pub returns-clause-answered : goal.returns-clause-answered
+returns-clause-answered g c =
+    let old = c.args.desk.now in
+    let before = g.W.Write.contents c.args.writer.now in
+    let head = heading c.args.session.now.torn old.desk in
+    let mid = g.W.Write.contents c.write_out.new.writer in
+    let after = g.W.Write.contents c.serve_rows.new.writer in
+    let head_is : c.as_slice.result.now ≡ head = c.as_slice.ensures.value ∙ c.in_ok-opened.ensures ∙ ap (λ (d : DeskView). heading c.args.session.now.torn d) c.desk-2.ensures in
+    let opened = subst (Appends before mid) head_is c.in_ok-write_out.ensures.ok in
+    let a = c.in_ok-refused.ensures.answered in
+    subst (λ (d : DeskView). HasAnswered c.args.session.now.admission.now c.args.rows.now c.serve_rows.new.rows old.desk.journal d.journal (λ text. Appends before after (head ++ text)) c.in_ok-refused.refused) (sym c.close.ensures.desk)
+    (a.0, a.1, a.2, a.3, a.4, Appends-trans before mid after head a.1 opened a.5, a.6)
+
+pub returns-in_err-opened-clause-on_roll : goal.returns-in_err-opened-clause-on_roll
+returns-in_err-opened-clause-on_roll g c = adds_none c.args.session.now.admission.now c.args.desk.now.desk.journal
+
+pub returns-in_err-write_out-clause-on_roll : goal.returns-in_err-write_out-clause-on_roll
+returns-in_err-write_out-clause-on_roll g c = adds_none c.args.session.now.admission.now c.args.desk.now.desk.journal
+
+pub returns-in_err-refused-clause-write : goal.returns-in_err-refused-clause-write
+returns-in_err-refused-clause-write g c = λ tells said.
+    let is : App Write ≡ c.in_err-refused.field-0.0 = subst (λ r. IsErrAnd r (λ x. x ≡ c.in_err-refused.field-0.0)) said c.from_residual-in_err-refused.ensures.1 in
+    c.serve_rows.ensures.write tells (c.in_err-refused.was ∙ ap (λ (f : ServingFault). Err f) (sym is))

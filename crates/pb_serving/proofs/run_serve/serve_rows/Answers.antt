@@ -1,4 +1,4 @@
-use Rattle.std.proofs.Common.{◌≡◌, ◌∙◌, ◌≤◌, ◌<◌, ◌+◌, ℕ, List, [], ◌++◌, length, true, Option, Err, IsErrAnd, refl, sym, ap, subst, arith, append_assoc}
+use Rattle.std.proofs.Common.{◌≡◌, ◌∙◌, ◌≤◌, ◌<◌, ◌+◌, ℕ, List, [], ◌∷◌, ◌++◌, length, true, Option, Err, IsErrAnd, refl, sym, ap, subst, arith, append_assoc}
 use Rattle.std.proofs.lemmas.List.{append-nil}
 use Rattle.std.specs.List.{All}
 use Rattle.std.specs.Io.KnownBytes.{Appends}
@@ -9,16 +9,19 @@ use Rattle.pb_durable.proofs.Openings.{if_err}
 use Rattle.pb_durable.specs.DurableDesk.{entries_of}
 use Rattle.pb_durable.specs.declared.asked.Asked.{Asked}
 use Rattle.pb_rows.specs.Writing.{text_of_rows}
-use Rattle.pb_serving.specs.Answered.{AddsOnRoll, IsBehind, StandsWithin}
+use Rattle.pb_script.specs.RowsView.{HasFailed, HasGiven}
+use Rattle.pb_serving.specs.Answered.{IsBehind, StandsWithin}
+use Rattle.pb_serving.specs.Inner.OnRoll.{AddsOnRoll}
 use Rattle.pb_serving.specs.declared.serving_fault.ServingFault.{ServingFault}
-use Rattle.pb_serving.specs.declared.serving_fault.ServingFault.TheVariants.{App}
-use Rattle.pb_serving.specs.Inner.Batch.{EndsBy}
+use Rattle.pb_serving.specs.declared.serving_fault.ServingFault.TheVariants.{App, Output}
+use Rattle.pb_serving.specs.Inner.Batch.{refused, EndsBy}
 use Rattle.pb_serving.specs.declared.batch.BatchEnd.{BatchEnd}
 use Rattle.pb_serving.specs.declared.batch.BatchEnd.TheVariants as end
-use Rattle.pb_serving.proofs.Answering.{bad_more, batch_more, done, gone_mid, halted, moved, started, Progress}
+use Rattle.pb_serving.proofs.Answering.{added, bad_more, batch_more, done, gives, gone_mid, halts, halts_here, moved, nothing_gone, started, text_so_far, Outcome, Progress}
 use Rattle.pb_serving.proofs.Batches.{adds_more, adds_none, asks_clerks, entries_on_roll}
 use Rattle.pb_serving.proofs.Causes.{err_is, has_cause, not_failed}
 use Rattle.pb_serving.proofs.Standings.{begins, goes_on, kept_all, kept_first}
+use Rattle.pb_serving.proofs.Unanswered.{unanswered}
 use Rattle.pb_script.specs.declared.script_fault.ScriptFault.TheVariants.{TooManyRows}
 use Rattle.pb_script.specs.Admission.{is_on_roll}
 use Rattle.pb_script.specs.ScriptReading.{fault_of_row}
@@ -32,18 +35,21 @@ loop-init g c = record {
   few = omega arith;
   many = omega arith;
   fewer = omega arith;
+  sound = λ sound. sound;
   failures = λ tells. refl;
+  legal = c.requires.legal;
+  given = λ fits. omega arith;
   opening = refl;
-  durable = c.requires;
-  grown = adds_none c.args.admission.now c.args.desk.now.desk.journal;
-  progress = started c.args.admission.now c.args.rows.now.left c.args.desk.now.desk.journal (g.W.Write.contents c.args.writer.now);
-  any_moment = λ tells. begins g.D.Device.moment g.D.Device.left_since g.D.Device.seen g.D.Device.may_leave (g.met.D.Device.only_now) c.args.desk.now (c.requires tells);
+  durable = c.requires.durable;
+  grown = adds_none c.args.session.now.admission.now c.args.desk.now.desk.journal;
+  progress = started c.args.session.now.admission.now c.args.rows.now.left c.args.desk.now.desk.journal (g.W.Write.contents c.args.writer.now);
+  any_moment = λ tells. begins g.D.Device.moment g.D.Device.left_since g.D.Device.seen g.D.Device.may_leave (g.met.D.Device.only_now) c.args.desk.now (c.requires.durable tells);
 }
 
 pub answer-requires-clause-clerks : goal.answer-requires-clause-clerks
 answer-requires-clause-clerks g c =
     let batch = c.next_batch-end.ensures.batch in
-    subst (λ (asks : List Asked). All (λ (a : Asked). a.clerk < most_clerks) asks) (sym c.as_slice.ensures.value) (asks_clerks c.args.admission.now batch.rows _ batch.each)
+    subst (λ (asks : List Asked). All (λ (a : Asked). a.clerk < most_clerks) asks) (sym c.as_slice.ensures.value) (asks_clerks c.args.session.now.admission.now batch.rows _ batch.each)
 
 pub returns-in_err-answer-clause-stopped : goal.returns-in_err-answer-clause-stopped
 returns-in_err-answer-clause-stopped g c =
@@ -51,13 +57,25 @@ returns-in_err-answer-clause-stopped g c =
     let old = c.args.desk.now in
     let mid = c.loop.desk in
     let new = c.answer.new.desk in
+    let batch = c.next_batch-end.ensures.batch in
+    let asks = c.next_batch-end.new.asks.items in
     let asked = c.answer.ensures.asked in
-    if_err c.from_residual.result c.in_err-answer.field-0.0 _ c.from_residual.ensures.1 (λ other.
-    let same : g.W.Write.contents c.answer.new.writer ≡ g.W.Write.contents c.loop.writer = c.in_err-answer.ensures.unsaid other in
-    let so_far = subst (λ (w : Option (List ℕ)). Progress c.args.admission.now c.args.rows.now.left c.loop.rows.left old.desk.journal mid.desk.journal (g.W.Write.contents c.args.writer.now) w c.loop.row c.loop.refused) (sym same) inv.progress in
-    halted c.args.admission.now (λ gone. IsBehind c.in_err-answer.field-0.0 gone) (λ kept. g.D.Device.tells → (f : List ℕ) → g.D.Device.may_leave new.file.device f → StandsWithin new.desk.opening.version kept new.desk.journal f)
-    c.args.rows.now.left c.loop.rows.left old.desk.journal mid.desk.journal (g.W.Write.contents c.args.writer.now) (g.W.Write.contents c.answer.new.writer) c.loop.row c.loop.refused so_far
-    (λ gone count. c.in_err-answer.ensures.other gone) (λ tells f left. kept_first g.D.Device.moment g.D.Device.left_since g.D.Device.seen g.D.Device.may_leave g.met.D.Device.counts_now mid new (entries_of c.as_slice.result.now asked.0) c.answer.ensures.opening asked.1 (c.answer.ensures.any_moment tells) f left))
+    let value = c.as_slice.ensures.value in
+    let why = c.in_err-answer.field-0.0 in
+    let end = c.next_batch-end.result in
+    let some : 0 < length asks = subst (λ (n : ℕ). 0 < n) (ap length value) c.in_err-answer.ensures.some in
+    let grown : new.desk.journal ≡ mid.desk.journal ++ entries_of asks asked.0 = asked.1 ∙ ap (λ (a : List Asked). mid.desk.journal ++ entries_of a asked.0) value in
+    let full : why ≡ Output → length asked.0 ≡ length asks = λ is. asked.2 (c.in_err-answer.was ∙ ap (λ (f : ServingFault). Err f) is) ∙ ap length value in
+    let given : HasGiven c.args.rows.now c.next_batch-end.new.rows (c.loop.row + (length asks + refused end)) = gives c.args.rows.now c.loop.rows c.next_batch-end.new.rows c.loop.row (length asks + refused end) inv.given c.next_batch-end.ensures.given in
+    if_err c.from_residual.result why _ c.from_residual.ensures.1 (
+      mid.desk.journal,
+      text_so_far c.args.session.now.admission.now c.args.rows.now.left c.loop.rows.left old.desk.journal mid.desk.journal (g.W.Write.contents c.args.writer.now) (g.W.Write.contents c.loop.writer) c.loop.row c.loop.refused inv.progress,
+      unanswered c.args.session.now.admission.now why c.args.rows.now c.next_batch-end.new.rows c.loop.rows.left c.next_batch-end.new.rows.left old.desk.journal mid.desk.journal new.desk.journal (g.W.Write.contents c.args.writer.now) (g.W.Write.contents c.loop.writer) c.loop.row c.loop.refused
+          batch.rows asks asked.0 end inv.progress batch.each batch.goes_on c.next_batch-end.ensures.few some grown full given c.in_err-answer.ensures.other,
+      λ other. subst (λ (w : Option (List ℕ)). Appends (g.W.Write.contents c.args.writer.now) w (text_so_far c.args.session.now.admission.now c.args.rows.now.left c.loop.rows.left old.desk.journal mid.desk.journal (g.W.Write.contents c.args.writer.now) (g.W.Write.contents c.loop.writer) c.loop.row c.loop.refused inv.progress))
+          (sym (c.in_err-answer.ensures.unsaid other)) inv.progress.said,
+      λ tells f left. kept_first g.D.Device.moment g.D.Device.left_since g.D.Device.seen g.D.Device.may_leave g.met.D.Device.counts_now mid new (entries_of c.as_slice.result.now asked.0) c.answer.ensures.opening asked.1 (c.answer.ensures.any_moment tells) f left,
+    )
 
 pub returns-in_err-answer-clause-any_moment : goal.returns-in_err-answer-clause-any_moment
 returns-in_err-answer-clause-any_moment g c = λ tells.
@@ -111,14 +129,16 @@ returns-in-Over-clause-answered g c =
     let grown : c.answer.new.desk.desk.journal ≡ mid.desk.journal ++ entries_of asks said.0 = said.2 ∙ ap (λ (a : List Asked). mid.desk.journal ++ entries_of a said.0) value in
     let count : length said.0 ≡ length asks = said.1 ∙ ap length value in
     let text = subst (λ (a : List Asked). Appends (g.W.Write.contents c.loop.writer) (g.W.Write.contents c.answer.new.writer) (text_of_rows (rows_from (length mid.desk.journal + 1) (entries_of a said.0)))) value said.3 in
-    let ends = subst (λ (e : BatchEnd). EndsBy c.args.admission.now e c.loop.rows.left batch.rows c.next_batch-end.new.rows.left) c.in-Over.is batch.goes_on in
-    done c.args.admission.now c.args.rows.now.left ends.0 old.desk.journal c.answer.new.desk.desk.journal (g.W.Write.contents c.args.writer.now) (g.W.Write.contents c.answer.new.writer) (c.loop.row + length asks) c.loop.refused
-    (batch_more c.args.admission.now c.args.rows.now.left c.loop.rows.left ends.0 old.desk.journal mid.desk.journal c.answer.new.desk.desk.journal
+    let ends = subst (λ (e : BatchEnd). EndsBy c.args.session.now.admission.now e c.loop.rows.left batch.rows c.next_batch-end.new.rows.left) c.in-Over.is batch.goes_on in
+    let given = gives c.args.rows.now c.loop.rows c.next_batch-end.new.rows c.loop.row (length asks + refused end.Over) inv.given (subst (λ (e : BatchEnd). HasGiven c.loop.rows c.next_batch-end.new.rows (length asks + refused e)) c.in-Over.is c.next_batch-end.ensures.given) in
+    let sizes : c.loop.row + (length asks + 0) ≡ c.loop.row + length asks = omega arith in
+    done c.args.session.now.admission.now c.args.rows.now c.next_batch-end.new.rows ends.0 old.desk.journal c.answer.new.desk.desk.journal (g.W.Write.contents c.args.writer.now) (g.W.Write.contents c.answer.new.writer) (c.loop.row + length asks) c.loop.refused
+    (batch_more c.args.session.now.admission.now c.args.rows.now.left c.loop.rows.left ends.0 old.desk.journal mid.desk.journal c.answer.new.desk.desk.journal
     (g.W.Write.contents c.args.writer.now) (g.W.Write.contents c.loop.writer) (g.W.Write.contents c.answer.new.writer) c.loop.row c.loop.refused
-    batch.rows asks said.0 inv.progress ends.1 batch.each count grown text) ends.2
+    batch.rows asks said.0 inv.progress ends.1 batch.each count grown text) ends.2 (subst (λ (n : ℕ). HasGiven c.args.rows.now c.next_batch-end.new.rows n) sizes given)
 
 pub returns-in-ReadFailed-clause-stopped : goal.returns-in-ReadFailed-clause-stopped
-returns-in-ReadFailed-clause-stopped g c = λ other.
+returns-in-ReadFailed-clause-stopped g c =
     let inv = c.loop.invariant in
     let old = c.args.desk.now in
     let mid = c.loop.desk in
@@ -131,17 +151,24 @@ returns-in-ReadFailed-clause-stopped g c = λ other.
     let text = subst (λ (a : List Asked). Appends (g.W.Write.contents c.loop.writer) (g.W.Write.contents c.answer.new.writer) (text_of_rows (rows_from (length mid.desk.journal + 1) (entries_of a said.0)))) value said.3 in
     let size : c.len.result ≡ length asks = c.len.ensures ∙ c.next_batch-end.new.asks.ok.0 in
     let new = c.answer.new.desk in
-    let ends = subst (λ (e : BatchEnd). EndsBy c.args.admission.now e c.loop.rows.left batch.rows c.next_batch-end.new.rows.left) c.in-ReadFailed.is batch.goes_on in
-    let so_far = batch_more c.args.admission.now c.args.rows.now.left c.loop.rows.left ends.0 old.desk.journal mid.desk.journal c.answer.new.desk.desk.journal
+    let ends = subst (λ (e : BatchEnd). EndsBy c.args.session.now.admission.now e c.loop.rows.left batch.rows c.next_batch-end.new.rows.left) c.in-ReadFailed.is batch.goes_on in
+    let so_far = batch_more c.args.session.now.admission.now c.args.rows.now.left c.loop.rows.left ends.0 old.desk.journal mid.desk.journal c.answer.new.desk.desk.journal
     (g.W.Write.contents c.args.writer.now) (g.W.Write.contents c.loop.writer) (g.W.Write.contents c.answer.new.writer) c.loop.row c.loop.refused
     batch.rows asks said.0 inv.progress ends.1 batch.each count grown text in
-    halted c.args.admission.now (λ gone. IsBehind c.read_failed.result gone) (λ kept. g.D.Device.tells → (f : List ℕ) → g.D.Device.may_leave new.file.device f → StandsWithin new.desk.opening.version kept new.desk.journal f)
-    c.args.rows.now.left ends.0 old.desk.journal new.desk.journal (g.W.Write.contents c.args.writer.now) (g.W.Write.contents c.answer.new.writer) (c.loop.row + length asks) c.loop.refused so_far
-    (λ gone count. subst (λ (fault : ServingFault). IsBehind fault gone) (sym c.read_failed.ensures) (omega (arith, size, count)))
-    (λ tells f left. kept_all g.D.Device.moment g.D.Device.left_since g.D.Device.seen g.D.Device.may_leave new (c.in_ok-answer.ensures.durable tells) f left)
+    let given = gives c.args.rows.now c.loop.rows c.next_batch-end.new.rows c.loop.row (length asks + refused end.ReadFailed) inv.given (subst (λ (e : BatchEnd). HasGiven c.loop.rows c.next_batch-end.new.rows (length asks + refused e)) c.in-ReadFailed.is c.next_batch-end.ensures.given) in
+    let sizes : c.loop.row + (length asks + 0) ≡ c.loop.row + length asks = omega arith in (
+      new.desk.journal,
+      text_so_far c.args.session.now.admission.now c.args.rows.now.left ends.0 old.desk.journal new.desk.journal (g.W.Write.contents c.args.writer.now) (g.W.Write.contents c.answer.new.writer) (c.loop.row + length asks) c.loop.refused so_far,
+      halts_here c.args.session.now.admission.now c.read_failed.result c.args.rows.now c.next_batch-end.new.rows ends.0 old.desk.journal new.desk.journal (g.W.Write.contents c.args.writer.now) (g.W.Write.contents c.answer.new.writer) (c.loop.row + length asks) c.loop.refused so_far
+          (subst (λ (n : ℕ). HasGiven c.args.rows.now c.next_batch-end.new.rows n) sizes given)
+          (λ answered is. subst (λ (fault : ServingFault). IsBehind fault answered 0 0) (sym c.read_failed.ensures) (omega (arith, size, is), refl))
+          (λ sound failed. (_, c.read_failed.ensures)),
+      λ other. so_far.said,
+      λ tells f left. kept_all g.D.Device.moment g.D.Device.left_since g.D.Device.seen g.D.Device.may_leave new (c.in_ok-answer.ensures.durable tells) f left,
+    )
 
 pub returns-in-NoMemory-clause-stopped : goal.returns-in-NoMemory-clause-stopped
-returns-in-NoMemory-clause-stopped g c = λ other.
+returns-in-NoMemory-clause-stopped g c =
     let inv = c.loop.invariant in
     let old = c.args.desk.now in
     let mid = c.loop.desk in
@@ -153,13 +180,21 @@ returns-in-NoMemory-clause-stopped g c = λ other.
     let count : length said.0 ≡ length asks = said.1 ∙ ap length value in
     let text = subst (λ (a : List Asked). Appends (g.W.Write.contents c.loop.writer) (g.W.Write.contents c.answer.new.writer) (text_of_rows (rows_from (length mid.desk.journal + 1) (entries_of a said.0)))) value said.3 in
     let new = c.answer.new.desk in
-    let ends = subst (λ (e : BatchEnd). EndsBy c.args.admission.now e c.loop.rows.left batch.rows c.next_batch-end.new.rows.left) c.in-NoMemory.is batch.goes_on in
-    let so_far = batch_more c.args.admission.now c.args.rows.now.left c.loop.rows.left ends.0 old.desk.journal mid.desk.journal c.answer.new.desk.desk.journal
+    let ends = subst (λ (e : BatchEnd). EndsBy c.args.session.now.admission.now e c.loop.rows.left batch.rows c.next_batch-end.new.rows.left) c.in-NoMemory.is batch.goes_on in
+    let so_far = batch_more c.args.session.now.admission.now c.args.rows.now.left c.loop.rows.left ends.0 old.desk.journal mid.desk.journal c.answer.new.desk.desk.journal
     (g.W.Write.contents c.args.writer.now) (g.W.Write.contents c.loop.writer) (g.W.Write.contents c.answer.new.writer) c.loop.row c.loop.refused
     batch.rows asks said.0 inv.progress ends.1 batch.each count grown text in
-    halted c.args.admission.now (λ gone. IsBehind (App Memory) gone) (λ kept. g.D.Device.tells → (f : List ℕ) → g.D.Device.may_leave new.file.device f → StandsWithin new.desk.opening.version kept new.desk.journal f)
-    c.args.rows.now.left ends.0 old.desk.journal new.desk.journal (g.W.Write.contents c.args.writer.now) (g.W.Write.contents c.answer.new.writer) (c.loop.row + length asks) c.loop.refused so_far
-    (λ gone count. tt) (λ tells f left. kept_all g.D.Device.moment g.D.Device.left_since g.D.Device.seen g.D.Device.may_leave new (c.in_ok-answer.ensures.durable tells) f left)
+    let given = gives c.args.rows.now c.loop.rows c.next_batch-end.new.rows c.loop.row (length asks + refused end.NoMemory) inv.given (subst (λ (e : BatchEnd). HasGiven c.loop.rows c.next_batch-end.new.rows (length asks + refused e)) c.in-NoMemory.is c.next_batch-end.ensures.given) in
+    let sizes : c.loop.row + (length asks + 0) ≡ c.loop.row + length asks = omega arith in (
+      new.desk.journal,
+      text_so_far c.args.session.now.admission.now c.args.rows.now.left ends.0 old.desk.journal new.desk.journal (g.W.Write.contents c.args.writer.now) (g.W.Write.contents c.answer.new.writer) (c.loop.row + length asks) c.loop.refused so_far,
+      halts_here c.args.session.now.admission.now (App Memory) c.args.rows.now c.next_batch-end.new.rows ends.0 old.desk.journal new.desk.journal (g.W.Write.contents c.args.writer.now) (g.W.Write.contents c.answer.new.writer) (c.loop.row + length asks) c.loop.refused so_far
+          (subst (λ (n : ℕ). HasGiven c.args.rows.now c.next_batch-end.new.rows n) sizes given)
+          (λ answered is. omega arith)
+          (λ sound failed. absurd (cc (c.in-NoMemory.is, c.next_batch-end.ensures.told (inv.sound sound) failed))),
+      λ other. so_far.said,
+      λ tells f left. kept_all g.D.Device.moment g.D.Device.left_since g.D.Device.seen g.D.Device.may_leave new (c.in_ok-answer.ensures.durable tells) f left,
+    )
 
 pub loop-preserved : goal.loop-preserved
 loop-preserved g c =
@@ -185,12 +220,12 @@ loop-preserved g c =
     let left = c.loop.rows.left in
     let after = c.next_batch-end.new.rows.left in
     let start = contents c.args.writer.now in
-    let ends : (e : BatchEnd) → c.next_batch-end.result ≡ e → EndsBy c.args.admission.now e left batch.rows after = λ e is. subst (λ (x : BatchEnd). EndsBy c.args.admission.now x left batch.rows after) is batch.goes_on in
+    let ends : (e : BatchEnd) → c.next_batch-end.result ≡ e → EndsBy c.args.session.now.admission.now e left batch.rows after = λ e is. subst (λ (x : BatchEnd). EndsBy c.args.session.now.admission.now x left batch.rows after) is batch.goes_on in
     let opening = c.answer.ensures.opening ∙ inv.opening in
     let failures : g.D.Device.tells → g.D.Device.failures new.file.device ≡ g.D.Device.failures old.file.device = λ tells.
     not_failed (g.D.Device.failures mid.file.device) (g.D.Device.failures new.file.device) (c.answer.ensures.steady tells) (λ rise. cc (c.in_ok-answer.ensures.told tells rise)) ∙ inv.failures tells in
-    let on_roll = entries_on_roll c.args.admission.now batch.rows asks said.0 batch.each in
-    let entries : AddsOnRoll c.args.admission.now old.desk.journal new.desk.journal = adds_more c.args.admission.now old.desk.journal mid.desk.journal new.desk.journal (entries_of asks said.0) inv.grown grown on_roll in
+    let on_roll = entries_on_roll c.args.session.now.admission.now batch.rows asks said.0 batch.each in
+    let entries : AddsOnRoll c.args.session.now.admission.now old.desk.journal new.desk.journal = adds_more c.args.session.now.admission.now old.desk.journal mid.desk.journal new.desk.journal (entries_of asks said.0) inv.grown grown on_roll in
     elim c.match-end.branch [
       | in-More w ↦
           let row = w.row-is in
@@ -200,13 +235,17 @@ loop-preserved g c =
             few = omega (arith, row, size, few, before);
             many = omega (arith, row, size, some, many);
             fewer = omega (arith, row, bad, size, fewer);
+            sound = λ sound failed. cc (w.in-More.is, c.next_batch-end.ensures.told (inv.sound sound) failed);
             failures = failures;
+            legal = c.answer.ensures.legal;
+            given = subst (λ (n : ℕ). HasGiven c.args.rows.now c.next_batch-end.new.rows n) (omega (arith, row, size)) (gives c.args.rows.now c.loop.rows c.next_batch-end.new.rows c.loop.row (length asks + refused end.More) inv.given
+                (subst (λ (e : BatchEnd). HasGiven c.loop.rows c.next_batch-end.new.rows (length asks + refused e)) w.in-More.is c.next_batch-end.ensures.given));
             opening = opening;
             durable = λ tells. c.in_ok-answer.ensures.durable tells;
             grown = entries;
-            progress = moved c.args.admission.now all after old.desk.journal new.desk.journal start (contents c.answer.new.writer) (contents c.match-end.writer) (c.loop.row + length asks) c.loop.refused c.match-end.row c.match-end.refused
+            progress = moved c.args.session.now.admission.now all after old.desk.journal new.desk.journal start (contents c.answer.new.writer) (contents c.match-end.writer) (c.loop.row + length asks) c.loop.refused c.match-end.row c.match-end.refused
                 (ap contents w.writer-is) (omega (arith, row, size)) bad
-                (batch_more c.args.admission.now all left after old.desk.journal mid.desk.journal new.desk.journal start (contents c.loop.writer) (contents c.answer.new.writer) c.loop.row c.loop.refused
+                (batch_more c.args.session.now.admission.now all left after old.desk.journal mid.desk.journal new.desk.journal start (contents c.loop.writer) (contents c.answer.new.writer) c.loop.row c.loop.refused
                 batch.rows asks said.0 inv.progress (ends end.More w.in-More.is) batch.each count grown text);
             any_moment = λ tells. goes_on g.D.Device.moment g.D.Device.left_since g.D.Device.seen g.D.Device.may_leave old mid new inv.grown.0 (entries_of c.as_slice.result.now asked.0) inv.opening inv.grown.1 asked.1 (inv.any_moment tells) (c.answer.ensures.any_moment tells);
           }
@@ -221,15 +260,19 @@ loop-preserved g c =
             few = omega (arith, row, size, few, before);
             many = omega (arith, row, size, many);
             fewer = omega (arith, row, bad, size, fewer);
+            sound = λ sound failed. cc (w.in-Refused.is, c.next_batch-end.ensures.told (inv.sound sound) failed);
             failures = failures;
+            legal = c.answer.ensures.legal;
+            given = subst (λ (n : ℕ). HasGiven c.args.rows.now c.next_batch-end.new.rows n) (omega (arith, row, size)) (gives c.args.rows.now c.loop.rows c.next_batch-end.new.rows c.loop.row (length asks + refused (end.Refused w.in-Refused.why)) inv.given
+                (subst (λ (e : BatchEnd). HasGiven c.loop.rows c.next_batch-end.new.rows (length asks + refused e)) w.in-Refused.is c.next_batch-end.ensures.given));
             opening = opening;
             durable = λ tells. c.in_ok-answer.ensures.durable tells;
             grown = entries;
-            progress = moved c.args.admission.now all after old.desk.journal new.desk.journal start (contents w.say_refused.new.writer) (contents c.match-end.writer) (c.loop.row + length asks + 1) (c.loop.refused + 1) c.match-end.row c.match-end.refused
+            progress = moved c.args.session.now.admission.now all after old.desk.journal new.desk.journal start (contents w.say_refused.new.writer) (contents c.match-end.writer) (c.loop.row + length asks + 1) (c.loop.refused + 1) c.match-end.row c.match-end.refused
                 (ap contents w.writer-is) (omega (arith, row, size)) bad
-                (bad_more c.args.admission.now all between.0 after old.desk.journal new.desk.journal new.desk.journal start (contents c.answer.new.writer) (contents w.say_refused.new.writer) (c.loop.row + length asks) c.loop.refused
+                (bad_more c.args.session.now.admission.now all between.0 after old.desk.journal new.desk.journal new.desk.journal start (contents c.answer.new.writer) (contents w.say_refused.new.writer) (c.loop.row + length asks) c.loop.refused
                 here.0 w.in-Refused.why
-                (batch_more c.args.admission.now all left between.0 old.desk.journal mid.desk.journal new.desk.journal start (contents c.loop.writer) (contents c.answer.new.writer) c.loop.row c.loop.refused
+                (batch_more c.args.session.now.admission.now all left between.0 old.desk.journal mid.desk.journal new.desk.journal start (contents c.loop.writer) (contents c.answer.new.writer) c.loop.row c.loop.refused
                 batch.rows asks said.0 inv.progress between.1 batch.each count grown text)
                 between.2 here.1 line_is);
             any_moment = λ tells. goes_on g.D.Device.moment g.D.Device.left_since g.D.Device.seen g.D.Device.may_leave old mid new inv.grown.0 (entries_of c.as_slice.result.now asked.0) inv.opening inv.grown.1 asked.1 (inv.any_moment tells) (c.answer.ensures.any_moment tells);
@@ -237,13 +280,53 @@ loop-preserved g c =
     ]
 
 pub returns-clause-stopped : goal.returns-clause-stopped
-returns-clause-stopped g c = λ other.
+returns-clause-stopped g c =
     let inv = c.loop.invariant in
     let old = c.args.desk.now in
+    let mid = c.loop.desk in (
+      mid.desk.journal,
+      text_so_far c.args.session.now.admission.now c.args.rows.now.left c.loop.rows.left old.desk.journal mid.desk.journal (g.W.Write.contents c.args.writer.now) (g.W.Write.contents c.loop.writer) c.loop.row c.loop.refused inv.progress,
+      halts_here c.args.session.now.admission.now (App (Script TooManyRows)) c.args.rows.now c.loop.rows c.loop.rows.left old.desk.journal mid.desk.journal (g.W.Write.contents c.args.writer.now) (g.W.Write.contents c.loop.writer) c.loop.row c.loop.refused inv.progress
+          inv.given (λ answered is. let many = inv.many in (omega (arith, is, many, c.loop-test.false), refl))
+          (λ sound failed. absurd (inv.sound sound failed)),
+      λ other. inv.progress.said,
+      λ tells f left. kept_all g.D.Device.moment g.D.Device.left_since g.D.Device.seen g.D.Device.may_leave mid (inv.durable tells) f left,
+    )
+
+pub returns-in_err-say_refused-in-Refused-clause-stopped : goal.returns-in_err-say_refused-in-Refused-clause-stopped
+returns-in_err-say_refused-in-Refused-clause-stopped g c =
+    let inv = c.loop.invariant in
+    let ad = c.args.session.now.admission.now in
+    let old = c.args.desk.now in
     let mid = c.loop.desk in
-    halted c.args.admission.now (λ gone. IsBehind (App (Script TooManyRows)) gone) (λ kept. g.D.Device.tells → (f : List ℕ) → g.D.Device.may_leave mid.file.device f → StandsWithin mid.desk.opening.version kept mid.desk.journal f)
-    c.args.rows.now.left c.loop.rows.left old.desk.journal mid.desk.journal (g.W.Write.contents c.args.writer.now) (g.W.Write.contents c.loop.writer) c.loop.row c.loop.refused inv.progress
-    (λ gone count. let many = inv.many in omega (arith, count, many, c.loop-test.false)) (λ tells f left. kept_all g.D.Device.moment g.D.Device.left_since g.D.Device.seen g.D.Device.may_leave mid (inv.durable tells) f left)
+    let new = c.answer.new.desk in
+    let contents = g.W.Write.contents in
+    let batch = c.next_batch-end.ensures.batch in
+    let said = c.in_ok-answer.ensures.said in
+    let asks = c.next_batch-end.new.asks.items in
+    let value = c.as_slice.ensures.value in
+    let grown : new.desk.journal ≡ mid.desk.journal ++ entries_of asks said.0 = said.2 ∙ ap (λ (a : List Asked). mid.desk.journal ++ entries_of a said.0) value in
+    let count : length said.0 ≡ length asks = said.1 ∙ ap length value in
+    let text = subst (λ (a : List Asked). Appends (contents c.loop.writer) (contents c.answer.new.writer) (text_of_rows (rows_from (length mid.desk.journal + 1) (entries_of a said.0)))) value said.3 in
+    let here = subst (λ (e : BatchEnd). EndsBy ad e c.loop.rows.left batch.rows c.next_batch-end.new.rows.left) c.in-Refused.is batch.goes_on in
+    let between = gone_mid c.loop.rows.left c.next_batch-end.new.rows.left batch.rows here.0 here.2 in
+    let so_far = batch_more ad c.args.rows.now.left c.loop.rows.left between.0 old.desk.journal mid.desk.journal new.desk.journal (contents c.args.writer.now) (contents c.loop.writer) (contents c.answer.new.writer) c.loop.row c.loop.refused
+    batch.rows asks said.0 inv.progress between.1 batch.each count grown text in
+    let given = gives c.args.rows.now c.loop.rows c.next_batch-end.new.rows c.loop.row (length asks + refused (end.Refused c.in-Refused.why)) inv.given (subst (λ (e : BatchEnd). HasGiven c.loop.rows c.next_batch-end.new.rows (length asks + refused e)) c.in-Refused.is c.next_batch-end.ensures.given) in
+    let sizes : c.loop.row + (length asks + 1) ≡ c.loop.row + length asks + (1 + 0) = omega arith in
+    let why = c.in_err-say_refused-in-Refused.field-0.0 in
+    let is : why ≡ Output = c.in_err-say_refused-in-Refused.ensures.fault in
+    let whys : List Outcome = Err c.in-Refused.why ∷ [] in
+    if_err c.from_residual-in_err-say_refused-in-Refused.result why _ c.from_residual-in_err-say_refused-in-Refused.ensures.1 (
+      new.desk.journal,
+      text_so_far ad c.args.rows.now.left between.0 old.desk.journal new.desk.journal (contents c.args.writer.now) (contents c.answer.new.writer) (c.loop.row + length asks) c.loop.refused so_far,
+      halts ad why c.args.rows.now c.next_batch-end.new.rows between.0 c.next_batch-end.new.rows.left old.desk.journal new.desk.journal new.desk.journal (contents c.args.writer.now) (contents c.answer.new.writer) (c.loop.row + length asks) c.loop.refused
+          (here.0 ∷ []) [] whys so_far between.2 (here.1, tt) (sym (append-nil new.desk.journal)) (subst (λ (n : ℕ). HasGiven c.args.rows.now c.next_batch-end.new.rows n) sizes given)
+          (λ answered same. subst (λ (fault : ServingFault). IsBehind fault answered 1 0) (sym is) (omega arith, refl))
+          (λ sound failed none. absurd (cc none)),
+      λ other. absurd (other is),
+      λ tells f left. kept_all g.D.Device.moment g.D.Device.left_since g.D.Device.seen g.D.Device.may_leave new (c.in_ok-answer.ensures.durable tells) f left,
+    )
 
 pub returns-in_err-answer-clause-grown : goal.returns-in_err-answer-clause-grown
 returns-in_err-answer-clause-grown g c =
@@ -251,9 +334,9 @@ returns-in_err-answer-clause-grown g c =
     let batch = c.next_batch-end.ensures.batch in
     let asked = c.answer.ensures.asked in
     let value = c.as_slice.ensures.value in
-    adds_more c.args.admission.now c.args.desk.now.desk.journal c.loop.desk.desk.journal c.answer.new.desk.desk.journal (entries_of c.as_slice.result.now asked.0) inv.grown asked.1
-    (subst (λ (a : List Asked). All (λ (x : EntryView). is_on_roll c.args.admission.now x.request ≡ true) (entries_of a asked.0)) (sym value)
-    (entries_on_roll c.args.admission.now batch.rows c.next_batch-end.new.asks.items asked.0 batch.each))
+    adds_more c.args.session.now.admission.now c.args.desk.now.desk.journal c.loop.desk.desk.journal c.answer.new.desk.desk.journal (entries_of c.as_slice.result.now asked.0) inv.grown asked.1
+    (subst (λ (a : List Asked). All (λ (x : EntryView). is_on_roll c.args.session.now.admission.now x.request ≡ true) (entries_of a asked.0)) (sym value)
+    (entries_on_roll c.args.session.now.admission.now batch.rows c.next_batch-end.new.asks.items asked.0 batch.each))
 
 pub returns-in-Over-clause-grown : goal.returns-in-Over-clause-grown
 returns-in-Over-clause-grown g c =
@@ -261,9 +344,9 @@ returns-in-Over-clause-grown g c =
     let batch = c.next_batch-end.ensures.batch in
     let asked = c.answer.ensures.asked in
     let value = c.as_slice.ensures.value in
-    adds_more c.args.admission.now c.args.desk.now.desk.journal c.loop.desk.desk.journal c.answer.new.desk.desk.journal (entries_of c.as_slice.result.now asked.0) inv.grown asked.1
-    (subst (λ (a : List Asked). All (λ (x : EntryView). is_on_roll c.args.admission.now x.request ≡ true) (entries_of a asked.0)) (sym value)
-    (entries_on_roll c.args.admission.now batch.rows c.next_batch-end.new.asks.items asked.0 batch.each))
+    adds_more c.args.session.now.admission.now c.args.desk.now.desk.journal c.loop.desk.desk.journal c.answer.new.desk.desk.journal (entries_of c.as_slice.result.now asked.0) inv.grown asked.1
+    (subst (λ (a : List Asked). All (λ (x : EntryView). is_on_roll c.args.session.now.admission.now x.request ≡ true) (entries_of a asked.0)) (sym value)
+    (entries_on_roll c.args.session.now.admission.now batch.rows c.next_batch-end.new.asks.items asked.0 batch.each))
 
 pub returns-in-ReadFailed-clause-grown : goal.returns-in-ReadFailed-clause-grown
 returns-in-ReadFailed-clause-grown g c =
@@ -271,9 +354,9 @@ returns-in-ReadFailed-clause-grown g c =
     let batch = c.next_batch-end.ensures.batch in
     let asked = c.answer.ensures.asked in
     let value = c.as_slice.ensures.value in
-    adds_more c.args.admission.now c.args.desk.now.desk.journal c.loop.desk.desk.journal c.answer.new.desk.desk.journal (entries_of c.as_slice.result.now asked.0) inv.grown asked.1
-    (subst (λ (a : List Asked). All (λ (x : EntryView). is_on_roll c.args.admission.now x.request ≡ true) (entries_of a asked.0)) (sym value)
-    (entries_on_roll c.args.admission.now batch.rows c.next_batch-end.new.asks.items asked.0 batch.each))
+    adds_more c.args.session.now.admission.now c.args.desk.now.desk.journal c.loop.desk.desk.journal c.answer.new.desk.desk.journal (entries_of c.as_slice.result.now asked.0) inv.grown asked.1
+    (subst (λ (a : List Asked). All (λ (x : EntryView). is_on_roll c.args.session.now.admission.now x.request ≡ true) (entries_of a asked.0)) (sym value)
+    (entries_on_roll c.args.session.now.admission.now batch.rows c.next_batch-end.new.asks.items asked.0 batch.each))
 
 pub returns-in-NoMemory-clause-grown : goal.returns-in-NoMemory-clause-grown
 returns-in-NoMemory-clause-grown g c =
@@ -281,9 +364,9 @@ returns-in-NoMemory-clause-grown g c =
     let batch = c.next_batch-end.ensures.batch in
     let asked = c.answer.ensures.asked in
     let value = c.as_slice.ensures.value in
-    adds_more c.args.admission.now c.args.desk.now.desk.journal c.loop.desk.desk.journal c.answer.new.desk.desk.journal (entries_of c.as_slice.result.now asked.0) inv.grown asked.1
-    (subst (λ (a : List Asked). All (λ (x : EntryView). is_on_roll c.args.admission.now x.request ≡ true) (entries_of a asked.0)) (sym value)
-    (entries_on_roll c.args.admission.now batch.rows c.next_batch-end.new.asks.items asked.0 batch.each))
+    adds_more c.args.session.now.admission.now c.args.desk.now.desk.journal c.loop.desk.desk.journal c.answer.new.desk.desk.journal (entries_of c.as_slice.result.now asked.0) inv.grown asked.1
+    (subst (λ (a : List Asked). All (λ (x : EntryView). is_on_roll c.args.session.now.admission.now x.request ≡ true) (entries_of a asked.0)) (sym value)
+    (entries_on_roll c.args.session.now.admission.now batch.rows c.next_batch-end.new.asks.items asked.0 batch.each))
 
 pub returns-in_err-say_refused-in-Refused-clause-grown : goal.returns-in_err-say_refused-in-Refused-clause-grown
 returns-in_err-say_refused-in-Refused-clause-grown g c =
@@ -291,9 +374,9 @@ returns-in_err-say_refused-in-Refused-clause-grown g c =
     let batch = c.next_batch-end.ensures.batch in
     let asked = c.answer.ensures.asked in
     let value = c.as_slice.ensures.value in
-    adds_more c.args.admission.now c.args.desk.now.desk.journal c.loop.desk.desk.journal c.answer.new.desk.desk.journal (entries_of c.as_slice.result.now asked.0) inv.grown asked.1
-    (subst (λ (a : List Asked). All (λ (x : EntryView). is_on_roll c.args.admission.now x.request ≡ true) (entries_of a asked.0)) (sym value)
-    (entries_on_roll c.args.admission.now batch.rows c.next_batch-end.new.asks.items asked.0 batch.each))
+    adds_more c.args.session.now.admission.now c.args.desk.now.desk.journal c.loop.desk.desk.journal c.answer.new.desk.desk.journal (entries_of c.as_slice.result.now asked.0) inv.grown asked.1
+    (subst (λ (a : List Asked). All (λ (x : EntryView). is_on_roll c.args.session.now.admission.now x.request ≡ true) (entries_of a asked.0)) (sym value)
+    (entries_on_roll c.args.session.now.admission.now batch.rows c.next_batch-end.new.asks.items asked.0 batch.each))
 
 pub returns-in_err-answer-clause-write : goal.returns-in_err-answer-clause-write
 returns-in_err-answer-clause-write g c = λ tells said.
