@@ -7,7 +7,6 @@ use Rattle.pb_greedy.specs.MostVotes.{is_taken, most_votes_first, votes_at}
 use Rattle.pb_price.specs.Supporters.{cost_at, support_of}
 use Rattle.pb_reasons.specs.Comparison.{comparison_of}
 use Rattle.pb_reasons.specs.Counted.{CountedView, winners_of}
-use Rattle.pb_reasons.specs.declared.comparison.Comparison.{Comparison}
 use Rattle.pb_reasons.specs.declared.rule_row.RuleRow.{RuleRow}
 use Rattle.pb_rows.specs.Reading.{Fields}
 use Rattle.pb_rows.specs.Writing.{text_of_rows}
