@@ -1,5 +1,5 @@
 -- What a desk that is open to all admits.
-use Rattle.std.proofs.Common.{◌≡◌, ℕ, List, Option, Some, None, Ok, Err, refl, true, Bool, ap, cond, nat_le, length, rules}
+use Rattle.std.proofs.Common.{◌≡◌, ℕ, Option, Some, None, Ok, Err, refl, true, Bool, ap, cond, nat_le, length, rules}
 use Rattle.pb_core.specs.Request.{RequestView, Cast, Replace, Withdraw, Shut}
 use Rattle.pb_rows.specs.Reading.{Fields}
 use Rattle.pb_script.specs.Admission.{Judges, open_to_all, refusal_of}

@@ -1,4 +1,4 @@
-use Rattle.std.proofs.Common.{◌≡◌, ◌∙◌, ◌≤◌, ◌<◌, ◌+◌, ℕ, List, [], ◌∷◌, ◌++◌, length, true, Option, Err, IsErrAnd, refl, sym, ap, subst, arith, append_assoc}
+use Rattle.std.proofs.Common.{◌≡◌, ◌∙◌, ◌≤◌, ◌<◌, ◌+◌, ℕ, List, [], ◌∷◌, ◌++◌, length, true, Option, Err, IsErrAnd, refl, sym, ap, subst, arith}
 use Rattle.std.proofs.lemmas.List.{append-nil}
 use Rattle.std.specs.List.{All}
 use Rattle.std.specs.Io.KnownBytes.{Appends}
@@ -9,15 +9,15 @@ use Rattle.pb_durable.proofs.Openings.{if_err}
 use Rattle.pb_durable.specs.DurableDesk.{entries_of}
 use Rattle.pb_durable.specs.declared.asked.Asked.{Asked}
 use Rattle.pb_rows.specs.Writing.{text_of_rows}
-use Rattle.pb_script.specs.RowsView.{HasFailed, HasGiven}
-use Rattle.pb_serving.specs.Answered.{IsBehind, StandsWithin}
+use Rattle.pb_script.specs.RowsView.{HasGiven}
+use Rattle.pb_serving.specs.Answered.{IsBehind}
 use Rattle.pb_serving.specs.Inner.OnRoll.{AddsOnRoll}
 use Rattle.pb_serving.specs.declared.serving_fault.ServingFault.{ServingFault}
 use Rattle.pb_serving.specs.declared.serving_fault.ServingFault.TheVariants.{App, Output}
 use Rattle.pb_serving.specs.Inner.Batch.{refused, EndsBy}
 use Rattle.pb_serving.specs.declared.batch.BatchEnd.{BatchEnd}
 use Rattle.pb_serving.specs.declared.batch.BatchEnd.TheVariants as end
-use Rattle.pb_serving.proofs.Answering.{added, bad_more, batch_more, done, gives, gone_mid, halts, halts_here, moved, nothing_gone, started, text_so_far, Outcome, Progress}
+use Rattle.pb_serving.proofs.Answering.{bad_more, batch_more, done, gives, gone_mid, halts, halts_here, moved, started, text_so_far, Outcome}
 use Rattle.pb_serving.proofs.Batches.{adds_more, adds_none, asks_clerks, entries_on_roll}
 use Rattle.pb_serving.proofs.Causes.{err_is, has_cause, not_failed}
 use Rattle.pb_serving.proofs.Standings.{begins, goes_on, kept_all, kept_first}

@@ -1,5 +1,4 @@
-use Rattle.std.proofs.Common.{◌≡◌, ◌≤◌, ◌*◌, ◌++◌, List}
-use Rattle.pb_core.specs.Request.{EntryView}
+use Rattle.std.proofs.Common.{◌≡◌, ◌≤◌, ◌*◌}
 use Rattle.pb_durable.specs.Device.{LeavesOnly}
 use Rattle.pb_durable.specs.DurableDesk.{IsDurable}
 use Rattle.pb_desk.specs.Replay.{IsLegal}

@@ -1,4 +1,4 @@
-use Rattle.std.proofs.Common.{List, true, Err, subst}
+use Rattle.std.proofs.Common.{true, Err, subst}
 use Rattle.csv.specs.Records.{fields_of}
 use Rattle.pb_desk.specs.Replay.{most_clerks}
 use Rattle.pb_rows.specs.Reading.{Fields, IsNext}
