@@ -1,7 +1,8 @@
 //! What parsed arguments ask for.
 
 use crate::task::{
-    Admits, Asked, AuditRun, Ballots, CompareRun, BallotsRun, DeskRun, PageRun, ServeRun, Source, Task,
+    Admits, Asked, AuditRun, Ballots, BallotsRun, CompareRun, DeskRun, PageRun, ServeRun, Source,
+    Task,
 };
 use clap::ArgMatches;
 use pb_core::money::Money;
