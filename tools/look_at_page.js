@@ -38,6 +38,7 @@
   };
   return {
     language: document.documentElement.lang,
+    direction: document.documentElement.dir,
     title: document.title,
     heading: text(document.querySelector('h1')),
     headings: [...document.querySelectorAll('h1, h2, h3, h4, h5, h6')].map(it => Number(it.tagName[1])),
@@ -53,9 +54,11 @@
     command: text(document.querySelector('pre')),
     data: [...document.querySelectorAll('data')].map(it => [(it.closest('[data-project]') || it).dataset.project || '', it.className, it.value])
       .filter(([project, name]) => project || name),
-    shown: [...document.querySelectorAll('data')].every(it => it.textContent.split(' ')[0] === it.value),
+    figures: [...document.querySelectorAll('data')].map(it => [it.value, it.textContent]),
+    picture: document.querySelector('svg.budget').getAttribute('aria-label'),
     links: [...document.querySelectorAll('a')].map(it => [it.getAttribute('href'), text(it)]),
-    directions: [...document.querySelectorAll('bdi, h1')].every(it => it.getAttribute('dir') === 'auto'),
+    directions: [...document.querySelectorAll('bdi, h1')].every(it => it.getAttribute('dir') === 'auto')
+      && [...document.querySelectorAll('data, code')].map(it => getComputedStyle(it)).every(it => it.direction === 'ltr' && it.unicodeBidi === 'isolate'),
     tables: [...document.querySelectorAll('table')].every(it => it.caption && it.caption.textContent.trim()
       && [...it.querySelectorAll('thead th')].every(th => th.scope === 'col') && [...it.rows].slice(1).every(row => row.querySelector('th[scope=row]'))),
     scripts: document.querySelectorAll('script, iframe, object, embed, img, link:not([rel=icon])').length,

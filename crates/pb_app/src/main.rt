@@ -14,9 +14,11 @@ mod serve;
 mod spent;
 mod terminal;
 mod typing;
+mod worded;
 mod words;
 
 use crate::perform::{Notes, Refusal, perform};
+use crate::worded::{words_status, write_words_fault};
 use pb_command_line::parse::parse;
 use pb_command_line::{Asked, Parsed};
 use pb_commands::{AppFault, BAD_ARGUMENTS};
@@ -168,6 +170,10 @@ fn write_line<R: Print>(rt: &R, refusal: &Refusal) -> u8 {
         Refusal::Locked(text) => {
             let _ = writeln!(io::writer(rt), "fault;locked;{text}");
             NOT_READY
+        }
+        Refusal::Words(fault) => {
+            let _ = write_words_fault(&mut io::writer(rt), fault);
+            words_status(fault)
         }
         // Words alone say it, as of all arguments that are refused.
         Refusal::Barred => BAD_ARGUMENTS,

@@ -7,21 +7,27 @@ ghost use Rattle.pb_page.specs.Page.{IsPage};
 
 use crate::journal::open_with_journal;
 use crate::kinship::Kinship;
+use crate::perform::Refusal;
 use pb_command_line::{PageRun, Source as Given};
 use pb_commands::{AppFault, Counting, closed_ballots, counted, own_ballots, write_out};
 use pb_core::election::Election;
 use pb_core::gate::Gate;
-use pb_page::{Facts, Source, page_of};
+use pb_core::money::Money;
+use pb_markup::{Form, Words};
+use pb_page::{Facts, Language, Source, Speech, WordsFault, page_of};
 use pb_rounds::count_fault::CountFault;
-use pb_streams::{Digested, Hex, Progress, open_shown};
+use pb_streams::{Digested, Hex, Progress, open_file, open_shown};
 use pb_witness::warnings::ResultWarnings;
 use std::alloc::Global;
 use std::cell::Cell;
 use std::fs::File;
-use std::io::{Read, Write};
+use std::io::{ErrorKind, Read, Write};
 use std::path::Path;
 use std::rt::{Clock, Files};
 use std::thread::Threads;
+
+/// The number on the command line of the file with the words of a page.
+const WORDS: u32 = 3;
 
 /// What standard input is called.
 const INPUT: &str = "standard input";
@@ -35,18 +41,55 @@ struct Contents {
     journal: Option<Hex>,
 }
 
-/// Counts these ballots, and writes the page of the outcome. What refuses it, and when, is as for the tables.
+/// Counts these ballots, and writes the page of the outcome, in the language of a file of words if one is given, which is read
+/// first. What else refuses it, and when, is as for the tables.
 pub(crate) fn page<'a, R, W: Write>(
     counting: &Counting<'a, R, Progress<'a, R>>,
     run: &PageRun<'a>,
     kinship: &'a Kinship,
     writer: &mut W,
     seen: &mut ResultWarnings,
-) -> Result<(), AppFault>
+) -> Result<(), Refusal>
 where
     R: Files<File = File> + Input + Eprint + Clock + Threads + Sync,
 {
-    let read = match &run.ballots.journal {
+    let speech = speech_of(counting.rt, counting.alloc, run.words)?;
+    let read = read_ballots(counting, run, kinship, seen)?;
+    let written = write_spoken(counting, &read, run, &speech, writer);
+    drop(read);
+    drop(speech);
+    written
+}
+
+/// The language of the file of words with this path, or English.
+fn speech_of<R: Files>(rt: &R, alloc: Global, path: Option<&str>) -> Result<Speech, Refusal> {
+    let Some(path) = path else {
+        return Ok(Speech::english(alloc)?);
+    };
+    let mut file = open_file(rt, path, WORDS)?;
+    let mut text = Vec::new(alloc);
+    let read = file.read_to_end(&mut text);
+    drop(file);
+    let speech = match read {
+        Ok(_) => Speech::read(alloc, text.as_slice()),
+        Err(error) if error.kind() == ErrorKind::OutOfMemory => Err(WordsFault::NoMemory),
+        Err(_) => Err(WordsFault::ReadFailed),
+    };
+    drop(text);
+    Ok(speech?)
+}
+
+/// Reads the ballots that are counted.
+fn read_ballots<'a, R>(
+    counting: &Counting<'a, R, Progress<'a, R>>,
+    run: &PageRun<'a>,
+    kinship: &'a Kinship,
+    seen: &mut ResultWarnings,
+) -> Result<Contents, AppFault>
+where
+    R: Files<File = File> + Input + Eprint + Clock + Threads + Sync,
+{
+    match &run.ballots.journal {
         None => {
             let file = open_shown(counting.gate, &run.ballots.file)?;
             let file = Digested::new(file, &kinship.file);
@@ -56,10 +99,7 @@ where
             let (file, journal) = open_with_journal(counting, &run.ballots.file, journal, kinship)?;
             read_both(counting.alloc, file, journal, kinship, seen)
         }
-    }?;
-    let written = write_page(counting, &read, run, writer);
-    drop(read);
-    written
+    }
 }
 
 /// Reads the file's own ballots.
@@ -95,11 +135,43 @@ fn read_both<P: Read + Drop, J: Read + Drop>(
     })
 }
 
+/// Counts what was read, and writes the page of the outcome in this language.
+fn write_spoken<'a, T: Threads + Sync, G: Gate, W: Write>(
+    counting: &Counting<'_, T, G>,
+    read: &'a Contents,
+    run: &PageRun<'a>,
+    speech: &'a Speech,
+    writer: &mut W,
+) -> Result<(), Refusal> {
+    let sentences = speech.sentences(counting.alloc)?;
+    let (before, after) = match run.currency {
+        Some(currency) => speech.around(counting.alloc, currency)?,
+        None => (String::new(counting.alloc), String::new(counting.alloc)),
+    };
+    let around = (before.as_str(), after.as_str());
+    let language = Language {
+        words: Words {
+            sentences: sentences.as_slice(),
+            plural: speech.plural(),
+        },
+        amounts: form_of(speech, around, false),
+        costs: form_of(speech, around, is_whole(&read.election)),
+    };
+    let title = run.title.unwrap_or(speech.title());
+    let written = write_page(counting, read, run, title, language, writer);
+    drop(after);
+    drop(before);
+    drop(sentences);
+    Ok(written?)
+}
+
 /// Counts what was read, and writes the page of the outcome.
 fn write_page<'a, T: Threads + Sync, G: Gate, W: Write>(
     counting: &Counting<'_, T, G>,
     read: &'a Contents,
     run: &PageRun<'a>,
+    title: &'a str,
+    language: Language<'a>,
     writer: &mut W,
 ) -> Result<(), AppFault> {
     let journal = match (&run.ballots.journal, &read.journal) {
@@ -107,15 +179,41 @@ fn write_page<'a, T: Threads + Sync, G: Gate, W: Write>(
         _ => None,
     };
     let facts = Facts {
-        title: run.title,
+        title,
         file: source_of(&run.ballots.file, read.file.as_ref()),
         journal,
         recount: run.recount,
         options: *counting.options,
         fills_up: counting.fills_up,
+        language,
     };
     let text = page_text(counting, &read.election, &facts)?;
     write_whole(writer, text.as_slice())
+}
+
+/// How amounts are shown, with this before and behind them.
+fn form_of<'a>(speech: &'a Speech, around: (&'a str, &'a str), is_whole: bool) -> Form<'a> {
+    Form {
+        before: around.0,
+        after: around.1,
+        group: speech.group(),
+        point: speech.point(),
+        is_whole,
+    }
+}
+
+/// Whether the budget and all costs are whole.
+fn is_whole(election: &Election) -> bool {
+    let mut is_whole = has_no_decimals(election.budget());
+    for project in election.projects() {
+        is_whole = is_whole && has_no_decimals(project.cost());
+    }
+    is_whole
+}
+
+/// Whether an amount is whole.
+fn has_no_decimals(amount: Money) -> bool {
+    amount.0 % 100 == 0
 }
 
 /// A text that was read, by its name without its folders.

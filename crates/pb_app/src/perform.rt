@@ -20,6 +20,7 @@ use pb_commands::run_export::{run_closed_export, run_export};
 use pb_commands::run_table::{run_closed_table, run_table};
 use pb_commands::{AppFault, Counting, Table};
 use pb_core::gate::NoGate;
+use pb_page::WordsFault;
 use pb_read::{ReadFault, read_pb};
 use pb_streams::{Bar, Output, Progress, Shown, Unplaced, open_both, open_shown};
 use pb_witness::tally::Tally;
@@ -55,6 +56,8 @@ pub(crate) enum Refusal {
     Moved(Result<u32, Error>),
     /// An answer could not be written; what it answers stands.
     Unanswered,
+    /// The file with the words of a page is refused.
+    Words(WordsFault),
     /// All rows were answered, and some were refused; so many were not of the form.
     BadRows(u64),
 }
@@ -62,6 +65,15 @@ pub(crate) enum Refusal {
 impl From<AppFault> for Refusal {
     fn from(fault: AppFault) -> Refusal {
         Refusal::Fault(fault)
+    }
+}
+
+impl From<WordsFault> for Refusal {
+    fn from(fault: WordsFault) -> Refusal {
+        match fault {
+            WordsFault::NoMemory => Refusal::Fault(AppFault::Memory),
+            fault => Refusal::Words(fault),
+        }
     }
 }
 
@@ -196,7 +208,7 @@ where
                 &mut notes.seen,
             )
         }
-        Task::Page(run) => page(counting, run, kinship, writer, &mut notes.seen),
+        Task::Page(run) => return page(counting, run, kinship, writer, &mut notes.seen),
         Task::Export(ballots, _) => export(counting, ballots, writer, kinship, &mut notes.seen),
         Task::Check(source) => check(counting, source, writer, notes),
         Task::Desk(asked) => desk(counting, asked, writer, &mut notes.written),

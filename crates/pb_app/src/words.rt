@@ -2,6 +2,7 @@
 
 use crate::perform::{Notes, Refusal};
 use crate::spent::look_further;
+use crate::worded::words_file_words;
 use pb_command_line::{Asked, BallotsRun, Source, Task};
 use pb_commands::AppFault;
 use pb_desk::desk::MOST_CLERKS;
@@ -99,6 +100,12 @@ pub(crate) fn say_refusal<R: Files + Eprint + AllocGlobal>(
                 ScriptFault::UnknownId(_) | ScriptFault::NotOnRoll(_) | ScriptFault::TooFew(_),
             ),
         ) => {}
+        Refusal::Words(fault) => {
+            say_words(
+                rt,
+                words_file_words(rt.alloc(), asked.task.roll().unwrap_or("-"), fault),
+            );
+        }
         Refusal::Fault(fault) => say_words(rt, words_of(rt, asked, fault, failure, notes)),
         Refusal::Unanswered => say_words(rt, unanswered_words(rt.alloc(), failure)),
         // Why each of the others was refused was said when it was read.
@@ -142,7 +149,9 @@ fn words_of_serve(alloc: Global, task: &Task<'_>, refusal: &Refusal) -> Result<S
         }
         Refusal::Moved(Err(reason)) => lost_words(alloc, path, reason),
         Refusal::BadRows(rows) => bad_rows_words(alloc, *rows),
-        Refusal::Unanswered | Refusal::Barred | Refusal::Fault(_) => Err(AllocError),
+        Refusal::Unanswered | Refusal::Barred | Refusal::Words(_) | Refusal::Fault(_) => Err(
+            AllocError,
+        ),
     }
 }
 

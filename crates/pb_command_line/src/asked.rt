@@ -9,9 +9,6 @@ use pb_core::money::Money;
 use pb_rounds::measure::Measure;
 use pb_rounds::options::{Completion, CountOptions};
 
-/// What a page is about where it is not said.
-const NO_TITLE: &str = "Participatory budgeting";
-
 /// What parsed arguments ask for; without a command it is a count of standard input.
 pub(crate) fn asked_by<'a>(matches: &ArgMatches<'a>) -> Asked<'a> {
     match matches.subcommand() {
@@ -49,8 +46,10 @@ fn task_of<'a>(name: &str, given: &ArgMatches<'a>) -> Task<'a> {
         "page" => Task::Page(PageRun {
             ballots: ballots_of(given, file),
             options: options_of(given),
-            title: given.get_str("title").unwrap_or(NO_TITLE),
+            title: given.get_str("title"),
             recount: given.get_str("recount"),
+            words: given.get_str("words"),
+            currency: given.get_str("currency"),
         }),
         "export" => Task::Export(ballots_of(given, file), options_of(given)),
         "check" => Task::Check(file),

@@ -355,7 +355,7 @@ const BY_PROJECT: Argument = Argument {
 const TITLE: Argument = Argument {
     name: "title",
     takes: Takes::Text("TEXT"),
-    help: "The title of the page [default: Participatory budgeting]",
+    help: "The title of the page [default: Participatory budgeting, or as WORDS has it]",
 };
 
 /// Where a page leads those who recount it.
@@ -363,6 +363,20 @@ const RECOUNT: Argument = Argument {
     name: "recount",
     takes: Takes::Text("URL"),
     help: "The address of your copy of recount.html, to which the page links; https, http, or relative to the page",
+};
+
+/// What a page says.
+const WORDS: Argument = Argument {
+    name: "words",
+    takes: Takes::OptionalFile("WORDS"),
+    help: "Takes what the page says, in another language than English, from this file, such as words/de.words",
+};
+
+/// The currency of its amounts.
+const CURRENCY: Argument = Argument {
+    name: "currency",
+    takes: Takes::Text("TEXT"),
+    help: "The currency that the page shows with each amount, such as EUR [default: none]",
 };
 
 /// The commands that read a .pb file, and count its ballots or those of a journal.
@@ -408,8 +422,8 @@ const COUNTS: &[CommandForm] = &[
         notes: "Manual pages: man pb_app-election, man 5 pb_app-page, man pb_app-counting.",
         about: "Counts a .pb file, and prints the result as a web page for the public",
         arguments: &[
-            ELECTION, LEFT_BY, OTHER_FILE, TITLE, RECOUNT, WORKERS, STEP, RAISES, PLAIN,
-            COMPLETION, MEASURE, STRICT, OUTPUT, QUIET, PROGRESS,
+            ELECTION, LEFT_BY, OTHER_FILE, TITLE, RECOUNT, WORDS, CURRENCY, WORKERS, STEP, RAISES,
+            PLAIN, COMPLETION, MEASURE, STRICT, OUTPUT, QUIET, PROGRESS,
         ],
     },
     CommandForm {

@@ -42,6 +42,9 @@ pub fn parse<'a, R: Print + Eprint>(
             if has_piped_roll(&asked.task) {
                 return Ok(Parsed::Ends(refuse_roll(rt)));
             }
+            if has_piped_words(&asked.task) {
+                return Ok(Parsed::Ends(refuse_words(rt)));
+            }
             if leads_elsewhere(&asked.task) {
                 return Ok(Parsed::Ends(refuse_address(rt)));
             }
@@ -98,6 +101,19 @@ fn has_piped_roll(task: &Task<'_>) -> bool {
     }
 }
 
+/// Whether the words of a page are standard input, which can be FILE or JOURNAL alone.
+fn has_piped_words(task: &Task<'_>) -> bool {
+    match task {
+        Task::Page(
+            PageRun {
+                words: Some("-"),
+                ..
+            },
+        ) => true,
+        _ => false,
+    }
+}
+
 /// Whether a page would lead to what no link of it may lead to.
 fn leads_elsewhere(task: &Task<'_>) -> bool {
     match task {
@@ -130,6 +146,12 @@ fn refuse_input<R: Eprint>(rt: &R, name: &str) -> u8 {
 /// Refuses a roll that is standard input.
 fn refuse_roll<R: Eprint>(rt: &R) -> u8 {
     let _ = eprintln!(rt; "error: ROLL can't be standard input (-). Name a file");
+    BAD_ARGUMENTS
+}
+
+/// Refuses words that are standard input.
+fn refuse_words<R: Eprint>(rt: &R) -> u8 {
+    let _ = eprintln!(rt; "error: WORDS can't be standard input (-). Name a file");
     BAD_ARGUMENTS
 }
 

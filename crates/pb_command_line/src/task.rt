@@ -111,10 +111,14 @@ pub struct BallotsRun<'a> {
 pub struct PageRun<'a> {
     pub ballots: Ballots<'a>,
     pub options: CountOptions,
-    /// What was voted on.
-    pub title: &'a str,
+    /// What was voted on, if it is said.
+    pub title: Option<&'a str>,
     /// The address of a page that recounts in a browser, if one is given.
     pub recount: Option<&'a str>,
+    /// The path of the file with what the page says, if it is not English.
+    pub words: Option<&'a str>,
+    /// The currency of its amounts, if one is given.
+    pub currency: Option<&'a str>,
 }
 
 /// What the arguments ask for.
@@ -179,12 +183,13 @@ impl<'a> Task<'a> {
         }
     }
 
-    /// The path of the voters' roll that is read, if there is one.
+    /// The path of the third file that is read, if there is one: the voters' roll, or the words of a page.
     pub fn roll(&self) -> Option<&'a str> {
         match *self {
             Task::Desk(DeskRun { admits, .. }) | Task::Serve(ServeRun { admits, .. }) => {
                 admits.roll
             }
+            Task::Page(run) => run.words,
             _ => None,
         }
     }

@@ -1,6 +1,6 @@
 -- What a text, as it stands in a page, does not end.
 use Rattle.std.proofs.Common.{◌≡◌, ◌≢◌, ◌⊎◌, ℕ, suc, ◌+◌, ◌≤◌, not, take, false, true, List, [], ◌∷◌, ◌++◌, refl, sym, ◌∙◌, ap, inl, inr, arith}
-use Rattle.std.specs.Prelude.{◌||◌, ◌==◌, All}
+use Rattle.std.specs.Prelude.{◌==◌, All}
 use Rattle.std.specs.List.{before_first, prefix_len}
 use Rattle.std.proofs.lemmas.Bool.{cases_lt, eq-eqb, lt-ltb, ne_eqb, or_parts, true≢false}
 use Rattle.std.proofs.lemmas.List.Elements.{All-cons, All-head, All-nil, All-tail}

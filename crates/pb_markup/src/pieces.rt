@@ -4,6 +4,7 @@ ghost use Rattle.std.specs.Prelude.{◌≡◌, ◌++◌, OnOk, map};
 ghost use Rattle.pb_markup.specs.Filling.{filled, text_of};
 ghost use Rattle.pb_markup.specs.Markup.{written};
 
+use crate::amounts::write_amount;
 use crate::value::Value;
 use crate::written::write_text;
 use itoa::Buffer;
@@ -56,5 +57,6 @@ fn write_value(page: &mut Vec<u8>, alloc: Global, value: &Value) -> Result<(), N
             let text = amount.text(alloc)?;
             write_text(page, text.as_str())
         }
+        Value::Shown(amount, form) => write_amount(page, *amount, form),
     }
 }

@@ -1,5 +1,6 @@
 //! The values that fill the places of markup.
 
+use crate::form::Form;
 use pb_core::money::Money;
 
 /// A value that fills a place of a piece of markup.
@@ -11,4 +12,6 @@ pub enum Value<'a> {
     Number(u64),
     /// An amount of money, as reports have it.
     Amount(Money),
+    /// An amount of money, as people write it.
+    Shown(Money, Form<'a>),
 }

@@ -18,7 +18,7 @@ pub(crate) fn write_text(page: &mut Vec<u8>, text: &str) -> Result<(), NoMemory>
 }
 
 /// Writes a byte of a text: what could be taken for markup, and control characters, by their numbers.
-fn write_byte(page: &mut Vec<u8>, byte: u8) -> Result<(), NoMemory>
+pub(crate) fn write_byte(page: &mut Vec<u8>, byte: u8) -> Result<(), NoMemory>
     ensures { OnOk result (page.new.items ≡ page.old.items ++ character byte) }
 {
     if stands_for_itself(byte) {

@@ -7,6 +7,8 @@ use Rattle.std.proofs.lemmas.List.Sums.{sum_by-cons}
 use Rattle.std.proofs.lemmas.List.FromFn.{map-range_with_len_more}
 use Rattle.pb_core.specs.Election.{ElectionView, ProjectView}
 use Rattle.pb_markup.specs.Filling.{Filling}
+use Rattle.pb_markup.specs.declared.form.Form.{Form}
+use Rattle.pb_page.specs.declared.language.Language.{Language}
 use Rattle.pb_price.specs.Supporters.{cost_at, support_of}
 use Rattle.pb_reasons.specs.Counted.{CountedView}
 use Rattle.pb_reasons.specs.Reasons.{project_reason}
@@ -21,18 +23,18 @@ pub the_project : (e : ElectionView) (place : ℕ) (p : ProjectView) → place <
 the_project e place p known is = is ∙ get_or_default e.projects place p (record { id = []; name = []; cost = 0 }) known
 
 -- the row of a project that did not win, as it is told
-pub lost_told : (e : ElectionView) (c : CountedView) (place : ℕ) (p : ProjectView) → place < length e.projects → p ≡ get_or e.projects place p
-    → (reason : ProjectReason) → reason ≡ project_reason e c place → lost_row p reason.votes reason.ending ≡ lost_rows e c place
-lost_told e c place p known is reason told =
-    ap (λ (r : ProjectReason). lost_row p r.votes r.ending) told
-    ∙ ap (λ (q : ProjectView). lost_row q (project_reason e c place).votes (project_reason e c place).ending) (the_project e place p known is)
+pub lost_told : (l : Language) (e : ElectionView) (c : CountedView) (place : ℕ) (p : ProjectView) → place < length e.projects → p ≡ get_or e.projects place p
+    → (reason : ProjectReason) → reason ≡ project_reason e c place → lost_row l p reason.votes reason.ending ≡ lost_rows l e c place
+lost_told l e c place p known is reason told =
+    ap (λ (r : ProjectReason). lost_row l p r.votes r.ending) told
+    ∙ ap (λ (q : ProjectView). lost_row l q (project_reason e c place).votes (project_reason e c place).ending) (the_project e place p known is)
 
 -- the row of a winner, as it is told
-pub won_told : (e : ElectionView) (c : CountedView) (place : ℕ) (p : ProjectView) → place < length e.projects → p ≡ get_or e.projects place p
-    → (reason : ProjectReason) → reason ≡ project_reason e c place → won_row e.budget p reason.votes reason.ending ≡ won_rows e c place
-won_told e c place p known is reason told =
-    ap (λ (r : ProjectReason). won_row e.budget p r.votes r.ending) told
-    ∙ ap (λ (q : ProjectView). won_row e.budget q (project_reason e c place).votes (project_reason e c place).ending) (the_project e place p known is)
+pub won_told : (l : Language) (e : ElectionView) (c : CountedView) (place : ℕ) (p : ProjectView) → place < length e.projects → p ≡ get_or e.projects place p
+    → (reason : ProjectReason) → reason ≡ project_reason e c place → won_row l e.budget p reason.votes reason.ending ≡ won_rows l e c place
+won_told l e c place p known is reason told =
+    ap (λ (r : ProjectReason). won_row l e.budget p r.votes r.ending) told
+    ∙ ap (λ (q : ProjectView). won_row l e.budget q (project_reason e c place).votes (project_reason e c place).ending) (the_project e place p known is)
 
 -- one number more
 pub one_told : (f : ℕ → ℕ) (n : ℕ) (before after : List ℕ) (x : ℕ) → before ≡ map f (range_with_len 0 n) → after ≡ before ++ x ∷ [] → x ≡ f n
@@ -41,21 +43,21 @@ one_told f n before after x so_far put is =
     put ∙ ap (λ (t : List ℕ). t ++ x ∷ []) so_far ∙ ap (λ (y : ℕ). map f (range_with_len 0 n) ++ y ∷ []) is ∙ sym (map-range_with_len_more f 0 n n (omega arith))
 
 -- the parts of the winners with one more
-blocks_more : (e : ElectionView) (before total : ℕ) (xs : List ℕ) (place : ℕ) → total ≡ before + sum_by (cost_at (support_of e)) xs
-    → blocks e before (xs ++ place ∷ []) ≡ blocks e before xs ++ blocks e total (place ∷ [])
-blocks_more e before total [] place sum =
-    let none : before ≡ total = omega (arith, sum) in ap (λ (n : ℕ). blocks e n (place ∷ [])) none
-blocks_more e before total (x ∷ xs) place sum =
+blocks_more : (form : Form) (e : ElectionView) (before total : ℕ) (xs : List ℕ) (place : ℕ) → total ≡ before + sum_by (cost_at (support_of e)) xs
+    → blocks form e before (xs ++ place ∷ []) ≡ blocks form e before xs ++ blocks form e total (place ∷ [])
+blocks_more form e before total [] place sum =
+    let none : before ≡ total = omega (arith, sum) in ap (λ (n : ℕ). blocks form e n (place ∷ [])) none
+blocks_more form e before total (x ∷ xs) place sum =
     let cost = cost_at (support_of e) x in
     let parts : sum_by (cost_at (support_of e)) (x ∷ xs) ≡ cost + sum_by (cost_at (support_of e)) xs = sum_by-cons (cost_at (support_of e)) x xs in
     let rest : total ≡ (before + cost) + sum_by (cost_at (support_of e)) xs = omega (arith, sum, parts) in
-    ap (λ (t : List Filling). blocks e before (x ∷ []) ++ t) (blocks_more e (before + cost) total xs place rest)
+    ap (λ (t : List Filling). blocks form e before (x ∷ []) ++ t) (blocks_more form e (before + cost) total xs place rest)
 
-pub block_more : (e : ElectionView) (places : List ℕ) (i place : ℕ) (p : ProjectView) (before : ℕ) (old middle new : List ℕ)
-    → IsPlaced e places i place p → before ≡ sum_by (cost_at (support_of e)) (take i places) → Grows old middle (blocks e 0 (take i places))
-    → Grows middle new (block e.budget before p ∷ []) → Grows old new (blocks e 0 (take (i + 1) places))
-block_more e places i place p before old middle new placed sum one two =
-    let last = ap (λ (q : ProjectView). block e.budget before q ∷ []) (the_project e place p placed.known placed.project) in
+pub block_more : (form : Form) (e : ElectionView) (places : List ℕ) (i place : ℕ) (p : ProjectView) (before : ℕ) (old middle new : List ℕ)
+    → IsPlaced e places i place p → before ≡ sum_by (cost_at (support_of e)) (take i places) → Grows old middle (blocks form e 0 (take i places))
+    → Grows middle new (block form e.budget before p ∷ []) → Grows old new (blocks form e 0 (take (i + 1) places))
+block_more form e places i place p before old middle new placed sum one two =
+    let last = ap (λ (q : ProjectView). block form e.budget before q ∷ []) (the_project e place p placed.known placed.project) in
     let total : before ≡ 0 + sum_by (cost_at (support_of e)) (take i places) = omega (arith, sum) in
-    let all = ap (blocks e 0) (take_more places i place placed.below ∙ ap (λ (q : ℕ). take i places ++ q ∷ []) (sym placed.here)) ∙ blocks_more e 0 before (take i places) place total in
+    let all = ap (blocks form e 0) (take_more places i place placed.below ∙ ap (λ (q : ℕ). take i places ++ q ∷ []) (sym placed.here)) ∙ blocks_more form e 0 before (take i places) place total in
     grown_as _ _ _ _ (sym all) (then _ _ _ _ _ one (grown_as _ _ _ _ last two))

@@ -1,15 +1,18 @@
 //! The projects that were added by votes.
 
-ghost use Rattle.std.specs.Prelude.{◌≡◌, ◌<◌, All, OnOk, flat_map, length};
+ghost use Rattle.std.specs.Prelude.{◌≡◌, ◌<◌, [], ◌∷◌, All, OnOk, flat_map, length};
 ghost use Rattle.pb_page.specs.Inner.Grown.{Grows};
 ghost use Rattle.pb_page.specs.Inner.Pieces.{added_table};
-ghost use Rattle.pb_page.specs.Page.{added, won_rows};
+ghost use Rattle.pb_page.specs.Page.{added, added_head, won_rows};
 
+use crate::keys;
+use crate::language::Language;
 use crate::put::put;
 use crate::templates::{ADDED_OPENING, TABLE_CLOSING};
 use crate::winners::put_row;
 use pb_core::election::Election;
 use pb_core::no_memory::NoMemory;
+use pb_markup::Value;
 use pb_reasons::{Counted, ProjectTeller};
 use std::alloc::Global;
 
@@ -18,25 +21,46 @@ use std::alloc::Global;
 pub(crate) fn put_added(
     page: &mut Vec<u8>,
     alloc: Global,
+    language: &Language,
     election: &Election,
     teller: &ProjectTeller,
     counted: &Counted,
 ) -> Result<(), NoMemory>
     requires own { teller.now ≡ (election.now, counted.now) }
     requires known { All (λ place. place < length election.now.projects) counted.now.added }
-    ensures { OnOk result (Grows page.old.items page.new.items (added election.now counted.now)) }
+    ensures { OnOk result (Grows page.old.items page.new.items (added language.now election.now counted.now)) }
 {
     let places = counted.added.as_slice();
     if places.is_empty() {
         return Ok(());
     }
-    put_table(page, alloc, election, teller, places)
+    put_table(page, alloc, language, election, teller, places)
+}
+
+/// The head of their table.
+fn put_table_head(page: &mut Vec<u8>, alloc: Global, language: &Language) -> Result<(), NoMemory>
+    ensures { OnOk result (Grows page.old.items page.new.items (added_head language.now ∷ [])) }
+{
+    put(
+        page,
+        alloc,
+        ADDED_OPENING,
+        &[
+            Value::Text(language.text(keys::ADDED_HEADING)),
+            Value::Text(language.text(keys::ADDED_CAPTION)),
+            Value::Text(language.text(keys::NUMBER)),
+            Value::Text(language.text(keys::PROJECT)),
+            Value::Text(language.text(keys::COST)),
+            Value::Text(language.text(keys::VOTES)),
+        ],
+    )
 }
 
 /// Their table.
 fn put_table(
     page: &mut Vec<u8>,
     alloc: Global,
+    language: &Language,
     election: &Election,
     teller: &ProjectTeller,
     places: &[u32],
@@ -44,10 +68,10 @@ fn put_table(
     requires own { teller.now.0 ≡ election.now }
     requires added { teller.now.1.added ≡ places.now }
     requires known { All (λ place. place < length election.now.projects) places.now }
-    ensures { OnOk result (Grows page.old.items page.new.items (added_table election.now teller.now.1)) }
+    ensures { OnOk result (Grows page.old.items page.new.items (added_table language.now election.now teller.now.1)) }
 {
-    put(page, alloc, ADDED_OPENING, &[])?;
-    put_rows(page, alloc, election, teller, places)?;
+    put_table_head(page, alloc, language)?;
+    put_rows(page, alloc, language, election, teller, places)?;
     put(page, alloc, TABLE_CLOSING, &[])
 }
 
@@ -55,19 +79,20 @@ fn put_table(
 fn put_rows(
     page: &mut Vec<u8>,
     alloc: Global,
+    language: &Language,
     election: &Election,
     teller: &ProjectTeller,
     places: &[u32],
 ) -> Result<(), NoMemory>
     requires own { teller.now.0 ≡ election.now }
     requires known { All (λ place. place < length election.now.projects) places.now }
-    ensures { OnOk result (Grows page.old.items page.new.items (flat_map (won_rows election.now teller.now.1) places.now)) }
+    ensures { OnOk result (Grows page.old.items page.new.items (flat_map (won_rows language.now election.now teller.now.1) places.now)) }
 {
     let projects = election.projects();
     for place in places {
         let reason = teller.tell(*place);
         let project = &projects[*place as usize];
-        put_row(page, alloc, project, &reason, election.budget())?;
+        put_row(page, alloc, language, project, &reason, election.budget())?;
     }
     Ok(())
 }

@@ -2,41 +2,65 @@
 
 ghost use Rattle.std.specs.Prelude.{[], ◌∷◌, OnOk};
 ghost use Rattle.pb_page.specs.Inner.Grown.{Grows};
-ghost use Rattle.pb_page.specs.Inner.Pieces.{closing, command, completion_option, link, measure_option, sources};
-ghost use Rattle.pb_page.specs.Page.{check, named};
+ghost use Rattle.pb_page.specs.Inner.Pieces.{closing, completion_option, journal_source, measure_option, recount, recounting};
+ghost use Rattle.pb_page.specs.declared.keys.TheConstants as key;
+ghost use Rattle.pb_page.specs.declared.templates.TheConstants.{CHECK_OPENING, RECOUNT_LINK};
+ghost use Rattle.pb_page.specs.Page.{at, command, filling, link, named, say, sources};
 
 use crate::facts::{Facts, Source};
-use crate::put::put;
+use crate::keys;
+use crate::language::Language;
+use crate::put::{put, say};
 use crate::templates::{
-    AUDIT, CHECK_JOURNAL, CHECK_OPENING, CLOSING, COUNT, NO_RECOUNT, OPTION_ADD1U, OPTION_COST,
-    OPTION_PLAIN, OPTION_UTILITARIAN, RECOUNT,
+    AUDIT, CHECK_FILE, CHECK_JOURNAL, CHECK_OPENING, CLOSING, COUNT, NO_RECOUNT, OPTION_ADD1U,
+    OPTION_COST, OPTION_PLAIN, OPTION_UTILITARIAN, RECOUNT_CLOSING, RECOUNT_LINK, RECOUNT_OPENING,
 };
 use pb_core::no_memory::NoMemory;
-use pb_markup::Value;
+use pb_markup::{Place, Value};
 use pb_rounds::measure::Measure;
 use pb_rounds::options::{Completion, CountOptions};
 use std::alloc::Global;
 
-/// What was counted, and how to count it again.
-pub(crate) fn put_check(page: &mut Vec<u8>, alloc: Global, facts: &Facts) -> Result<(), NoMemory>
-    ensures { OnOk result (Grows page.old.items page.new.items (check facts.now)) }
-{
-    put_sources(page, alloc, facts.file, facts.journal)?;
-    put_link(page, alloc, facts.recount)?;
-    put_command(page, alloc, facts.journal)?;
-    put_options(page, alloc, &facts.options, facts.fills_up)
-}
-
-/// The texts that were read.
-fn put_sources(
+/// What was counted.
+pub(crate) fn put_sources(
     page: &mut Vec<u8>,
     alloc: Global,
+    language: &Language,
     file: Source<'_>,
     journal: Option<Source<'_>>,
 ) -> Result<(), NoMemory>
-    ensures { OnOk result (Grows page.old.items page.new.items (sources file.entry journal.entry)) }
+    ensures { OnOk result (Grows page.old.items page.new.items (sources language.now file.entry journal.entry)) }
 {
-    put_source(page, alloc, CHECK_OPENING, file)?;
+    put_heading(page, alloc, language)?;
+    put_source(page, alloc, CHECK_FILE, file)?;
+    put_journal(page, alloc, journal)
+}
+
+/// The heading.
+fn put_heading(page: &mut Vec<u8>, alloc: Global, language: &Language) -> Result<(), NoMemory>
+    ensures { OnOk result (Grows page.old.items page.new.items
+        (filling CHECK_OPENING.now (at language.now key.CHECK_HEADING ∷ at language.now key.CHECK_BYTES ∷ []) ∷ [])) }
+{
+    put(
+        page,
+        alloc,
+        CHECK_OPENING,
+        &[
+            Value::Text(language.text(keys::CHECK_HEADING)),
+            Value::Text(language.text(keys::CHECK_BYTES)),
+        ],
+    )
+}
+
+/// The journal, if there is one.
+#[tactic(auto, using(crate::proofs::Grown::none))]
+fn put_journal(
+    page: &mut Vec<u8>,
+    alloc: Global,
+    journal: Option<Source<'_>>,
+) -> Result<(), NoMemory>
+    ensures { OnOk result (Grows page.old.items page.new.items (journal_source journal.entry)) }
+{
     match journal {
         Some(journal) => put_source(page, alloc, CHECK_JOURNAL, journal),
         None => Ok(()),
@@ -61,13 +85,76 @@ fn put_source(
 }
 
 /// Where a page recounts them, if one does.
-fn put_link(page: &mut Vec<u8>, alloc: Global, address: Option<&str>) -> Result<(), NoMemory>
-    ensures { OnOk result (Grows page.old.items page.new.items (link address.entry)) }
+pub(crate) fn put_link(
+    page: &mut Vec<u8>,
+    alloc: Global,
+    language: &Language,
+    address: Option<&str>,
+) -> Result<(), NoMemory>
+    ensures { OnOk result (Grows page.old.items page.new.items (link language.now address.entry)) }
 {
     match address {
-        Some(address) => put(page, alloc, RECOUNT, &[Value::Text(address)]),
-        None => put(page, alloc, NO_RECOUNT, &[]),
+        Some(address) => put_recount(page, alloc, language, address),
+        None => put_command_head(page, alloc, language, NO_RECOUNT, keys::PROGRAM),
     }
+}
+
+/// Where a page recounts them.
+fn put_recount(
+    page: &mut Vec<u8>,
+    alloc: Global,
+    language: &Language,
+    address: &str,
+) -> Result<(), NoMemory>
+    ensures { OnOk result (Grows page.old.items page.new.items (recount language.now address.now)) }
+{
+    put(page, alloc, RECOUNT_OPENING, &[])?;
+    say_recount(page, alloc, language, address)?;
+    put_command_head(page, alloc, language, RECOUNT_CLOSING, keys::PROGRAM_TOO)
+}
+
+/// What is said of that page, with a link to it.
+fn say_recount<'a>(
+    page: &mut Vec<u8>,
+    alloc: Global,
+    language: &Language<'a>,
+    address: &'a str,
+) -> Result<(), NoMemory>
+    ensures { OnOk result (Grows page.old.items page.new.items (say language.now key.RECOUNT
+        (filling RECOUNT_LINK.now (address.now ∷ at language.now key.LINK ∷ []) ∷ []))) }
+{
+    let link = [Value::Text(address), Value::Text(language.text(keys::LINK))];
+    say(
+        page,
+        alloc,
+        language,
+        keys::RECOUNT,
+        &[Place {
+            piece: RECOUNT_LINK,
+            values: &link,
+        }],
+    )
+}
+
+/// What is said above the command.
+fn put_command_head(
+    page: &mut Vec<u8>,
+    alloc: Global,
+    language: &Language,
+    piece: &'static str,
+    key: u16,
+) -> Result<(), NoMemory>
+    ensures { OnOk result (Grows page.old.items page.new.items (filling piece.now (at language.now key ∷ []) ∷ [])) }
+{
+    put(page, alloc, piece, &[Value::Text(language.text(key))])
+}
+
+/// The command that recounts them.
+pub(crate) fn put_check(page: &mut Vec<u8>, alloc: Global, facts: &Facts) -> Result<(), NoMemory>
+    ensures { OnOk result (Grows page.old.items page.new.items (command facts.now)) }
+{
+    put_command(page, alloc, facts.journal)?;
+    put_options(page, alloc, &facts.options, facts.fills_up)
 }
 
 /// The command that recounts them, up to its options.
@@ -76,7 +163,7 @@ fn put_command(
     alloc: Global,
     journal: Option<Source<'_>>,
 ) -> Result<(), NoMemory>
-    ensures { OnOk result (Grows page.old.items page.new.items (command journal.entry)) }
+    ensures { OnOk result (Grows page.old.items page.new.items (recounting journal.entry)) }
 {
     match journal {
         Some(_) => put(page, alloc, AUDIT, &[]),

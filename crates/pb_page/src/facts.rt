@@ -1,5 +1,6 @@
 //! What a page says beside the outcome.
 
+use crate::language::Language;
 use pb_rounds::options::CountOptions;
 
 /// A text that was read.
@@ -26,4 +27,6 @@ pub struct Facts<'a> {
     pub options: CountOptions,
     /// What the elected left of the budget was filled up by votes.
     pub fills_up: bool,
+    /// What the page says, and how it shows amounts.
+    pub language: Language<'a>,
 }

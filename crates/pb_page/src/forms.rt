@@ -1,7 +1,7 @@
 //! How numbers and names stand in a page.
 
 ghost use Rattle.std.specs.Prelude.{◌≡◌};
-ghost use Rattle.pb_page.specs.Page.{called, width, word};
+ghost use Rattle.pb_page.specs.Page.{called, width};
 
 use pb_core::project::Project;
 
@@ -11,13 +11,6 @@ pub(crate) fn width(amount: u64, whole: u64) -> u64
 {
     let parts = u128::from(amount) * 10_000 / u128::from(whole.max(1));
     parts.min(10_000) as u64
-}
-
-/// A noun or a verb for this number of things.
-pub(crate) fn word(number: u64, one: &'static str, many: &'static str) -> &'static str
-    ensures { result.now ≡ word number one.now many.now }
-{
-    if number == 1 { one } else { many }
 }
 
 /// What a project is called: its name, or its id where it has none.

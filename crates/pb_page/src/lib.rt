@@ -1,5 +1,5 @@
 //! The page of a result, which people look at: who won, who did not and by how much, what the voters got, how it was
-//! counted, and how to check it.
+//! counted, and how to check it. What it says is in a table of sentences, which another language can have.
 #![tactic(auto)]
 
 mod added;
@@ -8,15 +8,25 @@ mod facts;
 mod figures;
 mod forms;
 mod histogram;
+mod keys;
+mod language;
 mod made;
 mod others;
 mod put;
 mod rule;
+mod sentence;
+mod speech;
 mod style;
+mod table;
 mod templates;
 mod top;
 mod voters;
 mod winners;
+mod words_fault;
 
 pub use facts::{Facts, Source};
+pub use language::Language;
 pub use made::page_of;
+pub use speech::Speech;
+pub use table::{Entry, TABLE};
+pub use words_fault::WordsFault;

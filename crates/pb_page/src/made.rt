@@ -8,20 +8,19 @@ ghost use Rattle.pb_reasons.specs.Counted.{IsCounted, winners_of};
 ghost use Rattle.pb_rounds.specs.Counted.{IsCountOf};
 
 use crate::added::put_added;
-use crate::check::put_check;
+use crate::check::{put_check, put_link, put_sources};
 use crate::facts::Facts;
 use crate::figures::Figures;
 use crate::histogram::won_by_voter;
+use crate::language::Language;
 use crate::others::put_others;
-use crate::put::put;
 use crate::rule::put_rule;
-use crate::templates::BUDGET_CLOSING;
-use crate::top::{put_blocks, put_top};
+use crate::top::{put_blocks, put_caption, put_picture, put_summary};
 use crate::voters::put_voters;
 use crate::winners::put_winners;
 use pb_core::election::Election;
 use pb_core::no_memory::NoMemory;
-use pb_markup::Value;
+use pb_markup::Form;
 use pb_reasons::{Counted, ProjectTeller};
 use std::alloc::Global;
 
@@ -77,10 +76,13 @@ fn put_all(
     requires won { won.now ≡ won_by_voter election.now counted.now }
     ensures { OnOk result (Grows page.old.items page.new.items (parts election.now counted.now facts.now)) }
 {
-    put_budget(page, alloc, election, counted, facts.title)?;
-    put_projects(page, alloc, election, counted)?;
-    put_voters(page, alloc, won)?;
-    put_rule(page, alloc, &facts.options, counted)?;
+    let language = &facts.language;
+    put_budget(page, alloc, language, election, counted, facts.title)?;
+    put_projects(page, alloc, language, election, counted)?;
+    put_voters(page, alloc, language, won)?;
+    put_rule(page, alloc, language, &facts.options, counted)?;
+    put_sources(page, alloc, language, facts.file, facts.journal)?;
+    put_link(page, alloc, language, facts.recount)?;
     put_check(page, alloc, facts)
 }
 
@@ -88,45 +90,40 @@ fn put_all(
 fn put_budget(
     page: &mut Vec<u8>,
     alloc: Global,
+    language: &Language,
     election: &Election,
     counted: &Counted,
     title: &str,
 ) -> Result<(), NoMemory>
     requires { IsCounted election.now counted.now }
-    ensures { OnOk result (Grows page.old.items page.new.items (budget title.now election.now counted.now)) }
+    ensures { OnOk result (Grows page.old.items page.new.items (budget language.now title.now election.now counted.now)) }
 {
     // What is true of every election is true of the places of its elected projects.
     let _budget = election.budget();
     let figures = Figures::of(election, counted);
-    put_top(page, alloc, title, &figures)?;
-    put_winners_blocks(page, alloc, election, counted)?;
-    put(
-        page,
-        alloc,
-        BUDGET_CLOSING,
-        &[
-            Value::Amount(figures.spent),
-            Value::Amount(figures.left),
-            Value::Amount(figures.surplus),
-        ],
-    )
+    put_summary(page, alloc, language, title, &figures)?;
+    put_picture(page, alloc, language, &figures)?;
+    put_winners_blocks(page, alloc, &language.costs, election, counted)?;
+    put_caption(page, alloc, language, &figures)
 }
 
 /// The elected, the added, and the other projects.
 fn put_projects(
     page: &mut Vec<u8>,
     alloc: Global,
+    language: &Language,
     election: &Election,
     counted: &Counted,
 ) -> Result<(), NoMemory>
     requires { IsCounted election.now counted.now }
     ensures { OnOk result (Grows page.old.items page.new.items
-        (winners election.now counted.now ++ (added election.now counted.now ++ others election.now counted.now))) }
+        (winners language.now election.now counted.now
+        ++ (added language.now election.now counted.now ++ others language.now election.now counted.now))) }
 {
     // What is true of every election is true of the places of its elected projects.
     let _budget = election.budget();
     let teller = ProjectTeller::of(alloc, election, counted)?;
-    let put = put_told(page, alloc, election, &teller, counted);
+    let put = put_told(page, alloc, language, election, &teller, counted);
     drop(teller);
     put
 }
@@ -135,6 +132,7 @@ fn put_projects(
 fn put_told(
     page: &mut Vec<u8>,
     alloc: Global,
+    language: &Language,
     election: &Election,
     teller: &ProjectTeller,
     counted: &Counted,
@@ -143,28 +141,30 @@ fn put_told(
     requires elected { All (λ w. w.place < length election.now.projects) counted.now.outcome.elected }
     requires added { All (λ place. place < length election.now.projects) counted.now.added }
     ensures { OnOk result (Grows page.old.items page.new.items
-        (winners election.now counted.now ++ (added election.now counted.now ++ others election.now counted.now))) }
+        (winners language.now election.now counted.now
+        ++ (added language.now election.now counted.now ++ others language.now election.now counted.now))) }
 {
-    put_winners(page, alloc, election, teller, counted)?;
-    put_added(page, alloc, election, teller, counted)?;
+    put_winners(page, alloc, language, election, teller, counted)?;
+    put_added(page, alloc, language, election, teller, counted)?;
     let won = counted.outcome.elected.len() + counted.added.len();
-    put_others(page, alloc, election, teller, won)
+    put_others(page, alloc, language, election, teller, won)
 }
 
 /// The blocks of the winners.
 fn put_winners_blocks(
     page: &mut Vec<u8>,
     alloc: Global,
+    costs: &Form,
     election: &Election,
     counted: &Counted,
 ) -> Result<(), NoMemory>
     requires { IsCounted election.now counted.now }
-    ensures { OnOk result (Grows page.old.items page.new.items (blocks election.now 0 (winners_of counted.now))) }
+    ensures { OnOk result (Grows page.old.items page.new.items (blocks costs.now election.now 0 (winners_of counted.now))) }
 {
     // What is true of every election is true of the places of its winners.
     let _budget = election.budget();
     let winners = counted.winners(alloc)?;
-    let put = put_blocks(page, alloc, election, winners.as_slice());
+    let put = put_blocks(page, alloc, costs, election, winners.as_slice());
     drop(winners);
     put
 }

@@ -2,11 +2,13 @@
 
 ghost use Rattle.std.specs.Prelude.{[], ◌∷◌, OnOk, map};
 ghost use Rattle.pb_markup.specs.Filling.{text_of};
+ghost use Rattle.pb_markup.specs.Sentence.{at_place};
 ghost use Rattle.pb_page.specs.Inner.Grown.{Grows};
-ghost use Rattle.pb_page.specs.Page.{filling};
+ghost use Rattle.pb_page.specs.Page.{filling, say};
 
+use crate::language::Language;
 use pb_core::no_memory::NoMemory;
-use pb_markup::{Value, fill};
+use pb_markup::{Place, Value, fill};
 use std::alloc::Global;
 
 /// Puts a piece after a page, filled with these values.
@@ -19,5 +21,19 @@ pub(crate) fn put(
     ensures { OnOk result (Grows page.old.items page.new.items (filling piece.now (map text_of values.now) ∷ [])) }
 {
     fill(page, alloc, piece, values)?;
+    Ok(())
+}
+
+/// Puts the sentence at a key after a page, with this at its places.
+pub(crate) fn say(
+    page: &mut Vec<u8>,
+    alloc: Global,
+    language: &Language,
+    key: u16,
+    places: &[Place],
+) -> Result<(), NoMemory>
+    ensures { OnOk result (Grows page.old.items page.new.items (say language.now key (map at_place places.now))) }
+{
+    pb_markup::say(page, alloc, language.text(key), places)?;
     Ok(())
 }

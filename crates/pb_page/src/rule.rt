@@ -1,16 +1,21 @@
 //! How it was counted, in five sentences, and in a sixth where it was filled up.
 
-ghost use Rattle.std.specs.Prelude.{[], ◌∷◌, OnOk};
+ghost use Rattle.std.specs.Prelude.{[], ◌∷◌, OnOk, codes, decimal};
+ghost use Rattle.pb_core.specs.MoneyText.{money_text};
+ghost use Rattle.pb_markup.specs.Amount.{shown};
 ghost use Rattle.pb_page.specs.Inner.Grown.{Grows};
-ghost use Rattle.pb_page.specs.Inner.Pieces.{filled_up, order, raises, share_rule};
-ghost use Rattle.pb_page.specs.Page.{rule};
+ghost use Rattle.pb_page.specs.Inner.Pieces.{filled_up, method, order, raises};
+ghost use Rattle.pb_page.specs.Page.{amount, at, filling, item, noun_at, number, rule, say, share_rule};
+ghost use Rattle.pb_page.specs.declared.keys.TheConstants as key;
+ghost use Rattle.pb_page.specs.declared.templates.TheConstants.{NAMELESS, RULE_NEXT, RULE_OPENING};
 
-use crate::forms::word;
-use crate::put::put;
-use crate::templates::{BY_COST, BY_VOTES, FILLED_UP, PLAIN, RAISED, RULE, UNRAISED, UNUSED};
+use crate::keys;
+use crate::language::Language;
+use crate::put::{put, say};
+use crate::templates::{AMOUNT, ITEM, NAMELESS, NUMBER, RULE_NEXT, RULE_OPENING, TEXT};
 use pb_core::money::Money;
 use pb_core::no_memory::NoMemory;
-use pb_markup::Value;
+use pb_markup::{Place, Value};
 use pb_reasons::Counted;
 use pb_rounds::measure::Measure;
 use pb_rounds::options::{Completion, CountOptions};
@@ -20,84 +25,202 @@ use std::alloc::Global;
 pub(crate) fn put_rule(
     page: &mut Vec<u8>,
     alloc: Global,
+    language: &Language,
     options: &CountOptions,
     counted: &Counted,
 ) -> Result<(), NoMemory>
     ensures { OnOk result (Grows page.old.items page.new.items
-        (rule options.now counted.now.fills_up counted.now.outcome.share counted.now.outcome.raised)) }
+        (rule language.now options.now counted.now.fills_up counted.now.outcome.share counted.now.outcome.raised)) }
 {
     let outcome = &counted.outcome;
-    put_share(page, alloc, options, outcome.share, outcome.raised)?;
-    put_order(page, alloc, options.measure)?;
+    let completion = options.completion;
+    put_share(
+        page,
+        alloc,
+        language,
+        options.step,
+        outcome.share,
+        u64::from(outcome.raised),
+    )?;
+    put_order(page, alloc, language, options.measure)?;
     put_raises(
         page,
         alloc,
-        options.completion,
+        language,
+        completion,
         counted.fills_up,
         outcome.raised,
     )?;
-    put_filled_up(page, alloc, counted.fills_up)
+    put_method(page, alloc, language, completion, counted.fills_up)?;
+    put_filled_up(page, alloc, language, counted.fills_up)
 }
 
 /// How the share came about, and who can be paid.
 fn put_share(
     page: &mut Vec<u8>,
     alloc: Global,
-    options: &CountOptions,
+    language: &Language,
+    step: Money,
     share: Money,
-    raised: u32,
+    raises: u64,
 ) -> Result<(), NoMemory>
-    ensures { OnOk result (Grows page.old.items page.new.items (share_rule options.now share raised ∷ [])) }
+    ensures { OnOk result (Grows page.old.items page.new.items (share_rule language.now step share raises)) }
 {
-    let raises = u64::from(raised);
+    put_heading(page, alloc, language)?;
+    say_share(page, alloc, language, step, share, raises)?;
+    put_supporters(page, alloc, language)
+}
+
+/// The heading.
+fn put_heading(page: &mut Vec<u8>, alloc: Global, language: &Language) -> Result<(), NoMemory>
+    ensures { OnOk result (Grows page.old.items page.new.items
+        (filling RULE_OPENING.now (at language.now key.RULE_HEADING ∷ []) ∷ [])) }
+{
     put(
         page,
         alloc,
-        RULE,
+        RULE_OPENING,
+        &[Value::Text(language.text(keys::RULE_HEADING))],
+    )
+}
+
+/// How the share came about.
+fn say_share(
+    page: &mut Vec<u8>,
+    alloc: Global,
+    language: &Language,
+    step: Money,
+    share: Money,
+    raises: u64,
+) -> Result<(), NoMemory>
+    ensures { OnOk result (Grows page.old.items page.new.items (say language.now key.SHARE
+        (amount language.now.amounts (codes "share") share ∷ number (codes "raises") raises
+        ∷ filling NAMELESS.now (money_text step ∷ shown language.now.amounts step ∷ []) ∷ noun_at language.now key.TIMES raises ∷ []))) }
+{
+    let values: &[Value] = &[
+        Value::Text("share"),
+        Value::Amount(share),
+        Value::Shown(share, language.amounts),
+        Value::Text("raises"),
+        Value::Number(raises),
+        Value::Amount(step),
+        Value::Shown(step, language.amounts),
+        Value::Text(language.noun(keys::TIMES, raises)),
+    ];
+    say(
+        page,
+        alloc,
+        language,
+        keys::SHARE,
         &[
-            Value::Amount(share),
-            Value::Number(raises),
-            Value::Text(word(raises, "raise", "raises")),
-            Value::Amount(options.step),
+            Place {
+                piece: AMOUNT,
+                values: &values[0..3],
+            },
+            Place {
+                piece: NUMBER,
+                values: &values[3..5],
+            },
+            Place {
+                piece: NAMELESS,
+                values: &values[5..7],
+            },
+            Place {
+                piece: TEXT,
+                values: &values[7..8],
+            },
         ],
     )
 }
 
+/// Who can be paid.
+fn put_supporters(page: &mut Vec<u8>, alloc: Global, language: &Language) -> Result<(), NoMemory>
+    ensures { OnOk result (Grows page.old.items page.new.items
+        (filling RULE_NEXT.now (at language.now key.SUPPORTERS ∷ []) ∷ [])) }
+{
+    put(
+        page,
+        alloc,
+        RULE_NEXT,
+        &[Value::Text(language.text(keys::SUPPORTERS))],
+    )
+}
+
+/// A sentence of the list.
+fn put_item(
+    page: &mut Vec<u8>,
+    alloc: Global,
+    language: &Language,
+    key: u16,
+) -> Result<(), NoMemory>
+    ensures { OnOk result (Grows page.old.items page.new.items (item language.now key ∷ [])) }
+{
+    put(page, alloc, ITEM, &[Value::Text(language.text(key))])
+}
+
 /// Which project is elected first.
-fn put_order(page: &mut Vec<u8>, alloc: Global, measure: Measure) -> Result<(), NoMemory>
-    ensures { OnOk result (Grows page.old.items page.new.items (order measure ∷ [])) }
+fn put_order(
+    page: &mut Vec<u8>,
+    alloc: Global,
+    language: &Language,
+    measure: Measure,
+) -> Result<(), NoMemory>
+    ensures { OnOk result (Grows page.old.items page.new.items (order language.now measure ∷ [])) }
 {
     match measure {
-        Measure::Votes => put(page, alloc, BY_VOTES, &[]),
-        Measure::Cost => put(page, alloc, BY_COST, &[]),
+        Measure::Votes => put_item(page, alloc, language, keys::BY_VOTES),
+        Measure::Cost => put_item(page, alloc, language, keys::BY_COST),
     }
 }
 
-/// Whether shares were raised, and what that is called.
+/// Whether shares were raised.
 fn put_raises(
     page: &mut Vec<u8>,
     alloc: Global,
+    language: &Language,
     completion: Completion,
     fills_up: bool,
     raised: u32,
 ) -> Result<(), NoMemory>
-    ensures { OnOk result (Grows page.old.items page.new.items (raises completion fills_up raised ∷ [])) }
+    ensures { OnOk result (Grows page.old.items page.new.items (raises language.now completion fills_up raised ∷ [])) }
 {
     match completion {
-        Completion::Plain if fills_up => put(page, alloc, UNUSED, &[]),
-        Completion::Plain => put(page, alloc, PLAIN, &[]),
-        Completion::Add1 if raised == 0 => put(page, alloc, UNRAISED, &[]),
-        Completion::Add1 => put(page, alloc, RAISED, &[]),
+        Completion::Plain if fills_up => put_item(page, alloc, language, keys::UNUSED),
+        Completion::Plain => put_item(page, alloc, language, keys::PLAIN),
+        Completion::Add1 if raised == 0 => put_item(page, alloc, language, keys::UNRAISED),
+        Completion::Add1 => put_item(page, alloc, language, keys::RAISED),
+    }
+}
+
+/// What that is called.
+fn put_method(
+    page: &mut Vec<u8>,
+    alloc: Global,
+    language: &Language,
+    completion: Completion,
+    fills_up: bool,
+) -> Result<(), NoMemory>
+    ensures { OnOk result (Grows page.old.items page.new.items (method language.now completion fills_up ∷ [])) }
+{
+    match completion {
+        Completion::Plain if fills_up => put_item(page, alloc, language, keys::METHOD_FILLED),
+        Completion::Plain => put_item(page, alloc, language, keys::METHOD_PLAIN),
+        Completion::Add1 => put_item(page, alloc, language, keys::METHOD_ADD1),
     }
 }
 
 /// How what was left was filled up, where it was.
 #[tactic(auto, using(crate::proofs::Grown::none))]
-fn put_filled_up(page: &mut Vec<u8>, alloc: Global, fills_up: bool) -> Result<(), NoMemory>
-    ensures { OnOk result (Grows page.old.items page.new.items (filled_up fills_up)) }
+fn put_filled_up(
+    page: &mut Vec<u8>,
+    alloc: Global,
+    language: &Language,
+    fills_up: bool,
+) -> Result<(), NoMemory>
+    ensures { OnOk result (Grows page.old.items page.new.items (filled_up language.now fills_up)) }
 {
     if fills_up {
-        put(page, alloc, FILLED_UP, &[])
+        put_item(page, alloc, language, keys::FILLED_UP)
     } else {
         Ok(())
     }

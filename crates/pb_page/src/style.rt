@@ -1,8 +1,9 @@
 //! The head of a page, with how it looks.
 
-/// The head, and what the page is about. Value: the title, in two places.
+/// The head, and what the page is about, up to the first sentence. Values: the language, its direction, and the title, in two
+/// places.
 pub(crate) const HEAD: &str = "<!DOCTYPE html>
-<html lang='en'>
+<html lang='~' dir='~'>
 <head>
 <meta charset='utf-8'>
 <meta name='viewport' content='width=device-width, initial-scale=1'>
@@ -37,6 +38,7 @@ figure { margin: 1rem 0 0; }
 figcaption { margin-top: .4rem; }
 figcaption, caption { color: var(--soft); font-size: .9rem; }
 svg { display: block; width: 100%; }
+[dir='rtl'] svg { transform: scaleX(-1); }
 svg.budget { height: 2.75rem; border: 1px solid var(--soft); border-radius: .35rem; background: var(--track); }
 svg.budget rect { fill: var(--won); stroke: var(--paper); stroke-width: 1; vector-effect: non-scaling-stroke; }
 svg.budget rect:nth-child(even) { fill: var(--won-too); }
@@ -47,10 +49,13 @@ svg.budget rect:nth-child(even) { fill: var(--won-too); }
 table { width: 100%; border-collapse: collapse; margin: .5rem 0 0; }
 caption { text-align: start; padding-bottom: .4rem; }
 th, td { padding: .5rem .6rem; border-bottom: 1px solid var(--line); text-align: start; vertical-align: top; }
-thead th { color: var(--soft); font-size: .85rem; line-height: 1.25; vertical-align: bottom; overflow-wrap: normal; }
+thead th { color: var(--soft); font-size: .85rem; line-height: 1.25; vertical-align: bottom; hyphens: auto; }
 tbody th { font-weight: 600; }
 .n { text-align: end; font-variant-numeric: tabular-nums; }
 td.n { overflow-wrap: normal; white-space: nowrap; }
+.missing { display: inline-block; max-width: 12rem; white-space: normal; overflow-wrap: break-word; }
+pre, code, data { direction: ltr; unicode-bidi: isolate; }
+.many thead .n { width: 35%; }
 dl { margin: .5rem 0; }
 dt { color: var(--soft); font-size: .9rem; }
 dd { margin: 0 0 .6rem; }
@@ -59,7 +64,7 @@ code { font: .9rem/1.5 ui-monospace, 'DejaVu Sans Mono', Consolas, monospace; }
 pre { margin: .5rem 0; padding: .75rem; background: var(--track); border-radius: .35rem; white-space: pre-wrap; }
 @media (min-width: 44rem) {
   .wide thead .n { width: 7.5rem; }
-  .wide thead .round { width: 4rem; }
+  .wide thead .round { width: 5rem; }
 }
 @media (max-width: 43.99rem) {
   .wide, .wide caption, .wide tbody { display: block; }
@@ -68,7 +73,8 @@ pre { margin: .5rem 0; padding: .75rem; background: var(--track); border-radius:
   .wide th, .wide td { display: block; padding: .15rem 0; border: 0; }
   .wide tbody th { grid-column: 1 / -1; grid-row: 1; padding-bottom: .35rem; }
   .wide td { grid-column: 1 / -1; display: flex; justify-content: space-between; gap: 1rem; }
-  .wide td::before { content: attr(data-label); content: attr(data-label) / ''; color: var(--soft); font-size: .9rem; text-align: start; }
+  .wide td::before { content: attr(data-label); content: attr(data-label) / ''; color: var(--soft); font-size: .9rem; text-align: start; white-space: normal; overflow-wrap: anywhere; hyphens: auto; }
+  .wide td data { flex: none; max-width: 70%; }
 }
 @media print {
   :root {
@@ -87,4 +93,4 @@ pre { margin: .5rem 0; padding: .75rem; background: var(--track); border-radius:
 <body>
 <header>
 <h1 dir='auto'>~</h1>
-";
+<p class='lead'>";

@@ -1,71 +1,290 @@
 //! The top of a page, and the picture of the budget.
 
-ghost use Rattle.std.specs.Prelude.{[], ◌∷◌, ◌<◌, ◌^◌, All, OnOk, length, sum_by};
+ghost use Rattle.std.specs.Prelude.{[], ◌∷◌, ◌<◌, ◌^◌, All, OnOk, codes, length, sum_by};
+ghost use Rattle.pb_markup.specs.Amount.{shown};
 ghost use Rattle.pb_page.specs.Inner.Grown.{Grows};
-ghost use Rattle.pb_page.specs.Inner.Pieces.{block, budget_opening, summary, top};
-ghost use Rattle.pb_page.specs.Page.{blocks};
+ghost use Rattle.pb_page.specs.Inner.Pieces.{block};
+ghost use Rattle.pb_page.specs.Page.{amount, at, blocks, caption, filling, noun_at, number, picture, say, summary, text};
+ghost use Rattle.pb_page.specs.declared.keys.TheConstants as key;
+ghost use Rattle.pb_page.specs.declared.style.TheConstants.{HEAD};
+ghost use Rattle.pb_page.specs.declared.templates.TheConstants.{BUDGET_OPENING};
 ghost use Rattle.pb_price.specs.Supporters.{cost_at, support_of};
 
 use crate::figures::Figures;
-use crate::forms::{called, width, word};
-use crate::put::put;
+use crate::forms::{called, width};
+use crate::keys;
+use crate::language::Language;
+use crate::put::{put, say};
 use crate::style::HEAD;
-use crate::templates::{BUDGET_OPENING, BUDGET_PART, SUMMARY};
+use crate::templates::{
+    AMOUNT, BLOCKS_CLOSING, BLOCKS_OPENING, BUDGET_CLOSING, BUDGET_OPENING, BUDGET_PART, LEAD_NEXT,
+    NUMBER, TEXT,
+};
 use pb_core::election::Election;
 use pb_core::money::Money;
 use pb_core::no_memory::NoMemory;
 use pb_core::project::Project;
-use pb_markup::Value;
+use pb_markup::{Form, Place, Value};
 use std::alloc::Global;
 
 /// What the page is about, who voted, what was spent, how many won.
-pub(crate) fn put_top(
+pub(crate) fn put_summary(
     page: &mut Vec<u8>,
     alloc: Global,
+    language: &Language,
     title: &str,
     figures: &Figures,
 ) -> Result<(), NoMemory>
-    ensures { OnOk result (Grows page.old.items page.new.items (top title.now figures.now)) }
+    ensures { OnOk result (Grows page.old.items page.new.items (summary language.now title.now figures.now)) }
 {
-    put(page, alloc, HEAD, &[Value::Text(title)])?;
-    put_summary(page, alloc, figures)?;
-    put_opening(page, alloc, figures)
+    put_head(page, alloc, language, title)?;
+    put_voted(page, alloc, language, figures)?;
+    put(page, alloc, LEAD_NEXT, &[])?;
+    put_won(page, alloc, language, figures)
 }
 
-/// What stands above the picture of the budget.
-fn put_opening(page: &mut Vec<u8>, alloc: Global, figures: &Figures) -> Result<(), NoMemory>
-    ensures { OnOk result (Grows page.old.items page.new.items (budget_opening figures.now ∷ [])) }
+/// What the page is about.
+fn put_head(
+    page: &mut Vec<u8>,
+    alloc: Global,
+    language: &Language,
+    title: &str,
+) -> Result<(), NoMemory>
+    ensures { OnOk result (Grows page.old.items page.new.items
+        (filling HEAD.now (at language.now key.LANG ∷ at language.now key.DIR ∷ title.now ∷ []) ∷ [])) }
+{
+    put(
+        page,
+        alloc,
+        HEAD,
+        &[
+            Value::Text(language.text(keys::LANG)),
+            Value::Text(language.text(keys::DIR)),
+            Value::Text(title),
+        ],
+    )
+}
+
+/// Who voted, on what.
+fn put_voted(
+    page: &mut Vec<u8>,
+    alloc: Global,
+    language: &Language,
+    figures: &Figures,
+) -> Result<(), NoMemory>
+    ensures { OnOk result (Grows page.old.items page.new.items (say language.now key.VOTED
+        (number (codes "voters") figures.now.voters ∷ number (codes "projects") figures.now.projects
+        ∷ amount language.now.costs (codes "budget") figures.now.budget ∷ noun_at language.now key.PEOPLE figures.now.voters
+        ∷ noun_at language.now key.TOPICS figures.now.projects ∷ []))) }
+{
+    let values: &[Value] = &[
+        Value::Text("voters"),
+        Value::Number(figures.voters),
+        Value::Text("projects"),
+        Value::Number(figures.projects),
+        Value::Text("budget"),
+        Value::Amount(figures.budget),
+        Value::Shown(figures.budget, language.costs),
+        Value::Text(language.noun(keys::PEOPLE, figures.voters)),
+        Value::Text(language.noun(keys::TOPICS, figures.projects)),
+    ];
+    say(
+        page,
+        alloc,
+        language,
+        keys::VOTED,
+        &[
+            Place {
+                piece: NUMBER,
+                values: &values[0..2],
+            },
+            Place {
+                piece: NUMBER,
+                values: &values[2..4],
+            },
+            Place {
+                piece: AMOUNT,
+                values: &values[4..7],
+            },
+            Place {
+                piece: TEXT,
+                values: &values[7..8],
+            },
+            Place {
+                piece: TEXT,
+                values: &values[8..9],
+            },
+        ],
+    )
+}
+
+/// How many won, and what was spent.
+fn put_won(
+    page: &mut Vec<u8>,
+    alloc: Global,
+    language: &Language,
+    figures: &Figures,
+) -> Result<(), NoMemory>
+    ensures { OnOk result (Grows page.old.items page.new.items (say language.now key.WON
+        (number (codes "won") figures.now.won ∷ amount language.now.costs (codes "spent") figures.now.spent
+        ∷ amount language.now.costs (codes "left") figures.now.left ∷ noun_at language.now key.WINNERS figures.now.won ∷ []))) }
+{
+    let values: &[Value] = &[
+        Value::Text("won"),
+        Value::Number(figures.won),
+        Value::Text("spent"),
+        Value::Amount(figures.spent),
+        Value::Shown(figures.spent, language.costs),
+        Value::Text("left"),
+        Value::Amount(figures.left),
+        Value::Shown(figures.left, language.costs),
+        Value::Text(language.noun(keys::WINNERS, figures.won)),
+    ];
+    say(
+        page,
+        alloc,
+        language,
+        keys::WON,
+        &[
+            Place {
+                piece: NUMBER,
+                values: &values[0..2],
+            },
+            Place {
+                piece: AMOUNT,
+                values: &values[2..5],
+            },
+            Place {
+                piece: AMOUNT,
+                values: &values[5..8],
+            },
+            Place {
+                piece: TEXT,
+                values: &values[8..9],
+            },
+        ],
+    )
+}
+
+/// The head of the picture of the budget.
+pub(crate) fn put_picture(
+    page: &mut Vec<u8>,
+    alloc: Global,
+    language: &Language,
+    figures: &Figures,
+) -> Result<(), NoMemory>
+    ensures { OnOk result (Grows page.old.items page.new.items (picture language.now figures.now)) }
+{
+    put_heading(page, alloc, language)?;
+    put_description(page, alloc, language, figures)?;
+    put(page, alloc, BLOCKS_OPENING, &[])
+}
+
+/// The heading above it.
+fn put_heading(page: &mut Vec<u8>, alloc: Global, language: &Language) -> Result<(), NoMemory>
+    ensures { OnOk result (Grows page.old.items page.new.items
+        (filling BUDGET_OPENING.now (at language.now key.BUDGET_HEADING ∷ []) ∷ [])) }
 {
     put(
         page,
         alloc,
         BUDGET_OPENING,
+        &[Value::Text(language.text(keys::BUDGET_HEADING))],
+    )
+}
+
+/// What it says to those who can't see it.
+fn put_description(
+    page: &mut Vec<u8>,
+    alloc: Global,
+    language: &Language,
+    figures: &Figures,
+) -> Result<(), NoMemory>
+    ensures { OnOk result (Grows page.old.items page.new.items (say language.now key.PICTURE
+        (text (shown language.now.costs figures.now.budget) ∷ text (shown language.now.costs figures.now.spent)
+        ∷ text (shown language.now.costs figures.now.left) ∷ []))) }
+{
+    let values: &[Value] = &[
+        Value::Shown(figures.budget, language.costs),
+        Value::Shown(figures.spent, language.costs),
+        Value::Shown(figures.left, language.costs),
+    ];
+    say(
+        page,
+        alloc,
+        language,
+        keys::PICTURE,
         &[
-            Value::Amount(figures.budget),
-            Value::Amount(figures.spent),
-            Value::Amount(figures.left),
+            Place {
+                piece: TEXT,
+                values: &values[0..1],
+            },
+            Place {
+                piece: TEXT,
+                values: &values[1..2],
+            },
+            Place {
+                piece: TEXT,
+                values: &values[2..3],
+            },
         ],
     )
 }
 
-/// Who voted, what was spent, how many won.
-fn put_summary(page: &mut Vec<u8>, alloc: Global, figures: &Figures) -> Result<(), NoMemory>
-    ensures { OnOk result (Grows page.old.items page.new.items (summary figures.now ∷ [])) }
+/// What is said below the picture.
+pub(crate) fn put_caption(
+    page: &mut Vec<u8>,
+    alloc: Global,
+    language: &Language,
+    figures: &Figures,
+) -> Result<(), NoMemory>
+    ensures { OnOk result (Grows page.old.items page.new.items (caption language.now figures.now)) }
 {
-    put(
+    put(page, alloc, BLOCKS_CLOSING, &[])?;
+    put_spent(page, alloc, language, figures)?;
+    put(page, alloc, BUDGET_CLOSING, &[])
+}
+
+/// What was spent, left, and paid beyond the costs.
+fn put_spent(
+    page: &mut Vec<u8>,
+    alloc: Global,
+    language: &Language,
+    figures: &Figures,
+) -> Result<(), NoMemory>
+    ensures { OnOk result (Grows page.old.items page.new.items (say language.now key.BUDGET_CAPTION
+        (amount language.now.costs (codes "spent") figures.now.spent ∷ amount language.now.costs (codes "left") figures.now.left
+        ∷ amount language.now.amounts (codes "surplus") figures.now.surplus ∷ []))) }
+{
+    let values: &[Value] = &[
+        Value::Text("spent"),
+        Value::Amount(figures.spent),
+        Value::Shown(figures.spent, language.costs),
+        Value::Text("left"),
+        Value::Amount(figures.left),
+        Value::Shown(figures.left, language.costs),
+        Value::Text("surplus"),
+        Value::Amount(figures.surplus),
+        Value::Shown(figures.surplus, language.amounts),
+    ];
+    say(
         page,
         alloc,
-        SUMMARY,
+        language,
+        keys::BUDGET_CAPTION,
         &[
-            Value::Number(figures.voters),
-            Value::Text(word(figures.voters, "person", "people")),
-            Value::Number(figures.projects),
-            Value::Text(word(figures.projects, "project", "projects")),
-            Value::Amount(figures.budget),
-            Value::Number(figures.won),
-            Value::Text(word(figures.won, "project", "projects")),
-            Value::Amount(figures.spent),
-            Value::Amount(figures.left),
+            Place {
+                piece: AMOUNT,
+                values: &values[0..3],
+            },
+            Place {
+                piece: AMOUNT,
+                values: &values[3..6],
+            },
+            Place {
+                piece: AMOUNT,
+                values: &values[6..9],
+            },
         ],
     )
 }
@@ -74,19 +293,20 @@ fn put_summary(page: &mut Vec<u8>, alloc: Global, figures: &Figures) -> Result<(
 pub(crate) fn put_blocks(
     page: &mut Vec<u8>,
     alloc: Global,
+    costs: &Form,
     election: &Election,
     winners: &[u32],
 ) -> Result<(), NoMemory>
     requires known { All (λ place. place < length election.now.projects) winners.now }
     requires fits { sum_by (cost_at (support_of election.now)) winners.now < 2 ^ 64 }
-    ensures { OnOk result (Grows page.old.items page.new.items (blocks election.now 0 winners.now)) }
+    ensures { OnOk result (Grows page.old.items page.new.items (blocks costs.now election.now 0 winners.now)) }
 {
     let budget = election.budget();
     let projects = election.projects();
     let mut before = 0;
     for place in winners {
         let project = &projects[*place as usize];
-        put_block(page, alloc, project, before, budget)?;
+        put_block(page, alloc, &*costs, project, before, budget)?;
         let cost = project.cost();
         before += cost.0;
     }
@@ -94,14 +314,15 @@ pub(crate) fn put_blocks(
 }
 
 /// The block of a project, behind those that cost so much before it.
-fn put_block(
+fn put_block<'a>(
     page: &mut Vec<u8>,
     alloc: Global,
-    project: &Project,
+    costs: &Form<'a>,
+    project: &'a Project,
     before: u64,
     budget: Money,
 ) -> Result<(), NoMemory>
-    ensures { OnOk result (Grows page.old.items page.new.items (block budget before project.now ∷ [])) }
+    ensures { OnOk result (Grows page.old.items page.new.items (block costs.now budget before project.now ∷ [])) }
 {
     put(
         page,
@@ -111,7 +332,7 @@ fn put_block(
             Value::Number(width(before, budget.0)),
             Value::Number(width(project.cost().0, budget.0)),
             Value::Text(called(project)),
-            Value::Amount(project.cost()),
+            Value::Shown(project.cost(), *costs),
         ],
     )
 }

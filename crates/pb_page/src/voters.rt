@@ -1,89 +1,233 @@
 //! What the voters got.
 
-ghost use Rattle.std.specs.Prelude.{[], ◌∷◌, ◌<◌, ◌^◌, OnOk, flat_map, length};
+ghost use Rattle.std.specs.Prelude.{[], ◌∷◌, ◌<◌, ◌^◌, OnOk, decimal, flat_map, length};
 ghost use Rattle.std.specs.List.{range_with_len};
 ghost use Rattle.pb_page.specs.Inner.Grown.{Grows};
-ghost use Rattle.pb_page.specs.Inner.Pieces.{exact_row, got};
-ghost use Rattle.pb_page.specs.Page.{ballots_row, voters};
+ghost use Rattle.pb_page.specs.Inner.Pieces.{exact_row, got_said, row_closing, shown_row, voters_table};
+ghost use Rattle.pb_page.specs.Page.{at, ballots_row, filling, got, say, text, voters};
+ghost use Rattle.pb_page.specs.declared.keys.TheConstants as key;
+ghost use Rattle.pb_page.specs.declared.templates.TheConstants.{VOTERS_OPENING};
 
-use crate::forms::{width, word};
+use crate::forms::width;
 use crate::histogram::{at_least, exactly};
-use crate::put::put;
-use crate::templates::{TABLE_CLOSING, VOTERS_LAST_ROW, VOTERS_OPENING, VOTERS_ROW};
+use crate::keys;
+use crate::language::Language;
+use crate::put::{put, say};
+use crate::templates::{
+    NUMBER, TABLE_CLOSING, TEXT, VOTERS_OPENING, VOTERS_ROW, VOTERS_ROW_CLOSING, VOTERS_TABLE,
+};
 use pb_core::no_memory::NoMemory;
-use pb_markup::Value;
+use pb_markup::{Place, Value};
 use std::alloc::Global;
 
 /// So many winners or more are one row.
 const MOST: u32 = 9;
 
 /// How many voters have a winner among their choices, and the histogram of winners a voter.
-pub(crate) fn put_voters(page: &mut Vec<u8>, alloc: Global, won: &[u32]) -> Result<(), NoMemory>
+pub(crate) fn put_voters(
+    page: &mut Vec<u8>,
+    alloc: Global,
+    language: &Language,
+    won: &[u32],
+) -> Result<(), NoMemory>
     requires { length won.now < 2 ^ 64 }
-    ensures { OnOk result (Grows page.old.items page.new.items (voters won.now)) }
+    ensures { OnOk result (Grows page.old.items page.new.items (voters language.now won.now)) }
 {
-    put_got(page, alloc, won)?;
-    put_rows(page, alloc, won)?;
-    put_row(page, alloc, VOTERS_LAST_ROW, MOST, at_least(MOST, won), won)?;
+    put_got(page, alloc, language, won)?;
+    put_rows(page, alloc, language, won)?;
+    let most = at_least(MOST, won);
+    put_row(page, alloc, language, keys::OR_MORE, MOST, most, won)?;
     put(page, alloc, TABLE_CLOSING, &[])
 }
 
-/// How many voters have a winner among their choices.
-fn put_got(page: &mut Vec<u8>, alloc: Global, won: &[u32]) -> Result<(), NoMemory>
+/// How many voters have a winner among their choices, and the head of the histogram.
+fn put_got(
+    page: &mut Vec<u8>,
+    alloc: Global,
+    language: &Language,
+    won: &[u32],
+) -> Result<(), NoMemory>
     requires { length won.now < 2 ^ 64 }
-    ensures { OnOk result (Grows page.old.items page.new.items (got won.now ∷ [])) }
+    ensures { OnOk result (Grows page.old.items page.new.items (got language.now won.now)) }
 {
-    let voters = won.len() as u64;
+    put_heading(page, alloc, language)?;
     let with = at_least(1, won);
     let without = exactly(0, won);
+    say_got(page, alloc, language, with, won.len() as u64, without)?;
+    put_table_head(page, alloc, language)
+}
+
+/// The heading.
+fn put_heading(page: &mut Vec<u8>, alloc: Global, language: &Language) -> Result<(), NoMemory>
+    ensures { OnOk result (Grows page.old.items page.new.items
+        (filling VOTERS_OPENING.now (at language.now key.VOTERS_HEADING ∷ []) ∷ [])) }
+{
     put(
         page,
         alloc,
         VOTERS_OPENING,
+        &[Value::Text(language.text(keys::VOTERS_HEADING))],
+    )
+}
+
+/// How many voters have a winner among their choices.
+fn say_got(
+    page: &mut Vec<u8>,
+    alloc: Global,
+    language: &Language,
+    with: u64,
+    voters: u64,
+    without: u64,
+) -> Result<(), NoMemory>
+    ensures { OnOk result (Grows page.old.items page.new.items (got_said language.now with voters without)) }
+{
+    let values: &[Value] = &[
+        Value::Number(with),
+        Value::Text("voters"),
+        Value::Number(voters),
+        Value::Number(without),
+        Value::Text(language.noun(keys::ALL, voters)),
+        Value::Text(language.noun(keys::HAVE, with)),
+        Value::Text(language.noun(keys::LACK, without)),
+    ];
+    say(
+        page,
+        alloc,
+        language,
+        keys::GOT,
         &[
-            Value::Number(with),
-            Value::Number(voters),
-            Value::Text(word(voters, "voter", "voters")),
-            Value::Text(word(with, "has", "have")),
-            Value::Number(without),
-            Value::Text(word(without, "has", "have")),
+            Place {
+                piece: TEXT,
+                values: &values[0..1],
+            },
+            Place {
+                piece: NUMBER,
+                values: &values[1..3],
+            },
+            Place {
+                piece: TEXT,
+                values: &values[3..4],
+            },
+            Place {
+                piece: TEXT,
+                values: &values[4..5],
+            },
+            Place {
+                piece: TEXT,
+                values: &values[5..6],
+            },
+            Place {
+                piece: TEXT,
+                values: &values[6..7],
+            },
+        ],
+    )
+}
+
+/// The head of the histogram.
+fn put_table_head(page: &mut Vec<u8>, alloc: Global, language: &Language) -> Result<(), NoMemory>
+    ensures { OnOk result (Grows page.old.items page.new.items (voters_table language.now ∷ [])) }
+{
+    put(
+        page,
+        alloc,
+        VOTERS_TABLE,
+        &[
+            Value::Text(language.text(keys::VOTERS_CAPTION)),
+            Value::Text(language.text(keys::CHOSEN)),
+            Value::Text(language.text(keys::VOTERS)),
         ],
     )
 }
 
 /// A row for each number of winners below the last.
-fn put_rows(page: &mut Vec<u8>, alloc: Global, won: &[u32]) -> Result<(), NoMemory>
+fn put_rows(
+    page: &mut Vec<u8>,
+    alloc: Global,
+    language: &Language,
+    won: &[u32],
+) -> Result<(), NoMemory>
     requires { length won.now < 2 ^ 64 }
-    ensures { OnOk result (Grows page.old.items page.new.items (flat_map (exact_row won.now) (range_with_len 0 9))) }
+    ensures { OnOk result (Grows page.old.items page.new.items (flat_map (exact_row language.now won.now) (range_with_len 0 9))) }
 {
     for number in 0..MOST {
-        put_row(page, alloc, VOTERS_ROW, number, exactly(number, won), won)?;
+        let ballots = exactly(number, won);
+        put_row(page, alloc, language, keys::EXACTLY, number, ballots, won)?;
     }
     Ok(())
 }
 
-/// The row of so many winners, on this many ballots, where a ballot has so many or more.
+/// The row of so many winners, of which a sentence says how many, on this many ballots, where a ballot has so many or more.
 #[tactic(auto, using(crate::proofs::Grown::none))]
 fn put_row(
     page: &mut Vec<u8>,
     alloc: Global,
-    piece: &'static str,
+    language: &Language,
+    said: u16,
     number: u32,
     ballots: u64,
     won: &[u32],
 ) -> Result<(), NoMemory>
     requires { length won.now < 2 ^ 64 }
-    ensures { OnOk result (Grows page.old.items page.new.items (ballots_row piece.now number ballots won.now)) }
+    ensures { OnOk result (Grows page.old.items page.new.items (ballots_row language.now said number ballots won.now)) }
 {
     if at_least(number, won) == 0 {
         return Ok(());
     }
+    put_shown_row(page, alloc, language, said, number, ballots, won)
+}
+
+/// The row itself.
+fn put_shown_row(
+    page: &mut Vec<u8>,
+    alloc: Global,
+    language: &Language,
+    said: u16,
+    number: u32,
+    ballots: u64,
+    won: &[u32],
+) -> Result<(), NoMemory>
+    requires { length won.now < 2 ^ 64 }
+    ensures { OnOk result (Grows page.old.items page.new.items (shown_row language.now said number ballots won.now)) }
+{
+    put(page, alloc, VOTERS_ROW, &[Value::Number(u64::from(number))])?;
+    say_number(page, alloc, language, said, number)?;
+    put_ballots(page, alloc, ballots, won)
+}
+
+/// What is said of so many winners.
+fn say_number(
+    page: &mut Vec<u8>,
+    alloc: Global,
+    language: &Language,
+    said: u16,
+    number: u32,
+) -> Result<(), NoMemory>
+    ensures { OnOk result (Grows page.old.items page.new.items (say language.now said (text (decimal number) ∷ []))) }
+{
+    let shown = [Value::Number(u64::from(number))];
+    say(
+        page,
+        alloc,
+        language,
+        said,
+        &[Place {
+            piece: TEXT,
+            values: &shown,
+        }],
+    )
+}
+
+/// The rest of a row of this many ballots.
+fn put_ballots(page: &mut Vec<u8>, alloc: Global, ballots: u64, won: &[u32]) -> Result<(), NoMemory>
+    requires { length won.now < 2 ^ 64 }
+    ensures { OnOk result (Grows page.old.items page.new.items (row_closing ballots won.now ∷ [])) }
+{
     put(
         page,
         alloc,
-        piece,
+        VOTERS_ROW_CLOSING,
         &[
-            Value::Number(u64::from(number)),
             Value::Number(width(ballots, won.len() as u64)),
             Value::Number(ballots),
         ],

@@ -3,12 +3,15 @@
 ghost use Rattle.std.specs.Prelude.{◌≡◌, ◌<◌, [], ◌∷◌, All, OnOk, flat_map, if◌then◌else◌, length};
 ghost use Rattle.pb_page.specs.Inner.Grown.{Grows};
 ghost use Rattle.pb_page.specs.Inner.Pieces.{winner_table};
-ghost use Rattle.pb_page.specs.declared.templates.TheConstants.{NO_ELECTED, NO_WINNERS};
-ghost use Rattle.pb_page.specs.Page.{filling, winners, won_row, won_rows};
+ghost use Rattle.pb_page.specs.declared.keys.TheConstants as key;
+ghost use Rattle.pb_page.specs.declared.templates.TheConstants.{NONE_WON};
+ghost use Rattle.pb_page.specs.Page.{at, filling, winners, winners_head, won_row, won_rows};
 
 use crate::forms::{called, width};
+use crate::keys;
+use crate::language::Language;
 use crate::put::put;
-use crate::templates::{ADDED, NO_ELECTED, NO_WINNERS, TABLE_CLOSING, WINNER, WINNERS_OPENING};
+use crate::templates::{ADDED, NONE_WON, TABLE_CLOSING, WINNER, WINNERS_OPENING};
 use pb_core::election::Election;
 use pb_core::money::Money;
 use pb_core::no_memory::NoMemory;
@@ -22,37 +25,74 @@ use std::alloc::Global;
 pub(crate) fn put_winners(
     page: &mut Vec<u8>,
     alloc: Global,
+    language: &Language,
     election: &Election,
     teller: &ProjectTeller,
     counted: &Counted,
 ) -> Result<(), NoMemory>
     requires own { teller.now ≡ (election.now, counted.now) }
     requires known { All (λ w. w.place < length election.now.projects) counted.now.outcome.elected }
-    ensures { OnOk result (Grows page.old.items page.new.items (winners election.now counted.now)) }
+    ensures { OnOk result (Grows page.old.items page.new.items (winners language.now election.now counted.now)) }
 {
     let elected = counted.outcome.elected.as_slice();
     if elected.is_empty() {
-        return put_none(page, alloc, counted.fills_up);
+        return put_none(page, alloc, language, counted.fills_up);
     }
-    put_table(page, alloc, election, teller, elected)
+    put_table(page, alloc, language, election, teller, elected)
 }
 
 /// That there are none.
-fn put_none(page: &mut Vec<u8>, alloc: Global, fills_up: bool) -> Result<(), NoMemory>
-    ensures { OnOk result (Grows page.old.items page.new.items
-        (filling (if fills_up then NO_ELECTED.now else NO_WINNERS.now) [] ∷ [])) }
+fn put_none(
+    page: &mut Vec<u8>,
+    alloc: Global,
+    language: &Language,
+    fills_up: bool,
+) -> Result<(), NoMemory>
+    ensures { OnOk result (Grows page.old.items page.new.items (filling NONE_WON.now
+        (at language.now key.WINNERS_HEADING ∷ at language.now (if fills_up then key.NO_ELECTED else key.NO_WINNERS) ∷ []) ∷ [])) }
 {
-    if fills_up {
-        put(page, alloc, NO_ELECTED, &[])
+    let none = if fills_up {
+        keys::NO_ELECTED
     } else {
-        put(page, alloc, NO_WINNERS, &[])
-    }
+        keys::NO_WINNERS
+    };
+    put(
+        page,
+        alloc,
+        NONE_WON,
+        &[
+            Value::Text(language.text(keys::WINNERS_HEADING)),
+            Value::Text(language.text(none)),
+        ],
+    )
+}
+
+/// The head of their table.
+fn put_table_head(page: &mut Vec<u8>, alloc: Global, language: &Language) -> Result<(), NoMemory>
+    ensures { OnOk result (Grows page.old.items page.new.items (winners_head language.now ∷ [])) }
+{
+    put(
+        page,
+        alloc,
+        WINNERS_OPENING,
+        &[
+            Value::Text(language.text(keys::WINNERS_HEADING)),
+            Value::Text(language.text(keys::WINNERS_CAPTION)),
+            Value::Text(language.text(keys::ROUND)),
+            Value::Text(language.text(keys::PROJECT)),
+            Value::Text(language.text(keys::COST)),
+            Value::Text(language.text(keys::VOTES)),
+            Value::Text(language.text(keys::PRICE)),
+            Value::Text(language.text(keys::IN_FULL)),
+        ],
+    )
 }
 
 /// Their table.
 fn put_table(
     page: &mut Vec<u8>,
     alloc: Global,
+    language: &Language,
     election: &Election,
     teller: &ProjectTeller,
     elected: &[Elected],
@@ -60,10 +100,10 @@ fn put_table(
     requires own { teller.now.0 ≡ election.now }
     requires elected { teller.now.1.outcome.elected ≡ elected.now }
     requires known { All (λ w. w.place < length election.now.projects) elected.now }
-    ensures { OnOk result (Grows page.old.items page.new.items (winner_table election.now teller.now.1)) }
+    ensures { OnOk result (Grows page.old.items page.new.items (winner_table language.now election.now teller.now.1)) }
 {
-    put(page, alloc, WINNERS_OPENING, &[])?;
-    put_rows(page, alloc, election, teller, elected)?;
+    put_table_head(page, alloc, language)?;
+    put_rows(page, alloc, language, election, teller, elected)?;
     put(page, alloc, TABLE_CLOSING, &[])
 }
 
@@ -71,6 +111,7 @@ fn put_table(
 fn put_rows(
     page: &mut Vec<u8>,
     alloc: Global,
+    language: &Language,
     election: &Election,
     teller: &ProjectTeller,
     elected: &[Elected],
@@ -78,13 +119,13 @@ fn put_rows(
     requires own { teller.now.0 ≡ election.now }
     requires known { All (λ w. w.place < length election.now.projects) elected.now }
     ensures { OnOk result (Grows page.old.items page.new.items
-        (flat_map (λ w. won_rows election.now teller.now.1 w.place) elected.now)) }
+        (flat_map (λ w. won_rows language.now election.now teller.now.1 w.place) elected.now)) }
 {
     let projects = election.projects();
     for winner in elected {
         let reason = teller.tell(winner.place);
         let project = &projects[winner.place as usize];
-        put_row(page, alloc, project, &reason, election.budget())?;
+        put_row(page, alloc, language, project, &reason, election.budget())?;
     }
     Ok(())
 }
@@ -94,29 +135,39 @@ fn put_rows(
 pub(crate) fn put_row(
     page: &mut Vec<u8>,
     alloc: Global,
+    language: &Language,
     project: &Project,
     reason: &ProjectReason,
     budget: Money,
 ) -> Result<(), NoMemory>
-    ensures { OnOk result (Grows page.old.items page.new.items (won_row budget project.now reason.now.votes reason.now.ending)) }
+    ensures { OnOk result (Grows page.old.items page.new.items (won_row language.now budget project.now reason.now.votes reason.now.ending)) }
 {
     match &reason.ending {
-        Ending::Won(won) => put_won(page, alloc, project, reason.votes, won, budget),
-        Ending::Added(added) => put_one_added(page, alloc, project, reason.votes, added, budget),
+        Ending::Won(won) => put_won(page, alloc, language, project, reason.votes, won, budget),
+        Ending::Added(added) => put_one_added(
+            page,
+            alloc,
+            language,
+            project,
+            reason.votes,
+            added,
+            budget,
+        ),
         Ending::Lost(_) => Ok(()),
     }
 }
 
 /// The row of a winner.
-fn put_won(
+fn put_won<'a>(
     page: &mut Vec<u8>,
     alloc: Global,
-    project: &Project,
+    language: &Language<'a>,
+    project: &'a Project,
     votes: u32,
     won: &Won,
     budget: Money,
 ) -> Result<(), NoMemory>
-    ensures { OnOk result (Grows page.old.items page.new.items (won_row budget project.now votes (Ending.Won won.now))) }
+    ensures { OnOk result (Grows page.old.items page.new.items (won_row language.now budget project.now votes (Ending.Won won.now))) }
 {
     put(
         page,
@@ -124,27 +175,35 @@ fn put_won(
         WINNER,
         &[
             Value::Text(project.id()),
+            Value::Text(language.text(keys::ROUND)),
             Value::Number(u64::from(won.round)),
             Value::Text(called(project)),
             Value::Number(width(project.cost().0, budget.0)),
+            Value::Text(language.text(keys::COST)),
             Value::Amount(project.cost()),
+            Value::Shown(project.cost(), language.costs),
+            Value::Text(language.text(keys::VOTES)),
             Value::Number(u64::from(votes)),
+            Value::Text(language.text(keys::PRICE)),
             Value::Amount(won.price),
+            Value::Shown(won.price, language.amounts),
+            Value::Text(language.text(keys::IN_FULL)),
             Value::Number(u64::from(won.in_full)),
         ],
     )
 }
 
 /// The row of an added project.
-fn put_one_added(
+fn put_one_added<'a>(
     page: &mut Vec<u8>,
     alloc: Global,
-    project: &Project,
+    language: &Language<'a>,
+    project: &'a Project,
     votes: u32,
     added: &Added,
     budget: Money,
 ) -> Result<(), NoMemory>
-    ensures { OnOk result (Grows page.old.items page.new.items (won_row budget project.now votes (Ending.Added added.now))) }
+    ensures { OnOk result (Grows page.old.items page.new.items (won_row language.now budget project.now votes (Ending.Added added.now))) }
 {
     put(
         page,
@@ -152,10 +211,14 @@ fn put_one_added(
         ADDED,
         &[
             Value::Text(project.id()),
+            Value::Text(language.text(keys::NUMBER)),
             Value::Number(added.number),
             Value::Text(called(project)),
             Value::Number(width(project.cost().0, budget.0)),
+            Value::Text(language.text(keys::COST)),
             Value::Amount(project.cost()),
+            Value::Shown(project.cost(), language.costs),
+            Value::Text(language.text(keys::VOTES)),
             Value::Number(u64::from(votes)),
         ],
     )

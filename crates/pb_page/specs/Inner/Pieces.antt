@@ -1,103 +1,59 @@
 -- What each function of the code puts after a page: parts of the public definitions.
-use Rattle.std.specs.Prelude.{ℕ, ◌-◌, Bool, ◌==◌, List, [], ◌∷◌, ◌++◌, Option, codes, decimal, flat_map, if◌then◌else◌, length}
-use Rattle.std.specs.Borrow.{Bor}
+use Rattle.std.specs.Prelude.{ℕ, Bool, ◌==◌, List, [], ◌∷◌, ◌++◌, Option, codes, decimal, flat_map, if◌then◌else◌, length}
 use Rattle.std.specs.List.{range_with_len}
 use Rattle.std.specs.Option.{option_map_or}
-use Rattle.pb_core.specs.Election.{ElectionView, ProjectView}
 use Rattle.pb_core.specs.MoneyText.{money_text}
+use Rattle.pb_reasons.specs.declared.project_reason.Lost.{Lost}
+use Rattle.pb_page.specs.declared.facts.Source.{Source}
+use Rattle.pb_core.specs.Election.{ElectionView, ProjectView}
+use Rattle.pb_markup.specs.Amount.{shown}
 use Rattle.pb_markup.specs.Filling.{Filling}
-use Rattle.pb_reasons.specs.Counted.{CountedView, winners_of}
-use Rattle.pb_reasons.specs.Totals.{totals_of}
+use Rattle.pb_markup.specs.declared.form.Form.{Form}
+use Rattle.pb_reasons.specs.Counted.{CountedView}
 use Rattle.pb_rounds.specs.declared.measure.Measure.{Measure}
 use Rattle.pb_rounds.specs.declared.options.Completion.{Completion}
 use Rattle.pb_rounds.specs.declared.options.CountOptions.{CountOptions}
-use Rattle.pb_page.specs.Page.{at_least, ballots_row, by_completion, by_measure, called, exactly, filling, lost_rows, named, width, won_rows, word}
-use Rattle.pb_page.specs.declared.facts.Source.{Source}
-use Rattle.pb_page.specs.declared.figures.Figures.{Figures}
-use Rattle.pb_page.specs.declared.style.TheConstants.{HEAD}
-use Rattle.pb_page.specs.declared.templates.TheConstants.{SUMMARY, BUDGET_OPENING, BUDGET_PART, WINNERS_OPENING, ADDED_OPENING, OTHERS_OPENING, TABLE_CLOSING, VOTERS_OPENING, VOTERS_ROW, RULE, BY_VOTES, BY_COST, PLAIN, UNUSED, RAISED, UNRAISED, FILLED_UP, CHECK_OPENING, CHECK_JOURNAL, RECOUNT, NO_RECOUNT, COUNT, AUDIT, OPTION_COST, OPTION_PLAIN, OPTION_UTILITARIAN, OPTION_ADD1U, CLOSING}
-
--- the numbers of the whole
-abbrev pub figures_of : ElectionView → CountedView → Figures
-figures_of e c =
-    let totals = totals_of e c in
-    record {
-      voters = length e.voters;
-      projects = length e.projects;
-      won = length (winners_of c);
-      budget = e.budget;
-      spent = totals.spent;
-      left = e.budget - totals.spent;
-      surplus = totals.surplus;
-    }
-
-abbrev pub summary : Figures → Filling
-summary f =
-    filling SUMMARY.now
-    (decimal f.voters ∷ word f.voters (codes "person") (codes "people") ∷ decimal f.projects
-    ∷ word f.projects (codes "project") (codes "projects") ∷ money_text f.budget ∷ decimal f.won
-    ∷ word f.won (codes "project") (codes "projects") ∷ money_text f.spent ∷ money_text f.left ∷ [])
-
-abbrev pub budget_opening : Figures → Filling
-budget_opening f =
-    filling BUDGET_OPENING.now (money_text f.budget ∷ money_text f.spent ∷ money_text f.left ∷ [])
-
-abbrev pub top : List ℕ → Figures → List Filling
-top title f = filling HEAD.now (title ∷ []) ∷ summary f ∷ budget_opening f ∷ []
+use Rattle.pb_page.specs.Page.{added_head, at, ballots_row, by_completion, by_measure, called, exactly, filling, item, lost_rows, named, noun_at, number, others_head, say, text, width, winners_head, won_rows}
+use Rattle.pb_page.specs.declared.keys.TheConstants as key
+use Rattle.pb_page.specs.declared.language.Language.{Language}
+use Rattle.pb_page.specs.declared.templates.TheConstants.{BUDGET_PART, OTHER, TABLE_CLOSING, VOTERS_TABLE, VOTERS_ROW, VOTERS_ROW_CLOSING, CHECK_JOURNAL, RECOUNT_OPENING, RECOUNT_LINK, RECOUNT_CLOSING, COUNT, AUDIT, OPTION_COST, OPTION_PLAIN, OPTION_UTILITARIAN, OPTION_ADD1U, CLOSING}
 
 -- a winner's part of the budget, behind what those before it cost
-abbrev pub block : (budget before : ℕ) → ProjectView → Filling
-block budget before p =
+abbrev pub block : Form → (budget before : ℕ) → ProjectView → Filling
+block form budget before p =
     filling BUDGET_PART.now
-    (decimal (width before budget) ∷ decimal (width p.cost budget) ∷ called p ∷ money_text p.cost ∷ [])
+    (decimal (width before budget) ∷ decimal (width p.cost budget) ∷ called p ∷ shown form p.cost ∷ [])
 
-abbrev pub winner_table : ElectionView → CountedView → List Filling
-winner_table e c =
-    filling WINNERS_OPENING.now []
-    ∷ (flat_map (λ w. won_rows e c w.place) c.outcome.elected ++ filling TABLE_CLOSING.now [] ∷ [])
+abbrev pub winner_table : Language → ElectionView → CountedView → List Filling
+winner_table l e c =
+    winners_head l
+    ∷ (flat_map (λ w. won_rows l e c w.place) c.outcome.elected ++ filling TABLE_CLOSING.now [] ∷ [])
 
-abbrev pub added_table : ElectionView → CountedView → List Filling
-added_table e c =
-    filling ADDED_OPENING.now [] ∷ (flat_map (won_rows e c) c.added ++ filling TABLE_CLOSING.now [] ∷ [])
+abbrev pub added_table : Language → ElectionView → CountedView → List Filling
+added_table l e c =
+    added_head l ∷ (flat_map (won_rows l e c) c.added ++ filling TABLE_CLOSING.now [] ∷ [])
 
-abbrev pub other_table : ElectionView → CountedView → List Filling
-other_table e c =
-    filling OTHERS_OPENING.now []
-    ∷ (flat_map (lost_rows e c) (range_with_len 0 (length e.projects)) ++ filling TABLE_CLOSING.now [] ∷ [])
+abbrev pub other_table : Language → ElectionView → CountedView → List Filling
+other_table l e c =
+    others_head l
+    ∷ (flat_map (lost_rows l e c) (range_with_len 0 (length e.projects)) ++ filling TABLE_CLOSING.now [] ∷ [])
 
-abbrev pub got : List ℕ → Filling
-got won =
-    filling VOTERS_OPENING.now
-    (decimal (at_least 1 won) ∷ decimal (length won) ∷ word (length won) (codes "voter") (codes "voters")
-    ∷ word (at_least 1 won) (codes "has") (codes "have") ∷ decimal (exactly 0 won)
-    ∷ word (exactly 0 won) (codes "has") (codes "have") ∷ [])
+abbrev pub exact_row : Language → List ℕ → ℕ → List Filling
+exact_row l won n = ballots_row l key.EXACTLY n (exactly n won) won
 
-abbrev pub exact_row : List ℕ → ℕ → List Filling
-exact_row won n = ballots_row VOTERS_ROW.now n (exactly n won) won
+abbrev pub order : Language → Measure → Filling
+order l measure = item l (by_measure measure key.BY_VOTES key.BY_COST)
 
-abbrev pub share_rule : CountOptions → (share raised : ℕ) → Filling
-share_rule options share raised =
-    filling RULE.now
-    (money_text share ∷ decimal raised ∷ word raised (codes "raise") (codes "raises") ∷ money_text options.step ∷ [])
+abbrev pub raises : Language → Completion → (fills_up : Bool) → (raised : ℕ) → Filling
+raises l completion fills_up raised =
+    item l (by_completion completion (if fills_up then key.UNUSED else key.PLAIN) (if raised == 0 then key.UNRAISED else key.RAISED))
 
-abbrev pub order : Measure → Filling
-order measure = filling (by_measure measure BY_VOTES.now BY_COST.now) []
+abbrev pub method : Language → Completion → (fills_up : Bool) → Filling
+method l completion fills_up =
+    item l (by_completion completion (if fills_up then key.METHOD_FILLED else key.METHOD_PLAIN) key.METHOD_ADD1)
 
-abbrev pub raises : Completion → (fills_up : Bool) → (raised : ℕ) → Filling
-raises completion fills_up raised = filling (by_completion completion (if fills_up then UNUSED.now else PLAIN.now) (if raised == 0 then UNRAISED.now else RAISED.now)) []
-
-abbrev pub filled_up : (fills_up : Bool) → List Filling
-filled_up fills_up = if fills_up then filling FILLED_UP.now [] ∷ [] else []
-
-abbrev pub sources : Source → Option Source → List Filling
-sources file journal =
-    named CHECK_OPENING.now file ∷ option_map_or (λ journal. named CHECK_JOURNAL.now journal ∷ []) journal []
-
-abbrev pub link : Option (Bor (List ℕ)) → List Filling
-link recount = option_map_or (λ address. filling RECOUNT.now (address.now ∷ [])) recount (filling NO_RECOUNT.now []) ∷ []
-
-abbrev pub command : Option Source → List Filling
-command journal = filling (option_map_or (λ journal. AUDIT.now) journal COUNT.now) [] ∷ []
+abbrev pub filled_up : Language → (fills_up : Bool) → List Filling
+filled_up l fills_up = if fills_up then item l key.FILLED_UP ∷ [] else []
 
 abbrev pub measure_option : Measure → List Filling
 measure_option measure = by_measure measure [] (filling OPTION_COST.now [] ∷ [])
@@ -113,3 +69,38 @@ closing options fills_up =
     measure_option options.measure
     ++ (completion_option options.completion fills_up
     ++ filling CLOSING.now (decimal options.step ∷ decimal options.max_raises ∷ []) ∷ [])
+
+abbrev pub lost_figures : Language → ProjectView → (votes : ℕ) → Lost → Filling
+lost_figures l p votes lost =
+    filling OTHER.now
+    (p.id ∷ called p ∷ decimal (width lost.left p.cost) ∷ at l key.COST ∷ money_text p.cost ∷ shown l.costs p.cost
+    ∷ at l key.VOTES ∷ decimal votes ∷ at l key.LEFT ∷ money_text lost.left ∷ shown l.amounts lost.left
+    ∷ at l key.MISSING ∷ money_text lost.missing ∷ [])
+
+abbrev pub got_said : Language → (with voters without : ℕ) → List Filling
+got_said l with voters without =
+    say l key.GOT
+    (text (decimal with) ∷ number (codes "voters") voters ∷ text (decimal without)
+    ∷ noun_at l key.ALL voters ∷ noun_at l key.HAVE with ∷ noun_at l key.LACK without ∷ [])
+
+abbrev pub voters_table : Language → Filling
+voters_table l = filling VOTERS_TABLE.now (at l key.VOTERS_CAPTION ∷ at l key.CHOSEN ∷ at l key.VOTERS ∷ [])
+
+abbrev pub row_closing : (ballots : ℕ) → List ℕ → Filling
+row_closing ballots won = filling VOTERS_ROW_CLOSING.now (decimal (width ballots (length won)) ∷ decimal ballots ∷ [])
+
+abbrev pub journal_source : Option Source → List Filling
+journal_source journal = option_map_or (λ journal. named CHECK_JOURNAL.now journal ∷ []) journal []
+
+abbrev pub recount : Language → List ℕ → List Filling
+recount l address =
+    filling RECOUNT_OPENING.now []
+    ∷ (say l key.RECOUNT (filling RECOUNT_LINK.now (address ∷ at l key.LINK ∷ []) ∷ [])
+    ++ filling RECOUNT_CLOSING.now (at l key.PROGRAM_TOO ∷ []) ∷ [])
+
+abbrev pub recounting : Option Source → List Filling
+recounting journal = filling (option_map_or (λ journal. AUDIT.now) journal COUNT.now) [] ∷ []
+
+abbrev pub shown_row : Language → (k n ballots : ℕ) → List ℕ → List Filling
+shown_row l k n ballots won =
+    filling VOTERS_ROW.now (decimal n ∷ []) ∷ (say l k (text (decimal n) ∷ []) ++ row_closing ballots won ∷ [])

@@ -22,5 +22,5 @@ loop-place-preserved c =
     let cost : c.cost.inside.0 ≡ c.index-projects-place.result.cost = c.cost.view_is ∙ c.cost-cost.ensures.cost in
     record {
       before = omega (arith, costs_more _ _ _ _ _ placed, c.loop-place.invariant.before);
-      grown = block_more _ _ _ _ _ _ _ _ _ placed c.loop-place.invariant.before c.loop-place.invariant.grown (rw c.budget-budget.ensures.budget at c.in_ok-put_block.ensures);
+      grown = block_more c.args.costs.now _ _ _ _ _ _ _ _ _ placed c.loop-place.invariant.before c.loop-place.invariant.grown (rw c.budget-budget.ensures.budget at c.in_ok-put_block.ensures);
     }

@@ -8,5 +8,5 @@ use Rattle.pb_page.proofs.top.put_blocks.Given as goal
 abbrev pub invariant-loop-place : goal.invariant-loop-place
 invariant-loop-place l = record {
   before : l.before ≡ sum_by (cost_at (support_of l.election)) (take l.place-index l.winners);
-  grown : Grows l.fn.page.items l.page.items (blocks l.election 0 (take l.place-index l.winners));
+  grown : Grows l.fn.page.items l.page.items (blocks l.costs l.election 0 (take l.place-index l.winners));
 }

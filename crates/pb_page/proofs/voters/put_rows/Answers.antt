@@ -7,4 +7,4 @@ loop-number-init c = none c.args.page.now.items
 
 pub loop-number-preserved : goal.loop-number-preserved
 loop-number-preserved c =
-    place_more (exact_row c.args.won.now) c.loop-number.number _ _ _ c.loop-number.invariant (rw c.exactly.ensures at c.in_ok-put_row.ensures)
+    place_more (exact_row c.args.language.now c.args.won.now) c.loop-number.number _ _ _ c.loop-number.invariant (rw c.exactly-ballots.ensures at c.in_ok-put_row.ensures)

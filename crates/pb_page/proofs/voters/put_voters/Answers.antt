@@ -5,4 +5,4 @@ pub returns : goal.returns
 returns c =
     then_put _ _ _ _ _ _ c.in_ok-put_got.ensures
     (then_put _ _ _ _ _ _ c.in_ok-put_rows.ensures
-    (then_put _ _ _ _ _ _ (rw c.at_least.ensures at c.in_ok-put_row.ensures) c.put.ensures))
+    (then_put _ _ _ _ _ _ (rw c.at_least-most.ensures at c.in_ok-put_row.ensures) c.put.ensures))

@@ -1,5 +1,0 @@
-use Rattle.pb_page.proofs.Grown.{then_put}
-use Rattle.pb_page.proofs.top.put_top.Goals as goal
-
-pub returns : goal.returns
-returns c = then_put _ _ _ _ _ _ c.in_ok-put.ensures (then_put _ _ _ _ _ _ c.in_ok-put_summary.ensures c.put_opening.ensures)

@@ -1,0 +1,125 @@
+//! The keys of the sentences: the number of each is the index of its row in the table.
+
+pub(crate) const LANG: u16 = 0;
+
+pub(crate) const DIR: u16 = 1;
+
+pub(crate) const TITLE: u16 = 2;
+
+pub(crate) const VOTED: u16 = 3;
+
+pub(crate) const WON: u16 = 4;
+
+pub(crate) const BUDGET_HEADING: u16 = 5;
+
+pub(crate) const PICTURE: u16 = 6;
+
+pub(crate) const BUDGET_CAPTION: u16 = 7;
+
+pub(crate) const WINNERS_HEADING: u16 = 8;
+
+pub(crate) const WINNERS_CAPTION: u16 = 9;
+
+pub(crate) const NO_WINNERS: u16 = 10;
+
+pub(crate) const NO_ELECTED: u16 = 11;
+
+pub(crate) const ROUND: u16 = 12;
+
+pub(crate) const PROJECT: u16 = 13;
+
+pub(crate) const COST: u16 = 14;
+
+pub(crate) const VOTES: u16 = 15;
+
+pub(crate) const PRICE: u16 = 16;
+
+pub(crate) const IN_FULL: u16 = 17;
+
+pub(crate) const ADDED_HEADING: u16 = 18;
+
+pub(crate) const ADDED_CAPTION: u16 = 19;
+
+pub(crate) const NUMBER: u16 = 20;
+
+pub(crate) const OTHERS_HEADING: u16 = 21;
+
+pub(crate) const OTHERS_CAPTION: u16 = 22;
+
+pub(crate) const NO_OTHERS: u16 = 23;
+
+pub(crate) const LEFT: u16 = 24;
+
+pub(crate) const MISSING: u16 = 25;
+
+pub(crate) const SHORT: u16 = 26;
+
+pub(crate) const VOTERS_HEADING: u16 = 27;
+
+pub(crate) const GOT: u16 = 28;
+
+pub(crate) const VOTERS_CAPTION: u16 = 29;
+
+pub(crate) const CHOSEN: u16 = 30;
+
+pub(crate) const VOTERS: u16 = 31;
+
+pub(crate) const EXACTLY: u16 = 32;
+
+pub(crate) const OR_MORE: u16 = 33;
+
+pub(crate) const RULE_HEADING: u16 = 34;
+
+pub(crate) const SHARE: u16 = 35;
+
+pub(crate) const SUPPORTERS: u16 = 36;
+
+pub(crate) const BY_VOTES: u16 = 37;
+
+pub(crate) const BY_COST: u16 = 38;
+
+pub(crate) const PLAIN: u16 = 39;
+
+pub(crate) const UNUSED: u16 = 40;
+
+pub(crate) const RAISED: u16 = 41;
+
+pub(crate) const UNRAISED: u16 = 42;
+
+pub(crate) const FILLED_UP: u16 = 43;
+
+pub(crate) const METHOD_PLAIN: u16 = 44;
+
+pub(crate) const METHOD_FILLED: u16 = 45;
+
+pub(crate) const METHOD_ADD1: u16 = 46;
+
+pub(crate) const CHECK_HEADING: u16 = 47;
+
+pub(crate) const CHECK_BYTES: u16 = 48;
+
+pub(crate) const RECOUNT: u16 = 49;
+
+pub(crate) const LINK: u16 = 50;
+
+pub(crate) const PROGRAM_TOO: u16 = 51;
+
+pub(crate) const PROGRAM: u16 = 52;
+
+pub(crate) const AMOUNT: u16 = 53;
+
+// The nouns: each has three forms, that of one, of few and of many.
+
+pub(crate) const PEOPLE: u16 = 54;
+
+pub(crate) const TOPICS: u16 = 57;
+
+pub(crate) const WINNERS: u16 = 60;
+
+pub(crate) const ALL: u16 = 63;
+
+pub(crate) const HAVE: u16 = 66;
+
+pub(crate) const LACK: u16 = 69;
+
+pub(crate) const TIMES: u16 = 72;

@@ -1,0 +1,207 @@
+//! All that a page says: the keys, and the sentences in English.
+
+/// A sentence of a page.
+#[derive(Clone, Copy)]
+pub struct Entry {
+    pub key: &'static str,
+    /// The places that the sentence has to have, each once: place 0 is the first.
+    pub numbers: &'static [&'static str],
+    /// The places that it can have, after those.
+    pub nouns: &'static [&'static str],
+    pub english: &'static str,
+}
+
+/// A sentence without places.
+macro_rules! plain {
+    ($key:literal, $english:literal) => {
+        Entry { key: $key, numbers: &[], nouns: &[], english: $english }
+    };
+}
+
+/// All sentences, in the order of their keys' numbers. A noun has a row for each of its forms.
+pub const TABLE: &[Entry] = &[
+    plain!("lang", "en"),
+    plain!("dir", "ltr"),
+    plain!("title", "Participatory budgeting"),
+    Entry {
+        key: "lead.voted",
+        numbers: &["voters", "projects", "budget"],
+        nouns: &["people", "topics"],
+        english: "{voters} {people} voted on {projects} {topics}, with a budget of {budget}.",
+    },
+    Entry {
+        key: "lead.won",
+        numbers: &["won", "spent", "left"],
+        nouns: &["winners"],
+        english: "{won} {winners} won, for {spent} in all; {left} of the budget is left.",
+    },
+    plain!("budget.heading", "Where the budget goes"),
+    Entry {
+        key: "budget.picture",
+        numbers: &["budget", "spent", "left"],
+        nouns: &[],
+        english: "Of {budget}, {spent} is spent and {left} is left.",
+    },
+    Entry {
+        key: "budget.caption",
+        numbers: &["spent", "left", "surplus"],
+        nouns: &[],
+        english: "Each block is a winning project, as wide as its cost, in order of election. Spent: {spent}. Left: {left}. Paid beyond the costs, by rounding prices up: {surplus}.",
+    },
+    plain!("winners.heading", "The winners"),
+    plain!(
+        "winners.caption",
+        "In order of election. The bar is the project's part of the budget."
+    ),
+    plain!("winners.none", "No project won."),
+    plain!(
+        "winners.none_elected",
+        "No project was elected by equal shares."
+    ),
+    plain!("column.round", "Round"),
+    plain!("column.project", "Project"),
+    plain!("column.cost", "Cost"),
+    plain!("column.votes", "Votes"),
+    plain!("column.price", "Each supporter paid at most"),
+    plain!("column.in_full", "Paid that in full"),
+    plain!("added.heading", "Added by votes"),
+    plain!(
+        "added.caption",
+        "What the winners above left of the budget went to the project with the most votes that it still paid for, again and again: of equal votes to the cheaper project, of equal costs to the first in the file. Nobody's share pays for these projects. The bar is the project's part of the budget."
+    ),
+    plain!("column.number", "Number"),
+    plain!("others.heading", "The other projects"),
+    plain!(
+        "others.caption",
+        "In the order of the file. What a project's supporters have left, and what it was short of its cost, are told at the share where the raises ended. Shares there are counted money, not the budget's: a project that cost so much less might still not win. The bar is what its supporters have left, as a part of its cost."
+    ),
+    plain!("others.none", "There are none."),
+    plain!("column.left", "Its supporters have left"),
+    plain!("column.missing", "Missing"),
+    Entry {
+        key: "others.short",
+        numbers: &["missing"],
+        nouns: &[],
+        english: "{missing} short",
+    },
+    plain!("voters.heading", "What the voters got"),
+    Entry {
+        key: "voters.got",
+        numbers: &["with", "voters", "without"],
+        nouns: &["all", "have", "lack"],
+        english: "{with} of {voters} {all} {have} at least one winner among their choices; {without} {lack} none.",
+    },
+    plain!(
+        "voters.caption",
+        "How many of a ballot's choices won, and on how many ballots."
+    ),
+    plain!("column.chosen", "Winners chosen"),
+    plain!("column.voters", "Voters"),
+    Entry {
+        key: "voters.exactly",
+        numbers: &["number"],
+        nouns: &[],
+        english: "{number}",
+    },
+    Entry {
+        key: "voters.or_more",
+        numbers: &["number"],
+        nouns: &[],
+        english: "{number} or more",
+    },
+    plain!("rule.heading", "How it was counted"),
+    Entry {
+        key: "rule.share",
+        numbers: &["share", "raises", "step"],
+        nouns: &["times"],
+        english: "Each voter got the same share, {share}: an equal part of the budget and {raises} {times} of {step}.",
+    },
+    plain!(
+        "rule.supporters",
+        "A project could be paid as long as its supporters, the voters who chose it, could cover its cost together: each by the same price, or by all that was left of the share where that was less."
+    ),
+    plain!(
+        "rule.by_votes",
+        "In each round the project with the lowest price was elected, among equals the first in the file, and its supporters paid for it; the rounds ended when no other project could be paid."
+    ),
+    plain!(
+        "rule.by_cost",
+        "In each round the project with the lowest price for its cost was elected, among equals the first in the file, and its supporters paid for it; the rounds ended when no other project could be paid."
+    ),
+    plain!(
+        "rule.plain",
+        "The shares were not raised: what these rounds left of the budget is not spent."
+    ),
+    plain!("rule.unused", "The shares were not raised."),
+    plain!(
+        "rule.raised",
+        "To spend more of the budget, all rounds were held anew with higher and higher shares, until nothing that was left could be afforded, or the next winners would have cost more than the budget."
+    ),
+    plain!(
+        "rule.unraised",
+        "Higher shares were not needed: after these rounds nothing that was left could be afforded, or the next winners would have cost more than the budget."
+    ),
+    plain!(
+        "rule.filled_up",
+        "What was then left of the budget was filled up by votes: as long as it paid for a project that anyone had voted for, the one with the most votes was added, of equal votes the cheaper, of equal costs the first in the file."
+    ),
+    plain!(
+        "method.plain",
+        "This is the Method of Equal Shares (Peters, Pierczyński and Skowron 2021), without completion."
+    ),
+    plain!(
+        "method.filled_up",
+        "This is the Method of Equal Shares (Peters, Pierczyński and Skowron 2021), filled up by votes (utilitarian completion)."
+    ),
+    plain!(
+        "method.add1",
+        "This is the Method of Equal Shares (Peters, Pierczyński and Skowron 2021), with Add1 completion."
+    ),
+    plain!("check.heading", "Check it yourself"),
+    plain!(
+        "check.bytes",
+        "These bytes were counted. The same bytes give the same winners, whoever counts them."
+    ),
+    Entry {
+        key: "check.recount",
+        numbers: &["link"],
+        nouns: &[],
+        english: "To recount them in a browser, open {link}.",
+    },
+    plain!("check.link", "the page that counts"),
+    plain!(
+        "check.program_too",
+        "To recount them by the program, and to see their digests:"
+    ),
+    plain!(
+        "check.program",
+        "To recount them, and to see their digests:"
+    ),
+    Entry {
+        key: "amount",
+        numbers: &["amount", "currency"],
+        nouns: &[],
+        english: "{amount}\u{a0}{currency}",
+    },
+    plain!("people.one", "person"),
+    plain!("people.few", "people"),
+    plain!("people.many", "people"),
+    plain!("topics.one", "project"),
+    plain!("topics.few", "projects"),
+    plain!("topics.many", "projects"),
+    plain!("winners.one", "project"),
+    plain!("winners.few", "projects"),
+    plain!("winners.many", "projects"),
+    plain!("all.one", "voter"),
+    plain!("all.few", "voters"),
+    plain!("all.many", "voters"),
+    plain!("have.one", "has"),
+    plain!("have.few", "have"),
+    plain!("have.many", "have"),
+    plain!("lack.one", "has"),
+    plain!("lack.few", "have"),
+    plain!("lack.many", "have"),
+    plain!("times.one", "raise"),
+    plain!("times.few", "raises"),
+    plain!("times.many", "raises"),
+];
