@@ -2,23 +2,17 @@
 use Rattle.std.specs.Prelude.{ℕ, ◌/◌, ◌%◌, ◌&&◌, ◌==◌, List, [], ◌∷◌, ◌++◌, codes, decimal, if◌then◌else◌, length, nat_lt}
 use Rattle.pb_markup.specs.declared.form.Form.{Form}
 
--- a digit, behind which so many more stand in its number: a sign behind each third from the end, but not behind the last
-abbrev pub grouped_digit : (group : List ℕ) → (digit more : ℕ) → List ℕ
-grouped_digit group digit more = digit ∷ (if nat_lt 0 more && (more % 3 == 0) then group else [])
-
--- the digits of a number in groups of three
+-- the digits of a number in groups of three: a sign behind each third from the end, but not behind the last
 abbrev pub grouped : (group : List ℕ) → List ℕ → List ℕ
 grouped group [] = []
-grouped group (d ∷ ds) = grouped_digit group d (length ds) ++ grouped group ds
+grouped group (d ∷ ds) = (d ∷ (if nat_lt 0 (length ds) && (length ds % 3 == 0) then group else [])) ++ grouped group ds
 
--- the sign and the two decimals of an amount, but none where amounts are whole
+-- the sign and the two decimals of an amount, but none of a whole one where amounts are whole
 abbrev pub decimals : Form → (hundredths : ℕ) → List ℕ
-decimals form hundredths =
-    if form.is_whole then []
+decimals form hundredths = if form.is_whole && (hundredths == 0) then []
     else form.point.now ++ ((if nat_lt hundredths 10 then codes "0" else []) ++ decimal hundredths)
 
 -- an amount as people write it
 abbrev pub shown : Form → (hundredths : ℕ) → List ℕ
-shown form hundredths =
-    form.before.now ++ (grouped form.group.now (decimal (hundredths / 100))
+shown form hundredths = form.before.now ++ (grouped form.group.now (decimal (hundredths / 100))
     ++ (decimals form (hundredths % 100) ++ form.after.now))

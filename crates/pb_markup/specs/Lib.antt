@@ -4,3 +4,4 @@ pub mod Filling
 pub mod Sentence
 pub mod Words
 pub mod Amount
+pub mod Inner

@@ -1,7 +1,8 @@
 //! Amounts of money as people write them.
 
 ghost use Rattle.std.specs.Prelude.{◌≡◌, ◌++◌, ◌<◌, OnOk};
-ghost use Rattle.pb_markup.specs.Amount.{decimals, grouped, grouped_digit, shown};
+ghost use Rattle.pb_markup.specs.Amount.{decimals, grouped, shown};
+ghost use Rattle.pb_markup.specs.Inner.Digits.{grouped_digit};
 ghost use Rattle.pb_markup.specs.Markup.{written};
 
 use crate::form::Form;
@@ -48,7 +49,7 @@ fn write_decimals(page: &mut Vec<u8>, hundredths: u64, form: &Form) -> Result<()
     requires { hundredths < 100 }
     ensures { OnOk result (page.new.items ≡ page.old.items ++ written (decimals form.now hundredths)) }
 {
-    if form.is_whole {
+    if form.is_whole && hundredths == 0 {
         return Ok(());
     }
     write_text(page, form.point)?;

@@ -10,6 +10,6 @@ pub struct Form<'a> {
     pub group: &'a str,
     /// What stands before the two decimals.
     pub point: &'a str,
-    /// Amounts are whole, and shown without decimals.
+    /// Amounts are whole, and are shown without decimals; one that is not is shown with them all the same.
     pub is_whole: bool,
 }

@@ -16,8 +16,8 @@ use Rattle.pb_reasons.specs.declared.project_reason.ProjectReason.{ProjectReason
 use Rattle.pb_reasons.proofs.PlaceSums.{IsPlaced}
 use Rattle.pb_page.specs.Inner.Grown.{Grows}
 use Rattle.pb_page.proofs.Grown.{grown_as, then}
-use Rattle.pb_page.specs.Inner.Pieces.{block}
-use Rattle.pb_page.specs.Page.{blocks, lost_row, lost_rows, project_at, won_row, won_rows}
+use Rattle.pb_page.specs.Inner.Pieces.{block, lost_rows, won_rows}
+use Rattle.pb_page.specs.Page.{blocks, lost_row, project_at, won_row}
 
 pub the_project : (e : ElectionView) (place : ℕ) (p : ProjectView) → place < length e.projects → p ≡ get_or e.projects place p → p ≡ project_at e place
 the_project e place p known is = is ∙ get_or_default e.projects place p (record { id = []; name = []; cost = 0 }) known

@@ -2,8 +2,8 @@
 
 ghost use Rattle.std.specs.Prelude.{◌≡◌, ◌<◌, [], ◌∷◌, All, OnOk, flat_map, length};
 ghost use Rattle.pb_page.specs.Inner.Grown.{Grows};
-ghost use Rattle.pb_page.specs.Inner.Pieces.{added_table};
-ghost use Rattle.pb_page.specs.Page.{added, added_head, won_rows};
+ghost use Rattle.pb_page.specs.Inner.Pieces.{added_head, added_table, won_rows};
+ghost use Rattle.pb_page.specs.Page.{added};
 
 use crate::keys;
 use crate::language::Language;

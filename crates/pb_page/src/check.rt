@@ -2,10 +2,10 @@
 
 ghost use Rattle.std.specs.Prelude.{[], ◌∷◌, OnOk};
 ghost use Rattle.pb_page.specs.Inner.Grown.{Grows};
-ghost use Rattle.pb_page.specs.Inner.Pieces.{closing, completion_option, journal_source, measure_option, recount, recounting};
+ghost use Rattle.pb_page.specs.Inner.Pieces.{closing, command, completion_option, journal_source, link, measure_option, named, recount, recounting, sources};
 ghost use Rattle.pb_page.specs.declared.keys.TheConstants as key;
 ghost use Rattle.pb_page.specs.declared.templates.TheConstants.{CHECK_OPENING, RECOUNT_LINK};
-ghost use Rattle.pb_page.specs.Page.{at, command, filling, link, named, say, sources};
+ghost use Rattle.pb_page.specs.Page.{at, check, filling, say};
 
 use crate::facts::{Facts, Source};
 use crate::keys;
@@ -21,8 +21,22 @@ use pb_rounds::measure::Measure;
 use pb_rounds::options::{Completion, CountOptions};
 use std::alloc::Global;
 
+/// What was counted, where a page recounts it, and the command that does.
+pub(crate) fn put_check(
+    page: &mut Vec<u8>,
+    alloc: Global,
+    language: &Language,
+    facts: &Facts,
+) -> Result<(), NoMemory>
+    ensures { OnOk result (Grows page.old.items page.new.items (check language.now facts.now)) }
+{
+    put_sources(page, alloc, language, facts.file, facts.journal)?;
+    put_link(page, alloc, language, facts.recount)?;
+    put_command(page, alloc, facts)
+}
+
 /// What was counted.
-pub(crate) fn put_sources(
+fn put_sources(
     page: &mut Vec<u8>,
     alloc: Global,
     language: &Language,
@@ -85,7 +99,7 @@ fn put_source(
 }
 
 /// Where a page recounts them, if one does.
-pub(crate) fn put_link(
+fn put_link(
     page: &mut Vec<u8>,
     alloc: Global,
     language: &Language,
@@ -150,15 +164,15 @@ fn put_command_head(
 }
 
 /// The command that recounts them.
-pub(crate) fn put_check(page: &mut Vec<u8>, alloc: Global, facts: &Facts) -> Result<(), NoMemory>
+fn put_command(page: &mut Vec<u8>, alloc: Global, facts: &Facts) -> Result<(), NoMemory>
     ensures { OnOk result (Grows page.old.items page.new.items (command facts.now)) }
 {
-    put_command(page, alloc, facts.journal)?;
+    put_program(page, alloc, facts.journal)?;
     put_options(page, alloc, &facts.options, facts.fills_up)
 }
 
 /// The command that recounts them, up to its options.
-fn put_command(
+fn put_program(
     page: &mut Vec<u8>,
     alloc: Global,
     journal: Option<Source<'_>>,

@@ -1,7 +1,7 @@
 //! The numbers of the whole.
 
 ghost use Rattle.std.specs.Prelude.{◌≡◌};
-ghost use Rattle.pb_page.specs.Page.{figures_of};
+ghost use Rattle.pb_page.specs.Inner.Pieces.{figures_of};
 ghost use Rattle.pb_reasons.specs.Counted.{IsCounted};
 
 use pb_core::election::Election;

@@ -8,7 +8,7 @@ ghost use Rattle.pb_reasons.specs.Counted.{IsCounted, winners_of};
 ghost use Rattle.pb_rounds.specs.Counted.{IsCountOf};
 
 use crate::added::put_added;
-use crate::check::{put_check, put_link, put_sources};
+use crate::check::put_check;
 use crate::facts::Facts;
 use crate::figures::Figures;
 use crate::histogram::won_by_voter;
@@ -81,9 +81,7 @@ fn put_all(
     put_projects(page, alloc, language, election, counted)?;
     put_voters(page, alloc, language, won)?;
     put_rule(page, alloc, language, &facts.options, counted)?;
-    put_sources(page, alloc, language, facts.file, facts.journal)?;
-    put_link(page, alloc, language, facts.recount)?;
-    put_check(page, alloc, facts)
+    put_check(page, alloc, language, facts)
 }
 
 /// What was voted on, and where the budget goes.

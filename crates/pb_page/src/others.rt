@@ -3,12 +3,12 @@
 ghost use Rattle.std.specs.Prelude.{◌≡◌, [], ◌∷◌, OnOk, flat_map, length};
 ghost use Rattle.std.specs.List.{range_with_len};
 ghost use Rattle.pb_page.specs.Inner.Grown.{Grows};
-ghost use Rattle.pb_page.specs.Inner.Pieces.{lost_figures, other_table};
+ghost use Rattle.pb_page.specs.Inner.Pieces.{lost_figures, lost_rows, other_table, others_head};
 ghost use Rattle.pb_page.specs.declared.keys.TheConstants as key;
 ghost use Rattle.pb_page.specs.declared.templates.TheConstants.{NONE_LOST};
 ghost use Rattle.pb_markup.specs.Amount.{shown};
 ghost use Rattle.pb_reasons.specs.Counted.{winners_of};
-ghost use Rattle.pb_page.specs.Page.{at, filling, lost_row, lost_rows, others, others_head, say, text};
+ghost use Rattle.pb_page.specs.Page.{at, filling, lost_row, others, say, text};
 
 use crate::forms::{called, width};
 use crate::keys;

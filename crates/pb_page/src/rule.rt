@@ -4,8 +4,8 @@ ghost use Rattle.std.specs.Prelude.{[], ◌∷◌, OnOk, codes, decimal};
 ghost use Rattle.pb_core.specs.MoneyText.{money_text};
 ghost use Rattle.pb_markup.specs.Amount.{shown};
 ghost use Rattle.pb_page.specs.Inner.Grown.{Grows};
-ghost use Rattle.pb_page.specs.Inner.Pieces.{filled_up, method, order, raises};
-ghost use Rattle.pb_page.specs.Page.{amount, at, filling, item, noun_at, number, rule, say, share_rule};
+ghost use Rattle.pb_page.specs.Inner.Pieces.{filled_up, item, method, order, raises, share_rule};
+ghost use Rattle.pb_page.specs.Page.{amount, at, filling, noun_at, number, rule, say};
 ghost use Rattle.pb_page.specs.declared.keys.TheConstants as key;
 ghost use Rattle.pb_page.specs.declared.templates.TheConstants.{NAMELESS, RULE_NEXT, RULE_OPENING};
 
@@ -40,7 +40,7 @@ pub(crate) fn put_rule(
         language,
         options.step,
         outcome.share,
-        u64::from(outcome.raised),
+        outcome.raised,
     )?;
     put_order(page, alloc, language, options.measure)?;
     put_raises(
@@ -62,12 +62,12 @@ fn put_share(
     language: &Language,
     step: Money,
     share: Money,
-    raises: u64,
+    raised: u32,
 ) -> Result<(), NoMemory>
-    ensures { OnOk result (Grows page.old.items page.new.items (share_rule language.now step share raises)) }
+    ensures { OnOk result (Grows page.old.items page.new.items (share_rule language.now step share raised)) }
 {
     put_heading(page, alloc, language)?;
-    say_share(page, alloc, language, step, share, raises)?;
+    say_share(page, alloc, language, step, share, u64::from(raised))?;
     put_supporters(page, alloc, language)
 }
 

@@ -3,8 +3,8 @@
 ghost use Rattle.std.specs.Prelude.{[], ◌∷◌, ◌<◌, ◌^◌, All, OnOk, codes, length, sum_by};
 ghost use Rattle.pb_markup.specs.Amount.{shown};
 ghost use Rattle.pb_page.specs.Inner.Grown.{Grows};
-ghost use Rattle.pb_page.specs.Inner.Pieces.{block};
-ghost use Rattle.pb_page.specs.Page.{amount, at, blocks, caption, filling, noun_at, number, picture, say, summary, text};
+ghost use Rattle.pb_page.specs.Inner.Pieces.{block, caption, picture, whole_said};
+ghost use Rattle.pb_page.specs.Page.{amount, at, blocks, filling, noun_at, number, say, text};
 ghost use Rattle.pb_page.specs.declared.keys.TheConstants as key;
 ghost use Rattle.pb_page.specs.declared.style.TheConstants.{HEAD};
 ghost use Rattle.pb_page.specs.declared.templates.TheConstants.{BUDGET_OPENING};
@@ -35,7 +35,7 @@ pub(crate) fn put_summary(
     title: &str,
     figures: &Figures,
 ) -> Result<(), NoMemory>
-    ensures { OnOk result (Grows page.old.items page.new.items (summary language.now title.now figures.now)) }
+    ensures { OnOk result (Grows page.old.items page.new.items (whole_said language.now title.now figures.now)) }
 {
     put_head(page, alloc, language, title)?;
     put_voted(page, alloc, language, figures)?;

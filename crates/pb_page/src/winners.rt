@@ -2,10 +2,10 @@
 
 ghost use Rattle.std.specs.Prelude.{◌≡◌, ◌<◌, [], ◌∷◌, All, OnOk, flat_map, if◌then◌else◌, length};
 ghost use Rattle.pb_page.specs.Inner.Grown.{Grows};
-ghost use Rattle.pb_page.specs.Inner.Pieces.{winner_table};
+ghost use Rattle.pb_page.specs.Inner.Pieces.{winner_table, winners_head, won_rows};
 ghost use Rattle.pb_page.specs.declared.keys.TheConstants as key;
 ghost use Rattle.pb_page.specs.declared.templates.TheConstants.{NONE_WON};
-ghost use Rattle.pb_page.specs.Page.{at, filling, winners, winners_head, won_row, won_rows};
+ghost use Rattle.pb_page.specs.Page.{at, filling, winners, won_row};
 
 use crate::forms::{called, width};
 use crate::keys;

@@ -1,6 +1,6 @@
 use Rattle.std.proofs.lemmas.List.{get_or_default}
 use Rattle.pb_reasons.proofs.PlaceSums.{the_placed}
-use Rattle.pb_page.specs.Page.{won_rows}
+use Rattle.pb_page.specs.Inner.Pieces.{won_rows}
 use Rattle.pb_page.proofs.Grown.{grown_as, none, row_more}
 use Rattle.pb_page.proofs.Rows.{won_told}
 use Rattle.pb_page.proofs.added.put_rows.Goals as goal

@@ -1,7 +1,7 @@
 use Rattle.std.proofs.Common.{take}
 use Rattle.std.specs.Prelude.{flat_map}
 use Rattle.pb_page.specs.Inner.Grown.{Grows}
-use Rattle.pb_page.specs.Page.{won_rows}
+use Rattle.pb_page.specs.Inner.Pieces.{won_rows}
 use Rattle.pb_page.proofs.added.put_rows.Given as goal
 
 abbrev pub invariant-loop-place : goal.invariant-loop-place

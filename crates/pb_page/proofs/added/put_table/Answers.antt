@@ -1,6 +1,6 @@
 use Rattle.std.proofs.Common.{ap, sym}
 use Rattle.std.specs.Prelude.{flat_map}
-use Rattle.pb_page.specs.Page.{won_rows}
+use Rattle.pb_page.specs.Inner.Pieces.{won_rows}
 use Rattle.pb_page.proofs.Grown.{grown_as, then_put}
 use Rattle.pb_page.proofs.added.put_table.Goals as goal
 

@@ -3,5 +3,5 @@ use Rattle.pb_page.proofs.check.put_check.Goals as goal
 
 pub returns : goal.returns
 returns c =
-    then_put _ _ _ _ _ _ c.in_ok-put_command.ensures
-    (c.put_options.ensures)
+    then_put _ _ _ _ _ _ c.in_ok-put_sources.ensures
+    (then_put _ _ _ _ _ _ c.in_ok-put_link.ensures c.put_command.ensures)

@@ -1,5 +1,5 @@
 use Rattle.std.proofs.Common.{◌<◌, length}
-use Rattle.pb_page.specs.Page.{lost_rows}
+use Rattle.pb_page.specs.Inner.Pieces.{lost_rows}
 use Rattle.pb_page.proofs.Grown.{grown_as, none, place_more}
 use Rattle.pb_page.proofs.Rows.{lost_told}
 use Rattle.pb_page.proofs.others.put_rows.Goals as goal

@@ -1,7 +1,7 @@
 use Rattle.std.proofs.Common.{ap}
 use Rattle.pb_reasons.proofs.WinnerSums.{the_winner}
 use Rattle.pb_rounds.specs.Run.{ElectedView}
-use Rattle.pb_page.specs.Page.{won_rows}
+use Rattle.pb_page.specs.Inner.Pieces.{won_rows}
 use Rattle.pb_page.proofs.Grown.{grown_as, none, row_more}
 use Rattle.pb_page.proofs.Rows.{won_told}
 use Rattle.pb_page.proofs.winners.put_rows.Goals as goal
