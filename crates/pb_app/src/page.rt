@@ -185,6 +185,7 @@ fn write_page<'a, T: Threads + Sync, G: Gate, W: Write>(
         recount: run.recount,
         options: *counting.options,
         fills_up: counting.fills_up,
+        compares: run.compares,
         language,
     };
     let text = page_text(counting, &read.election, &facts)?;

@@ -50,6 +50,7 @@ fn task_of<'a>(name: &str, given: &ArgMatches<'a>) -> Task<'a> {
             recount: given.get_str("recount"),
             words: given.get_str("words"),
             currency: given.get_str("currency"),
+            compares: given.get_flag("compare"),
         }),
         "export" => Task::Export(ballots_of(given, file), options_of(given)),
         "check" => Task::Check(file),

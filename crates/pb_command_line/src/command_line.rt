@@ -379,6 +379,13 @@ const CURRENCY: Argument = Argument {
     help: "The currency that the page shows with each amount, such as EUR [default: none]",
 };
 
+/// What the page has besides.
+const COMPARE: Argument = Argument {
+    name: "compare",
+    takes: Takes::Nothing,
+    help: "Adds a table that compares this count with most votes",
+};
+
 /// The commands that read a .pb file, and count its ballots or those of a journal.
 const COUNTS: &[CommandForm] = &[
     CommandForm {
@@ -422,8 +429,8 @@ const COUNTS: &[CommandForm] = &[
         notes: "Manual pages: man pb_app-election, man 5 pb_app-page, man pb_app-counting.",
         about: "Counts a .pb file, and prints the result as a web page for the public",
         arguments: &[
-            ELECTION, LEFT_BY, OTHER_FILE, TITLE, RECOUNT, WORDS, CURRENCY, WORKERS, STEP, RAISES,
-            PLAIN, COMPLETION, MEASURE, STRICT, OUTPUT, QUIET, PROGRESS,
+            ELECTION, LEFT_BY, OTHER_FILE, TITLE, RECOUNT, WORDS, CURRENCY, COMPARE, WORKERS, STEP,
+            RAISES, PLAIN, COMPLETION, MEASURE, STRICT, OUTPUT, QUIET, PROGRESS,
         ],
     },
     CommandForm {

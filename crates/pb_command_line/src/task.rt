@@ -119,6 +119,8 @@ pub struct PageRun<'a> {
     pub words: Option<&'a str>,
     /// The currency of its amounts, if one is given.
     pub currency: Option<&'a str>,
+    /// The page also has the comparison with most votes.
+    pub compares: bool,
 }
 
 /// What the arguments ask for.

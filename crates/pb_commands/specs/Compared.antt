@@ -3,17 +3,13 @@ use Rattle.std.specs.Prelude.{ℕ, List, [], ◌∷◌, ◌++◌, codes, decimal
 use Rattle.std.specs.List.{range_with_len}
 use Rattle.pb_core.specs.Election.{ElectionView, project_ids}
 use Rattle.pb_core.specs.MoneyText.{money_text}
-use Rattle.pb_greedy.specs.MostVotes.{is_taken, most_votes_first, votes_at}
+use Rattle.pb_greedy.specs.MostVotes.{is_taken, votes_at}
 use Rattle.pb_price.specs.Supporters.{cost_at, support_of}
-use Rattle.pb_reasons.specs.Comparison.{comparison_of}
+use Rattle.pb_reasons.specs.BesideVotes.{beside_votes, elected_by_votes}
 use Rattle.pb_reasons.specs.Counted.{CountedView, winners_of}
 use Rattle.pb_reasons.specs.declared.rule_row.RuleRow.{RuleRow}
 use Rattle.pb_rows.specs.Reading.{Fields}
 use Rattle.pb_rows.specs.Writing.{text_of_rows}
-
--- whom most votes first elects, from an empty list and with the whole budget
-abbrev pub elected_by_votes : ElectionView → List ℕ
-elected_by_votes e = most_votes_first (support_of e) [] e.budget
 
 -- the row of a rule
 abbrev pub rule_fields : (rule : List ℕ) → RuleRow → Fields
@@ -32,7 +28,7 @@ ruled_project_row e winners other place =
 -- the count and most votes first, as text: the columns, and a row for each
 unfoldable pub rules_table : ElectionView → CountedView → List ℕ
 rules_table e c =
-    let rules = comparison_of e (winners_of c) (elected_by_votes e) in
+    let rules = beside_votes e c in
     codes "rule;projects;spent;left;without;choices;worth;more_choices;more_worth\n"
     ++ text_of_rows (rule_fields (codes "equal shares") rules.own ∷ rule_fields (codes "most votes") rules.other ∷ [])
 

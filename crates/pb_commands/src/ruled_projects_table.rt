@@ -4,18 +4,18 @@ ghost use Rattle.std.specs.Prelude.{◌≡◌, ◌++◌, ◌∷◌, [], ℕ, Lis
 ghost use Rattle.std.specs.List.{range_with_len};
 ghost use Rattle.pb_core.specs.MoneyText.{money_text};
 ghost use Rattle.pb_price.specs.Supporters.{support_of};
+ghost use Rattle.pb_reasons.specs.BesideVotes.{elected_by_votes};
 ghost use Rattle.pb_reasons.specs.Counted.{winners_of};
 ghost use Rattle.pb_rows.specs.Writing.{text_of_row, text_of_rows};
-ghost use Rattle.pb_commands.specs.Compared.{elected_by_votes, ruled_project_row};
+ghost use Rattle.pb_commands.specs.Compared.{ruled_project_row};
 ghost use Rattle.pb_commands.specs.Inner.Compared.{ruled_columns};
 
-use crate::rules_table::elected_by_votes;
 use itoa::Buffer;
 use pb_core::election::Election;
 use pb_core::no_memory::NoMemory;
 use pb_core::project::Project;
 use pb_price::supporters::Supporters;
-use pb_reasons::{Counted, Winners};
+use pb_reasons::{Counted, Winners, elected_by_votes};
 use pb_rows::RowsWriter;
 use std::alloc::Global;
 

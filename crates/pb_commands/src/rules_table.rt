@@ -2,18 +2,15 @@
 
 ghost use Rattle.std.specs.Prelude.{◌≡◌, ◌++◌, ◌∷◌, [], IfOk, OnOk, codes, string_bytes};
 ghost use Rattle.pb_core.specs.MoneyText.{money_text};
-ghost use Rattle.pb_reasons.specs.Comparison.{comparison_of};
-ghost use Rattle.pb_reasons.specs.Counted.{winners_of};
+ghost use Rattle.pb_reasons.specs.BesideVotes.{beside_votes};
 ghost use Rattle.pb_rows.specs.Writing.{text_of_row, text_of_rows};
-ghost use Rattle.pb_commands.specs.Compared.{elected_by_votes, rule_fields};
+ghost use Rattle.pb_commands.specs.Compared.{rule_fields};
 ghost use Rattle.pb_commands.specs.Inner.Compared.{rule_columns};
 
 use itoa::Buffer;
 use pb_core::election::Election;
 use pb_core::no_memory::NoMemory;
-use pb_greedy::most_votes_first;
-use pb_price::supporters::Supporters;
-use pb_reasons::{Comparison, Counted, RuleRow, compare};
+use pb_reasons::{Counted, RuleRow, compare_with_votes};
 use pb_rows::RowsWriter;
 use std::alloc::Global;
 
@@ -25,12 +22,10 @@ pub(crate) fn put_rules(
     counted: &Counted,
 ) -> Result<(), NoMemory>
     ensures { OnOk result (rows.new.text ≡ rows.old.text ++ text_of_rows (rule_columns
-        ∷ rule_fields (codes "equal shares")
-        (comparison_of election.now (winners_of counted.now) (elected_by_votes election.now)).own
-        ∷ rule_fields (codes "most votes")
-        (comparison_of election.now (winners_of counted.now) (elected_by_votes election.now)).other ∷ [])) }
+        ∷ rule_fields (codes "equal shares") (beside_votes election.now counted.now).own
+        ∷ rule_fields (codes "most votes") (beside_votes election.now counted.now).other ∷ [])) }
 {
-    let rules = compared(alloc, election, counted)?;
+    let rules = compare_with_votes(alloc, election, counted)?;
     rows.put_row(&[
         "rule",
         "projects",
@@ -44,24 +39,6 @@ pub(crate) fn put_rules(
     ])?;
     put_rule(rows, alloc, "equal shares", rules.own)?;
     put_rule(rows, alloc, "most votes", rules.other)
-}
-
-/// What this count elects, compared with what most votes first elects.
-fn compared(alloc: Global, election: &Election, counted: &Counted) -> Result<Comparison, NoMemory>
-    ensures { IfOk result (λ rules.
-        rules ≡ comparison_of election.now (winners_of counted.now) (elected_by_votes election.now)) }
-{
-    let winners = counted.winners(alloc)?;
-    let other = elected_by_votes(alloc, election)?;
-    compare(alloc, election, winners.as_slice(), other.as_slice())
-}
-
-/// Whom most votes first elects, by place: from an empty list, and with the whole budget.
-pub(crate) fn elected_by_votes(alloc: Global, election: &Election) -> Result<Vec<u32>, NoMemory>
-    ensures { IfOk result (λ places. places.items ≡ elected_by_votes election.now) }
-{
-    let supporters = Supporters::build(alloc, election)?;
-    most_votes_first(alloc, &supporters, &[], election.budget())
 }
 
 /// Writes the row of a rule.

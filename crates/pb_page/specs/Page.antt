@@ -10,9 +10,12 @@ use Rattle.pb_markup.specs.Sentence.{said}
 use Rattle.pb_markup.specs.Words.{noun, sentence}
 use Rattle.pb_markup.specs.declared.form.Form.{Form}
 use Rattle.pb_price.specs.Supporters.{cost_at, support_of}
+use Rattle.pb_reasons.specs.BesideVotes.{beside_votes}
 use Rattle.pb_reasons.specs.Counted.{CountedView, counted, winners_of}
 use Rattle.pb_reasons.specs.Reasons.{project_reason, voter_reason}
 use Rattle.pb_reasons.specs.Totals.{totals_of}
+use Rattle.pb_reasons.specs.declared.comparison.Comparison.{Comparison}
+use Rattle.pb_reasons.specs.declared.rule_row.RuleRow.{RuleRow}
 use Rattle.pb_reasons.specs.declared.project_reason.Ending.{Ending}
 use Rattle.pb_reasons.specs.declared.project_reason.Ending.TheVariants.{Won, Added, Lost}
 use Rattle.pb_rounds.specs.Counted.{IsCountOf}
@@ -26,7 +29,7 @@ use Rattle.pb_page.specs.declared.facts.Facts.{Facts}
 use Rattle.pb_page.specs.declared.keys.TheConstants as key
 use Rattle.pb_page.specs.declared.language.Language.{Language}
 use Rattle.pb_page.specs.declared.style.TheConstants.{HEAD}
-use Rattle.pb_page.specs.declared.templates.TheConstants.{TEXT, NUMBER, AMOUNT, NAMELESS, LEAD_NEXT, BUDGET_OPENING, BLOCKS_OPENING, BUDGET_PART, BLOCKS_CLOSING, BUDGET_CLOSING, WINNERS_OPENING, WINNER, NONE_WON, ADDED_OPENING, ADDED, OTHERS_OPENING, OTHER, OTHER_CLOSING, NONE_LOST, TABLE_CLOSING, VOTERS_OPENING, VOTERS_TABLE, VOTERS_ROW, VOTERS_ROW_CLOSING, RULE_OPENING, RULE_NEXT, ITEM, CHECK_OPENING, CHECK_FILE, CHECK_JOURNAL, RECOUNT_OPENING, RECOUNT_LINK, RECOUNT_CLOSING, NO_RECOUNT, COUNT, AUDIT, OPTION_COST, OPTION_PLAIN, OPTION_UTILITARIAN, OPTION_ADD1U, CLOSING}
+use Rattle.pb_page.specs.declared.templates.TheConstants.{TEXT, NUMBER, AMOUNT, NAMELESS, LEAD_NEXT, BUDGET_OPENING, BLOCKS_OPENING, BUDGET_PART, BLOCKS_CLOSING, BUDGET_CLOSING, WINNERS_OPENING, WINNER, NONE_WON, ADDED_OPENING, ADDED, OTHERS_OPENING, OTHER, OTHER_CLOSING, NONE_LOST, TABLE_CLOSING, VOTERS_OPENING, VOTERS_TABLE, VOTERS_ROW, VOTERS_ROW_CLOSING, COMPARED_OPENING, COMPARED_ROW, RULE_OPENING, RULE_NEXT, ITEM, CHECK_OPENING, CHECK_FILE, CHECK_JOURNAL, RECOUNT_OPENING, RECOUNT_LINK, RECOUNT_CLOSING, NO_RECOUNT, COUNT, AUDIT, OPTION_COST, OPTION_PLAIN, OPTION_UTILITARIAN, OPTION_ADD1U, CLOSING}
 
 -- one of the program's own pieces of markup, and what stands in its places
 abbrev pub filling : List ℕ → List (List ℕ) → Filling
@@ -177,6 +180,20 @@ voters l won = between (labels l VOTERS_OPENING.now (key.VOTERS_HEADING ∷ []))
     ++ (flat_map (λ n. ballots_row l key.EXACTLY n (exactly n won) won) (range_with_len 0 9)
     ++ (ballots_row l key.OR_MORE 9 (at_least 9 won) won ++ filling TABLE_CLOSING.now [] ∷ []))
 
+-- the row of a rule, and, where it is asked for, the count beside most votes first
+abbrev pub compared_row : Language → ℕ → RuleRow → Filling
+compared_row l k r = filling COMPARED_ROW.now (at l k ∷ at l key.COMPARED_WON ∷ decimal r.projects
+    ∷ at l key.WITHOUT ∷ decimal r.without ∷ at l key.MORE ∷ decimal r.more_choices ∷ [])
+
+abbrev pub compared : Language → Comparison → List Filling
+compared l rules = labels l COMPARED_OPENING.now (key.COMPARED_HEADING ∷ key.COMPARED_CAPTION
+    ∷ key.COMPARED_RULE ∷ key.COMPARED_WON ∷ key.WITHOUT ∷ key.MORE ∷ [])
+    ∷ compared_row l key.EQUAL_SHARES rules.own ∷ compared_row l key.MOST_VOTES rules.other
+    ∷ filling TABLE_CLOSING.now [] ∷ []
+
+abbrev pub besides : ElectionView → CountedView → Facts → List Filling
+besides e c facts = if facts.compares then compared facts.language (beside_votes e c) else []
+
 -- how the share came about, which project is elected first, whether shares were raised, and how the rest was filled up
 abbrev pub rule : Language → CountOptions → (fills_up : Bool) → (share raised : ℕ) → List Filling
 rule l options fills_up share raised = between (labels l RULE_OPENING.now (key.RULE_HEADING ∷ []))
@@ -207,7 +224,7 @@ check l facts = let options = facts.options in
 unfoldable pub parts : ElectionView → CountedView → Facts → List Filling
 parts e c facts = let l = facts.language in
     budget l facts.title.now e c ++ ((winners l e c ++ (added l e c ++ others l e c)) ++ (voters l (won_by_voter e c)
-    ++ (rule l facts.options c.fills_up c.outcome.share c.outcome.raised ++ check l facts)))
+    ++ (besides e c facts ++ (rule l facts.options c.fills_up c.outcome.share c.outcome.raised ++ check l facts))))
 
 -- the page of a count of this election, by the options of these facts, in their language, and filled up by votes where
 -- they say so

@@ -27,6 +27,8 @@ pub struct Facts<'a> {
     pub options: CountOptions,
     /// What the elected left of the budget was filled up by votes.
     pub fills_up: bool,
+    /// The page also has the comparison with most votes first.
+    pub compares: bool,
     /// What the page says, and how it shows amounts.
     pub language: Language<'a>,
 }

@@ -106,20 +106,36 @@ pub(crate) const PROGRAM_TOO: u16 = 51;
 
 pub(crate) const PROGRAM: u16 = 52;
 
-pub(crate) const AMOUNT: u16 = 53;
+pub(crate) const COMPARED_HEADING: u16 = 53;
+
+pub(crate) const COMPARED_CAPTION: u16 = 54;
+
+pub(crate) const COMPARED_RULE: u16 = 55;
+
+pub(crate) const EQUAL_SHARES: u16 = 56;
+
+pub(crate) const MOST_VOTES: u16 = 57;
+
+pub(crate) const COMPARED_WON: u16 = 58;
+
+pub(crate) const WITHOUT: u16 = 59;
+
+pub(crate) const MORE: u16 = 60;
+
+pub(crate) const AMOUNT: u16 = 61;
 
 // The nouns: each has three forms, that of one, of few and of many.
 
-pub(crate) const PEOPLE: u16 = 54;
+pub(crate) const PEOPLE: u16 = 62;
 
-pub(crate) const TOPICS: u16 = 57;
+pub(crate) const TOPICS: u16 = 65;
 
-pub(crate) const WINNERS: u16 = 60;
+pub(crate) const WINNERS: u16 = 68;
 
-pub(crate) const ALL: u16 = 63;
+pub(crate) const ALL: u16 = 71;
 
-pub(crate) const HAVE: u16 = 66;
+pub(crate) const HAVE: u16 = 74;
 
-pub(crate) const LACK: u16 = 69;
+pub(crate) const LACK: u16 = 77;
 
-pub(crate) const TIMES: u16 = 72;
+pub(crate) const TIMES: u16 = 80;

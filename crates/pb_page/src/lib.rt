@@ -4,6 +4,7 @@
 
 mod added;
 mod check;
+mod compared;
 mod facts;
 mod figures;
 mod forms;

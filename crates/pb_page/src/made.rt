@@ -9,6 +9,7 @@ ghost use Rattle.pb_rounds.specs.Counted.{IsCountOf};
 
 use crate::added::put_added;
 use crate::check::put_check;
+use crate::compared::put_besides;
 use crate::facts::Facts;
 use crate::figures::Figures;
 use crate::histogram::won_by_voter;
@@ -80,6 +81,7 @@ fn put_all(
     put_budget(page, alloc, language, election, counted, facts.title)?;
     put_projects(page, alloc, language, election, counted)?;
     put_voters(page, alloc, language, won)?;
+    put_besides(page, alloc, election, counted, facts)?;
     put_rule(page, alloc, language, &facts.options, counted)?;
     put_check(page, alloc, language, facts)
 }

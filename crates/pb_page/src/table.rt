@@ -177,6 +177,23 @@ pub const TABLE: &[Entry] = &[
         "check.program",
         "To recount them, and to see their digests:"
     ),
+    plain!("compared.heading", "Compared with most votes"),
+    plain!(
+        "compared.caption",
+        "By most votes, the projects with the most votes win, one after the other, each that the rest of the budget still pays for. This is only a comparison: the winners are the projects above."
+    ),
+    plain!("compared.rule", "Rule"),
+    plain!("compared.equal_shares", "This count"),
+    plain!("compared.most_votes", "Most votes"),
+    plain!("compared.won", "Winners"),
+    plain!(
+        "compared.without",
+        "Voters with no winner among their choices"
+    ),
+    plain!(
+        "compared.more",
+        "Voters with more winners than by the other rule"
+    ),
     Entry {
         key: "amount",
         numbers: &["amount", "currency"],

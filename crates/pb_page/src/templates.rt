@@ -134,6 +134,21 @@ pub(crate) const VOTERS_ROW_CLOSING: &str =
     "</data><svg class='bar' viewBox='0 0 10000 1' preserveAspectRatio='none' aria-hidden='true'><rect width='~' height='1'/></svg></th><td role='cell' class='n'><data value='^'>~</data></td></tr>
 ";
 
+/// The head of the comparison of both rules. Values: its heading and caption, and the heads of its columns.
+pub(crate) const COMPARED_OPENING: &str = "<section class='many' aria-labelledby='compared'>
+<h2 id='compared'>~</h2>
+<table class='wide' role='table'>
+<caption role='caption'>~</caption>
+<thead role='rowgroup'><tr role='row'><th role='columnheader' scope='col'>~</th><th role='columnheader' scope='col' class='n'>~</th><th role='columnheader' scope='col' class='n'>~</th><th role='columnheader' scope='col' class='n'>~</th></tr></thead>
+<tbody role='rowgroup'>
+";
+
+/// A rule. Values: what it is called; how many projects win, how many voters have no winner, and how many have more winners
+/// than by the other rule, each behind its label.
+pub(crate) const COMPARED_ROW: &str =
+    "<tr role='row'><th role='rowheader' scope='row'>~</th><td role='cell' class='n' data-label='~'><data class='rule_projects' value='^'>~</data></td><td role='cell' class='n' data-label='~'><data class='without' value='^'>~</data></td><td role='cell' class='n' data-label='~'><data class='more_choices' value='^'>~</data></td></tr>
+";
+
 /// The head of how it was counted. Value: the heading.
 pub(crate) const RULE_OPENING: &str = "<section aria-labelledby='rule'>
 <h2 id='rule'>~</h2>

@@ -2,6 +2,7 @@
 //! who paid what.
 #![tactic(auto)]
 
+mod beside_votes;
 pub mod comparison;
 mod content;
 pub mod counted;
@@ -22,6 +23,7 @@ pub mod voter_reason;
 pub mod voter_teller;
 pub mod winners;
 
+pub use beside_votes::{compare_with_votes, elected_by_votes};
 pub use comparison::{Comparison, compare};
 pub use counted::Counted;
 pub use payment::Payment;

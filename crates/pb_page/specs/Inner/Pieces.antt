@@ -21,7 +21,7 @@ use Rattle.pb_page.specs.Page.{amount, at, at_least, ballots_row, between, by_co
 use Rattle.pb_page.specs.declared.keys.TheConstants as key
 use Rattle.pb_page.specs.declared.language.Language.{Language}
 use Rattle.pb_page.specs.declared.style.TheConstants.{HEAD}
-use Rattle.pb_page.specs.declared.templates.TheConstants.{LEAD_NEXT, BUDGET_OPENING, BLOCKS_OPENING, BUDGET_PART, BLOCKS_CLOSING, BUDGET_CLOSING, WINNERS_OPENING, ADDED_OPENING, OTHERS_OPENING, OTHER, TABLE_CLOSING, VOTERS_OPENING, VOTERS_TABLE, VOTERS_ROW, VOTERS_ROW_CLOSING, RULE_OPENING, RULE_NEXT, ITEM, NAMELESS, CHECK_OPENING, CHECK_FILE, CHECK_JOURNAL, RECOUNT_OPENING, RECOUNT_LINK, RECOUNT_CLOSING, NO_RECOUNT, COUNT, AUDIT, OPTION_COST, OPTION_PLAIN, OPTION_UTILITARIAN, OPTION_ADD1U, CLOSING}
+use Rattle.pb_page.specs.declared.templates.TheConstants.{LEAD_NEXT, BUDGET_OPENING, BLOCKS_OPENING, BUDGET_PART, BLOCKS_CLOSING, BUDGET_CLOSING, WINNERS_OPENING, ADDED_OPENING, OTHERS_OPENING, OTHER, TABLE_CLOSING, COMPARED_OPENING, VOTERS_OPENING, VOTERS_TABLE, VOTERS_ROW, VOTERS_ROW_CLOSING, RULE_OPENING, RULE_NEXT, ITEM, NAMELESS, CHECK_OPENING, CHECK_FILE, CHECK_JOURNAL, RECOUNT_OPENING, RECOUNT_LINK, RECOUNT_CLOSING, NO_RECOUNT, COUNT, AUDIT, OPTION_COST, OPTION_PLAIN, OPTION_UTILITARIAN, OPTION_ADD1U, CLOSING}
 
 -- the numbers of the whole
 abbrev pub figures_of : ElectionView → CountedView → Figures
@@ -72,6 +72,10 @@ abbrev pub others_head : Language → Filling
 others_head l =
     labels l OTHERS_OPENING.now
     (key.OTHERS_HEADING ∷ key.OTHERS_CAPTION ∷ key.PROJECT ∷ key.COST ∷ key.VOTES ∷ key.LEFT ∷ key.MISSING ∷ [])
+
+abbrev pub compared_head : Language → Filling
+compared_head l = labels l COMPARED_OPENING.now (key.COMPARED_HEADING ∷ key.COMPARED_CAPTION
+    ∷ key.COMPARED_RULE ∷ key.COMPARED_WON ∷ key.WITHOUT ∷ key.MORE ∷ [])
 
 -- the rows of the project at a place, as a winner and as another
 abbrev pub won_rows : Language → ElectionView → CountedView → ℕ → List Filling

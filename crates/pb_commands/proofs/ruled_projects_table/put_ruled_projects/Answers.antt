@@ -1,8 +1,9 @@
 use Rattle.std.proofs.Common.{length, map}
 use Rattle.std.specs.List.{range_with_len}
 use Rattle.pb_commands.proofs.TableRows.{rows_put}
-use Rattle.pb_commands.specs.Compared.{elected_by_votes, ruled_project_row}
+use Rattle.pb_commands.specs.Compared.{ruled_project_row}
 use Rattle.pb_commands.specs.Inner.Compared.{ruled_columns}
+use Rattle.pb_reasons.specs.BesideVotes.{elected_by_votes}
 use Rattle.pb_reasons.specs.Counted.{winners_of}
 use Rattle.pb_commands.proofs.ruled_projects_table.put_ruled_projects.Goals as goal
 

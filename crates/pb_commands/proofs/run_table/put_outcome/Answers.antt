@@ -2,9 +2,9 @@ use Rattle.std.proofs.Common.{[], ◌∷◌, codes, length, map}
 use Rattle.std.specs.List.{range_with_len}
 use Rattle.pb_commands.proofs.ComparedRows.{ruled_head, rules_head}
 use Rattle.pb_commands.proofs.TableHeads.{projects_head, voters_head}
-use Rattle.pb_commands.specs.Compared.{elected_by_votes, rule_fields, ruled_project_row, ruled_projects_table, rules_table}
+use Rattle.pb_commands.specs.Compared.{rule_fields, ruled_project_row, ruled_projects_table, rules_table}
 use Rattle.pb_commands.specs.Tables.{project_table_row, table_of, voter_table_row}
-use Rattle.pb_reasons.specs.Comparison.{comparison_of}
+use Rattle.pb_reasons.specs.BesideVotes.{beside_votes, elected_by_votes}
 use Rattle.pb_reasons.specs.Counted.{winners_of}
 use Rattle.pb_commands.proofs.run_table.put_outcome.Goals as goal
 
@@ -22,7 +22,7 @@ pub returns-in-Rules : goal.returns-in-Rules
 unfolding table_of rules_table
 returns-in-Rules c =
     let e = c.args.election.now in
-    let rules = comparison_of e (winners_of c.args.counted.now) (elected_by_votes e) in
+    let rules = beside_votes e c.args.counted.now in
     rw c.in-Rules.is (rw (rules_head (rule_fields (codes "equal shares") rules.own ∷ rule_fields (codes "most votes") rules.other ∷ [])) at c.put_rules.ensures)
 
 pub returns-in-RuledProjects : goal.returns-in-RuledProjects

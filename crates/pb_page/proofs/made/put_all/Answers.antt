@@ -10,7 +10,8 @@ returns c =
     then_put _ _ _ _ _ _ c.in_ok-put_budget.ensures
     (then_put _ _ _ _ _ _ c.in_ok-put_projects.ensures
     (then_put _ _ _ _ _ _ (rw c.requires.won at c.in_ok-put_voters.ensures)
-    (then_put _ _ _ _ _ _ c.in_ok-put_rule.ensures c.put_check.ensures)))
+    (then_put _ _ _ _ _ _ c.in_ok-put_besides.ensures
+    (then_put _ _ _ _ _ _ c.in_ok-put_rule.ensures c.put_check.ensures))))
 
 pub returns-in_err-put_rule : goal.returns-in_err-put_rule
 returns-in_err-put_rule c =

@@ -1,0 +1,95 @@
+//! The count beside most votes first.
+
+ghost use Rattle.std.specs.Prelude.{◌≡◌, [], ◌∷◌, OnOk};
+ghost use Rattle.pb_page.specs.Inner.Grown.{Grows};
+ghost use Rattle.pb_page.specs.Inner.Pieces.{compared_head};
+ghost use Rattle.pb_page.specs.Page.{besides, compared, compared_row};
+
+use crate::facts::Facts;
+use crate::keys;
+use crate::language::Language;
+use crate::put::put;
+use crate::templates::{COMPARED_OPENING, COMPARED_ROW, TABLE_CLOSING};
+use pb_core::election::Election;
+use pb_core::no_memory::NoMemory;
+use pb_markup::Value;
+use pb_reasons::{Comparison, Counted, RuleRow, compare_with_votes};
+use std::alloc::Global;
+
+/// Both rules, where the facts ask for them; otherwise nothing.
+#[tactic(auto, using(crate::proofs::Grown::none))]
+pub(crate) fn put_besides(
+    page: &mut Vec<u8>,
+    alloc: Global,
+    election: &Election,
+    counted: &Counted,
+    facts: &Facts,
+) -> Result<(), NoMemory>
+    ensures { OnOk result (Grows page.old.items page.new.items (besides election.now counted.now facts.now)) }
+{
+    if !facts.compares {
+        return Ok(());
+    }
+    let rules = compare_with_votes(alloc, election, counted)?;
+    put_compared(page, alloc, &facts.language, &rules)
+}
+
+/// Both rules: a row for each.
+fn put_compared(
+    page: &mut Vec<u8>,
+    alloc: Global,
+    language: &Language,
+    rules: &Comparison,
+) -> Result<(), NoMemory>
+    ensures { OnOk result (Grows page.old.items page.new.items (compared language.now rules.now)) }
+{
+    put_head(page, alloc, language)?;
+    put_row(page, alloc, language, keys::EQUAL_SHARES, &rules.own)?;
+    put_row(page, alloc, language, keys::MOST_VOTES, &rules.other)?;
+    put(page, alloc, TABLE_CLOSING, &[])
+}
+
+/// The head of their table.
+fn put_head(page: &mut Vec<u8>, alloc: Global, language: &Language) -> Result<(), NoMemory>
+    ensures { OnOk result (Grows page.old.items page.new.items (compared_head language.now ∷ [])) }
+{
+    put(
+        page,
+        alloc,
+        COMPARED_OPENING,
+        &[
+            Value::Text(language.text(keys::COMPARED_HEADING)),
+            Value::Text(language.text(keys::COMPARED_CAPTION)),
+            Value::Text(language.text(keys::COMPARED_RULE)),
+            Value::Text(language.text(keys::COMPARED_WON)),
+            Value::Text(language.text(keys::WITHOUT)),
+            Value::Text(language.text(keys::MORE)),
+        ],
+    )
+}
+
+/// The row of a rule.
+fn put_row(
+    page: &mut Vec<u8>,
+    alloc: Global,
+    language: &Language,
+    rule: u16,
+    row: &RuleRow,
+) -> Result<(), NoMemory>
+    ensures { OnOk result (Grows page.old.items page.new.items (compared_row language.now rule row.now ∷ [])) }
+{
+    put(
+        page,
+        alloc,
+        COMPARED_ROW,
+        &[
+            Value::Text(language.text(rule)),
+            Value::Text(language.text(keys::COMPARED_WON)),
+            Value::Number(row.projects as u64),
+            Value::Text(language.text(keys::WITHOUT)),
+            Value::Number(u64::from(row.without)),
+            Value::Text(language.text(keys::MORE)),
+            Value::Number(u64::from(row.more_choices)),
+        ],
+    )
+}
