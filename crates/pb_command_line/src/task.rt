@@ -191,7 +191,7 @@ impl<'a> Task<'a> {
             Task::Desk(DeskRun { admits, .. }) | Task::Serve(ServeRun { admits, .. }) => {
                 admits.roll
             }
-            Task::Page(run) => run.words,
+            Task::Page(PageRun { words, .. }) => words,
             _ => None,
         }
     }

@@ -2,3 +2,4 @@
 mod Grown
 mod Rows
 mod WinnerPlaces
+mod WholePage

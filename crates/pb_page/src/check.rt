@@ -2,10 +2,10 @@
 
 ghost use Rattle.std.specs.Prelude.{[], ◌∷◌, OnOk};
 ghost use Rattle.pb_page.specs.Inner.Grown.{Grows};
-ghost use Rattle.pb_page.specs.Inner.Pieces.{closing, command, completion_option, journal_source, link, measure_option, named, recount, recounting, sources};
+ghost use Rattle.pb_page.specs.Inner.Pieces.{closing, command, completion_option, journal_source, link, measure_option, named, recount, recounting, sources, the_check};
 ghost use Rattle.pb_page.specs.declared.keys.TheConstants as key;
 ghost use Rattle.pb_page.specs.declared.templates.TheConstants.{CHECK_OPENING, RECOUNT_LINK};
-ghost use Rattle.pb_page.specs.Page.{at, check, filling, say};
+ghost use Rattle.pb_page.specs.Page.{at, filling, say};
 
 use crate::facts::{Facts, Source};
 use crate::keys;
@@ -28,7 +28,7 @@ pub(crate) fn put_check(
     language: &Language,
     facts: &Facts,
 ) -> Result<(), NoMemory>
-    ensures { OnOk result (Grows page.old.items page.new.items (check language.now facts.now)) }
+    ensures { OnOk result (Grows page.old.items page.new.items (the_check language.now facts.now)) }
 {
     put_sources(page, alloc, language, facts.file, facts.journal)?;
     put_link(page, alloc, language, facts.recount)?;

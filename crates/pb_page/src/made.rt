@@ -2,7 +2,8 @@
 
 ghost use Rattle.std.specs.Prelude.{◌≡◌, ◌<◌, ◌++◌, All, IfOk, OnOk, length};
 ghost use Rattle.pb_page.specs.Inner.Grown.{Grows};
-ghost use Rattle.pb_page.specs.Page.{IsPage, added, blocks, budget, others, parts, winners, won_by_voter};
+ghost use Rattle.pb_page.specs.Inner.Pieces.{the_budget, the_parts, the_projects};
+ghost use Rattle.pb_page.specs.Page.{IsPage, added, blocks, others, winners, won_by_voter};
 ghost use Rattle.pb_reasons.specs.Counted as counting;
 ghost use Rattle.pb_reasons.specs.Counted.{IsCounted, winners_of};
 ghost use Rattle.pb_rounds.specs.Counted.{IsCountOf};
@@ -75,7 +76,7 @@ fn put_all(
 ) -> Result<(), NoMemory>
     requires counted { IsCounted election.now counted.now }
     requires won { won.now ≡ won_by_voter election.now counted.now }
-    ensures { OnOk result (Grows page.old.items page.new.items (parts election.now counted.now facts.now)) }
+    ensures { OnOk result (Grows page.old.items page.new.items (the_parts election.now counted.now facts.now)) }
 {
     let language = &facts.language;
     put_budget(page, alloc, language, election, counted, facts.title)?;
@@ -96,7 +97,7 @@ fn put_budget(
     title: &str,
 ) -> Result<(), NoMemory>
     requires { IsCounted election.now counted.now }
-    ensures { OnOk result (Grows page.old.items page.new.items (budget language.now title.now election.now counted.now)) }
+    ensures { OnOk result (Grows page.old.items page.new.items (the_budget language.now title.now election.now counted.now)) }
 {
     // What is true of every election is true of the places of its elected projects.
     let _budget = election.budget();
@@ -117,8 +118,7 @@ fn put_projects(
 ) -> Result<(), NoMemory>
     requires { IsCounted election.now counted.now }
     ensures { OnOk result (Grows page.old.items page.new.items
-        (winners language.now election.now counted.now
-        ++ (added language.now election.now counted.now ++ others language.now election.now counted.now))) }
+        (the_projects language.now election.now counted.now)) }
 {
     // What is true of every election is true of the places of its elected projects.
     let _budget = election.budget();

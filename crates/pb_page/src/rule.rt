@@ -1,11 +1,11 @@
 //! How it was counted, in five sentences, and in a sixth where it was filled up.
 
-ghost use Rattle.std.specs.Prelude.{[], ◌∷◌, OnOk, codes, decimal};
+ghost use Rattle.std.specs.Prelude.{◌≡◌, [], ◌∷◌, OnOk, codes, decimal};
 ghost use Rattle.pb_core.specs.MoneyText.{money_text};
 ghost use Rattle.pb_markup.specs.Amount.{shown};
 ghost use Rattle.pb_page.specs.Inner.Grown.{Grows};
-ghost use Rattle.pb_page.specs.Inner.Pieces.{filled_up, item, method, order, raises, share_rule};
-ghost use Rattle.pb_page.specs.Page.{amount, at, filling, noun_at, number, rule, say};
+ghost use Rattle.pb_page.specs.Inner.Pieces.{filled_up, item, method, order, raises, share_rule, the_rule};
+ghost use Rattle.pb_page.specs.Page.{amount, at, filling, noun_at, number, say};
 ghost use Rattle.pb_page.specs.declared.keys.TheConstants as key;
 ghost use Rattle.pb_page.specs.declared.templates.TheConstants.{NAMELESS, RULE_NEXT, RULE_OPENING};
 
@@ -30,29 +30,53 @@ pub(crate) fn put_rule(
     counted: &Counted,
 ) -> Result<(), NoMemory>
     ensures { OnOk result (Grows page.old.items page.new.items
-        (rule language.now options.now counted.now.fills_up counted.now.outcome.share counted.now.outcome.raised)) }
+        (the_rule language.now options.now counted.now.fills_up counted.now.outcome.share counted.now.outcome.raised)) }
 {
-    let outcome = &counted.outcome;
+    let share = share_of(counted);
+    let raised = raised_of(counted);
+    let fills = fills_up(counted);
+    put_sentences(page, alloc, language, options, fills, share, raised)
+}
+
+/// The share at which the raises ended.
+fn share_of(counted: &Counted) -> Money
+    ensures { result ≡ counted.now.outcome.share }
+{
+    counted.outcome.share
+}
+
+/// How often the share was raised.
+fn raised_of(counted: &Counted) -> u32
+    ensures { result ≡ counted.now.outcome.raised }
+{
+    counted.outcome.raised
+}
+
+/// Whether what was left was filled up by votes.
+fn fills_up(counted: &Counted) -> bool
+    ensures { result ≡ counted.now.fills_up }
+{
+    counted.fills_up
+}
+
+/// The sentences on a count with this share, after so many raises.
+fn put_sentences(
+    page: &mut Vec<u8>,
+    alloc: Global,
+    language: &Language,
+    options: &CountOptions,
+    fills_up: bool,
+    share: Money,
+    raised: u32,
+) -> Result<(), NoMemory>
+    ensures { OnOk result (Grows page.old.items page.new.items (the_rule language.now options.now fills_up share raised)) }
+{
     let completion = options.completion;
-    put_share(
-        page,
-        alloc,
-        language,
-        options.step,
-        outcome.share,
-        outcome.raised,
-    )?;
+    put_share(page, alloc, language, options.step, share, raised)?;
     put_order(page, alloc, language, options.measure)?;
-    put_raises(
-        page,
-        alloc,
-        language,
-        completion,
-        counted.fills_up,
-        outcome.raised,
-    )?;
-    put_method(page, alloc, language, completion, counted.fills_up)?;
-    put_filled_up(page, alloc, language, counted.fills_up)
+    put_raises(page, alloc, language, completion, fills_up, raised)?;
+    put_method(page, alloc, language, completion, fills_up)?;
+    put_filled_up(page, alloc, language, fills_up)
 }
 
 /// How the share came about, and who can be paid.

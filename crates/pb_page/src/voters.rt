@@ -3,8 +3,8 @@
 ghost use Rattle.std.specs.Prelude.{[], ◌∷◌, ◌<◌, ◌^◌, OnOk, decimal, flat_map, length};
 ghost use Rattle.std.specs.List.{range_with_len};
 ghost use Rattle.pb_page.specs.Inner.Grown.{Grows};
-ghost use Rattle.pb_page.specs.Inner.Pieces.{exact_row, got, got_said, row_closing, shown_row, voters_table};
-ghost use Rattle.pb_page.specs.Page.{at, ballots_row, filling, say, text, voters};
+ghost use Rattle.pb_page.specs.Inner.Pieces.{exact_row, got, got_said, row_closing, shown_row, the_voters, voters_table};
+ghost use Rattle.pb_page.specs.Page.{at, ballots_row, filling, say, text};
 ghost use Rattle.pb_page.specs.declared.keys.TheConstants as key;
 ghost use Rattle.pb_page.specs.declared.templates.TheConstants.{VOTERS_OPENING};
 
@@ -31,7 +31,7 @@ pub(crate) fn put_voters(
     won: &[u32],
 ) -> Result<(), NoMemory>
     requires { length won.now < 2 ^ 64 }
-    ensures { OnOk result (Grows page.old.items page.new.items (voters language.now won.now)) }
+    ensures { OnOk result (Grows page.old.items page.new.items (the_voters language.now won.now)) }
 {
     put_got(page, alloc, language, won)?;
     put_rows(page, alloc, language, won)?;

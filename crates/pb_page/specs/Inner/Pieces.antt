@@ -17,7 +17,7 @@ use Rattle.pb_reasons.specs.Totals.{totals_of}
 use Rattle.pb_rounds.specs.declared.measure.Measure.{Measure}
 use Rattle.pb_rounds.specs.declared.options.Completion.{Completion}
 use Rattle.pb_rounds.specs.declared.options.CountOptions.{CountOptions}
-use Rattle.pb_page.specs.Page.{amount, at, at_least, ballots_row, between, by_completion, by_measure, called, exactly, filling, labels, lost_row, noun_at, number, row_of, say, text, width, won_row}
+use Rattle.pb_page.specs.Page.{added, amount, at, at_least, ballots_row, between, budget, by_completion, by_measure, called, check, exactly, filling, labels, lost_row, noun_at, number, others, row_of, rule, say, text, voters, width, winners, won_by_voter, won_row}
 use Rattle.pb_page.specs.declared.keys.TheConstants as key
 use Rattle.pb_page.specs.declared.language.Language.{Language}
 use Rattle.pb_page.specs.declared.style.TheConstants.{HEAD}
@@ -207,3 +207,26 @@ shown_row l k n ballots won =
 
 abbrev pub command : Facts → List Filling
 command facts = recounting facts.journal ++ closing facts.options facts.fills_up
+
+-- the five parts of a page, each as a whole
+unfoldable pub the_budget : Language → List ℕ → ElectionView → CountedView → List Filling
+the_budget l title e c = budget l title e c
+
+unfoldable pub the_projects : Language → ElectionView → CountedView → List Filling
+the_projects l e c = winners l e c ++ (added l e c ++ others l e c)
+
+unfoldable pub the_voters : Language → List ℕ → List Filling
+the_voters l won = voters l won
+
+unfoldable pub the_rule : Language → CountOptions → (fills_up : Bool) → (share raised : ℕ) → List Filling
+the_rule l options fills_up share raised = rule l options fills_up share raised
+
+unfoldable pub the_check : Language → Facts → List Filling
+the_check l facts = check l facts
+
+-- and one after the other
+unfoldable pub the_parts : ElectionView → CountedView → Facts → List Filling
+the_parts e c facts =
+    the_budget facts.language facts.title.now e c ++ (the_projects facts.language e c
+    ++ (the_voters facts.language (won_by_voter e c)
+    ++ (the_rule facts.language facts.options c.fills_up c.outcome.share c.outcome.raised ++ the_check facts.language facts)))

@@ -1,10 +1,5 @@
-use Rattle.pb_page.proofs.Grown.{then_put}
 use Rattle.pb_page.proofs.rule.put_rule.Goals as goal
 
 pub returns : goal.returns
 returns c =
-    rw (← c.counted.view_is, ← c.outcome.view_is)
-    (then_put _ _ _ _ _ _ c.in_ok-put_share.ensures
-    (then_put _ _ _ _ _ _ c.in_ok-put_order.ensures
-    (then_put _ _ _ _ _ _ c.in_ok-put_raises.ensures
-    (then_put _ _ _ _ _ _ c.in_ok-put_method.ensures c.put_filled_up.ensures))))
+    rw (c.share_of-share.ensures, c.raised_of-raised.ensures, c.fills_up-fills.ensures) at c.put_sentences.ensures
