@@ -191,7 +191,7 @@ compared l rules = labels l COMPARED_OPENING.now (key.COMPARED_HEADING ∷ key.C
     ∷ compared_row l key.EQUAL_SHARES rules.own ∷ compared_row l key.MOST_VOTES rules.other
     ∷ filling TABLE_CLOSING.now [] ∷ []
 
-abbrev pub besides : ElectionView → CountedView → Facts → List Filling
+unfoldable pub besides : ElectionView → CountedView → Facts → List Filling
 besides e c facts = if facts.compares then compared facts.language (beside_votes e c) else []
 
 -- how the share came about, which project is elected first, whether shares were raised, and how the rest was filled up

@@ -17,7 +17,7 @@ use pb_reasons::{Comparison, Counted, RuleRow, compare_with_votes};
 use std::alloc::Global;
 
 /// Both rules, where the facts ask for them; otherwise nothing.
-#[tactic(auto, using(crate::proofs::Grown::none))]
+#[tactic(auto, using(crate::proofs::Grown::none), unfolding(crate::specs::Page::besides))]
 pub(crate) fn put_besides(
     page: &mut Vec<u8>,
     alloc: Global,

@@ -17,7 +17,7 @@ use Rattle.pb_reasons.specs.Totals.{totals_of}
 use Rattle.pb_rounds.specs.declared.measure.Measure.{Measure}
 use Rattle.pb_rounds.specs.declared.options.Completion.{Completion}
 use Rattle.pb_rounds.specs.declared.options.CountOptions.{CountOptions}
-use Rattle.pb_page.specs.Page.{added, amount, at, at_least, ballots_row, between, budget, by_completion, by_measure, called, check, exactly, filling, labels, lost_row, noun_at, number, others, row_of, rule, say, text, voters, width, winners, won_by_voter, won_row}
+use Rattle.pb_page.specs.Page.{added, amount, at, at_least, ballots_row, besides, between, budget, by_completion, by_measure, called, check, exactly, filling, labels, lost_row, noun_at, number, others, row_of, rule, say, text, voters, width, winners, won_by_voter, won_row}
 use Rattle.pb_page.specs.declared.keys.TheConstants as key
 use Rattle.pb_page.specs.declared.language.Language.{Language}
 use Rattle.pb_page.specs.declared.style.TheConstants.{HEAD}
@@ -228,5 +228,5 @@ the_check l facts = check l facts
 unfoldable pub the_parts : ElectionView → CountedView → Facts → List Filling
 the_parts e c facts =
     the_budget facts.language facts.title.now e c ++ (the_projects facts.language e c
-    ++ (the_voters facts.language (won_by_voter e c)
-    ++ (the_rule facts.language facts.options c.fills_up c.outcome.share c.outcome.raised ++ the_check facts.language facts)))
+    ++ (the_voters facts.language (won_by_voter e c) ++ (besides e c facts
+    ++ (the_rule facts.language facts.options c.fills_up c.outcome.share c.outcome.raised ++ the_check facts.language facts))))
