@@ -5,6 +5,7 @@
 mod admitted;
 mod audit;
 mod ballots;
+mod check;
 mod counted;
 mod journal;
 mod kinship;

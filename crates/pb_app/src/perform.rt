@@ -4,6 +4,7 @@ use crate::Terminals;
 use crate::admitted::{Told, rules_of};
 use crate::audit::audit;
 use crate::ballots::ballots;
+use crate::check::check;
 use crate::counted::CountedWriter;
 use crate::journal::open_with_journal;
 use crate::kinship::Kinship;
@@ -13,7 +14,6 @@ use crate::terminal::ShownWriter;
 use crate::typing::Typing;
 use crate::words::is_quiet;
 use pb_command_line::{Asked, Ballots, CompareRun, DeskRun, Source, Task};
-use pb_commands::run_check::run_check;
 use pb_commands::run_count::run_count_watched;
 use pb_commands::run_desk::run_admitted_desk;
 use pb_commands::run_export::{run_closed_export, run_export};
@@ -26,7 +26,6 @@ use pb_witness::tally::Tally;
 use pb_witness::warnings::{ResultWarnings, Warnings};
 use std::fs::File;
 use std::io::{Error, ErrorKind, Write};
-use std::mem;
 use std::rt::{Clock, Files};
 use std::thread::Threads;
 
@@ -198,7 +197,7 @@ where
         }
         Task::Page(run) => page(counting, run, kinship, writer, &mut notes.seen),
         Task::Export(ballots, _) => export(counting, ballots, writer, kinship, &mut notes.seen),
-        Task::Check(source) => check(counting, source, writer, notes),
+        Task::Check(run) => check(counting, run, writer, notes),
         Task::Desk(asked) => desk(counting, asked, writer, &mut notes.written),
         Task::Audit(asked) => audit(counting, asked, writer, kinship, notes),
         Task::Ballots(asked) => ballots(counting, asked, writer, kinship, notes),
@@ -269,22 +268,6 @@ where
     };
     let (file, journal) = open_with_journal(counting, &ballots.file, journal, kinship)?;
     run_closed_export(counting, file, journal, seen, writer)
-}
-
-/// Checks a .pb file, and keeps its faults and warnings.
-fn check<R, W: Write>(
-    counting: &Counting<'_, R, Progress<'_, R>>,
-    source: &Source<'_>,
-    writer: &mut W,
-    notes: &mut Notes,
-) -> Result<(), AppFault>
-where
-    R: Files + Input + Eprint + Clock,
-{
-    let file = open_shown(counting.gate, source)?;
-    let faults = run_check(counting.alloc, file, writer, &mut notes.checked)?;
-    drop(mem::replace(&mut notes.faults, faults));
-    Ok(())
 }
 
 /// Lets clerks serve a script on the desk of a .pb file. What is typed at a terminal is not shown a second time. A fault of the

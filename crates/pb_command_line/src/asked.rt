@@ -1,8 +1,8 @@
 //! What parsed arguments ask for.
 
 use crate::task::{
-    Admits, Asked, AuditRun, Ballots, BallotsRun, CompareRun, DeskRun, PageRun, ServeRun, Source,
-    Task,
+    Admits, Asked, AuditRun, Ballots, BallotsRun, CheckRun, CompareRun, DeskRun, PageRun, ServeRun,
+    Source, Task,
 };
 use clap::ArgMatches;
 use pb_core::money::Money;
@@ -53,7 +53,14 @@ fn task_of<'a>(name: &str, given: &ArgMatches<'a>) -> Task<'a> {
             recount: given.get_str("recount"),
         }),
         "export" => Task::Export(ballots_of(given, file), options_of(given)),
-        "check" => Task::Check(file),
+        "check" => Task::Check(CheckRun {
+            file,
+            against: if given.get_flag("against") {
+                Some(options_of(given))
+            } else {
+                None
+            },
+        }),
         "desk" => Task::Desk(DeskRun {
             file,
             script: source_of(given, "SCRIPT"),

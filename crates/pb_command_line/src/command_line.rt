@@ -288,6 +288,13 @@ const REQUIRE_SHUT: Argument = Argument {
     help: "Refuses the journal if its desk is still open",
 };
 
+/// Whether the column `selected` is compared with a count.
+const AGAINST: Argument = Argument {
+    name: "against",
+    takes: Takes::Nothing,
+    help: "Counts a file without a fault, by the options below, and warns where the column selected of PROJECTS says something else",
+};
+
 /// Whether a warning refuses the file.
 const STRICT: Argument = Argument {
     name: "strict",
@@ -429,7 +436,10 @@ const DESKS: &[CommandForm] = &[
         name: "check",
         notes: "Manual pages: man pb_app-election, man pb_app-faults.",
         about: "Lists everything that is wrong in a .pb file, and what is probably a mistake",
-        arguments: &[ELECTION, OUTPUT, QUIET, PROGRESS],
+        arguments: &[
+            ELECTION, AGAINST, WORKERS, STEP, RAISES, PLAIN, COMPLETION, MEASURE, OUTPUT, QUIET,
+            PROGRESS,
+        ],
     },
     CommandForm {
         name: "desk",
@@ -533,12 +543,36 @@ fn with_arguments<'a>(
     command: Command<'a>,
     arguments: &[Argument],
 ) -> Result<Command<'a>, AllocError> {
+    let asks_against = has(arguments, AGAINST.name);
     let mut command = command;
     for argument in arguments {
         let arg = made(alloc, argument)?;
+        let arg = if asks_against && is_of_count(argument) {
+            arg.requires_arg(AGAINST.name)?
+        } else {
+            arg
+        };
         command = command.arg(arg)?;
     }
     Ok(command)
+}
+
+/// Whether one of these arguments has this name.
+fn has(arguments: &[Argument], name: &str) -> bool {
+    for argument in arguments {
+        if argument.name == name {
+            return true;
+        }
+    }
+    false
+}
+
+/// Whether an argument is an option of a count.
+fn is_of_count(argument: &Argument) -> bool {
+    has(
+        &[WORKERS, STEP, RAISES, PLAIN, COMPLETION, MEASURE],
+        argument.name,
+    )
 }
 
 /// An argument, as `clap` takes it.
