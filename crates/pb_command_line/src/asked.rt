@@ -22,6 +22,7 @@ pub(crate) fn asked_by<'a>(matches: &ArgMatches<'a>) -> Asked<'a> {
             fills_up: fills_up(given),
             is_strict: given.get_flag("strict"),
             takes_other: given.get_flag("other-file"),
+            keeps_voters: given.get_flag("keep-voters"),
         },
         None => Asked {
             task: Task::Count(Source::Input, CountOptions::standard()),
@@ -30,6 +31,7 @@ pub(crate) fn asked_by<'a>(matches: &ArgMatches<'a>) -> Asked<'a> {
             fills_up: false,
             is_strict: false,
             takes_other: false,
+            keeps_voters: false,
         },
     }
 }

@@ -295,6 +295,13 @@ const AGAINST: Argument = Argument {
     help: "Counts a file without a fault, by the options below, and warns where the column selected of PROJECTS says something else",
 };
 
+/// Whether the further columns of VOTES are exported.
+const KEEP_VOTERS: Argument = Argument {
+    name: "keep-voters",
+    takes: Takes::Nothing,
+    help: "Keeps the further columns of VOTES (age, sex, ..), which are left out otherwise; new voters of a journal have them empty",
+};
+
 /// Whether a warning refuses the file.
 const STRICT: Argument = Argument {
     name: "strict",
@@ -424,8 +431,20 @@ const COUNTS: &[CommandForm] = &[
         notes: "Manual pages: man pb_app-election, man 5 pb_app-export, man pb_app-counting.",
         about: "Counts a .pb file, and prints ballots and result as a new .pb file; counting that file gives the same result",
         arguments: &[
-            ELECTION, LEFT_BY, OTHER_FILE, WORKERS, STEP, RAISES, PLAIN, COMPLETION, MEASURE,
-            STRICT, OUTPUT, QUIET, PROGRESS,
+            ELECTION,
+            LEFT_BY,
+            OTHER_FILE,
+            KEEP_VOTERS,
+            WORKERS,
+            STEP,
+            RAISES,
+            PLAIN,
+            COMPLETION,
+            MEASURE,
+            STRICT,
+            OUTPUT,
+            QUIET,
+            PROGRESS,
         ],
     },
 ];

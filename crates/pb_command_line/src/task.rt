@@ -220,4 +220,6 @@ pub struct Asked<'a> {
     pub is_strict: bool,
     /// A journal that belongs to another .pb file is read all the same.
     pub takes_other: bool,
+    /// The further columns of VOTES are exported too.
+    pub keeps_voters: bool,
 }

@@ -12,18 +12,20 @@ use crate::closed_desk::closed_ballots;
 use crate::counting::Counting;
 use crate::export_text::export_text;
 use pb_core::gate::Gate;
+use pb_export::Carry;
 use pb_faults::{AppFault, write_out};
 use pb_read::{Heed, read_pb_watched};
 use std::io::{Read, Write};
 use std::thread::Threads;
 
 /// Reads a .pb file, counts it with these options, and writes the file of the election with what the count came to: it is
-/// read back as the same election. What the count refuses, and when, is as for `run_count`; then an election that no file
+/// read back as the same election. Who looks on while the file is read keeps what further keys and columns stand in it. What the
+/// count refuses, and when, is as for `run_count`; then an election that no file
 /// would be read back as is refused.
 ///
 /// The file is refused before the options are looked at, and nothing is written but the whole file.
 /// Where the fault is `Write` some of the file may have gone out; on any other fault the writer is as it was.
-pub fn run_export<T: Threads + Sync, R: Read + Drop, G: Gate, H: Heed, W: Write>(
+pub fn run_export<T: Threads + Sync, R: Read + Drop, G: Gate, H: Heed + Carry, W: Write>(
     counting: &Counting<T, G>,
     reader: R,
     watch: &mut H,
@@ -57,7 +59,7 @@ pub fn run_export<T: Threads + Sync, R: Read + Drop, G: Gate, H: Heed, W: Write>
         drop(election);
         return Err(AppFault::Warned(warning));
     }
-    let made = export_text(counting, &election);
+    let made = export_text(counting, &election, watch.carried());
     drop(election);
     match made {
         Ok(text) => write_out(writer, text.as_slice(), AppFault::Write),
@@ -66,7 +68,8 @@ pub fn run_export<T: Threads + Sync, R: Read + Drop, G: Gate, H: Heed, W: Write>
 }
 
 /// Reads a .pb file and a journal, audits the journal, counts the ballots that its shut desk leaves with these options,
-/// and writes the file of the election with these ballots and what the count came to. What it refuses, and when, is as for
+/// and writes the file of the election with these ballots, what the count came to, and the further keys and columns that who
+/// looks on keeps. What it refuses, and when, is as for
 /// `run_closed_table`; then an election that no file would be read back as is refused.
 ///
 /// The file is refused before the journal, the journal before an open desk, and that before the options. Nothing is
@@ -77,7 +80,7 @@ pub fn run_closed_export<
     P: Read + Drop,
     J: Read + Drop,
     G: Gate,
-    H: Heed,
+    H: Heed + Carry,
     W: Write,
 >(
     counting: &Counting<T, G>,
@@ -117,7 +120,7 @@ pub fn run_closed_export<
         Ok(election) => election,
         Err(fault) => return Err(fault),
     };
-    let made = export_text(counting, &election);
+    let made = export_text(counting, &election, watch.carried());
     drop(election);
     match made {
         Ok(text) => write_out(writer, text.as_slice(), AppFault::Write),

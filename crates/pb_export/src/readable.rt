@@ -3,6 +3,7 @@
 ghost use Rattle.std.specs.Prelude.{◌≡◌, ◌<◌, ◌&&◌, [], All, length, map, slice_index_or};
 ghost use Rattle.std.specs.List.{list_all, list_any};
 ghost use Rattle.pb_export.specs.Export.{has_comma, has_comma_in_vote, has_section_word, is_of_file};
+ghost use Rattle.pb_export.specs.FileRows.{is_own_key, may_follow};
 ghost use Rattle.pb_export.specs.Inner.Parts.{is_section_word, is_small, is_tidy};
 
 use pb_core::election::{Election, MOST_PROJECTS};
@@ -17,6 +18,26 @@ fn is_section_word(id: &str) -> bool
     "META".eq_ignore_ascii_case(id)
         || "PROJECTS".eq_ignore_ascii_case(id)
         || "VOTES".eq_ignore_ascii_case(id)
+}
+
+/// Whether a further key with this name, trimmed, may follow in META.
+pub(crate) fn may_follow(name: &str) -> bool
+    ensures { result ≡ may_follow name.now }
+{
+    !is_own_key(name) && !is_section_word(name)
+}
+
+/// Whether an exported file has a key with this name of its own.
+fn is_own_key(name: &str) -> bool
+    ensures { result ≡ is_own_key name.now }
+{
+    "budget".eq_ignore_ascii_case(name)
+        || "vote_type".eq_ignore_ascii_case(name)
+        || "max_length".eq_ignore_ascii_case(name)
+        || "num_projects".eq_ignore_ascii_case(name)
+        || "num_votes".eq_ignore_ascii_case(name)
+        || "rule".eq_ignore_ascii_case(name)
+        || "comment".eq_ignore_ascii_case(name)
 }
 
 /// Whether an id of a project or a voter would be read as a section's head.
