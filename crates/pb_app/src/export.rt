@@ -99,6 +99,8 @@ impl<H: Heed> Heed for ExportWatch<'_, H> {
 }
 
 impl<H> Carry for ExportWatch<'_, H> {
+    ghost keeps = { λ watch. watch.carried.further };
+
     fn carried(&self) -> &Carried {
         &self.carried
     }

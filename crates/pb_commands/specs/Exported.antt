@@ -1,5 +1,5 @@
 -- What a run of `export` writes, and what refuses it.
-use Rattle.std.specs.Prelude.{◌≡◌, ◌==◌, ◌++◌, ℕ, ⊤, Bool, false, true, List, [], codes, decimal, if◌then◌else◌, length, map}
+use Rattle.std.specs.Prelude.{◌≡◌, ◌==◌, ◌++◌, ℕ, ⊤, Bool, false, true, List, [], codes, decimal, if◌then◌else◌, length, map, string_bytes}
 use Rattle.std.specs.List.{range_with_len}
 use Rattle.pb_core.specs.Election.{ElectionView}
 use Rattle.pb_core.specs.MoneyText.{money_text}
@@ -57,22 +57,20 @@ votes_of e = map (λ place. length (supporters_at (support_of e) place)) (range_
 abbrev pub selected_of : ElectionView → CountedView → List Bool
 selected_of e c = map (is_selected c) (range_with_len 0 (length e.projects))
 
--- the text is a file of the election, with what the count by these options came to; it is read back as the election.
--- What is further in it, and the comment of its own, the file had that was read: that alone is tested
-pub record IsExportOf (options : CountOptions) (fills_up : Bool) (e : ElectionView) (text : List ℕ) : Type 0 where
+-- the text is a file of the election, with what the count by these options came to, and what is kept of the file that was
+-- read; it is read back as the election
+pub record IsExportOf (options : CountOptions) (fills_up : Bool) (kept : Further) (e : ElectionView) (text : List ℕ) : Type 0 where
   pub outcome : OutcomeView
   pub counted : IsCountOf e options outcome
   pub can : CanBeWritten e
-  pub own : List ℕ
-  pub further : Further
   pub text_is : text
-      ≡ text_of_rows (file_rows e (rule_word options.completion fills_up) (rule_text options fills_up ++ own_comment own)
-      (votes_of e) (selected_of e (counting.counted e fills_up outcome)) further)
+      ≡ text_of_rows (file_rows e (rule_word options.completion fills_up) (rule_text options fills_up ++ own_comment (string_bytes kept.comment))
+      (votes_of e) (selected_of e (counting.counted e fills_up outcome)) kept)
   pub reads_back : StandsFor (records_of text) e
 
 -- the text is such a file of an election that is such
-abbrev pub ExportWrites : CountOptions → (fills_up : Bool) → (ElectionView → Type 0) → List ℕ → Type 0
-ExportWrites options fills_up IsSuch text = (e : ElectionView) × IsSuch e × IsExportOf options fills_up e text
+abbrev pub ExportWrites : CountOptions → (fills_up : Bool) → Further → (ElectionView → Type 0) → List ℕ → Type 0
+ExportWrites options fills_up kept IsSuch text = (e : ElectionView) × IsSuch e × IsExportOf options fills_up kept e text
 
 -- what refuses an election: its count; or, once it is counted, that no file would be read back as it
 abbrev pub ExportRefuses : CountOptions → ElectionView → AppFault → Type 0

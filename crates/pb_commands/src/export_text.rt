@@ -25,7 +25,8 @@ pub(crate) fn export_text<T: Threads + Sync, G: Gate>(
     election: &Election,
     carried: &Carried,
 ) -> Result<Vec<u8>, AppFault>
-    ensures ok { IfOk result (λ text. IsExportOf counting.now.options.now counting.now.fills_up election.now text.items) }
+    ensures ok { IfOk result (λ text. IsExportOf counting.now.options.now counting.now.fills_up carried.now.further
+        election.now text.items) }
     ensures fault { IfErr result (IsStopped counting.now.options.now election.now) }
     ensures merged { IfErr result (λ fault. merged fault ≡ fault) }
 {
@@ -36,7 +37,7 @@ pub(crate) fn export_text<T: Threads + Sync, G: Gate>(
         alloc,
         counting.options,
         counting.fills_up,
-        carried.comment(),
+        further.comment(),
     )?;
     let teller = ProjectTeller::of(alloc, election, &counted)?;
     let votes = votes_of(alloc, election, &teller)?;

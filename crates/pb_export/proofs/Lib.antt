@@ -2,6 +2,7 @@
 pub mod Tidy
 pub mod Pieces
 pub mod FurtherKeys
+pub mod Headers
 pub mod Metas
 pub mod Projects
 pub mod Votes

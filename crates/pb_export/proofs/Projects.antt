@@ -1,5 +1,5 @@
 -- PROJECTS, read back.
-use Rattle.std.proofs.Common.{◌≡◌, ◌≢◌, ◌≤◌, ◌+◌, ℕ, Bool, true, false, cond, not, List, [], ◌∷◌, ◌++◌, codes, decimal, Option, Some, None, Ok, refl, ap, sym, ◌∙◌}
+use Rattle.std.proofs.Common.{◌≡◌, ◌≢◌, ◌≤◌, ◌+◌, ℕ, Bool, true, false, cond, not, List, [], ◌∷◌, ◌++◌, codes, decimal, Option, Some, None, Ok, refl, ap, sym, ◌∙◌, arith}
 use Rattle.std.specs.Prelude.{is_some, slice_index, slice_index_or}
 use Rattle.std.specs.List.{AllByRecursion, AllZip}
 use Rattle.std.specs.Str.{trim, trim_start, trim_end, chars}
@@ -15,6 +15,7 @@ use Rattle.pb_read.specs.StandsFor.{GivesAllButVoters, GivesProject, IsMeta, ter
 use Rattle.pb_export.specs.FileRows.{amount_text, project_row, projects_rows}
 use Rattle.pb_export.specs.declared.further.Further.{Further}
 use Rattle.pb_export.specs.Inner.Parts.{is_section_word, projects_from}
+use Rattle.pb_export.proofs.Headers.{both_fields, project_header}
 use Rattle.pb_export.proofs.Metas.{amount_back}
 
 -- a project that a file can give
@@ -54,7 +55,7 @@ row_kept id rest records tidy some = cond-true _ (trimmed (id ∷ rest) ∷ rows
 module _ (reads_back : (h : ℕ) → h ≤ largest_money → money_of (money_text h) ≡ Ok h) (votes : List ℕ) (selected : List Bool) (further : Further) where
   gives_project : (p : ProjectView) (count : ℕ) (elected : Bool) (more : Fields) → IsWritable p → Gives (trimmed (project_row p count elected more)) p
   gives_project p count elected more is = record {
-    whole = refl;
+    whole = both_fields 0 1 (trimmed (project_row p count elected more)) (omega arith) (omega arith);
     id = sym is.tidy_id;
     name = sym is.tidy_name;
     cost = amount_back reads_back p.cost is.affordable;
@@ -78,4 +79,4 @@ module _ (reads_back : (h : ℕ) → h ≤ largest_money → money_of (money_tex
   unfolding head_of trim_start trim_end chars encode
   gives_projects e front before are =
       let from = gives_from 0 e.projects are in
-      (_, rows_of (projects_from votes selected further.projects.items 0 e.projects), (front, _, refl, before, refl, (refl, from.0)), refl, from.1)
+      (_, rows_of (projects_from votes selected further.projects.items 0 e.projects), (front, _, refl, before, refl, (refl, from.0)), project_header further.project_names, from.1)

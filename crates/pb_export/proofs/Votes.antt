@@ -1,5 +1,5 @@
 -- VOTES, read back.
-use Rattle.std.proofs.Common.{◌≡◌, ◌≢◌, ◌<◌, ℕ, false, List, [], ◌∷◌, ◌++◌, length, map, All, None, refl, sym}
+use Rattle.std.proofs.Common.{◌≡◌, ◌≢◌, ◌<◌, ℕ, false, List, [], ◌∷◌, ◌++◌, length, map, All, None, refl, sym, arith}
 use Rattle.std.specs.Prelude.{slice_index_or}
 use Rattle.std.specs.List.{AllByRecursion, AllZip}
 use Rattle.std.specs.Str.{trim, trim_start, trim_end, chars}
@@ -15,6 +15,7 @@ use Rattle.pb_export.specs.FileRows.{votes_rows}
 use Rattle.pb_export.specs.OfVoter.{of_voter}
 use Rattle.pb_export.specs.declared.further.Further.{Further}
 use Rattle.pb_export.specs.Inner.Parts.{is_section_word, vote_row, vote_text}
+use Rattle.pb_export.proofs.Headers.{both_fields, vote_header}
 use Rattle.pb_export.proofs.Pieces.{IsPiece, ballot_back, names_back, pieces_back}
 use Rattle.pb_export.proofs.Projects.{GivesFront, plain_row, row_kept}
 
@@ -37,7 +38,7 @@ module _ (ids : List (List ℕ)) (more_of : List ℕ → Fields) (distinct : Are
       let vote = trim (vote_text ids v.ballot) in
       let pieces = pieces_back (map (λ place. slice_index_or ids place []) v.ballot) is.pieces in
       record {
-        whole = refl;
+        whole = both_fields 0 1 (trimmed (vote_row ids more_of v)) (omega arith) (omega arith);
         id = sym is.tidy_id;
         known = names_back ids distinct vote v.ballot is.known pieces;
         ballot = ballot_back ids distinct vote v.ballot is.known pieces is.rises;
@@ -58,4 +59,4 @@ pub gives_voters : (e : ElectionView) (further : Further) (front : List Fields) 
 unfolding head_of trim_start trim_end chars encode
 gives_voters e further front before distinct are =
     let all = gives_all (project_ids e) (of_voter further) distinct e.voters are in
-    (_, _, rows_of (map (vote_row (project_ids e) (of_voter further)) e.voters), (front, _, refl, before, refl, (refl, all.0)), refl, all.1)
+    (_, _, rows_of (map (vote_row (project_ids e) (of_voter further)) e.voters), (front, _, refl, before, refl, (refl, all.0)), vote_header further.voter_names, all.1)

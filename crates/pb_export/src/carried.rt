@@ -1,5 +1,7 @@
 //! Who looks on while a .pb file is read, and keeps what the count does not use.
 
+ghost use Rattle.std.specs.Prelude.{◌≡◌, IfOk};
+
 use crate::further::Further;
 use crate::keys::Key;
 use crate::readable::may_follow;
@@ -53,8 +55,14 @@ impl Names {
 
 /// Who looks on while the file of an export is read.
 pub trait Carry {
+    ghost use Rattle.pb_export.specs.declared.further.Further.{Further};
+
     /// What it keeps of that file.
-    fn carried(&self) -> &Carried;
+    ghost keeps: { Self → Further };
+
+    /// The same.
+    fn carried(&self) -> &Carried
+        ensures { result.now.further ≡ keeps self.now };
 }
 
 /// Looks on while a .pb file is read, and keeps what the count does not use: further keys of META, and further columns. Of a
@@ -71,7 +79,6 @@ pub struct Carried {
     /// Where the further columns of PROJECTS and of VOTES stand, from 0.
     of_projects: Vec<usize>,
     of_votes: Vec<usize>,
-    comment: String,
     further: Further,
     /// Whether all was kept: no memory was refused.
     is_whole: bool,
@@ -89,7 +96,6 @@ impl Carried {
             keys,
             of_projects: Vec::new(alloc),
             of_votes: Vec::new(alloc),
-            comment: String::new(alloc),
             further: Further::none(alloc),
             is_whole,
         }
@@ -103,13 +109,10 @@ impl Carried {
         }
     }
 
-    /// The value of META's `comment`; empty where there is none.
-    pub fn comment(&self) -> &str {
-        self.comment.as_str()
-    }
-
-    /// What was kept, where no memory was refused.
-    pub fn further(&self) -> Result<&Further, NoMemory> {
+    /// What was kept, if no memory was refused.
+    pub fn further(&self) -> Result<&Further, NoMemory>
+        ensures { IfOk result (λ further. further.now ≡ self.now.further) }
+    {
         if self.is_whole {
             Ok(&self.further)
         } else {
@@ -166,7 +169,7 @@ impl Carried {
         let (name, value) = (text_at(record, 0), text_at(record, 1));
         if name.eq_ignore_ascii_case("comment") {
             let comment = String::from_str(self.alloc, value)?;
-            drop(mem::replace(&mut self.comment, comment));
+            drop(mem::replace(&mut self.further.comment, comment));
             return Ok(());
         }
         let Some(keys) = &mut self.keys else {

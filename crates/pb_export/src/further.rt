@@ -5,10 +5,12 @@ use crate::text_row::TextRow;
 use pb_ids::IdTable;
 use std::alloc::Global;
 
-/// What a file has that the count does not use: further keys of META with their values, and further columns of PROJECTS and
-/// VOTES. The fields of a project stand at its place, those of a voter are found by the voter's id.
+/// What a file has that the count does not use: its comment, further keys of META with their values, and further columns of
+/// PROJECTS and VOTES. The fields of a project are at its place, those of a voter are found by the voter's id.
 #[derive(Drop)]
 pub struct Further {
+    /// The value of META's `comment`; empty if there is none.
+    pub(crate) comment: String,
     pub(crate) keys: Keys,
     /// The names of the further columns of PROJECTS.
     pub(crate) project_names: TextRow,
@@ -31,6 +33,7 @@ impl Further {
     /// Nothing further.
     pub fn none(alloc: Global) -> Further {
         Further {
+            comment: String::new(alloc),
             keys: Keys::none(alloc),
             project_names: TextRow::new(alloc),
             projects: Vec::new(alloc),
@@ -39,6 +42,13 @@ impl Further {
             voters: Vec::new(alloc),
             empty: TextRow::new(alloc),
         }
+    }
+
+    /// The value of META's `comment`; empty if there is none.
+    pub fn comment(&self) -> &str
+        ensures { result.now ≡ string_bytes self.now.comment }
+    {
+        self.comment.as_str()
     }
 
     /// The further fields of the project at a place.

@@ -224,8 +224,9 @@ fn put_votes(
     let projects = election.projects();
     for voter in election.voters() {
         let vote = vote_text(alloc, projects, voter.ballot.places())?;
-        let own = [voter.id.text(), vote.as_str()];
-        put_with(rows, alloc, &own, further.of_voter(voter.id.text()))?;
+        let id = voter.id.text();
+        let own = [id, vote.as_str()];
+        put_with(rows, alloc, &own, further.of_voter(id))?;
     }
     Ok(())
 }

@@ -36,15 +36,14 @@ loop-voter-preserved c =
     let ids_are : map (λ (p : ProjectView). p.id) c.projects-projects.result.now ≡ ids = ap (map (λ (p : ProjectView). p.id)) c.projects-projects.ensures.projects in
     let ballot : c.places.result.now ≡ v.ballot = c.places.ensures.places ∙ ap (λ (w : VoterView). w.ballot) c.voter.view_is in
     let further = c.args.further.now in
-    let id2 : c.text-2.result.now ≡ v.id = c.text-2.ensures.text ∙ ap (λ (w : VoterView). w.id) c.voter.view_is in
-    let id : c.text.result.now ≡ v.id = c.text.ensures.text ∙ ap (λ (w : VoterView). w.id) c.voter.view_is in
+    let id : c.text-id.result.now ≡ v.id = c.text-id.ensures.text ∙ ap (λ (w : VoterView). w.id) c.voter.view_is in
     let vote : c.as_str.result.now ≡ vote_text ids v.ballot = c.as_str.ensures.value ∙ c.in_ok-vote.ensures ∙ (λ k. vote_text (ids_are k) (ballot k)) in
     let more : Fields = (of_voter further) v.id in
-    let fields = c.of_voter.ensures ∙ ap (of_voter further) id2 in
-    let row : ◌≡◌ {A = Fields} (c.text.result.now ∷ c.as_str.result.now ∷ map string_bytes c.of_voter.result.now) (vote_row ids (of_voter further) v) = λ k. id k ∷ vote k ∷ fields k in
+    let fields = c.of_voter.ensures ∙ ap (of_voter further) id in
+    let row : ◌≡◌ {A = Fields} (c.text-id.result.now ∷ c.as_str.result.now ∷ map string_bytes c.of_voter.result.now) (vote_row ids (of_voter further) v) = λ k. id k ∷ vote k ∷ fields k in
     let next : votes_rows ids further (take (i + 1) voters) ≡ votes_rows ids further (take i voters) ++ vote_row ids (of_voter further) v ∷ [] =
     ap (λ (rows : List Fields). (codes "VOTES" ∷ []) ∷ (codes "voter_id" ∷ codes "vote" ∷ further.voter_names) ∷ rows)
     (map_more (vote_row ids (of_voter further)) voters i v c.loop-voter-test.true ∙ ap (λ (w : VoterView). map (vote_row ids (of_voter further)) (take i voters) ++ vote_row ids (of_voter further) w ∷ []) (sym c.voter-item.is)) in
     subst (λ (rows : List Fields). Grows rows old c.put_with-in-loop-voter.new.rows.text) (sym next)
     (row_grown (votes_rows ids further (take i voters)) (vote_row ids (of_voter further) v) old mid c.put_with-in-loop-voter.new.rows.text c.loop-voter.invariant
-    (c.in_ok-put_with-2.ensures.text ∙ ap (λ (fields : Fields). mid ++ text_of_row fields) row) (subst AllText row (c.text.utf8, (c.as_str.utf8, c.in_ok-put_with-2.ensures.are_text))))
+    (c.in_ok-put_with-2.ensures.text ∙ ap (λ (fields : Fields). mid ++ text_of_row fields) row) (subst AllText row (c.text-id.utf8, (c.as_str.utf8, c.in_ok-put_with-2.ensures.are_text))))
