@@ -108,7 +108,7 @@ fn rule_word(completion: Completion, fills_up: bool) -> &'static str
     }
 }
 
-/// The rule of a count, in words, and behind it the comment that the file had.
+/// The rule of a count, in words, and after it the comment that the file had.
 fn comment_text(
     alloc: Global,
     options: &CountOptions,
@@ -122,14 +122,15 @@ fn comment_text(
     Ok(text)
 }
 
-/// Puts the comment that the file had behind a text.
+/// Puts the comment that the file had after a text.
 fn put_own(text: &mut String, own: &str) -> Result<(), NoMemory>
     ensures { OnOk result (string_bytes text.new ≡ string_bytes text.old ++ own_comment own.now) }
 {
-    if own.len() > 0 {
-        text.push_str(". ")?;
-        text.push_str(own)?;
+    if own.is_empty() {
+        return Ok(());
     }
+    text.push_str(". ")?;
+    text.push_str(own)?;
     Ok(())
 }
 
