@@ -1,5 +1,5 @@
 -- Columns with further ones behind them.
-use Rattle.std.proofs.Common.{◌≡◌, ◌<◌, ℕ, Bool, true, cond, List, [], ◌∷◌, codes, length, map, Option, Some, None, refl, ap, ◌∙◌, arith}
+use Rattle.std.proofs.Common.{◌≡◌, ◌<◌, ℕ, Bool, true, cond, List, ◌∷◌, codes, length, map, Some, None, refl, ap, ◌∙◌, arith}
 use Rattle.std.specs.Prelude.{nat_lt, option_map, position}
 use Rattle.std.specs.List.{position_or_len}
 use Rattle.std.specs.Option.{option_zip}

@@ -1,5 +1,5 @@
 -- META, read back.
-use Rattle.std.proofs.Common.{◌≡◌, ◌==◌, ◌<◌, ◌≤◌, ◌^◌, ◌+◌, ◌*◌, ◌/◌, ◌%◌, ◌++◌, ℕ, Bool, true, false, cond, drop, List, [], ◌∷◌, append-nil, length, decimal, nat_le, Option, Some, None, Ok, refl, ap, sym, ◌∙◌, inl, arith, rules}
+use Rattle.std.proofs.Common.{◌≡◌, ◌==◌, ◌<◌, ◌≤◌, ◌^◌, ◌*◌, ◌/◌, ◌%◌, ◌++◌, ℕ, Bool, true, false, cond, drop, List, [], ◌∷◌, append-nil, length, decimal, nat_le, Option, Some, None, Ok, refl, ap, sym, ◌∙◌, inl, arith, rules}
 use Rattle.std.specs.List.{AllByRecursion}
 use Rattle.std.proofs.lemmas.Bool.{eqb-true}
 use Rattle.std.specs.Str.{trim, trim_start, trim_end, chars}
