@@ -5,7 +5,9 @@
 mod admitted;
 mod audit;
 mod ballots;
+mod check;
 mod counted;
+mod export;
 mod journal;
 mod kinship;
 mod page;
@@ -113,6 +115,7 @@ where
         faults: Vec::new(rt.alloc()),
         checked: Warnings::new(rt.alloc()),
         seen: ResultWarnings::new(rt.alloc(), asked.is_strict),
+        lacking: [false; 6],
     };
     let progress = Progress::new(rt, asked.shows.unwrap_or(terminals.error));
     let begun = Instant::now(rt).ok();
@@ -124,6 +127,7 @@ where
             words::say_no_ballot(rt, asked, notes.has_no_ballot);
             words::say_faults(rt, &asked.task, &notes);
             words::say_warnings(rt, &asked.task, &notes);
+            words::say_lacking(rt, &asked.task, &notes.lacking);
             status_of(notes.faults.as_slice())
         }
         Err(refusal) => {

@@ -4,7 +4,9 @@ use crate::Terminals;
 use crate::admitted::{Told, rules_of};
 use crate::audit::audit;
 use crate::ballots::ballots;
+use crate::check::check;
 use crate::counted::CountedWriter;
+use crate::export::export;
 use crate::journal::open_with_journal;
 use crate::kinship::Kinship;
 use crate::page::page;
@@ -13,10 +15,8 @@ use crate::terminal::ShownWriter;
 use crate::typing::Typing;
 use crate::words::is_quiet;
 use pb_command_line::{Asked, Ballots, CompareRun, DeskRun, Source, Task};
-use pb_commands::run_check::run_check;
 use pb_commands::run_count::run_count_watched;
 use pb_commands::run_desk::run_admitted_desk;
-use pb_commands::run_export::{run_closed_export, run_export};
 use pb_commands::run_table::{run_closed_table, run_table};
 use pb_commands::{AppFault, Counting, Table};
 use pb_core::gate::NoGate;
@@ -27,7 +27,6 @@ use pb_witness::tally::Tally;
 use pb_witness::warnings::{ResultWarnings, Warnings};
 use std::fs::File;
 use std::io::{Error, ErrorKind, Write};
-use std::mem;
 use std::rt::{Clock, Files};
 use std::thread::Threads;
 
@@ -92,6 +91,8 @@ pub(crate) struct Notes {
     pub(crate) checked: Warnings,
     /// What can change the result of a file that is counted.
     pub(crate) seen: ResultWarnings,
+    /// Which keys that Pabulib asks for an exported file lacks.
+    pub(crate) lacking: [bool; 6],
 }
 
 /// Does what the arguments ask for, and writes the result to its place. What the result would replace is looked at first,
@@ -125,6 +126,7 @@ where
     let done = match run(
         &counting,
         &asked.task,
+        asked.keeps_voters,
         &mut writer,
         &kinship,
         notes,
@@ -168,6 +170,7 @@ fn unplaced<'a, R>(output: &mut Output<'a, R>, why: Unplaced<'a>) -> Refusal {
 fn run<'a, R, W: Write>(
     counting: &Counting<'a, R, Progress<'a, R>>,
     task: &Task<'a>,
+    keeps_voters: bool,
     writer: &mut W,
     kinship: &'a Kinship,
     notes: &mut Notes,
@@ -209,8 +212,10 @@ where
             )
         }
         Task::Page(run) => return page(counting, run, kinship, writer, &mut notes.seen),
-        Task::Export(ballots, _) => export(counting, ballots, writer, kinship, &mut notes.seen),
-        Task::Check(source) => check(counting, source, writer, notes),
+        Task::Export(ballots, _) => {
+            export(counting, ballots, keeps_voters, writer, kinship, notes)
+        }
+        Task::Check(run) => check(counting, run, writer, notes),
         Task::Desk(asked) => desk(counting, asked, writer, &mut notes.written),
         Task::Audit(asked) => audit(counting, asked, writer, kinship, notes),
         Task::Ballots(asked) => ballots(counting, asked, writer, kinship, notes),
@@ -262,41 +267,6 @@ fn compared_by(run: &CompareRun<'_>) -> Table {
     } else {
         Table::Rules
     }
-}
-
-/// Counts these ballots, and writes their .pb file with what the count came to.
-fn export<'a, R, W: Write>(
-    counting: &Counting<'a, R, Progress<'a, R>>,
-    ballots: &Ballots<'a>,
-    writer: &mut W,
-    kinship: &'a Kinship,
-    seen: &mut ResultWarnings,
-) -> Result<(), AppFault>
-where
-    R: Files<File = File> + Input + Eprint + Clock + Threads + Sync,
-{
-    let Some(journal) = &ballots.journal else {
-        let file = open_shown(counting.gate, &ballots.file)?;
-        return run_export(counting, file, seen, writer);
-    };
-    let (file, journal) = open_with_journal(counting, &ballots.file, journal, kinship)?;
-    run_closed_export(counting, file, journal, seen, writer)
-}
-
-/// Checks a .pb file, and keeps its faults and warnings.
-fn check<R, W: Write>(
-    counting: &Counting<'_, R, Progress<'_, R>>,
-    source: &Source<'_>,
-    writer: &mut W,
-    notes: &mut Notes,
-) -> Result<(), AppFault>
-where
-    R: Files + Input + Eprint + Clock,
-{
-    let file = open_shown(counting.gate, source)?;
-    let faults = run_check(counting.alloc, file, writer, &mut notes.checked)?;
-    drop(mem::replace(&mut notes.faults, faults));
-    Ok(())
 }
 
 /// Lets clerks serve a script on the desk of a .pb file. What is typed at a terminal is not shown a second time. A fault of the

@@ -18,6 +18,7 @@ use pb_witness::typed_row::TypedRow;
 use pb_words::ballot_words::no_ballot_words;
 use pb_words::belonging_words::{adopted_words, other_file_words, unread_file_words};
 use pb_words::count_words::{count_words, spent_words};
+use pb_words::export_words::lacking_words;
 use pb_words::journal_words::journal_words;
 use pb_words::output_words::{
     beside_output_words, journal_output_words, read_output_words, served_output_words,
@@ -258,6 +259,12 @@ pub(crate) fn say_warnings<R: Files + Eprint + AllocGlobal>(
         Task::Desk(..) | Task::Serve(..) | Task::Ballots(..) => {}
         _ => say_words(rt, warning_words(rt, rt.alloc(), file, notes.seen.found())),
     }
+}
+
+/// Says which keys an exported file lacks.
+pub(crate) fn say_lacking<R: Eprint + AllocGlobal>(rt: &R, task: &Task<'_>, lacking: &[bool; 6]) {
+    let (file, _) = task.paths();
+    say_words(rt, lacking_words(rt.alloc(), file, lacking));
 }
 
 /// Says how many requests were carried out and answered no, where a journal was written or audited and `--quiet` is not given.

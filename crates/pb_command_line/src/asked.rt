@@ -1,8 +1,8 @@
 //! What parsed arguments ask for.
 
 use crate::task::{
-    Admits, Asked, AuditRun, Ballots, BallotsRun, CompareRun, DeskRun, PageRun, ServeRun, Source,
-    Task,
+    Admits, Asked, AuditRun, Ballots, BallotsRun, CheckRun, CompareRun, DeskRun, PageRun, ServeRun,
+    Source, Task,
 };
 use clap::ArgMatches;
 use pb_core::money::Money;
@@ -19,6 +19,7 @@ pub(crate) fn asked_by<'a>(matches: &ArgMatches<'a>) -> Asked<'a> {
             fills_up: fills_up(given),
             is_strict: given.get_flag("strict"),
             takes_other: given.get_flag("other-file"),
+            keeps_voters: given.get_flag("keep-voters"),
         },
         None => Asked {
             task: Task::Count(Source::Input, CountOptions::standard()),
@@ -27,6 +28,7 @@ pub(crate) fn asked_by<'a>(matches: &ArgMatches<'a>) -> Asked<'a> {
             fills_up: false,
             is_strict: false,
             takes_other: false,
+            keeps_voters: false,
         },
     }
 }
@@ -53,7 +55,14 @@ fn task_of<'a>(name: &str, given: &ArgMatches<'a>) -> Task<'a> {
             compares: given.get_flag("compare"),
         }),
         "export" => Task::Export(ballots_of(given, file), options_of(given)),
-        "check" => Task::Check(file),
+        "check" => Task::Check(CheckRun {
+            file,
+            against: if given.get_flag("against") {
+                Some(options_of(given))
+            } else {
+                None
+            },
+        }),
         "desk" => Task::Desk(DeskRun {
             file,
             script: source_of(given, "SCRIPT"),

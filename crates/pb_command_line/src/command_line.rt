@@ -288,6 +288,20 @@ const REQUIRE_SHUT: Argument = Argument {
     help: "Refuses the journal if its desk is still open",
 };
 
+/// Whether the column `selected` is compared with a count.
+const AGAINST: Argument = Argument {
+    name: "against",
+    takes: Takes::Nothing,
+    help: "Counts a file without a fault, by the options below, and warns where the column selected of PROJECTS says something else",
+};
+
+/// Whether the further columns of VOTES are exported.
+const KEEP_VOTERS: Argument = Argument {
+    name: "keep-voters",
+    takes: Takes::Nothing,
+    help: "Keeps the further columns of VOTES (age, sex, ..), which are left out otherwise; new voters of a journal have them empty",
+};
+
 /// Whether a warning refuses the file.
 const STRICT: Argument = Argument {
     name: "strict",
@@ -438,8 +452,20 @@ const COUNTS: &[CommandForm] = &[
         notes: "Manual pages: man pb_app-election, man 5 pb_app-export, man pb_app-counting.",
         about: "Counts a .pb file, and prints ballots and result as a new .pb file; counting that file gives the same result",
         arguments: &[
-            ELECTION, LEFT_BY, OTHER_FILE, WORKERS, STEP, RAISES, PLAIN, COMPLETION, MEASURE,
-            STRICT, OUTPUT, QUIET, PROGRESS,
+            ELECTION,
+            LEFT_BY,
+            OTHER_FILE,
+            KEEP_VOTERS,
+            WORKERS,
+            STEP,
+            RAISES,
+            PLAIN,
+            COMPLETION,
+            MEASURE,
+            STRICT,
+            OUTPUT,
+            QUIET,
+            PROGRESS,
         ],
     },
 ];
@@ -450,7 +476,10 @@ const DESKS: &[CommandForm] = &[
         name: "check",
         notes: "Manual pages: man pb_app-election, man pb_app-faults.",
         about: "Lists everything that is wrong in a .pb file, and what is probably a mistake",
-        arguments: &[ELECTION, OUTPUT, QUIET, PROGRESS],
+        arguments: &[
+            ELECTION, AGAINST, WORKERS, STEP, RAISES, PLAIN, COMPLETION, MEASURE, OUTPUT, QUIET,
+            PROGRESS,
+        ],
     },
     CommandForm {
         name: "desk",
@@ -554,12 +583,36 @@ fn with_arguments<'a>(
     command: Command<'a>,
     arguments: &[Argument],
 ) -> Result<Command<'a>, AllocError> {
+    let asks_against = has(arguments, AGAINST.name);
     let mut command = command;
     for argument in arguments {
         let arg = made(alloc, argument)?;
+        let arg = if asks_against && is_of_count(argument) {
+            arg.requires_arg(AGAINST.name)?
+        } else {
+            arg
+        };
         command = command.arg(arg)?;
     }
     Ok(command)
+}
+
+/// Whether one of these arguments has this name.
+fn has(arguments: &[Argument], name: &str) -> bool {
+    for argument in arguments {
+        if argument.name == name {
+            return true;
+        }
+    }
+    false
+}
+
+/// Whether an argument is an option of a count.
+fn is_of_count(argument: &Argument) -> bool {
+    has(
+        &[WORKERS, STEP, RAISES, PLAIN, COMPLETION, MEASURE],
+        argument.name,
+    )
 }
 
 /// An argument, as `clap` takes it.

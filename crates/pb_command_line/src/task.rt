@@ -106,6 +106,14 @@ pub struct BallotsRun<'a> {
     pub voter: Option<&'a str>,
 }
 
+/// A check of a .pb file.
+#[derive(Clone, Copy)]
+pub struct CheckRun<'a> {
+    pub file: Source<'a>,
+    /// The options of the count with which the column `selected` is compared, where it is.
+    pub against: Option<CountOptions>,
+}
+
 /// The page of a count.
 #[derive(Clone, Copy)]
 pub struct PageRun<'a> {
@@ -139,7 +147,7 @@ pub enum Task<'a> {
     /// The .pb file of these ballots, with what their count came to.
     Export(Ballots<'a>, CountOptions),
     /// A check of a .pb file.
-    Check(Source<'a>),
+    Check(CheckRun<'a>),
     /// A run of the desk of a .pb file.
     Desk(DeskRun<'a>),
     /// An audit of a journal on a .pb file.
@@ -161,16 +169,15 @@ impl<'a> Task<'a> {
             Task::Compare(run) => run.options,
             Task::Page(run) => run.options,
             Task::Audit(run) => run.options,
-            Task::Desk(..) | Task::Serve(..) | Task::Check(_) | Task::Ballots(_) => {
-                CountOptions::standard()
-            }
+            Task::Check(run) => run.against.unwrap_or(CountOptions::standard()),
+            Task::Desk(..) | Task::Serve(..) | Task::Ballots(_) => { CountOptions::standard() }
         }
     }
 
     /// The texts that are read: the .pb file, and behind it a script or a journal, where there is one.
     pub fn texts(&self) -> (Source<'a>, Option<Source<'a>>) {
         match *self {
-            Task::Count(file, _) | Task::Check(file) => (file, None),
+            Task::Count(file, _) | Task::Check(CheckRun { file, .. }) => (file, None),
             Task::Projects(ballots, _)
             | Task::Voters(ballots, _)
             | Task::Export(ballots, _)
@@ -220,4 +227,6 @@ pub struct Asked<'a> {
     pub is_strict: bool,
     /// A journal that belongs to another .pb file is read all the same.
     pub takes_other: bool,
+    /// The further columns of VOTES are exported too.
+    pub keeps_voters: bool,
 }

@@ -1,10 +1,11 @@
 -- What a run of `export` writes, and what refuses it.
-use Rattle.std.specs.Prelude.{◌≡◌, ◌++◌, ℕ, ⊤, Bool, List, [], codes, decimal, if◌then◌else◌, length, map}
+use Rattle.std.specs.Prelude.{◌≡◌, ◌==◌, ◌++◌, ℕ, ⊤, Bool, false, true, List, [], codes, decimal, if◌then◌else◌, length, map, string_bytes}
 use Rattle.std.specs.List.{range_with_len}
 use Rattle.pb_core.specs.Election.{ElectionView}
 use Rattle.pb_core.specs.MoneyText.{money_text}
 use Rattle.pb_export.specs.Export.{CanBeWritten, IsExportFault}
 use Rattle.pb_export.specs.FileRows.{file_rows}
+use Rattle.pb_export.specs.declared.further.Further.{Further}
 use Rattle.pb_price.specs.Supporters.{support_of, supporters_at}
 use Rattle.pb_read.specs.StandsFor.{StandsFor}
 use Rattle.pb_reasons.specs.Counted as counting
@@ -32,12 +33,22 @@ completion_text completion.Plain step most = codes ", no raises"
 completion_text completion.Add1 step most =
     codes ", raises of " ++ money_text step ++ codes ", at most " ++ decimal most
 
+-- the rule of a count, by Pabulib's word for it, if it has one
+abbrev pub rule_word : Completion → (fills_up : Bool) → List ℕ
+rule_word completion.Plain false = codes "equalshares"
+rule_word completion.Add1 false = codes "equalshares/add1"
+rule_word how true = codes "unknown"
+
 -- the rule of a count, in words
 abbrev pub rule_text : CountOptions → (fills_up : Bool) → List ℕ
 rule_text options fills_up =
     measure_text options.measure
     ++ (completion_text options.completion options.step options.max_raises
     ++ (if fills_up then codes ", filled up by votes" else []))
+
+-- a comment that the file had, behind other words
+abbrev pub own_comment : List ℕ → List ℕ
+own_comment own = if length own == 0 then [] else codes ". " ++ own
 
 -- how many ballots approve each project, and whether it is elected or added
 abbrev pub votes_of : ElectionView → List ℕ
@@ -46,18 +57,20 @@ votes_of e = map (λ place. length (supporters_at (support_of e) place)) (range_
 abbrev pub selected_of : ElectionView → CountedView → List Bool
 selected_of e c = map (is_selected c) (range_with_len 0 (length e.projects))
 
--- the text is a file of the election, with what the count by these options came to; it is read back as the election
-pub record IsExportOf (options : CountOptions) (fills_up : Bool) (e : ElectionView) (text : List ℕ) : Type 0 where
+-- the text is a file of the election, with what the count by these options came to, and what is kept of the file that was
+-- read; it is read back as the election
+pub record IsExportOf (options : CountOptions) (fills_up : Bool) (kept : Further) (e : ElectionView) (text : List ℕ) : Type 0 where
   pub outcome : OutcomeView
   pub counted : IsCountOf e options outcome
   pub can : CanBeWritten e
   pub text_is : text
-      ≡ text_of_rows (file_rows e (rule_text options fills_up) (votes_of e) (selected_of e (counting.counted e fills_up outcome)))
+      ≡ text_of_rows (file_rows e (rule_word options.completion fills_up) (rule_text options fills_up ++ own_comment (string_bytes kept.comment))
+      (votes_of e) (selected_of e (counting.counted e fills_up outcome)) kept)
   pub reads_back : StandsFor (records_of text) e
 
 -- the text is such a file of an election that is such
-abbrev pub ExportWrites : CountOptions → (fills_up : Bool) → (ElectionView → Type 0) → List ℕ → Type 0
-ExportWrites options fills_up IsSuch text = (e : ElectionView) × IsSuch e × IsExportOf options fills_up e text
+abbrev pub ExportWrites : CountOptions → (fills_up : Bool) → Further → (ElectionView → Type 0) → List ℕ → Type 0
+ExportWrites options fills_up kept IsSuch text = (e : ElectionView) × IsSuch e × IsExportOf options fills_up kept e text
 
 -- what refuses an election: its count; or, once it is counted, that no file would be read back as it
 abbrev pub ExportRefuses : CountOptions → ElectionView → AppFault → Type 0

@@ -2,7 +2,7 @@
 
 ghost use Rattle.std.specs.Prelude.{◌≡◌, ◌++◌, IfErr, IfOk, OnOk, codes, decimal, string_bytes};
 ghost use Rattle.pb_commands.specs.Inner.Exporting.{IsStopped, is_won};
-ghost use Rattle.pb_commands.specs.Exported.{IsExportOf, completion_text, rule_text, selected_of, votes_of};
+ghost use Rattle.pb_commands.specs.Exported.{IsExportOf, completion_text, own_comment, rule_text, rule_word, selected_of, votes_of};
 ghost use Rattle.pb_faults.specs.Fault.{merged};
 
 use crate::counting::{Counting, counted};
@@ -10,8 +10,8 @@ use itoa::Buffer;
 use pb_core::election::Election;
 use pb_core::gate::Gate;
 use pb_core::no_memory::NoMemory;
-use pb_export::Told;
 use pb_export::write_pb::write_pb;
+use pb_export::{Carried, Told};
 use pb_faults::AppFault;
 use pb_reasons::{Ending, ProjectTeller};
 use pb_rounds::measure::Measure;
@@ -19,25 +19,35 @@ use pb_rounds::options::{Completion, CountOptions};
 use std::alloc::Global;
 use std::thread::Threads;
 
-/// The file of an election that is counted with these options.
+/// The file of an election that is counted with these options, with what was kept of the file that was read.
 pub(crate) fn export_text<T: Threads + Sync, G: Gate>(
     counting: &Counting<T, G>,
     election: &Election,
+    carried: &Carried,
 ) -> Result<Vec<u8>, AppFault>
-    ensures ok { IfOk result (λ text. IsExportOf counting.now.options.now counting.now.fills_up election.now text.items) }
+    ensures ok { IfOk result (λ text. IsExportOf counting.now.options.now counting.now.fills_up carried.now.further
+        election.now text.items) }
     ensures fault { IfErr result (IsStopped counting.now.options.now election.now) }
     ensures merged { IfErr result (λ fault. merged fault ≡ fault) }
 {
     let alloc = counting.alloc;
     let counted = counted(counting, election)?;
-    let rule = rule_text(alloc, counting.options, counting.fills_up)?;
+    let further = carried.further()?;
+    let comment = comment_text(
+        alloc,
+        counting.options,
+        counting.fills_up,
+        further.comment(),
+    )?;
     let teller = ProjectTeller::of(alloc, election, &counted)?;
     let votes = votes_of(alloc, election, &teller)?;
     let selected = selected_of(alloc, election, &teller)?;
     let told = Told {
-        rule: rule.as_str(),
+        rule: rule_word(counting.options.completion, counting.fills_up),
+        comment: comment.as_str(),
         votes: votes.as_slice(),
         selected: selected.as_slice(),
+        further,
     };
     let text = write_pb(alloc, election, &told)?;
     Ok(text)
@@ -85,6 +95,43 @@ fn is_won(ending: &Ending) -> bool
         Ending::Won(_) | Ending::Added(_) => true,
         Ending::Lost(_) => false,
     }
+}
+
+/// The rule of a count, by Pabulib's word for it, if it has one.
+fn rule_word(completion: Completion, fills_up: bool) -> &'static str
+    ensures { result.now ≡ rule_word completion fills_up }
+{
+    match (completion, fills_up) {
+        (_, true) => "unknown",
+        (Completion::Plain, false) => "equalshares",
+        (Completion::Add1, false) => "equalshares/add1",
+    }
+}
+
+/// The rule of a count, in words, and after it the comment that the file had.
+fn comment_text(
+    alloc: Global,
+    options: &CountOptions,
+    fills_up: bool,
+    own: &str,
+) -> Result<String, NoMemory>
+    ensures { IfOk result (λ text. string_bytes text ≡ rule_text options.now fills_up ++ own_comment own.now) }
+{
+    let mut text = rule_text(alloc, options, fills_up)?;
+    put_own(&mut text, own)?;
+    Ok(text)
+}
+
+/// Puts the comment that the file had after a text.
+fn put_own(text: &mut String, own: &str) -> Result<(), NoMemory>
+    ensures { OnOk result (string_bytes text.new ≡ string_bytes text.old ++ own_comment own.now) }
+{
+    if own.is_empty() {
+        return Ok(());
+    }
+    text.push_str(". ")?;
+    text.push_str(own)?;
+    Ok(())
 }
 
 /// The rule of a count, in words.

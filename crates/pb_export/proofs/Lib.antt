@@ -1,6 +1,8 @@
 -- The lemmas that the proofs of this crate share.
 pub mod Tidy
 pub mod Pieces
+pub mod FurtherKeys
+pub mod Headers
 pub mod Metas
 pub mod Projects
 pub mod Votes

@@ -1,5 +1,5 @@
 -- PROJECTS, read back.
-use Rattle.std.proofs.Common.{◌≡◌, ◌≢◌, ◌≤◌, ◌+◌, ℕ, Bool, true, false, cond, not, List, [], ◌∷◌, ◌++◌, codes, decimal, Option, Some, None, Ok, refl, ap, sym, ◌∙◌}
+use Rattle.std.proofs.Common.{◌≡◌, ◌≢◌, ◌≤◌, ◌+◌, ℕ, Bool, true, false, cond, not, List, [], ◌∷◌, ◌++◌, codes, decimal, Option, Some, None, Ok, refl, ap, sym, ◌∙◌, arith}
 use Rattle.std.specs.Prelude.{is_some, slice_index, slice_index_or}
 use Rattle.std.specs.List.{AllByRecursion, AllZip}
 use Rattle.std.specs.Str.{trim, trim_start, trim_end, chars}
@@ -12,9 +12,11 @@ use Rattle.pb_rows.specs.Reading.{Fields}
 use Rattle.pb_read.specs.Inner.Fields.{trimmed}
 use Rattle.pb_read.specs.Rows.{head_of, is_blank, rows_of}
 use Rattle.pb_read.specs.StandsFor.{GivesAllButVoters, GivesProject, IsMeta, terms_of}
-use Rattle.pb_export.specs.FileRows.{project_row, projects_rows}
+use Rattle.pb_export.specs.FileRows.{amount_text, project_row, projects_rows}
+use Rattle.pb_export.specs.declared.further.Further.{Further}
 use Rattle.pb_export.specs.Inner.Parts.{is_section_word, projects_from}
-use Rattle.pb_export.proofs.Metas.{money_back}
+use Rattle.pb_export.proofs.Headers.{both_fields, project_header}
+use Rattle.pb_export.proofs.Metas.{amount_back}
 
 -- a project that a file can give
 pub record IsWritable (p : ProjectView) : Type 0 where
@@ -50,30 +52,31 @@ pub row_kept : (id : List ℕ) (rest : Fields) (records : List Fields) → trim 
 row_kept id rest records tidy some = cond-true _ (trimmed (id ∷ rest) ∷ rows_of records) (rows_of records) (shows id rest tidy some)
 
 -- by the law of money
-module _ (reads_back : (h : ℕ) → h ≤ largest_money → money_of (money_text h) ≡ Ok h) (votes : List ℕ) (selected : List Bool) where
-  gives_project : (p : ProjectView) (count : ℕ) (elected : Bool) → IsWritable p → Gives (trimmed (project_row p count elected)) p
-  gives_project p count elected is = record {
-    whole = refl;
+module _ (reads_back : (h : ℕ) → h ≤ largest_money → money_of (money_text h) ≡ Ok h) (votes : List ℕ) (selected : List Bool) (further : Further) where
+  gives_project : (p : ProjectView) (count : ℕ) (elected : Bool) (more : Fields) → IsWritable p → Gives (trimmed (project_row p count elected more)) p
+  gives_project p count elected more is = record {
+    whole = both_fields 0 1 (trimmed (project_row p count elected more)) (omega arith) (omega arith);
     id = sym is.tidy_id;
     name = sym is.tidy_name;
-    cost = money_back reads_back p.cost is.affordable;
+    cost = amount_back reads_back p.cost is.affordable;
   }
 
   gives_from : (place : ℕ) (projects : List ProjectView) → AllByRecursion IsWritable projects →
-      AllByRecursion (λ row. head_of row ≡ None) (rows_of (projects_from votes selected place projects)) × AllZip Gives (rows_of (projects_from votes selected place projects)) projects
+      AllByRecursion (λ row. head_of row ≡ None) (rows_of (projects_from votes selected further.projects.items place projects)) × AllZip Gives (rows_of (projects_from votes selected further.projects.items place projects)) projects
   gives_from place [] are = (tt, tt)
   gives_from place (p ∷ projects) are =
       let count = slice_index votes place in
       let elected = slice_index_or selected place false in
-      let others : Fields = money_text p.cost ∷ decimal count ∷ p.name ∷ cond elected (codes "1") (codes "0") ∷ [] in
+      let more = slice_index_or further.projects.items place [] in
+      let others : Fields = amount_text p.cost ∷ decimal count ∷ p.name ∷ cond elected (codes "1") (codes "0") ∷ more in
       let rest = gives_from (place + 1) projects are.1 in
-      rw (row_kept p.id others (projects_from votes selected (place + 1) projects) are.0.tidy_id are.0.has_id)
-      ((plain_row p.id others are.0.tidy_id are.0.no_head, rest.0), (gives_project p count elected are.0, rest.1))
+      rw (row_kept p.id others (projects_from votes selected further.projects.items (place + 1) projects) are.0.tidy_id are.0.has_id)
+      ((plain_row p.id others are.0.tidy_id are.0.no_head, rest.0), (gives_project p count elected more are.0, rest.1))
 
   -- after META
   pub gives_projects : (e : ElectionView) (front : List Fields) → IsMeta (terms_of e) front → AllByRecursion IsWritable e.projects →
-      GivesFront e (front ++ rows_of (projects_rows votes selected e.projects))
+      GivesFront e (front ++ rows_of (projects_rows votes selected further e.projects))
   unfolding head_of trim_start trim_end chars encode
   gives_projects e front before are =
       let from = gives_from 0 e.projects are in
-      (_, rows_of (projects_from votes selected 0 e.projects), (front, _, refl, before, refl, (refl, from.0)), refl, from.1)
+      (_, rows_of (projects_from votes selected further.projects.items 0 e.projects), (front, _, refl, before, refl, (refl, from.0)), project_header further.project_names, from.1)

@@ -19,9 +19,13 @@ use Rattle.pb_read.specs.Inner.Fields.{trimmed}
 use Rattle.pb_read.specs.Rows.{is_blank, rows_of}
 use Rattle.pb_read.specs.StandsFor.{GivesAll, StandsFor}
 use Rattle.pb_export.specs.Export.{has_comma, has_comma_in_vote, has_section_word}
-use Rattle.pb_export.specs.FileRows.{file_rows, meta_rows, projects_rows, votes_rows}
+use Rattle.pb_export.specs.FileRows.{file_rows, key_rows, meta_rows, projects_rows, votes_rows}
+use Rattle.pb_export.specs.Further.{KeyView}
+use Rattle.pb_export.specs.OfVoter.{of_voter}
+use Rattle.pb_export.specs.declared.further.Further.{Further}
 use Rattle.pb_export.specs.Inner.Parts.{is_section_word, projects_from, vote_row}
 use Rattle.pb_export.proofs.OfFile.{IsOfFile}
+use Rattle.pb_export.proofs.FurtherKeys.{few_keys, key_rows_fields}
 use Rattle.pb_export.proofs.Metas.{gives_terms}
 use Rattle.pb_export.proofs.Pieces.{IsPiece}
 use Rattle.pb_export.proofs.Words.{section_words}
@@ -31,22 +35,28 @@ use Rattle.pb_export.proofs.Votes as votes
 abbrev HasField : Fields → Type 0
 HasField fields = 0 < length fields
 
-meta_fields : (e : ElectionView) (rule : List ℕ) → AllByRecursion HasField (meta_rows e rule) × (length (meta_rows e rule) ≤ 8)
-meta_fields e rule = go e.max_length
+meta_fields : (e : ElectionView) (rule comment : List ℕ) (keys : List KeyView) → length keys ≤ 900000 → AllByRecursion HasField (meta_rows e rule comment keys) × (length (meta_rows e rule comment keys) ≤ 900009)
+meta_fields e rule comment keys small = go e.max_length
   where
-    go : (limit : Option ℕ) → AllByRecursion HasField (meta_rows (record e { max_length = limit }) rule) × (length (meta_rows (record e { max_length = limit }) rule) ≤ 8)
-    go None = ((omega arith, (omega arith, (omega arith, (omega arith, (omega arith, (omega arith, (omega arith, tt))))))), omega arith)
-    go (Some most) = ((omega arith, (omega arith, (omega arith, (omega arith, (omega arith, (omega arith, (omega arith, (omega arith, tt)))))))), omega arith)
+    few : length (key_rows keys) ≤ 900000
+    few = few_keys keys small
 
-project_fields : (counts : List ℕ) (selected : List Bool) (place : ℕ) (ps : List ProjectView) → AllByRecursion HasField (projects_from counts selected place ps) × (length (projects_from counts selected place ps) ≡ length ps)
-project_fields counts selected place [] = (tt, refl)
-project_fields counts selected place (p ∷ ps) =
-    let rest = project_fields counts selected (place + 1) ps in
+    behind : AllByRecursion HasField (key_rows keys)
+    behind = key_rows_fields keys
+
+    go : (limit : Option ℕ) → AllByRecursion HasField (meta_rows (record e { max_length = limit }) rule comment keys) × (length (meta_rows (record e { max_length = limit }) rule comment keys) ≤ 900009)
+    go None = ((omega arith, (omega arith, (omega arith, (omega arith, (omega arith, (omega arith, (omega arith, (omega arith, behind)))))))), omega (arith, few))
+    go (Some most) = ((omega arith, (omega arith, (omega arith, (omega arith, (omega arith, (omega arith, (omega arith, (omega arith, (omega arith, behind))))))))), omega (arith, few))
+
+project_fields : (counts : List ℕ) (selected : List Bool) (further : List Fields) (place : ℕ) (ps : List ProjectView) → AllByRecursion HasField (projects_from counts selected further place ps) × (length (projects_from counts selected further place ps) ≡ length ps)
+project_fields counts selected further place [] = (tt, refl)
+project_fields counts selected further place (p ∷ ps) =
+    let rest = project_fields counts selected further (place + 1) ps in
     ((omega arith, rest.0), ap suc rest.1)
 
-vote_fields : (ids : List (List ℕ)) (vs : List VoterView) → AllByRecursion HasField (map (vote_row ids) vs)
-vote_fields ids [] = tt
-vote_fields ids (v ∷ vs) = (omega arith, vote_fields ids vs)
+vote_fields : (ids : List (List ℕ)) (more_of : List ℕ → Fields) (vs : List VoterView) → AllByRecursion HasField (map (vote_row ids more_of) vs)
+vote_fields ids more_of [] = tt
+vote_fields ids more_of (v ∷ vs) = (omega arith, vote_fields ids more_of vs)
 
 rows_of-append : (xs ys : List Fields) → rows_of (xs ++ ys) ≡ rows_of xs ++ rows_of ys
 rows_of-append xs ys =
@@ -62,11 +72,11 @@ record IsId (id : List ℕ) : Type 0 where
   tidy : trim id ≡ id
   text : IsUtf8 id
 
-ids_are : (counts : List ℕ) (selected : List Bool) (place : ℕ) (ps : List ProjectView) → AllByRecursion AllText (projects_from counts selected place ps) → AllByRecursion projects.IsWritable ps → AllByRecursion IsId (map (λ (p : ProjectView). p.id) ps)
+ids_are : (counts : List ℕ) (selected : List Bool) (further : List Fields) (place : ℕ) (ps : List ProjectView) → AllByRecursion AllText (projects_from counts selected further place ps) → AllByRecursion projects.IsWritable ps → AllByRecursion IsId (map (λ (p : ProjectView). p.id) ps)
 unfolding AllText
-ids_are counts selected place [] texts are = tt
-ids_are counts selected place (p ∷ ps) texts are =
-    (record { some = are.0.has_id; tidy = are.0.tidy_id; text = texts.0.0 }, ids_are counts selected (place + 1) ps texts.1 are.1)
+ids_are counts selected further place [] texts are = tt
+ids_are counts selected further place (p ∷ ps) texts are =
+    (record { some = are.0.has_id; tidy = are.0.tidy_id; text = texts.0.0 }, ids_are counts selected further (place + 1) ps texts.1 are.1)
 
 ballot_pieces : (ids : List (List ℕ)) → All IsId ids → (ballot : List ℕ) → All (λ place. place < length ids) ballot → list_any (λ place. has_comma (slice_index_or ids place [])) ballot ≡ false →
     AllByRecursion IsPiece (map (λ place. slice_index_or ids place []) ballot)
@@ -79,19 +89,19 @@ ballot_pieces ids are (place ∷ ballot) known none =
 
 -- by the laws of rows and of money
 module _ (come_back : (rows : List Fields) → ComeBack rows → records_of (text_of_rows rows) ≡ rows) (reads_back : (h : ℕ) → h ≤ largest_money → money_of (money_text h) ≡ Ok h)
-    (e : ElectionView) (rule counts : List ℕ) (selected : List Bool) (is : IsElection e) (of : IsOfFile e) (words : has_section_word e ≡ false) (commas : has_comma_in_vote e ≡ false)
-    (texts : AllByRecursion AllText (file_rows e rule counts selected)) where
+    (e : ElectionView) (rule comment counts : List ℕ) (selected : List Bool) (further : Further) (small : length further.keys ≤ 900000) (is : IsElection e) (of : IsOfFile e) (words : has_section_word e ≡ false) (commas : has_comma_in_vote e ≡ false)
+    (texts : AllByRecursion AllText (file_rows e rule comment counts selected further)) where
   abbrev rows : List Fields
-  rows = file_rows e rule counts selected
+  rows = file_rows e rule comment counts selected further
 
   abbrev metas : List Fields
-  metas = meta_rows e rule
+  metas = meta_rows e rule comment further.keys
 
   abbrev middle : List Fields
-  middle = projects_rows counts selected e.projects
+  middle = projects_rows counts selected further e.projects
 
   abbrev last : List Fields
-  last = votes_rows (project_ids e) e.voters
+  last = votes_rows (project_ids e) further e.voters
 
   heads : (list_any (λ p. is_section_word p.id) e.projects ≡ false) × (list_any (λ v. is_section_word v.id) e.voters ≡ false)
   heads = or_parts _ _ (sym (section_words e) ∙ words)
@@ -110,7 +120,7 @@ module _ (come_back : (rows : List Fields) → ComeBack rows → records_of (tex
   middle_texts = AllByRecursion-right AllText metas middle (AllByRecursion-left AllText (metas ++ middle) last texts)
 
   ids : All IsId (project_ids e)
-  ids = All-from_recursion IsId (project_ids e) (ids_are counts selected 0 e.projects middle_texts.1.1 writable_projects)
+  ids = All-from_recursion IsId (project_ids e) (ids_are counts selected further.projects.items 0 e.projects middle_texts.1.1 writable_projects)
 
   size : length (project_ids e) ≡ length e.projects
   size = length-map e.projects (λ (p : ProjectView). p.id)
@@ -132,24 +142,24 @@ module _ (come_back : (rows : List Fields) → ComeBack rows → records_of (tex
   fields : AllByRecursion HasField rows
   fields =
       AllByRecursion-append HasField (metas ++ middle) last
-      (AllByRecursion-append HasField metas middle (meta_fields e rule).0 (omega arith, (omega arith, (project_fields counts selected 0 e.projects).0)))
-      (omega arith, (omega arith, vote_fields (project_ids e) e.voters))
+      (AllByRecursion-append HasField metas middle (meta_fields e rule comment further.keys small).0 (omega arith, (omega arith, (project_fields counts selected further.projects.items 0 e.projects).0)))
+      (omega arith, (omega arith, vote_fields (project_ids e) (of_voter further) e.voters))
 
   back : records_of (text_of_rows rows) ≡ rows
   back = come_back rows (ComeBack-ascii rows (All-from_recursion HasField rows fields) (omega arith))
 
   gives_front : projects.GivesFront e (rows_of (metas ++ middle))
   gives_front =
-      subst (projects.GivesFront e) (sym (rows_of-append metas middle)) (projects.gives_projects reads_back counts selected e (rows_of metas) (gives_terms reads_back e rule is.budget_bounded of.limit) writable_projects)
+      subst (projects.GivesFront e) (sym (rows_of-append metas middle)) (projects.gives_projects reads_back counts selected further e (rows_of metas) (gives_terms reads_back e rule comment further.keys is.budget_bounded of.limit) writable_projects)
 
   gives : GivesAll (record { voter = 0; vote = 1 }) e (rows_of rows)
   gives =
-      subst (GivesAll (record { voter = 0; vote = 1 }) e) (sym (rows_of-append (metas ++ middle) last)) (votes.gives_voters e (rows_of (metas ++ middle)) gives_front is.projects_differ writable_voters)
+      subst (GivesAll (record { voter = 0; vote = 1 }) e) (sym (rows_of-append (metas ++ middle) last)) (votes.gives_voters e further (rows_of (metas ++ middle)) gives_front is.projects_differ writable_voters)
 
   few : length rows ≤ 2000000
   few =
-      omega (arith, length-append (metas ++ middle) last, length-append metas middle, (meta_fields e rule).1, (project_fields counts selected 0 e.projects).1, length-map e.voters (vote_row (project_ids e)), is.few_projects, is.few_voters)
+      omega (arith, length-append (metas ++ middle) last, length-append metas middle, (meta_fields e rule comment further.keys small).1, (project_fields counts selected further.projects.items 0 e.projects).1, length-map e.voters (vote_row (project_ids e) (of_voter further)), is.few_projects, is.few_voters)
 
-  pub stands : StandsFor (records_of (text_of_rows (file_rows e rule counts selected))) e
+  pub stands : StandsFor (records_of (text_of_rows (file_rows e rule comment counts selected further))) e
   stands = subst (λ (records : List Fields). StandsFor records e) (sym back)
       (record { few = few; describes = record { text = texts; columns = record { voter = 0; vote = 1 }; rows = gives; is_election = is } })

@@ -12,6 +12,7 @@ use Rattle.std.proofs.lemmas.List.Folds.{list_all-append}
 use Rattle.std.proofs.lemmas.Str.{chars-encodes, chars-IsAscii, chars_from_encodes, encodes-chars, scalars-chars, IsUtf8-from_ascii}
 use Rattle.std.proofs.lemmas.Str.Ascii.{IsAscii-cons, IsAscii-nil}
 use Rattle.pb_core.specs.MoneyText.{money_text}
+use Rattle.pb_export.specs.FileRows.{amount_text}
 
 length-skip : (cs : List ℕ) → length (skip_leading_whitespace cs) ≤ length cs
 length-skip [] = omega arith
@@ -140,3 +141,10 @@ money_plain h small =
     let hundredths = digit_plain (h % 10) (omega arith) in
     list_all-append is_plain (decimal (h / 100) ++ codes ".") ((48 + h / 10 % 10) ∷ (48 + h % 10) ∷ [])
     ∙ and_from _ _ (list_all-append is_plain (decimal (h / 100)) (codes ".") ∙ and_from _ true whole refl) (and_from _ _ tenths (and_from _ true hundredths refl))
+
+pub amount_plain : (h : ℕ) → h < 2 ^ 64 → list_all is_plain (amount_text h) ≡ true
+amount_plain h small =
+    elim (h % 100 == 0) as (λ b. list_all is_plain (cond b (decimal (h / 100)) (money_text h)) ≡ true) [
+      | true ↦ decimal_plain (h / 100) (omega (arith, small))
+      | false ↦ money_plain h small
+    ]

@@ -1,40 +1,66 @@
 -- The rows of an exported file.
-use Rattle.std.specs.Prelude.{ℕ, Bool, false, if◌then◌else◌, List, [], ◌∷◌, ◌++◌, codes, decimal, length, map, slice_index, slice_index_or}
-use Rattle.std.specs.List.{enumerate_from, join_with_byte}
+use Rattle.std.specs.Prelude.{ℕ, ◌/◌, ◌%◌, ◌==◌, ◌&&◌, Bool, false, not, if◌then◌else◌, List, [], ◌∷◌, ◌++◌, codes, decimal, filter, is_some, length, map, slice_index, slice_index_or}
+use Rattle.std.specs.List.{enumerate_from, join_with_byte, list_any}
 use Rattle.std.specs.Option.{option_to_list}
+use Rattle.std.specs.Str.{trim}
 use Rattle.pb_core.specs.Election.{ElectionView, ProjectView, VoterView, project_ids}
 use Rattle.pb_core.specs.MoneyText.{money_text}
+use Rattle.pb_read.specs.Rows.{head_of, is_word}
 use Rattle.pb_rows.specs.Reading.{Fields}
+use Rattle.pb_export.specs.Further.{KeyView}
+use Rattle.pb_export.specs.OfVoter.{of_voter}
+use Rattle.pb_export.specs.declared.further.Further.{Further}
 
--- META; the rule is in words, and a row says how long a ballot may be, where there is a limit
-abbrev pub meta_rows : ElectionView → List ℕ → List Fields
-meta_rows e rule =
-    ((codes "META" ∷ []) ∷ (codes "key" ∷ codes "value" ∷ []) ∷ (codes "budget" ∷ money_text e.budget ∷ [])
+-- an amount; a whole one has no decimals
+abbrev pub amount_text : ℕ → List ℕ
+amount_text h = if h % 100 == 0 then decimal (h / 100) else money_text h
+
+-- a key that the file has of its own
+abbrev pub is_own_key : List ℕ → Bool
+is_own_key name =
+    list_any (λ word. is_word word name)
+    (codes "budget" ∷ codes "vote_type" ∷ codes "max_length" ∷ codes "num_projects" ∷ codes "num_votes" ∷ codes "rule"
+    ∷ codes "comment" ∷ [])
+
+-- a further key with this name may follow in META: it is none of these, and no section's head
+abbrev pub may_follow : List ℕ → Bool
+may_follow name = not (is_own_key name) && not (is_some (head_of (name ∷ [])))
+
+-- the rows of further keys
+abbrev pub key_rows : List KeyView → List Fields
+key_rows keys = map (λ key. key.name ∷ key.value ∷ []) (filter (λ key. may_follow (trim key.name)) keys)
+
+-- META: the rule by its word, and in words as a comment; a row says how long a ballot may be, where there is a limit
+abbrev pub meta_rows : ElectionView → (rule comment : List ℕ) → List KeyView → List Fields
+meta_rows e rule comment keys =
+    ((codes "META" ∷ []) ∷ (codes "key" ∷ codes "value" ∷ []) ∷ (codes "budget" ∷ amount_text e.budget ∷ [])
     ∷ (codes "vote_type" ∷ codes "approval" ∷ [])
     ∷ map (λ most. codes "max_length" ∷ decimal most ∷ []) (option_to_list e.max_length))
     ++ (codes "num_projects" ∷ decimal (length e.projects) ∷ [])
-    ∷ (codes "num_votes" ∷ decimal (length e.voters) ∷ []) ∷ (codes "rule" ∷ rule ∷ []) ∷ []
+    ∷ (codes "num_votes" ∷ decimal (length e.voters) ∷ []) ∷ (codes "rule" ∷ rule ∷ [])
+    ∷ (codes "comment" ∷ comment ∷ []) ∷ key_rows keys
 
--- the row of a project that has this many votes, and is elected or not
-abbrev pub project_row : ProjectView → ℕ → Bool → Fields
-project_row p votes selected =
-    p.id ∷ money_text p.cost ∷ decimal votes ∷ p.name ∷ (if selected then codes "1" else codes "0") ∷ []
+-- the row of a project that has this many votes, is elected or not, and has these further fields
+abbrev pub project_row : ProjectView → ℕ → Bool → Fields → Fields
+project_row p votes selected further =
+    p.id ∷ amount_text p.cost ∷ decimal votes ∷ p.name ∷ (if selected then codes "1" else codes "0") ∷ further
 
--- PROJECTS; the votes of each project, and whether it is elected, stand at its place
-abbrev pub projects_rows : List ℕ → List Bool → List ProjectView → List Fields
-projects_rows votes selected projects =
+-- PROJECTS; the votes of each project, whether it is elected, and its further fields stand at its place
+abbrev pub projects_rows : List ℕ → List Bool → Further → List ProjectView → List Fields
+projects_rows votes selected further projects =
     (codes "PROJECTS" ∷ [])
-    ∷ (codes "project_id" ∷ codes "cost" ∷ codes "votes" ∷ codes "name" ∷ codes "selected" ∷ [])
-    ∷ map (λ at. project_row at.1 (slice_index votes at.0) (slice_index_or selected at.0 false))
+    ∷ (codes "project_id" ∷ codes "cost" ∷ codes "votes" ∷ codes "name" ∷ codes "selected" ∷ further.project_names)
+    ∷ map (λ at. project_row at.1 (slice_index votes at.0) (slice_index_or selected at.0 false) (slice_index_or further.projects.items at.0 []))
     (enumerate_from 0 projects)
 
 -- VOTES; a vote is the ids of the approved projects, with `,` between two
-abbrev pub votes_rows : List (List ℕ) → List VoterView → List Fields
-votes_rows ids voters =
-    (codes "VOTES" ∷ []) ∷ (codes "voter_id" ∷ codes "vote" ∷ [])
-    ∷ map (λ v. v.id ∷ join_with_byte 44 (map (λ place. slice_index_or ids place []) v.ballot) ∷ []) voters
+abbrev pub votes_rows : List (List ℕ) → Further → List VoterView → List Fields
+votes_rows ids further voters =
+    (codes "VOTES" ∷ []) ∷ (codes "voter_id" ∷ codes "vote" ∷ further.voter_names)
+    ∷ map (λ v. v.id ∷ join_with_byte 44 (map (λ place. slice_index_or ids place []) v.ballot) ∷ of_voter further v.id) voters
 
--- an exported file: the election, and beside it the rule in words, and each project's votes and whether it is elected
-abbrev pub file_rows : ElectionView → List ℕ → List ℕ → List Bool → List Fields
-file_rows e rule votes selected =
-    (meta_rows e rule ++ projects_rows votes selected e.projects) ++ votes_rows (project_ids e) e.voters
+-- an exported file: the election, and beside it the rule, each project's votes and whether it is elected, and what is further
+abbrev pub file_rows : ElectionView → (rule comment votes : List ℕ) → List Bool → Further → List Fields
+file_rows e rule comment votes selected further =
+    (meta_rows e rule comment further.keys ++ projects_rows votes selected further e.projects)
+    ++ votes_rows (project_ids e) further e.voters

@@ -1,5 +1,7 @@
 -- The words that public contracts reach, a notion a file.
 pub mod Export
 pub mod FileRows
+pub mod Further
+pub mod OfVoter
 pub mod ExportFault
 pub mod Inner

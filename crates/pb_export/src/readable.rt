@@ -1,9 +1,11 @@
 //! Whether an election can be read back from a file.
 
-ghost use Rattle.std.specs.Prelude.{◌≡◌, ◌<◌, ◌&&◌, [], All, length, map, slice_index_or};
+ghost use Rattle.std.specs.Prelude.{◌≡◌, ◌<◌, ◌&&◌, [], ◌∷◌, All, codes, length, map, slice_index_or};
 ghost use Rattle.std.specs.List.{list_all, list_any};
 ghost use Rattle.pb_export.specs.Export.{has_comma, has_comma_in_vote, has_section_word, is_of_file};
+ghost use Rattle.pb_export.specs.FileRows.{is_own_key, may_follow};
 ghost use Rattle.pb_export.specs.Inner.Parts.{is_section_word, is_small, is_tidy};
+ghost use Rattle.pb_read.specs.Rows.{is_word};
 
 use pb_core::election::{Election, MOST_PROJECTS};
 use pb_core::project::Project;
@@ -17,6 +19,46 @@ fn is_section_word(id: &str) -> bool
     "META".eq_ignore_ascii_case(id)
         || "PROJECTS".eq_ignore_ascii_case(id)
         || "VOTES".eq_ignore_ascii_case(id)
+}
+
+/// Whether a further key with this name, trimmed, may follow in META.
+pub(crate) fn may_follow(name: &str) -> bool
+    ensures { result ≡ may_follow name.now }
+{
+    !is_own_key(name) && !is_section_word(name)
+}
+
+/// Whether an exported file has a key with this name of its own.
+fn is_own_key(name: &str) -> bool
+    ensures { result ≡ is_own_key name.now }
+{
+    is_key_of_terms(name) || is_other_key(name)
+}
+
+/// Whether this is the key of the budget or of the kind of votes.
+fn is_key_of_terms(name: &str) -> bool
+    ensures { result ≡ list_any (λ word. is_word word name.now) (codes "budget" ∷ codes "vote_type" ∷ []) }
+{
+    "budget".eq_ignore_ascii_case(name) || "vote_type".eq_ignore_ascii_case(name)
+}
+
+/// Whether this is one of the other keys that an exported file has of its own.
+fn is_other_key(name: &str) -> bool
+    ensures { result ≡ list_any (λ word. is_word word name.now)
+        (codes "max_length" ∷ codes "num_projects" ∷ codes "num_votes" ∷ codes "rule" ∷ codes "comment" ∷ []) }
+{
+    "max_length".eq_ignore_ascii_case(name) || is_key_beside(name)
+}
+
+/// Whether this is a key that readers pass over, and that an exported file has of its own.
+fn is_key_beside(name: &str) -> bool
+    ensures { result ≡ list_any (λ word. is_word word name.now)
+        (codes "num_projects" ∷ codes "num_votes" ∷ codes "rule" ∷ codes "comment" ∷ []) }
+{
+    "num_projects".eq_ignore_ascii_case(name)
+        || "num_votes".eq_ignore_ascii_case(name)
+        || "rule".eq_ignore_ascii_case(name)
+        || "comment".eq_ignore_ascii_case(name)
 }
 
 /// Whether an id of a project or a voter would be read as a section's head.

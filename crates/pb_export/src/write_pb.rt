@@ -1,6 +1,6 @@
 //! Elections, written as .pb files.
 
-ghost use Rattle.std.specs.Prelude.{◌≡◌, ◌<◌, ◌++◌, ℕ, All, IfErr, IfOk, OnOk, length, map, string_bytes};
+ghost use Rattle.std.specs.Prelude.{◌≡◌, ◌<◌, ◌++◌, [], ℕ, All, IfErr, IfOk, OnOk, length, map, string_bytes};
 ghost use Rattle.csv.specs.Records.{AllText};
 ghost use Rattle.pb_core.specs.Election.{project_ids};
 ghost use Rattle.pb_read.specs.StandsFor.{StandsFor};
@@ -8,11 +8,14 @@ ghost use Rattle.pb_rows.specs.Reading.{records_of};
 ghost use Rattle.pb_rows.specs.Writing.{text_of_row, text_of_rows};
 ghost use Rattle.pb_export.specs.Export.{CanBeWritten, IsExportFault};
 ghost use Rattle.pb_export.specs.Inner.Growing.{Grows};
-ghost use Rattle.pb_export.specs.Inner.Parts.{limit_rows, vote_text};
-ghost use Rattle.pb_export.specs.FileRows.{file_rows, meta_rows, project_row, projects_rows, votes_rows};
+ghost use Rattle.pb_export.specs.Inner.Parts.{key_row, limit_rows, vote_text};
+ghost use Rattle.pb_export.specs.FileRows.{file_rows, key_rows, meta_rows, project_row, projects_rows, votes_rows};
 
+use crate::amount::amount_text;
 use crate::export_fault::ExportFault;
-use crate::readable::{has_comma_in_vote, has_section_word, is_of_file};
+use crate::further::Further;
+use crate::keys::Key;
+use crate::readable::{has_comma_in_vote, has_section_word, is_of_file, may_follow};
 use crate::told::Told;
 use itoa::Buffer;
 use pb_core::election::Election;
@@ -23,7 +26,9 @@ use pb_rows::{RowsWriter, rows_come_back};
 use std::alloc::Global;
 
 /// Writes an election as a .pb file: META, PROJECTS and VOTES, each with its header row, projects and voters in their
-/// order. What `told` has stands in META's row `rule` and in the columns `votes` and `selected`, which readers pass over.
+/// order. Readers pass over what `told` has: the rows `rule` and `comment` of META, the columns `votes` and `selected` of
+/// PROJECTS, and further keys and columns. A further key whose name the file has of its own, or that is a section's head, is
+/// left out.
 ///
 /// The file is read back as this election. An election that can't be is refused: a section's name as an id first, then a
 /// comma in the id of a project that a ballot approves, then what no file's election has.
@@ -31,8 +36,9 @@ pub fn write_pb(alloc: Global, election: &Election, told: &Told<'_>) -> Result<V
     requires votes { length told.now.votes.now ≡ length election.now.projects }
     requires selected { length told.now.selected.now ≡ length election.now.projects }
     ensures reads_back { IfOk result (λ text. StandsFor (records_of text.items) election.now) }
-    ensures text { IfOk result (λ text. text.items
-        ≡ text_of_rows (file_rows election.now told.now.rule.now told.now.votes.now told.now.selected.now)) }
+    ensures text { IfOk result (λ text. text.items ≡ text_of_rows
+        (file_rows election.now told.now.rule.now told.now.comment.now told.now.votes.now told.now.selected.now
+        told.now.further.now)) }
     ensures ok { OnOk result (CanBeWritten election.now) }
     ensures fault { IfErr result (IsExportFault election.now) }
 {
@@ -40,6 +46,7 @@ pub fn write_pb(alloc: Global, election: &Election, told: &Told<'_>) -> Result<V
     rows_come_back();
     money_reads_back();
     let _budget = election.budget();
+    let _keys = told.further.keys.keys();
     if has_section_word(election) {
         return Err(ExportFault::SectionWord);
     }
@@ -71,26 +78,28 @@ fn put_file(
 ) -> Result<(), NoMemory>
     requires votes { length told.now.votes.now ≡ length election.now.projects }
     requires selected { length told.now.selected.now ≡ length election.now.projects }
-    ensures { OnOk result
-        (Grows (file_rows election.now told.now.rule.now told.now.votes.now told.now.selected.now)
-        rows.old.text rows.new.text) }
+    ensures { OnOk result (Grows
+        (file_rows election.now told.now.rule.now told.now.comment.now told.now.votes.now told.now.selected.now
+        told.now.further.now) rows.old.text rows.new.text) }
 {
-    put_meta(rows, alloc, election, told.rule)?;
-    put_projects(rows, alloc, election.projects(), told.votes, told.selected)?;
-    put_votes(rows, alloc, election)?;
+    put_meta(rows, alloc, election, told.rule, told.comment)?;
+    put_keys(rows, told.further.keys.keys())?;
+    put_projects(rows, alloc, election.projects(), told)?;
+    put_votes(rows, alloc, election, told.further)?;
     Ok(())
 }
 
-/// Writes META.
+/// Writes META but for further keys.
 fn put_meta(
     rows: &mut RowsWriter,
     alloc: Global,
     election: &Election,
     rule: &str,
+    comment: &str,
 ) -> Result<(), NoMemory>
-    ensures { OnOk result (Grows (meta_rows election.now rule.now) rows.old.text rows.new.text) }
+    ensures { OnOk result (Grows (meta_rows election.now rule.now comment.now []) rows.old.text rows.new.text) }
 {
-    let budget = election.budget().text(alloc)?;
+    let budget = amount_text(alloc, election.budget())?;
     let mut project_digits = Buffer::new();
     let mut voter_digits = Buffer::new();
     let projects = project_digits.format(election.projects().len() as u32);
@@ -103,6 +112,27 @@ fn put_meta(
     rows.put_row(&["num_projects", projects])?;
     rows.put_row(&["num_votes", voters])?;
     rows.put_row(&["rule", rule])?;
+    rows.put_row(&["comment", comment])?;
+    Ok(())
+}
+
+/// Writes further keys of META, but for those that may not follow.
+fn put_keys(rows: &mut RowsWriter, keys: &[Key]) -> Result<(), NoMemory>
+    ensures { OnOk result (Grows (key_rows keys.now) rows.old.text rows.new.text) }
+{
+    for key in keys {
+        put_key(rows, key)?;
+    }
+    Ok(())
+}
+
+/// Writes a further key of META, if it may follow.
+fn put_key(rows: &mut RowsWriter, key: &Key) -> Result<(), NoMemory>
+    ensures { OnOk result (Grows (key_row key.now) rows.old.text rows.new.text) }
+{
+    if may_follow(key.name.as_str().trim()) {
+        rows.put_row(&[key.name.as_str(), key.value.as_str()])?;
+    }
     Ok(())
 }
 
@@ -122,59 +152,102 @@ fn put_projects(
     rows: &mut RowsWriter,
     alloc: Global,
     projects: &[Project],
-    votes: &[u32],
-    selected: &[bool],
+    told: &Told<'_>,
 ) -> Result<(), NoMemory>
-    requires votes { length votes.now ≡ length projects.now }
-    requires selected { length selected.now ≡ length projects.now }
-    ensures { OnOk result
-        (Grows (projects_rows votes.now selected.now projects.now) rows.old.text rows.new.text) }
+    requires votes { length told.now.votes.now ≡ length projects.now }
+    requires selected { length told.now.selected.now ≡ length projects.now }
+    ensures { OnOk result (Grows
+        (projects_rows told.now.votes.now told.now.selected.now told.now.further.now projects.now)
+        rows.old.text rows.new.text) }
 {
     rows.put_row(&["PROJECTS"])?;
-    rows.put_row(&["project_id", "cost", "votes", "name", "selected"])?;
+    let names = ["project_id", "cost", "votes", "name", "selected"];
+    put_with(rows, alloc, &names, told.further.project_names.texts())?;
     for place in 0..projects.len() {
-        put_project(rows, alloc, &projects[place], votes[place], selected[place])?;
+        let further = told.further.of_project(place);
+        put_project(
+            rows,
+            alloc,
+            &projects[place],
+            (told.votes[place], told.selected[place]),
+            further,
+        )?;
     }
     Ok(())
 }
 
-/// Writes the row of a project.
+/// Writes the row of a project that has so many votes, and is elected or not.
 fn put_project(
     rows: &mut RowsWriter,
     alloc: Global,
     project: &Project,
-    votes: u32,
-    selected: bool,
+    counted: (u32, bool),
+    further: &[String],
 ) -> Result<(), NoMemory>
     ensures text { OnOk result (rows.new.text ≡ rows.old.text
-        ++ text_of_row (project_row project.now votes selected)) }
-    ensures are_text { OnOk result (AllText (project_row project.now votes selected)) }
+        ++ text_of_row (project_row project.now counted.0 counted.1 (map string_bytes further.now))) }
+    ensures are_text { OnOk result
+        (AllText (project_row project.now counted.0 counted.1 (map string_bytes further.now))) }
 {
+    let (votes, selected) = counted;
     let mut digits = Buffer::new();
-    let cost = project.cost().text(alloc)?;
+    let cost = amount_text(alloc, project.cost())?;
     let selected = if selected { "1" } else { "0" };
-    rows.put_row(&[
+    let own = [
         project.id(),
         cost.as_str(),
         digits.format(votes),
         project.name(),
         selected,
-    ])?;
+    ];
+    put_with(rows, alloc, &own, further)?;
     Ok(())
 }
 
 /// Writes VOTES.
-fn put_votes(rows: &mut RowsWriter, alloc: Global, election: &Election) -> Result<(), NoMemory>
-    ensures { OnOk result
-        (Grows (votes_rows (project_ids election.now) election.now.voters) rows.old.text rows.new.text) }
+fn put_votes(
+    rows: &mut RowsWriter,
+    alloc: Global,
+    election: &Election,
+    further: &Further,
+) -> Result<(), NoMemory>
+    ensures { OnOk result (Grows
+        (votes_rows (project_ids election.now) further.now election.now.voters) rows.old.text rows.new.text) }
 {
     rows.put_row(&["VOTES"])?;
-    rows.put_row(&["voter_id", "vote"])?;
+    put_with(
+        rows,
+        alloc,
+        &["voter_id", "vote"],
+        further.voter_names.texts(),
+    )?;
     let projects = election.projects();
     for voter in election.voters() {
         let vote = vote_text(alloc, projects, voter.ballot.places())?;
-        rows.put_row(&[voter.id.text(), vote.as_str()])?;
+        let id = voter.id.text();
+        let own = [id, vote.as_str()];
+        put_with(rows, alloc, &own, further.of_voter(id))?;
     }
+    Ok(())
+}
+
+/// Writes a row of these fields, and further ones behind them.
+fn put_with(
+    rows: &mut RowsWriter,
+    alloc: Global,
+    own: &[&str],
+    further: &[String],
+) -> Result<(), NoMemory>
+    ensures text { OnOk result (rows.new.text ≡ rows.old.text
+        ++ text_of_row (map (λ field. field.now) own.now ++ map string_bytes further.now)) }
+    ensures are_text { OnOk result (AllText (map string_bytes further.now)) }
+{
+    let mut fields = Vec::new(alloc);
+    fields.extend_from_slice(own)?;
+    for field in further {
+        fields.push(field.as_str())?;
+    }
+    rows.put_row(fields.as_slice())?;
     Ok(())
 }
 

@@ -7,5 +7,6 @@ use Rattle.pb_read.specs.declared.warning.Oddity.{Oddity}
 abbrev pub name_of : Oddity → List ℕ
 name_of oddity =
     (numbered the_type ("VotesMissing" ∷ "ProjectsMissing" ∷ "SurplusFields" ∷ "TooLongBallot" ∷ "TooShortBallot"
-    ∷ "EmptyBallot" ∷ "NoSupporter" ∷ "OverBudget" ∷ "CommaInId" ∷ "ThousandsMark" ∷ "RepeatedKey" ∷ "FooterRow" ∷ [])
+    ∷ "EmptyBallot" ∷ "NoSupporter" ∷ "OverBudget" ∷ "CommaInId" ∷ "ThousandsMark" ∷ "RepeatedKey" ∷ "FooterRow"
+    ∷ "VotesOf" ∷ "SelectedOf" ∷ [])
     oddity).1

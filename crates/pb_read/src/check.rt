@@ -219,6 +219,7 @@ impl Check {
     {
         match self.progress.finish() {
             Ok(election) => {
+                watch.take(&election);
                 drop(election);
                 Verdict::Done
             }

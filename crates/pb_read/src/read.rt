@@ -192,6 +192,7 @@ fn finish<W: Watch>(
 {
     match progress.finish() {
         Ok(election) => {
+            watch.take(&election);
             watch.end();
             Ok(election)
         }

@@ -30,6 +30,10 @@ pub enum Oddity {
     RepeatedKey,
     /// The last row of PROJECTS or VOTES looks like their sum.
     FooterRow,
+    /// The column `votes` has another number than that of the ballots that approve the project.
+    VotesOf,
+    /// The column `selected` says of a project what a count does not.
+    SelectedOf,
 }
 
 impl Oddity {
@@ -50,6 +54,8 @@ impl Oddity {
             Oddity::ThousandsMark => "ThousandsMark",
             Oddity::RepeatedKey => "RepeatedKey",
             Oddity::FooterRow => "FooterRow",
+            Oddity::VotesOf => "VotesOf",
+            Oddity::SelectedOf => "SelectedOf",
         }
     }
 }

@@ -9,6 +9,7 @@ use crate::progress::Stage;
 use crate::section::Section;
 use crate::warning::{Warning, WarningRow};
 use csv::ByteRecord;
+use pb_core::election::Election;
 use pb_core::no_memory::NoMemory;
 
 /// What a record of a file is, by where it stands.
@@ -37,7 +38,11 @@ pub trait Watch {
     /// where there is none: the file ends, or `read_pb` met a field that is no text.
     fn refuse(&mut self, record: &ByteRecord, fault: ReadFault, stage: &Stage);
 
-    /// Learns that the file has ended, and may end there: all of its rows were shown.
+    /// Sees the election that the accepted rows give, where the file has ended and may end there. Who looks on at rows alone
+    /// takes nothing of it.
+    fn take(&mut self, _election: &Election) {}
+
+    /// Learns that the file has ended, and may end there: all of its rows were shown, and then the election.
     fn end(&mut self);
 }
 

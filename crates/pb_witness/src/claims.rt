@@ -73,7 +73,7 @@ pub fn broken(claim: Option<Claim>, count: u64) -> Option<Mark> {
 }
 
 /// The whole number that a value names, perhaps with zeros as decimals.
-fn whole_number(value: &str) -> Option<u64> {
+pub(crate) fn whole_number(value: &str) -> Option<u64> {
     match Money::read(value) {
         Ok(Money(hundredths)) if hundredths % 100 == 0 => Some(hundredths / 100),
         _ => None,

@@ -20,6 +20,7 @@ pub mod mark;
 pub mod oddities;
 pub mod quote;
 pub mod records;
+mod result_columns;
 mod result_oddities;
 pub mod row_flaw;
 pub mod seen;

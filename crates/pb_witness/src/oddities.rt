@@ -6,7 +6,7 @@ use pb_read::{Oddity, ProjectColumns, VoteColumns, Warning, WarningRow};
 use std::alloc::Global;
 
 /// The oddities in the order in which warnings are written.
-pub const ALL: [Oddity; 12] = [
+pub const ALL: [Oddity; 14] = [
     Oddity::VotesMissing,
     Oddity::ProjectsMissing,
     Oddity::SurplusFields,
@@ -19,6 +19,8 @@ pub const ALL: [Oddity; 12] = [
     Oddity::ThousandsMark,
     Oddity::RepeatedKey,
     Oddity::FooterRow,
+    Oddity::VotesOf,
+    Oddity::SelectedOf,
 ];
 
 /// What a row is of.
@@ -103,8 +105,8 @@ pub struct Oddities {
     alloc: Global,
     most: u64,
     found: Vec<Odd>,
-    counts: [u64; 12],
-    firsts: [u64; 12],
+    counts: [u64; 14],
+    firsts: [u64; 14],
     is_whole: bool,
 }
 
@@ -115,8 +117,8 @@ impl Oddities {
             alloc,
             most,
             found: Vec::new(alloc),
-            counts: [0; 12],
-            firsts: [0; 12],
+            counts: [0; 14],
+            firsts: [0; 14],
             is_whole: true,
         }
     }

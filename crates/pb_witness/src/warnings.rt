@@ -5,14 +5,15 @@ ghost use Rattle.std.specs.Prelude.{◌≡◌, Option};
 use crate::fields::text_at;
 use crate::mark::Mark;
 use crate::oddities::{Odd, Oddities};
+use crate::result_columns::{ResultClaims, ResultColumns};
 use crate::result_oddities::ResultOddities;
 use crate::witness::Witness;
 use csv::ByteRecord;
 use pb_core::no_memory::NoMemory;
 use pb_ids::IdTable;
 use pb_read::{
-    Heed, Oddity, Part, ProjectColumns, ReadFault, Stage, VoteColumns, Warn, Warning, WarningRow,
-    Watch,
+    Heed, Oddity, Part, ProjectColumns, ReadFault, Section, Stage, VoteColumns, Warn, Warning,
+    WarningRow, Watch,
 };
 use std::alloc::{AllocError, Global};
 
@@ -26,6 +27,36 @@ struct Backed {
     alone: Odd,
     /// The last vote that named it, from 1; 0 is none.
     vote: u64,
+    /// How many votes name it.
+    supporters: u64,
+    /// Whether it wins the count with which `selected` is compared.
+    is_winner: bool,
+    /// What its row claims of the result.
+    claims: ResultClaims,
+}
+
+impl Backed {
+    /// What its row says of its votes, if the ballots have another number.
+    fn wrong_votes(&self) -> Option<Odd> {
+        let value_place = self.claims.votes?.unless(self.supporters)?;
+        Some(Odd {
+            oddity: Oddity::VotesOf,
+            value_place,
+            number: self.supporters,
+            ..self.alone
+        })
+    }
+
+    /// What its row says of whether it wins, if the count says otherwise.
+    fn wrong_selected(&self) -> Option<Odd> {
+        let value_place = self.claims.selected?.unless_is(self.is_winner)?;
+        Some(Odd {
+            oddity: Oddity::SelectedOf,
+            value_place,
+            number: u64::from(self.is_winner),
+            ..self.alone
+        })
+    }
 }
 
 /// Looks on while a file is checked, and collects warnings.
@@ -36,6 +67,12 @@ pub struct Warnings {
     oddities: Oddities,
     places: IdTable,
     projects: Vec<Backed>,
+    /// The section whose head was read last.
+    section: Section,
+    /// The columns of PROJECTS that claim a result.
+    columns: ResultColumns,
+    /// Whether a record was refused: then what the file claims of the result is not compared.
+    has_fault: bool,
     /// Whether the file has ended, and may end there.
     has_ended: bool,
     /// What words need of what is refused.
@@ -51,6 +88,9 @@ impl Warnings {
             oddities: Oddities::new(alloc, MOST),
             places: IdTable::new(alloc),
             projects: Vec::new(alloc),
+            section: Section::Meta,
+            columns: ResultColumns::none(),
+            has_fault: false,
             has_ended: false,
             witness: Witness::new(alloc),
         }
@@ -85,8 +125,37 @@ impl Warnings {
         let place = u32::try_from(self.projects.len()).unwrap_or(u32::MAX);
         self.places.insert(self.alloc, id, place)?;
         let alone = Odd::of_project(Oddity::NoSupporter, mark, columns);
-        self.projects.push(Backed { alone, vote: 0 })?;
+        self.projects.push(Backed {
+            alone,
+            vote: 0,
+            supporters: 0,
+            is_winner: false,
+            claims: self.columns.claims_of(row),
+        })?;
         Ok(())
+    }
+
+    /// Takes a row of column names.
+    fn take_names(&mut self, row: &ByteRecord) {
+        match self.section {
+            Section::Projects => self.columns = ResultColumns::of(row),
+            Section::Meta | Section::Votes => {}
+        }
+    }
+
+    /// Compares what the column `selected` says with a count that elects or adds the projects at these places.
+    pub fn compare(&mut self, winners: &[u32]) {
+        for winner in winners {
+            let place = *winner as usize;
+            if place < self.projects.len() {
+                self.projects[place].is_winner = true;
+            }
+        }
+        for project in &self.projects {
+            if let Some(odd) = project.wrong_selected() {
+                self.oddities.take(odd);
+            }
+        }
     }
 
     /// Takes a vote that is accepted.
@@ -129,6 +198,8 @@ impl Warnings {
     fn is_backed(&mut self, id: &str) -> bool {
         let place = self.places.get(id).unwrap_or(u32::MAX) as usize;
         if place < self.projects.len() && self.projects[place].vote < self.results.votes {
+            let supporters = self.projects[place].supporters;
+            self.projects[place].supporters = supporters.saturating_add(1);
             self.projects[place].vote = self.results.votes;
             true
         } else {
@@ -148,11 +219,14 @@ impl Watch for Warnings {
                 }
             }
             Part::Vote(columns) => self.take_vote(record, at, columns),
-            Part::Other | Part::Head(_) | Part::Names | Part::Key => {}
+            Part::Head(section) => self.section = section,
+            Part::Names => self.take_names(record),
+            Part::Other | Part::Key => {}
         }
     }
 
     fn refuse(&mut self, record: &ByteRecord, fault: ReadFault, stage: &Stage) {
+        self.has_fault = true;
         self.witness.refuse(record, fault, stage);
         self.results.leave_out(stage);
     }
@@ -163,6 +237,12 @@ impl Watch for Warnings {
         for project in &self.projects {
             if project.vote == 0 {
                 self.oddities.take(project.alone);
+            }
+            if self.has_fault {
+                continue;
+            }
+            if let Some(odd) = project.wrong_votes() {
+                self.oddities.take(odd);
             }
         }
     }

@@ -9,6 +9,7 @@
 pub mod ballot_words;
 pub mod belonging_words;
 pub mod count_words;
+pub mod export_words;
 mod faulty_record;
 mod file_words;
 pub mod journal_words;

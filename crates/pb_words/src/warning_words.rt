@@ -105,6 +105,18 @@ fn said_of(oddity: Oddity, is_vote: bool) -> &'static Said {
             ends_in_number: false,
             remedy: "It is counted as a project. If it is a total, delete the row.\n",
         },
+        Oddity::VotesOf => &Said {
+            what: "the column `votes` says {}, but the number of vote rows that name the project is ",
+            alone: "the column `votes` is wrong: the number of vote rows that name the project is ",
+            ends_in_number: true,
+            remedy: "If rows are missing, get the whole file again. Otherwise correct the number.\n",
+        },
+        Oddity::SelectedOf => &Said {
+            what: "the column `selected` says {}, but by this count it is ",
+            alone: "the column `selected` is wrong: by this count it is ",
+            ends_in_number: true,
+            remedy: "Check whether the published count had other options, and whether ballots or costs were changed since.\n",
+        },
     }
 }
 

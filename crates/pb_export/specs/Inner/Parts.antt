@@ -1,10 +1,11 @@
 -- Parts of what is asked of an election, and of its file's rows; private contracts speak of them.
-use Rattle.std.specs.Prelude.{ℕ, Bool, true, false, List, [], ◌∷◌, Option, codes, decimal, is_some, map, nat_le, slice_index, slice_index_or}
+use Rattle.std.specs.Prelude.{ℕ, Bool, true, false, List, [], ◌∷◌, Option, codes, decimal, if◌then◌else◌, is_some, map, nat_le, slice_index, slice_index_or}
 use Rattle.std.specs.List.{enumerate_from, join_with_byte}
 use Rattle.std.specs.Option.{option_map_or, option_to_list}
 use Rattle.std.specs.Str.{bytes_eq, trim}
 use Rattle.pb_core.specs.Election.{ProjectView, VoterView, most_projects}
-use Rattle.pb_export.specs.FileRows.{project_row}
+use Rattle.pb_export.specs.FileRows.{may_follow, project_row}
+use Rattle.pb_export.specs.Further.{KeyView}
 use Rattle.pb_read.specs.Rows.{head_of}
 use Rattle.pb_rows.specs.Reading.{Fields}
 
@@ -25,9 +26,9 @@ abbrev pub limit_rows : Option ℕ → List Fields
 limit_rows max_length = map (λ most. codes "max_length" ∷ decimal most ∷ []) (option_to_list max_length)
 
 -- the rows of the projects from a place on
-abbrev pub projects_from : List ℕ → List Bool → ℕ → List ProjectView → List Fields
-projects_from votes selected place projects =
-    map (λ at. project_row at.1 (slice_index votes at.0) (slice_index_or selected at.0 false))
+abbrev pub projects_from : List ℕ → List Bool → List Fields → ℕ → List ProjectView → List Fields
+projects_from votes selected further place projects =
+    map (λ at. project_row at.1 (slice_index votes at.0) (slice_index_or selected at.0 false) (slice_index_or further at.0 []))
     (enumerate_from place projects)
 
 -- the ids of the approved projects, with `,` between two
@@ -35,5 +36,9 @@ abbrev pub vote_text : List (List ℕ) → List ℕ → List ℕ
 vote_text ids ballot = join_with_byte 44 (map (λ place. slice_index_or ids place []) ballot)
 
 -- the row of a voter
-abbrev pub vote_row : List (List ℕ) → VoterView → Fields
-vote_row ids v = v.id ∷ vote_text ids v.ballot ∷ []
+abbrev pub vote_row : List (List ℕ) → (List ℕ → Fields) → VoterView → Fields
+vote_row ids of_voter v = v.id ∷ vote_text ids v.ballot ∷ of_voter v.id
+
+-- the row of a further key, if it may follow
+abbrev pub key_row : KeyView → List Fields
+key_row key = if may_follow (trim key.name) then (key.name ∷ key.value ∷ []) ∷ [] else []

@@ -20,6 +20,6 @@ returns-clause-ok g c = record {
   outcome = c.in_ok-counted.ensures.ok.0;
   counted = c.in_ok-counted.ensures.ok.1;
   can = c.in_ok-text.ensures.ok;
-  text_is = rw (c.as_str.ensures.value, c.in_ok-rule.ensures, c.as_slice.ensures.value, c.in_ok-votes.ensures, c.as_slice-2.ensures.value, c.in_ok-selected.ensures, c.in_ok-teller.ensures, c.in_ok-counted.ensures.ok.2) at c.in_ok-text.ensures.text;
+  text_is = rw (c.rule_word.ensures, c.as_str.ensures.value, c.in_ok-comment.ensures, c.comment.ensures, c.in_ok-further.ensures, c.as_slice.ensures.value, c.in_ok-votes.ensures, c.as_slice-2.ensures.value, c.in_ok-selected.ensures, c.in_ok-teller.ensures, c.in_ok-counted.ensures.ok.2) at c.in_ok-text.ensures.text;
   reads_back = c.in_ok-text.ensures.reads_back;
 }

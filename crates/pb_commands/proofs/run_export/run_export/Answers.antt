@@ -8,7 +8,7 @@ use Rattle.pb_commands.proofs.run_export.run_export.Goals as goal
 
 pub returns-in_err-election-clause-fault : goal.returns-in_err-election-clause-fault
 returns-in_err-election-clause-fault g c =
-    refused_by_reader (λ bytes. ExportRefuses c.args.counting.now.options.now) (λ bytes. ExportWrites c.args.counting.now.options.now c.args.counting.now.fills_up (StandsFor (records_of bytes))) _ c.in_err-election.field-0.0 _
+    refused_by_reader (λ bytes. ExportRefuses c.args.counting.now.options.now) (λ bytes. ExportWrites c.args.counting.now.options.now c.args.counting.now.fills_up _ (StandsFor (records_of bytes))) _ c.in_err-election.field-0.0 _
     c.from_residual.ensures.1 c.in_err-election.ensures.fault
 
 pub returns-in_err-election-clause-merged : goal.returns-in_err-election-clause-merged
@@ -23,10 +23,10 @@ returns-in-Err-clause-accepts g c = λ none.
 
 pub returns-in-Ok-clause-ok : goal.returns-in-Ok-clause-ok
 returns-in-Ok-clause-ok g c =
-    alone_written c.args.counting.now.options.now _ _ _ _ c.in_ok-election.election c.in-Ok.text.items c.write_out.result
+    alone_written c.args.counting.now.options.now _ _ _ _ _ c.in_ok-election.election c.in-Ok.text.items c.write_out.result
     (rw c.as_slice.ensures.value at c.write_out.ensures.ok) c.in_ok-election.ensures.ok c.in-Ok.ensures.ok
 
 pub returns-in-Ok-clause-fault : goal.returns-in-Ok-clause-fault
 returns-in-Ok-clause-fault g c =
-    alone_not_written c.args.counting.now.options.now _ _ c.in_ok-election.election c.in-Ok.text.items c.write_out.result
+    alone_not_written c.args.counting.now.options.now _ _ _ c.in_ok-election.election c.in-Ok.text.items c.write_out.result
     c.write_out.ensures.fault c.in_ok-election.ensures.ok c.in-Ok.ensures.ok

@@ -1,8 +1,22 @@
+use Rattle.std.proofs.Common.{◌∷◌, [], List, codes, append_assoc, decimal, length, subst}
+use Rattle.pb_rows.specs.Reading.{Fields}
+use Rattle.pb_export.specs.FileRows.{amount_text, key_rows}
+use Rattle.pb_export.specs.Inner.Growing.{Grows}
+use Rattle.pb_export.specs.Inner.Parts.{limit_rows}
 use Rattle.pb_export.proofs.Grown.{grown}
 use Rattle.pb_export.proofs.write_pb.put_file.Goals as goal
 
 pub returns : goal.returns
 returns c =
+    let e = c.args.election.now in
+    let told = c.args.told.now in
     let old = c.args.rows.now.text in
     let projects = rw c.projects.ensures.projects at c.in_ok-put_projects.ensures in
-    grown _ _ old c.put_projects.new.rows.text c.put_votes.new.rows.text (grown _ _ old c.put_meta.new.rows.text c.put_projects.new.rows.text c.in_ok-put_meta.ensures projects) c.in_ok-put_votes.ensures
+    let keys = rw c.keys.ensures.keys at c.in_ok-put_keys.ensures in
+    let front : List Fields =
+    (codes "META" ∷ []) ∷ (codes "key" ∷ codes "value" ∷ []) ∷ (codes "budget" ∷ amount_text e.budget ∷ []) ∷ (codes "vote_type" ∷ codes "approval" ∷ []) ∷ limit_rows e.max_length in
+    let last : List Fields =
+    (codes "num_projects" ∷ decimal (length e.projects) ∷ []) ∷ (codes "num_votes" ∷ decimal (length e.voters) ∷ []) ∷ (codes "rule" ∷ told.rule.now ∷ []) ∷ (codes "comment" ∷ told.comment.now ∷ []) ∷ [] in
+    let meta = subst (λ (rows : List Fields). Grows rows old c.put_keys.new.rows.text) (append_assoc front last (key_rows told.further.now.keys))
+    (grown _ _ old c.put_meta.new.rows.text c.put_keys.new.rows.text c.in_ok-put_meta.ensures keys) in
+    grown _ _ old c.put_projects.new.rows.text c.put_votes.new.rows.text (grown _ _ old c.put_keys.new.rows.text c.put_projects.new.rows.text meta projects) c.in_ok-put_votes.ensures

@@ -35,5 +35,7 @@ returns c =
     (two_text (codes "num_votes") voters (plain_text (codes "num_votes") refl) c.format-voters.utf8) in
     let back = row_grown _ (codes "rule" ∷ c.args.rule.now ∷ []) mid _ c.put_row-7.new.self.text h c.in_ok-put_row-7.ensures.text
     (two_text (codes "rule") c.args.rule.now (plain_text (codes "rule") refl) c.utf8.rule) in
-    let all = grown _ _ old mid c.put_row-7.new.self.text front back in
+    let last = row_grown _ (codes "comment" ∷ c.args.comment.now ∷ []) mid _ c.put_row-8.new.self.text back c.in_ok-put_row-8.ensures.text
+    (two_text (codes "comment") c.args.comment.now (plain_text (codes "comment") refl) c.utf8.comment) in
+    let all = grown _ _ old mid c.put_row-8.new.self.text front last in
     rw (c.max_length.ensures, c.format-projects.ensures.text, c.format-voters.ensures.text, c.projects.ensures.projects, c.voters.ensures.voters, c.as_str.ensures.value, c.in_ok-budget.ensures, c.budget.ensures.budget) at all

@@ -12,8 +12,8 @@ returns-in-Ok-finish-clause-reads_back c =
     let e = c.args.election.now in
     let told = c.args.told.now in
     let grows = c.in-Ok.ensures in
-    let text = text_of_rows (file_rows e told.rule.now told.votes.now told.selected.now) in
+    let text = text_of_rows (file_rows e told.rule.now told.comment.now told.votes.now told.selected.now told.further.now) in
     let is : c.in-Ok-finish.text.items ≡ text = c.in-Ok-finish.ensures.text ∙ grows.text ∙ ap (λ (t : List ℕ). t ++ text) c.start-rows.ensures.text in
     subst (λ (t : List ℕ). StandsFor (records_of t) e) (sym is)
-    (stands c.rows_come_back.ensures.back c.money_reads_back.ensures.back e told.rule.now told.votes.now told.selected.now c.budget-budget.ensures.is_election (tested_file e (sym c.is_of_file.ensures ∙ c.if-not-is_of_file.false)) (sym c.has_section_word.ensures ∙ c.if-has_section_word.false)
+    (stands c.rows_come_back.ensures.back c.money_reads_back.ensures.back e told.rule.now told.comment.now told.votes.now told.selected.now told.further.now c.keys-keys.ensures.few c.budget-budget.ensures.is_election (tested_file e (sym c.is_of_file.ensures ∙ c.if-not-is_of_file.false)) (sym c.has_section_word.ensures ∙ c.if-has_section_word.false)
     (sym c.has_comma_in_vote.ensures ∙ c.if-has_comma_in_vote.false) grows.are_text)

@@ -1,0 +1,17 @@
+META
+key;value
+budget;100
+vote_type;approval
+num_votes;3
+num_projects;4
+PROJECTS
+project_id;cost;votes;selected
+a;30;2;1
+b;60;2;1
+c;20;1;0
+d;25;2;2
+VOTES
+voter_id;vote
+v1;a,c
+v2;a,b,d
+v3;b

@@ -1,0 +1,244 @@
+//! Who looks on while a .pb file is read, and keeps what the count does not use.
+
+ghost use Rattle.std.specs.Prelude.{◌≡◌, IfOk};
+
+use crate::further::Further;
+use crate::keys::Key;
+use crate::readable::may_follow;
+use crate::text_row::TextRow;
+use csv::ByteRecord;
+use pb_core::no_memory::NoMemory;
+use pb_ids::IdTable;
+use pb_read::{Part, ReadFault, Section, Stage, VoteColumns, Watch};
+use std::alloc::Global;
+use std::{mem, str};
+
+/// The columns of PROJECTS that an exported file has of its own.
+const OWN_OF_PROJECTS: [&str; 5] = ["project_id", "cost", "votes", "name", "selected"];
+
+/// The columns of VOTES that an exported file has of its own.
+const OWN_OF_VOTES: [&str; 2] = ["voter_id", "vote"];
+
+/// Names that came so far, in small letters of ASCII.
+#[derive(Drop)]
+struct Names {
+    alloc: Global,
+    came: IdTable,
+}
+
+impl Names {
+    /// Only these names came.
+    fn of(alloc: Global, names: &[&str]) -> Result<Names, NoMemory> {
+        let mut came = IdTable::new(alloc);
+        for name in names {
+            if came.insert(alloc, name, 0).is_err() {
+                drop(came);
+                return Err(NoMemory);
+            }
+        }
+        Ok(Names { alloc, came })
+    }
+
+    /// Whether a name came.
+    fn has(&self, name: &str) -> bool {
+        self.came.get(name).is_some()
+    }
+
+    /// Takes a name, and answers whether it had not come before.
+    fn take(&mut self, name: &str) -> Result<bool, NoMemory> {
+        let small = name.to_ascii_lowercase(self.alloc)?;
+        let before = self.came.insert(self.alloc, small.as_str(), 0);
+        drop(small);
+        Ok(before?.is_none())
+    }
+}
+
+/// Who looks on while the file of an export is read.
+pub trait Carry {
+    ghost use Rattle.pb_export.specs.declared.further.Further.{Further};
+
+    /// What it keeps of that file.
+    ghost keeps: { Self → Further };
+
+    /// The same.
+    fn carried(&self) -> &Carried
+        ensures { result.now.further ≡ keeps self.now };
+}
+
+/// Looks on while a .pb file is read, and keeps what the count does not use: further keys of META, and further columns. Of a
+/// name that an export writes itself, or that came before, nothing is kept.
+#[derive(Drop)]
+pub struct Carried {
+    alloc: Global,
+    /// Whether the further columns of VOTES are kept.
+    keeps_voters: bool,
+    /// The section whose head was read last.
+    section: Section,
+    /// The names of keys that came so far; none where memory was refused.
+    keys: Option<Names>,
+    /// Where the further columns of PROJECTS and of VOTES stand, from 0.
+    of_projects: Vec<usize>,
+    of_votes: Vec<usize>,
+    further: Further,
+    /// Whether all was kept: no memory was refused.
+    is_whole: bool,
+}
+
+impl Carried {
+    /// Nothing was seen yet.
+    pub fn new(alloc: Global, keeps_voters: bool) -> Carried {
+        let keys = Names::of(alloc, &[]).ok();
+        let is_whole = keys.is_some();
+        Carried {
+            alloc,
+            keeps_voters,
+            section: Section::Meta,
+            keys,
+            of_projects: Vec::new(alloc),
+            of_votes: Vec::new(alloc),
+            further: Further::none(alloc),
+            is_whole,
+        }
+    }
+
+    /// Whether META has this further key, which is in small letters.
+    pub fn has_key(&self, name: &str) -> bool {
+        match &self.keys {
+            Some(keys) => keys.has(name),
+            None => false,
+        }
+    }
+
+    /// What was kept, if no memory was refused.
+    pub fn further(&self) -> Result<&Further, NoMemory>
+        ensures { IfOk result (λ further. further.now ≡ self.now.further) }
+    {
+        if self.is_whole {
+            Ok(&self.further)
+        } else {
+            Err(NoMemory)
+        }
+    }
+
+    /// Takes a record of this part.
+    fn keep(&mut self, record: &ByteRecord, part: Part) -> Result<(), NoMemory> {
+        match part {
+            Part::Other => Ok(()),
+            Part::Head(section) => {
+                self.section = section;
+                Ok(())
+            }
+            Part::Names => self.keep_names(record),
+            Part::Key => self.keep_key(record),
+            Part::Project(_) => {
+                let fields = fields_at(self.alloc, record, self.of_projects.as_slice())?;
+                self.further.projects.push(fields)?;
+                Ok(())
+            }
+            Part::Vote(columns) => self.keep_voter(record, columns),
+        }
+    }
+
+    /// Takes a row of column names.
+    fn keep_names(&mut self, record: &ByteRecord) -> Result<(), NoMemory> {
+        match self.section {
+            Section::Meta => Ok(()),
+            Section::Projects => {
+                let places = further_places(self.alloc, record, &OWN_OF_PROJECTS)?;
+                drop(mem::replace(&mut self.of_projects, places));
+                let names = fields_at(self.alloc, record, self.of_projects.as_slice())?;
+                drop(mem::replace(&mut self.further.project_names, names));
+                Ok(())
+            }
+            Section::Votes if self.keeps_voters => {
+                let places = further_places(self.alloc, record, &OWN_OF_VOTES)?;
+                drop(mem::replace(&mut self.of_votes, places));
+                let names = fields_at(self.alloc, record, self.of_votes.as_slice())?;
+                drop(mem::replace(&mut self.further.voter_names, names));
+                for _ in 0..self.of_votes.len() {
+                    self.further.empty.push(self.alloc, "")?;
+                }
+                Ok(())
+            }
+            Section::Votes => Ok(()),
+        }
+    }
+
+    /// Takes a row of META. Of a repeated comment the last one counts.
+    fn keep_key(&mut self, record: &ByteRecord) -> Result<(), NoMemory> {
+        let (name, value) = (text_at(record, 0), text_at(record, 1));
+        if name.eq_ignore_ascii_case("comment") {
+            let comment = String::from_str(self.alloc, value)?;
+            drop(mem::replace(&mut self.further.comment, comment));
+            return Ok(());
+        }
+        let Some(keys) = &mut self.keys else {
+            return Err(NoMemory);
+        };
+        if !keys.take(name)? || !may_follow(name) {
+            return Ok(());
+        }
+        let name = String::from_str(self.alloc, name)?;
+        let value = String::from_str(self.alloc, value)?;
+        self.further.keys.push(Key { name, value })
+    }
+
+    /// Takes a row of VOTES.
+    fn keep_voter(&mut self, record: &ByteRecord, columns: VoteColumns) -> Result<(), NoMemory> {
+        if self.of_votes.is_empty() {
+            return Ok(());
+        }
+        let place = u32::try_from(self.further.voters.len()).unwrap_or(u32::MAX);
+        let fields = fields_at(self.alloc, record, self.of_votes.as_slice())?;
+        self.further.voters.push(fields)?;
+        let id = text_at(record, columns.voter);
+        let _ = self.further.places.insert(self.alloc, id, place)?;
+        Ok(())
+    }
+}
+
+impl Watch for Carried {
+    fn see(&mut self, record: &ByteRecord, _at: u32, part: Part) {
+        if self.is_whole && self.keep(record, part).is_err() {
+            self.is_whole = false;
+        }
+    }
+
+    fn refuse(&mut self, _record: &ByteRecord, _fault: ReadFault, _stage: &Stage) {}
+
+    fn end(&mut self) {}
+}
+
+/// The places of the columns in a row of column names whose names are not these, and did not come before.
+fn further_places(alloc: Global, names: &ByteRecord, own: &[&str]) -> Result<Vec<usize>, NoMemory> {
+    let mut came = Names::of(alloc, own)?;
+    let mut places = Vec::new(alloc);
+    for place in 0..names.len() {
+        if came.take(text_at(names, place))? {
+            places.push(place)?;
+        }
+    }
+    drop(came);
+    Ok(places)
+}
+
+/// The fields of a record at these places.
+fn fields_at(alloc: Global, record: &ByteRecord, places: &[usize]) -> Result<TextRow, NoMemory> {
+    let mut fields = TextRow::new(alloc);
+    for place in places {
+        fields.push(alloc, text_at(record, *place))?;
+    }
+    Ok(fields)
+}
+
+/// The text of a field without the white space at its ends; the empty text where the record ends before it.
+fn text_at(record: &ByteRecord, place: usize) -> &str {
+    let bytes: &[u8] = match record.get(place) {
+        Some(field) => field,
+        None => b"",
+    };
+    match str::from_utf8(bytes) {
+        Ok(text) => text.trim(),
+        Err(_) => "",
+    }
+}

@@ -1,0 +1,70 @@
+//! Further keys of META.
+
+ghost use Rattle.std.specs.Prelude.{◌≡◌, ◌≤◌, length};
+
+use pb_core::no_memory::NoMemory;
+use std::alloc::Global;
+use std::marker::Model;
+
+/// The most further keys of META that are kept.
+const MOST_KEYS: usize = 900_000;
+
+/// A further key of META, and its value.
+#[derive(Drop)]
+pub struct Key {
+    pub name: String,
+    pub value: String,
+}
+
+impl Model for Key {
+    ghost use Rattle.std.specs.Prelude.{string_bytes};
+    ghost use Rattle.pb_export.specs.Further.{KeyView};
+
+    ghost Value = { KeyView };
+
+    ghost view = { λ key. record { name = string_bytes key.name; value = string_bytes key.value } };
+}
+
+/// Further keys of META, in their order: 900,000 at most.
+#[derive(Drop)]
+pub struct Keys {
+    keys: Vec<Key>,
+}
+
+impl Model for Keys {
+    ghost use Rattle.std.specs.Prelude.{◌≤◌, List, length};
+    ghost use Rattle.pb_export.specs.Further.{KeyView};
+
+    ghost Value = { List KeyView };
+
+    ghost view = { λ k. k.keys.items };
+
+    ghost invariant = { λ k. length k.keys.items ≤ 900000 };
+}
+
+impl Keys {
+    /// No keys.
+    pub(crate) fn none(alloc: Global) -> Keys {
+        Keys {
+            keys: Vec::new(alloc),
+        }
+    }
+
+    /// Keeps this key behind the others, if there are not too many.
+    pub(crate) fn push(&mut self, key: Key) -> Result<(), NoMemory> {
+        if self.keys.len() < MOST_KEYS {
+            self.keys.push(key)?;
+        } else {
+            drop(key);
+        }
+        Ok(())
+    }
+
+    /// The keys.
+    pub(crate) fn keys(&self) -> &[Key]
+        ensures keys { result.now ≡ self.now }
+        ensures few { length self.now ≤ 900000 }
+    {
+        self.keys.as_slice()
+    }
+}
