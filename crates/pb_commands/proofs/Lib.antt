@@ -18,6 +18,7 @@ pub mod TableHeads
 pub mod ComparedRows
 pub mod PaymentsText
 pub mod CheckWritten
+pub mod CheckedAgainst
 pub mod BallotsRuns
 pub mod LastGiven
 pub mod BallotsOnce

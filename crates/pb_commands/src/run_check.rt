@@ -1,20 +1,30 @@
 //! The command `check`: all that is wrong with a file, and what is probably not meant.
 
-ghost use Rattle.std.specs.Prelude.{◌≡◌, ◌≢◌, ◌++◌, ℕ, List, IfErr, IfOk, IfSome, OnOk, map};
+ghost use Rattle.std.specs.Prelude.{◌≡◌, ◌≢◌, ◌++◌, ℕ, List, [], Some, IfErr, IfOk, IfSome, OnOk, map};
+ghost use Rattle.pb_core.specs.Election.{ElectionView};
+ghost use Rattle.pb_reasons.specs.Counted.{counted, winners_of};
+ghost use Rattle.pb_rounds.specs.Counted.{IsCountFault, IsCountOf};
+ghost use Rattle.pb_rounds.specs.Outcome.{OutcomeView};
 ghost use Rattle.pb_rows.specs.Reading.{records_of};
 ghost use Rattle.pb_rows.specs.Writing.{text_of_row, text_of_rows};
 ghost use Rattle.pb_read.specs.Listed.{AreListed};
-ghost use Rattle.pb_commands.specs.Checked.{IsTextOfCheck, fault_row};
+ghost use Rattle.pb_read.specs.StandsFor.{StandsFor};
+ghost use Rattle.pb_commands.specs.Checked.{CheckFails, IsTextOfCheck, fault_row};
 ghost use Rattle.pb_commands.specs.Inner.Checked.{warning_row};
 ghost use Rattle.pb_commands.specs.Ends.{HasWritten, IsOutsideFault};
 
+use crate::counting::{Counting, counted};
 use itoa::Buffer;
+use pb_core::election::Election;
+use pb_core::gate::Gate;
 use pb_core::no_memory::NoMemory;
 use pb_faults::{AppFault, write_out};
-use pb_read::{ReadFault, Warn, WarningRow, list_faults};
+use pb_read::{Checked, Compare, ReadFault, Warn, WarningRow, check_pb, list_faults};
+use pb_rounds::count_fault::CountFault;
 use pb_rows::RowsWriter;
 use std::alloc::Global;
 use std::io::{Read, Write};
+use std::thread::Threads;
 
 /// Checks a .pb file, and writes a row for each fault, and after them the warnings.
 ///
@@ -47,7 +57,100 @@ pub fn run_check<R: Read + Drop, W: Write, N: Warn>(
     }
 }
 
-/// Writes the rows of these faults, and of the warnings.
+/// The same. A file without a fault is also counted, and what it claims is compared with the winners.
+///
+/// A file with a fault is not counted. If the count is refused, its fault is the answer, and nothing is written.
+pub fn run_check_against<T: Threads + Sync, R: Read + Drop, G: Gate, W: Write, N: Compare>(
+    counting: &Counting<T, G>,
+    reader: R,
+    writer: &mut W,
+    notes: &mut N,
+) -> Result<Vec<ReadFault>, AppFault>
+    // Where the reader's bytes are known, the faults that are answered are theirs, and the rows are those of the faults.
+    ensures faults { IfSome (R.remaining reader) (λ bytes.
+        IfOk result (λ faults. AreListed 0 (records_of bytes) faults.items)) }
+    ensures written { IfOk result (λ faults.
+        HasWritten (IsTextOfCheck faults.items) (W.contents writer.old) (W.contents writer.new)) }
+
+    // Where there is no fault, what the file claims was compared with the winners of its count by these options.
+    ensures compared { IfSome (R.remaining reader) (λ bytes. IfOk result (λ faults. faults.items ≡ [] →
+        (e : ElectionView) × StandsFor (records_of bytes) e
+        × (o : OutcomeView) × IsCountOf e counting.now.options.now o
+        × N.has_compared notes.new (winners_of (counted e counting.now.fills_up o)))) }
+
+    // A fault of the run is that of the count or comes from outside. It writes nothing, unless it is the writer's.
+    ensures fault { IfErr result (λ fault. IfSome (R.remaining reader) (λ bytes.
+        CheckFails (StandsFor (records_of bytes)) counting.now.options.now fault)) }
+    ensures unchanged { IfErr result (λ fault. fault ≢ AppFault.Write → writer.new ≡ writer.old) }
+{
+    let checked = check_pb(counting.alloc, reader, notes)?;
+    match put_checked(counting, writer, &checked, notes) {
+        Ok(()) => Ok(checked.into_faults()),
+        Err(fault) => {
+            drop(checked);
+            Err(fault)
+        }
+    }
+}
+
+/// Writes the rows of what was checked, and counts the election for the warnings, if there is one.
+fn put_checked<T: Threads + Sync, G: Gate, W: Write, N: Compare>(
+    counting: &Counting<T, G>,
+    writer: &mut W,
+    checked: &Checked,
+    notes: &mut N,
+) -> Result<(), AppFault>
+    ensures written { OnOk result
+        (HasWritten (IsTextOfCheck checked.now.faults.items) (W.contents writer.old) (W.contents writer.new)) }
+    ensures compared { OnOk result (IfSome checked.now.election (λ e.
+        (o : OutcomeView) × IsCountOf e counting.now.options.now o
+        × N.has_compared notes.new (winners_of (counted e counting.now.fills_up o)))) }
+    ensures fault { IfErr result (CheckFails (λ e. checked.now.election ≡ Some e) counting.now.options.now) }
+    ensures unchanged { IfErr result (λ fault. fault ≢ AppFault.Write → writer.new ≡ writer.old) }
+{
+    let warnings = warnings_against(counting, &checked.election, notes)?;
+    let faults = checked.faults.as_slice();
+    let put = put_rows(counting.alloc, writer, faults, warnings.as_slice());
+    drop(warnings);
+    put
+}
+
+/// The warnings of what was checked; where it handed out an election, those beside its count.
+fn warnings_against<T: Threads + Sync, G: Gate, N: Compare>(
+    counting: &Counting<T, G>,
+    election: &Option<Election>,
+    notes: &mut N,
+) -> Result<Vec<WarningRow>, AppFault>
+    ensures compared { OnOk result (IfSome election.now (λ e.
+        (o : OutcomeView) × IsCountOf e counting.now.options.now o
+        × N.has_compared notes.new (winners_of (counted e counting.now.fills_up o)))) }
+    ensures fault { IfErr result (CheckFails (λ e. election.now ≡ Some e) counting.now.options.now) }
+{
+    let Some(election) = election else {
+        return Ok(notes.warnings()?);
+    };
+    let winners = counted_winners(counting, election)?;
+    let warnings = notes.warnings_beside(winners.as_slice());
+    drop(winners);
+    Ok(warnings?)
+}
+
+/// The places of the winners of an election's count.
+fn counted_winners<T: Threads + Sync, G: Gate>(
+    counting: &Counting<T, G>,
+    election: &Election,
+) -> Result<Vec<u32>, CountFault>
+    ensures ok { IfOk result (λ winners. (o : OutcomeView) × IsCountOf election.now counting.now.options.now o
+        × (winners.items ≡ winners_of (counted election.now counting.now.fills_up o))) }
+    ensures fault { IfErr result (IsCountFault election.now counting.now.options.now) }
+{
+    let counted = counted(counting, election)?;
+    let winners = counted.winners(counting.alloc);
+    drop(counted);
+    Ok(winners?)
+}
+
+/// Writes the rows of these faults, and of the warnings of what was seen.
 fn put_out<W: Write, N: Warn>(
     alloc: Global,
     writer: &mut W,
@@ -58,20 +161,37 @@ fn put_out<W: Write, N: Warn>(
     ensures fault { IfErr result IsOutsideFault }
     ensures unchanged { IfErr result (λ fault. fault ≢ AppFault.Write → writer.new ≡ writer.old) }
 {
-    let text = check_text(alloc, faults, notes)?;
+    let warnings = notes.warnings()?;
+    let put = put_rows(alloc, writer, faults, warnings.as_slice());
+    drop(warnings);
+    put
+}
+
+/// Writes the rows of these faults, and of these warnings.
+fn put_rows<W: Write>(
+    alloc: Global,
+    writer: &mut W,
+    faults: &[ReadFault],
+    warnings: &[WarningRow],
+) -> Result<(), AppFault>
+    ensures ok { OnOk result (HasWritten (IsTextOfCheck faults.now) (W.contents writer.old) (W.contents writer.new)) }
+    ensures fault { IfErr result IsOutsideFault }
+    ensures unchanged { IfErr result (λ fault. fault ≢ AppFault.Write → writer.new ≡ writer.old) }
+{
+    let text = check_text(alloc, faults, warnings)?;
     write_out(writer, text.as_slice(), AppFault::Write)
 }
 
-/// The text of the rows of these faults, and of the warnings.
-fn check_text<N: Warn>(
+/// The text of the rows of these faults, and of these warnings.
+fn check_text(
     alloc: Global,
     faults: &[ReadFault],
-    notes: &mut N,
+    warnings: &[WarningRow],
 ) -> Result<Vec<u8>, NoMemory>
     ensures { IfOk result (λ text. IsTextOfCheck faults.now text.items) }
 {
     let mut rows = RowsWriter::start(alloc);
-    match put_check(&mut rows, faults, notes) {
+    match put_check(&mut rows, faults, warnings) {
         Ok(()) => whole(rows),
         Err(refused) => {
             drop(rows);
@@ -91,19 +211,16 @@ fn whole(rows: RowsWriter) -> Result<Vec<u8>, NoMemory>
 }
 
 /// Puts the rows of faults and of warnings after those that stand there.
-fn put_check<N: Warn>(
+fn put_check(
     rows: &mut RowsWriter,
     faults: &[ReadFault],
-    notes: &mut N,
+    warnings: &[WarningRow],
 ) -> Result<(), NoMemory>
     ensures { OnOk result ((text : List ℕ)
         × IsTextOfCheck faults.now text × (rows.new.text ≡ rows.old.text ++ text)) }
 {
     put_faults(rows, faults)?;
-    let warnings = notes.warnings()?;
-    let put = put_warnings(rows, warnings.as_slice());
-    drop(warnings);
-    put
+    put_warnings(rows, warnings)
 }
 
 /// Puts a row for each fault.

@@ -14,7 +14,7 @@ use Rattle.pb_read.proofs.Tracking.{ended, explained, fault_at, tracks_more, tra
 use Rattle.pb_read.specs.Inner.Checking.{EndsAt, IsGoing, IsRefusal, IsVerdict, Judges, JudgesEnd, JudgesRow, LeadsTo, LeftHas, text_fault, without}
 use Rattle.pb_read.proofs.Uniqueness.{refused_from_outside}
 use Rattle.pb_read.specs.FirstFault.{IsFaultAt, IsFromOutside}
-use Rattle.pb_read.specs.Listed.{AreListed, IsLeftOut, leaves_out}
+use Rattle.pb_read.specs.Listed.{AreListed, IsHandedOut, IsLeftOut, leaves_out}
 use Rattle.pb_read.specs.Rows.{rows_of}
 use Rattle.pb_read.proofs.Alike.{at_just}
 use Rattle.pb_read.specs.Inner.Machine.{Explains, Position, lowest_kind, row_fault, start}
@@ -179,12 +179,36 @@ listed_done (Some all) None after done kept faults p q going judged = absurd goi
 listed_done (Some all) (Some left) after done kept faults p q going judged =
     let come : HasCome going.now [] going.kept p = subst (λ l. HasCome going.now l going.kept p) judged.0 going.tracks in
     let end : HasEnded (Some going.now) (going.kept + 1) p = record { count = going.kept; at_is = refl; few = going.few; come = come } in
-    listed_all 0 all faults going.now judged.1.0 going.leads (ended (Some going.now) (going.kept + 1) p judged.1.0 end judged.1.1)
+    listed_all 0 all faults going.now judged.2.0 going.leads (ended (Some going.now) (going.kept + 1) p judged.2.0 end judged.2.1)
+
+-- the election that is handed out where the file has ended: the one of the rows that were accepted, where none was left out
+pub handed_done : (all left after : Option (List Fields)) (done kept : ℕ) (faults : List ReadFault) (p q : Position) (election : Option ElectionView) → IsGoing all left done faults p → Judges kept left after p q Done → (faults ≡ [] → election ≡ Some q.1) → (faults ≢ [] → election ≡ None) →
+    IfSome all (λ records. IsHandedOut records faults election)
+handed_done None left after done kept faults p q election going judged whole faulty = tt
+handed_done (Some all) None after done kept faults p q election going judged whole faulty = absurd going.tracks
+handed_done (Some all) (Some left) after done kept [] p q election going judged whole faulty =
+    let come : HasCome going.now [] going.kept p = subst (λ l. HasCome going.now l going.kept p) judged.0 going.tracks in
+    let end : HasEnded (Some going.now) (going.kept + 1) p = record { count = going.kept; at_is = refl; few = going.few; come = come } in
+    let same : q.1 ≡ judged.2.0 = ap (λ (x : Position). x.1) (judged.1 ∙ judged.2.1.1) in
+    let stands : StandsFor going.now judged.2.0 = ended (Some going.now) (going.kept + 1) p judged.2.0 end judged.2.1 in
+    subst (λ x. IsHandedOut all [] x) (sym (whole refl ∙ ap (λ e. Some e) same)) (subst (λ x. StandsFor x judged.2.0) (sym going.leads) stands)
+handed_done (Some all) (Some left) after done kept (first ∷ more) p q election going judged whole faulty =
+    subst (λ x. IsHandedOut all (first ∷ more) x) (sym (faulty (λ e. cc))) tt
+
+-- none is handed out beside a fault
+pub none_handed : (all : Option (List Fields)) (faults new : List ReadFault) (fault : ReadFault) → new ≡ faults ++ fault ∷ [] → IfSome all (λ records. IsHandedOut records new None)
+none_handed None faults new fault pushed = tt
+none_handed (Some all) [] new fault pushed = subst (λ fs. IsHandedOut all fs None) (sym pushed) tt
+none_handed (Some all) (first ∷ more) new fault pushed = subst (λ fs. IsHandedOut all fs None) (sym pushed) tt
 
 -- no more records are kept, and left out, than these
 pub listed_over : (all left : Option (List Fields)) (done : ℕ) (faults : List ReadFault) (p : Position) → IsGoing all left done faults p → length faults < 1000 → done ≡ 2001000 → IfSome all (λ records. AreListed 0 records faults)
 listed_over None left done faults p going few over = tt
 listed_over (Some all) left done faults p going few over = absurd (omega (arith, going.done_is, going.few, few, over))
+
+pub handed_over : (all left : Option (List Fields)) (done : ℕ) (faults : List ReadFault) (p : Position) → IsGoing all left done faults p → length faults < 1000 → done ≡ 2001000 → IfSome all (λ records. IsHandedOut records faults None)
+handed_over None left done faults p going few over = tt
+handed_over (Some all) left done faults p going few over = absurd (omega (arith, going.done_is, going.few, few, over))
 
 -- a kind that was found, and one at which reading ends
 pub ends_at : (kind : ReadKind) (found : Option ReadKind) → Explains kind found → EndsAt kind found
@@ -270,13 +294,13 @@ no_text_judged kept left after p q verdict found stays refusal =
     refused_judged kept left after p q found.0 (Some kinds.NotText) verdict found.1 (λ rest. no_text_lowest kept p found.0 rest found.2) (refusal_judged q p (Some kinds.NotText) kinds.NotText verdict refl (λ other. stays) refusal)
 
 -- the end of the file
-pub end_judged : (kept : ℕ) (left after : Option (List Fields)) (p q : Position) (verdict : Verdict) → (fields : Fields) × IsNext left after false fields → JudgesEnd p verdict → Judges kept left after p q verdict
-end_judged kept left after p q Passes found judged = absurd judged
-end_judged kept left after p q (LeavesOut kind) found judged = absurd judged
-end_judged kept None after p q Done found judged = (tt, judged)
-end_judged kept (Some []) after p q Done found judged = (refl, judged)
-end_judged kept (Some (first ∷ rest)) after p q Done found judged = absurd (false≢true found.1.0)
-end_judged kept left after p q (Ends kind) found judged = (left_has kind left found.1 judged.0, judged.1)
+pub end_judged : (kept : ℕ) (left after : Option (List Fields)) (p q : Position) (verdict : Verdict) → (fields : Fields) × IsNext left after false fields → q ≡ p → JudgesEnd p verdict → Judges kept left after p q verdict
+end_judged kept left after p q Passes found stays judged = absurd judged
+end_judged kept left after p q (LeavesOut kind) found stays judged = absurd judged
+end_judged kept None after p q Done found stays judged = (tt, stays, judged)
+end_judged kept (Some []) after p q Done found stays judged = (refl, stays, judged)
+end_judged kept (Some (first ∷ rest)) after p q Done found stays judged = absurd (false≢true found.1.0)
+end_judged kept left after p q (Ends kind) found stays judged = (left_has kind left found.1 judged.0, judged.1)
   where
     left_has : (k : ReadKind) (l : Option (List Fields)) → IsNext l after false found.0 → EndsAt k (row_fault p the_end) → LeftHas kept l p k
     left_has kinds.ReadFailed l next at = tt

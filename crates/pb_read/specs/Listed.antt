@@ -1,5 +1,5 @@
 -- The faults that a check of a whole file lists.
-use Rattle.std.specs.Prelude.{◌≡◌, ◌<◌, ◌+◌, ◌-◌, ◌⊎◌, ◌==◌, ◌||◌, ◌&&◌, nat_le, ℕ, Bool, true, false, List, [], ◌∷◌, remove, take}
+use Rattle.std.specs.Prelude.{◌≡◌, ◌<◌, ◌+◌, ◌-◌, ◌⊎◌, ◌==◌, ◌||◌, ◌&&◌, nat_le, ℕ, ⊤, Bool, true, false, List, [], ◌∷◌, remove, take, Option, Some, None}
 use Rattle.pb_core.specs.Election.{ElectionView}
 use Rattle.pb_rows.specs.Reading.{Fields}
 use Rattle.pb_read.specs.FirstFault.{IsFaultAt}
@@ -41,3 +41,10 @@ AreListed out records (fault ∷ more) =
     × (((more ≡ []) × ((out ≡ 999) ⊎ IsLeftOut false records fault.kind (fault.at - out)))
     ⊎ ((out < 999) × IsLeftOut true records fault.kind (fault.at - out)
     × AreListed (out + 1) (remove records (fault.at - out - 1)) more))
+
+-- what a check that lists these faults hands out: where there is none the election that the records stand for, else nothing
+abbrev pub IsHandedOut : List Fields → List ReadFault → Option ElectionView → Type 0
+IsHandedOut records [] (Some e) = StandsFor records e
+IsHandedOut records [] None = ⊥
+IsHandedOut records (fault ∷ more) (Some e) = ⊥
+IsHandedOut records (fault ∷ more) None = ⊤

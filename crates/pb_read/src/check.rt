@@ -1,9 +1,9 @@
 //! The check of a whole file: it goes on after a faulty row.
 
-ghost use Rattle.std.specs.Prelude.{◌≡◌, [], None, IfOk, IfSome, OnOk};
+ghost use Rattle.std.specs.Prelude.{◌≡◌, ◌≢◌, [], None, Some, IfOk, IfSome, OnOk};
 ghost use Rattle.pb_rows.specs.Reading.{records_of};
 ghost use Rattle.pb_read.specs.Inner.Checking.{GoesOn, IsGoing, IsRefusal, Judges, JudgesEnd, JudgesRow};
-ghost use Rattle.pb_read.specs.Listed.{AreListed, is_of_row};
+ghost use Rattle.pb_read.specs.Listed.{AreListed, IsHandedOut, is_of_row};
 ghost use Rattle.pb_read.specs.Inner.Progresses.{IsReady, place_of};
 ghost use Rattle.pb_read.specs.Inner.Opening.{opening};
 ghost use Rattle.pb_read.specs.declared.progress.Stage.TheVariants.{Start};
@@ -14,6 +14,7 @@ use crate::read::MOST_RECORDS;
 use crate::row::{Found, Row};
 use crate::watch::Watch;
 use csv::ByteRecord;
+use pb_core::election::Election;
 use pb_core::no_memory::NoMemory;
 use pb_rows::{Records, RecordsFault};
 use std::alloc::Global;
@@ -24,6 +25,25 @@ pub const MOST_FAULTS: usize = 1_000;
 
 /// No file of so many records has fewer than 1,000 that are left out, beside those that are kept.
 const MOST_CHECKED: u32 = 2_001_000;
+
+/// What a check of a whole file comes to.
+#[derive(Drop)]
+pub struct Checked {
+    /// Its faults, in the order of their records; up to 1,000.
+    pub faults: Vec<ReadFault>,
+    /// The election that it stands for, where it has no fault.
+    pub election: Option<Election>,
+}
+
+impl Checked {
+    /// Its faults alone.
+    pub fn into_faults(self) -> Vec<ReadFault>
+        ensures { result ≡ self.faults }
+    {
+        drop(self.election);
+        self.faults
+    }
+}
 
 /// Lists what is wrong with a .pb file: a fault for each row of PROJECTS and VOTES that is refused, up to 1,000.
 ///
@@ -39,17 +59,34 @@ pub fn list_faults<R: Read + Drop, W: Watch>(
     ensures { IfSome (R.remaining reader) (λ bytes.
         IfOk result (λ faults. AreListed 0 (records_of bytes) faults.items)) }
 {
+    Ok(check_pb(alloc, reader, watch)?.into_faults())
+}
+
+/// The same, and hands out the election where there is no fault: the one that `read_pb` would answer.
+pub fn check_pb<R: Read + Drop, W: Watch>(
+    alloc: Global,
+    reader: R,
+    watch: &mut W,
+) -> Result<Checked, NoMemory>
+    ensures faults { IfSome (R.remaining reader) (λ bytes.
+        IfOk result (λ checked. AreListed 0 (records_of bytes) checked.faults.items)) }
+    ensures election { IfSome (R.remaining reader) (λ bytes.
+        IfOk result (λ checked. IsHandedOut (records_of bytes) checked.faults.items checked.election)) }
+{
     let mut records = Records::new(alloc, reader);
-    list_records(alloc, &mut records, watch)
+    check_records(alloc, &mut records, watch)
 }
 
 /// The same of these records.
-fn list_records<R: Read, W: Watch>(
+fn check_records<R: Read, W: Watch>(
     alloc: Global,
     records: &mut Records<R>,
     watch: &mut W,
-) -> Result<Vec<ReadFault>, NoMemory>
-    ensures { IfSome records.old.left (λ all. IfOk result (λ faults. AreListed 0 all faults.items)) }
+) -> Result<Checked, NoMemory>
+    ensures faults { IfSome records.old.left (λ all.
+        IfOk result (λ checked. AreListed 0 all checked.faults.items)) }
+    ensures election { IfSome records.old.left (λ all.
+        IfOk result (λ checked. IsHandedOut all checked.faults.items checked.election)) }
 {
     let mut faults = Vec::new(alloc);
     let mut check = Check::new(alloc);
@@ -57,7 +94,7 @@ fn list_records<R: Read, W: Watch>(
     // Letting go of it by a call keeps this function's proof short.
     drop(check);
     match listed {
-        Ok(()) => Ok(faults),
+        Ok(election) => Ok(Checked { faults, election }),
         Err(refused) => {
             drop(faults);
             Err(refused)
@@ -103,17 +140,19 @@ impl Check {
         }
     }
 
-    /// Reads all records, and lists their faults.
+    /// Reads all records, lists their faults, and hands out the election where there are none.
     fn list<R: Read, W: Watch>(
         &mut self,
         records: &mut Records<R>,
         watch: &mut W,
         faults: &mut Vec<ReadFault>,
-    ) -> Result<(), NoMemory>
+    ) -> Result<Option<Election>, NoMemory>
         requires at_start { place_of self.old.progress ≡ (Start, opening 0 None) }
         requires ready { IsReady self.old.progress }
         requires none { faults.old.items ≡ [] }
-        ensures { OnOk result (IfSome records.old.left (λ all. AreListed 0 all faults.new.items)) }
+        ensures faults { OnOk result (IfSome records.old.left (λ all. AreListed 0 all faults.new.items)) }
+        ensures election { IfOk result (λ election.
+            IfSome records.old.left (λ all. IsHandedOut all faults.new.items election)) }
     {
         for done in 0..MOST_CHECKED {
             let at = done + 1;
@@ -124,21 +163,33 @@ impl Check {
                     faults.push(ReadFault { kind, at })?;
                     if faults.len() >= MOST_FAULTS {
                         self.read_on(records, watch, at);
-                        return Ok(());
+                        return Ok(None);
                     }
                 }
                 Verdict::Ends(ReadKind::NoMemory) => return Err(NoMemory),
                 Verdict::Ends(kind) => {
                     faults.push(ReadFault { kind, at })?;
-                    return Ok(());
+                    return Ok(None);
                 }
                 Verdict::Done => {
                     watch.end();
-                    return Ok(());
+                    return Ok(self.hand_out(faults));
                 }
             }
         }
-        Ok(())
+        Ok(None)
+    }
+
+    /// The election of the rows that were accepted, where the file may end, and has no fault.
+    fn hand_out(&mut self, faults: &[ReadFault]) -> Option<Election>
+        ensures whole { faults.now ≡ [] → result ≡ Some self.old.progress.draft.election }
+        ensures faulty { faults.now ≢ [] → result ≡ None }
+    {
+        if faults.is_empty() {
+            Some(self.progress.draft.take_election())
+        } else {
+            None
+        }
     }
 
     /// Reads on after this many records, for who looks on.
@@ -214,15 +265,11 @@ impl Check {
     }
 
     /// Judges the end of the file, where record `at` would stand.
-    fn judge_end<W: Watch>(&mut self, watch: &mut W, at: u32) -> Verdict
-        ensures { JudgesEnd (place_of self.old.progress) result }
+    fn judge_end<W: Watch>(&self, watch: &mut W, at: u32) -> Verdict
+        ensures { JudgesEnd (place_of self.now.progress) result }
     {
-        match self.progress.finish() {
-            Ok(election) => {
-                watch.take(&election);
-                drop(election);
-                Verdict::Done
-            }
+        match self.progress.may_end() {
+            Ok(()) => Verdict::Done,
             Err(kind) => {
                 watch.refuse(&self.raw, ReadFault { kind, at }, &self.progress.stage);
                 Verdict::Ends(kind)

@@ -17,7 +17,7 @@ mod vote;
 mod warning;
 mod watch;
 
-pub use check::{MOST_FAULTS, list_faults};
+pub use check::{Checked, MOST_FAULTS, check_pb, list_faults};
 pub use columns::{ProjectColumns, VoteColumns};
 pub use fault::{ReadFault, ReadKind};
 pub use laws::{first_listed, max_length_is_what_its_text_names, one_answer};
@@ -26,4 +26,4 @@ pub use project_ids::ProjectIds;
 pub use read::{MOST_RECORDS, read_pb, read_pb_watched};
 pub use section::Section;
 pub use warning::{Oddity, Warning, WarningRow};
-pub use watch::{Heed, NoWatch, Part, Warn, Watch};
+pub use watch::{Compare, Heed, NoWatch, Part, Warn, Watch};

@@ -171,13 +171,25 @@ impl Progress {
     }
 
     /// Hands out the election, where the file may end here.
-    #[tactic(auto, unfolding(crate::specs::Inner::Machine::row_fault))]
     pub(crate) fn finish(&mut self) -> Result<Election, ReadKind>
         ensures end { MatchResult result (EndsWith (place_of self.old)) (Refuses self.old the_end) }
         ensures no_row { IfErr result (λ kind. leaves_out self.old.stage kind ≡ false) }
     {
+        match self.may_end() {
+            Ok(()) => Ok(self.draft.take_election()),
+            Err(kind) => Err(kind),
+        }
+    }
+
+    /// Whether the file may end here, or why not.
+    #[tactic(auto, unfolding(crate::specs::Inner::Machine::row_fault))]
+    pub(crate) fn may_end(&self) -> Result<(), ReadKind>
+        ensures end { MatchResult result (λ _. EndsWith (place_of self.now) self.now.draft.election)
+            (Refuses self.now the_end) }
+        ensures no_row { IfErr result (λ kind. leaves_out self.now.stage kind ≡ false) }
+    {
         match self.stage {
-            Stage::InVotes(_) => Ok(self.draft.take_election()),
+            Stage::InVotes(_) => Ok(()),
             Stage::Header(_) => Err(ReadKind::NoHeader),
             Stage::Start | Stage::InMeta(_) | Stage::InProjects(_) => Err(ReadKind::NoSection),
         }

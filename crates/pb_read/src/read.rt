@@ -192,7 +192,6 @@ fn finish<W: Watch>(
 {
     match progress.finish() {
         Ok(election) => {
-            watch.take(&election);
             watch.end();
             Ok(election)
         }

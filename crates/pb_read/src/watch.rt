@@ -1,6 +1,6 @@
 //! Who looks on while a file is read.
 
-ghost use Rattle.std.specs.Prelude.{◌≡◌, Option};
+ghost use Rattle.std.specs.Prelude.{◌≡◌, ℕ, List, Option, OnOk};
 ghost use Rattle.pb_read.specs.declared.warning.Warning.{Warning};
 
 use crate::columns::{ProjectColumns, VoteColumns};
@@ -9,7 +9,6 @@ use crate::progress::Stage;
 use crate::section::Section;
 use crate::warning::{Warning, WarningRow};
 use csv::ByteRecord;
-use pb_core::election::Election;
 use pb_core::no_memory::NoMemory;
 
 /// What a record of a file is, by where it stands.
@@ -38,11 +37,7 @@ pub trait Watch {
     /// where there is none: the file ends, or `read_pb` met a field that is no text.
     fn refuse(&mut self, record: &ByteRecord, fault: ReadFault, stage: &Stage);
 
-    /// Sees the election that the accepted rows give, where the file has ended and may end there. Who looks on at rows alone
-    /// takes nothing of it.
-    fn take(&mut self, _election: &Election) {}
-
-    /// Learns that the file has ended, and may end there: all of its rows were shown, and then the election.
+    /// Learns that the file has ended, and may end there: all of its rows were shown.
     fn end(&mut self);
 }
 
@@ -50,6 +45,17 @@ pub trait Watch {
 pub trait Warn: Watch {
     /// The warnings of what was seen, in the order in which they are written.
     fn warnings(&mut self) -> Result<Vec<WarningRow>, NoMemory>;
+}
+
+/// Who looks on at a check, and then also warns of claims in the file that differ from a count.
+pub trait Compare: Warn {
+    /// It has compared what the file claims with these winners: places of projects, from 0.
+    ghost has_compared: { Self → List ℕ → Type 0 };
+
+    /// The warnings of what was seen, and of each claim that differs from these winners, in the order in which they are
+    /// written. The winners are the places of the elected, in order of election, and then of the added in theirs.
+    fn warnings_beside(&mut self, winners: &[u32]) -> Result<Vec<WarningRow>, NoMemory>
+        ensures { OnOk result (has_compared self.new winners.now) };
 }
 
 /// Who looks on at the file of a count, and may refuse it for a warning.

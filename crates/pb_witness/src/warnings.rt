@@ -12,8 +12,8 @@ use csv::ByteRecord;
 use pb_core::no_memory::NoMemory;
 use pb_ids::IdTable;
 use pb_read::{
-    Heed, Oddity, Part, ProjectColumns, ReadFault, Section, Stage, VoteColumns, Warn, Warning,
-    WarningRow, Watch,
+    Compare, Heed, Oddity, Part, ProjectColumns, ReadFault, Section, Stage, VoteColumns, Warn,
+    Warning, WarningRow, Watch,
 };
 use std::alloc::{AllocError, Global};
 
@@ -144,7 +144,7 @@ impl Warnings {
     }
 
     /// Compares what the column `selected` says with a count that elects or adds the projects at these places.
-    pub fn compare(&mut self, winners: &[u32]) {
+    fn compare(&mut self, winners: &[u32]) {
         for winner in winners {
             let place = *winner as usize;
             if place < self.projects.len() {
@@ -255,6 +255,17 @@ impl Warn for Warnings {
         } else {
             Ok(Vec::new(self.alloc))
         }
+    }
+}
+
+impl Compare for Warnings {
+    ghost use Rattle.std.specs.Prelude.{⊤};
+
+    ghost has_compared = { λ _ _. ⊤ };
+
+    fn warnings_beside(&mut self, winners: &[u32]) -> Result<Vec<WarningRow>, NoMemory> {
+        self.compare(winners);
+        self.warnings()
     }
 }
 

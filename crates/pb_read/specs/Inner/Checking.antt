@@ -74,7 +74,7 @@ Judges kept left after p q Passes =
 Judges kept left after p q (LeavesOut kind) =
     NextHas kept left after p kind × (q ≡ p) × (leaves_out p.0 kind ≡ true)
 Judges kept left after p q (Ends kind) = LeftHas kept left p kind × (leaves_out p.0 kind ≡ false)
-Judges kept left after p q Done = IfSome left (λ records. records ≡ []) × ((e : ElectionView) × EndsWith p e)
+Judges kept left after p q Done = IfSome left (λ records. records ≡ []) × (q ≡ p) × ((e : ElectionView) × EndsWith p e)
 
 -- a verdict on the end of the file
 abbrev pub JudgesEnd : Position → Verdict → Type 0

@@ -3,5 +3,5 @@ use Rattle.pb_commands.proofs.CheckWritten.{check_grown}
 use Rattle.pb_commands.proofs.run_check.put_check.Goals as goal
 
 pub returns : goal.returns
-returns g c =
-    on_ok_weaker c.put_warnings-put.result (λ second. check_grown c.args.faults.now _ c.args.rows.now.text _ _ c.in_ok-put_faults.ensures second) c.put_warnings-put.ensures
+returns c =
+    on_ok_weaker c.put_warnings.result (λ second. check_grown c.args.faults.now c.args.warnings.now c.args.rows.now.text _ _ c.in_ok-put_faults.ensures second) c.put_warnings.ensures

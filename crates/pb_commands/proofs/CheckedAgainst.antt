@@ -1,0 +1,86 @@
+-- A check against a count: what it hands out is the election of the file, and how it fails.
+use Rattle.std.proofs.Common.{◌≡◌, ◌≢◌, ℕ, List, [], ◌∷◌, Option, Some, None, Ok, Err, refl, subst, arith}
+use Rattle.std.specs.Prelude.{IfErr, IfSome, IsErrAnd, Result}
+use Rattle.pb_core.specs.Election.{ElectionView}
+use Rattle.pb_read.specs.Listed.{IsHandedOut}
+use Rattle.pb_read.specs.StandsFor.{StandsFor}
+use Rattle.pb_read.specs.declared.fault.ReadFault.{ReadFault}
+use Rattle.pb_rounds.specs.Counted.{IsCountFault}
+use Rattle.pb_rounds.specs.declared.count_fault.CountFault.{CountFault}
+use Rattle.pb_rounds.specs.declared.count_fault.CountFault.TheVariants as count
+use Rattle.pb_rounds.specs.declared.options.CountOptions.{CountOptions}
+use Rattle.pb_rows.specs.Reading.{Fields, records_of}
+use Rattle.pb_commands.proofs.Accepted.{given_fault}
+use Rattle.pb_commands.specs.Checked.{CheckFails}
+use Rattle.pb_commands.specs.Ends.{IsOutsideFault}
+use Rattle.pb_faults.specs.Fault.{merged}
+use Rattle.pb_faults.specs.declared.fault.AppFault.{AppFault}
+use Rattle.pb_faults.specs.declared.fault.AppFault.TheVariants.{Count, Memory}
+
+-- the election that is handed out is the one for which the records stand
+handed_stands : (records : List Fields) (faults : List ReadFault) (e : ElectionView) → IsHandedOut records faults (Some e) → StandsFor records e
+handed_stands records [] e handed = handed
+handed_stands records (first ∷ more) e handed = absurd handed
+
+-- where there is no fault, what is so of the election that is handed out is so of the file's
+handed_has : (P : ElectionView → Type 0) (records : List Fields) (faults : List ReadFault) (election : Option ElectionView) → IsHandedOut records faults election → IfSome election P
+    → faults ≡ [] → (e : ElectionView) × StandsFor records e × P e
+handed_has P records [] (Some e) handed has none = (e, handed, has)
+handed_has P records [] None handed has none = absurd handed
+handed_has P records (first ∷ more) election handed has none = absurd cc
+
+pub known_has : (P : ElectionView → Type 0) (known : Option (List ℕ)) (faults result : List ReadFault) (election : Option ElectionView)
+    → IfSome known (λ bytes. IsHandedOut (records_of bytes) faults election) → IfSome election P → result ≡ faults
+    → IfSome known (λ bytes. result ≡ [] → (e : ElectionView) × StandsFor (records_of bytes) e × P e)
+known_has P None faults result election handed has same = tt
+known_has P (Some bytes) faults result election handed has same = λ none.
+    handed_has P (records_of bytes) faults election handed has (subst (λ (x : List ReadFault). x ≡ []) same none)
+
+-- the count of the file's election is refused
+fails_of : (records : List Fields) (faults : List ReadFault) (election : Option ElectionView) (options : CountOptions) (app : AppFault) → IsHandedOut records faults election
+    → CheckFails (λ e. election ≡ Some e) options app → CheckFails (StandsFor records) options app
+fails_of records faults election options (Count count.NoMemory) handed fails = absurd fails
+fails_of records faults election options (Count fault) handed fails =
+    (fails.0, handed_stands records faults fails.0 (subst (λ x. IsHandedOut records faults x) fails.1 handed), fails.2)
+fails_of records faults election options app handed fails = fails
+
+pub known_fails : (known : Option (List ℕ)) (faults : List ReadFault) (election : Option ElectionView) (options : CountOptions) (app : AppFault)
+    → IfSome known (λ bytes. IsHandedOut (records_of bytes) faults election) → CheckFails (λ e. election ≡ Some e) options app
+    → IfSome known (λ bytes. CheckFails (StandsFor (records_of bytes)) options app)
+known_fails None faults election options app handed fails = tt
+known_fails (Some bytes) faults election options app handed fails = fails_of (records_of bytes) faults election options app handed fails
+
+-- memory was refused
+memory_fails : (known : Option (List ℕ)) (options : CountOptions) → IfSome known (λ bytes. CheckFails (StandsFor (records_of bytes)) options Memory)
+memory_fails None options = tt
+memory_fails (Some bytes) options = refl
+
+pub memory_refused : {T : Type 0} (known : Option (List ℕ)) (options : CountOptions) (r : Result T AppFault) → IsErrAnd r (λ app. app ≡ Memory)
+    → IfErr r (λ app. IfSome known (λ bytes. CheckFails (StandsFor (records_of bytes)) options app))
+memory_refused known options r is = given_fault (λ app. IfSome known (λ bytes. CheckFails (StandsFor (records_of bytes)) options app)) r Memory is (memory_fails known options)
+
+-- a count is refused
+count_fails : (IsIt : ElectionView → Type 0) (e : ElectionView) (options : CountOptions) (fault : CountFault) → IsIt e → IsCountFault e options fault → CheckFails IsIt options (merged (Count fault))
+count_fails IsIt e options count.NoMemory is fails = refl
+count_fails IsIt e options fault is fails = (e, is, fails)
+
+pub count_refused : {T : Type 0} (IsIt : ElectionView → Type 0) (e : ElectionView) (options : CountOptions) (fault : CountFault) (r : Result T AppFault)
+    → IsErrAnd r (λ app. app ≡ merged (Count fault)) → IsIt e → IsCountFault e options fault → IfErr r (CheckFails IsIt options)
+count_refused IsIt e options fault r from is fails = given_fault (CheckFails IsIt options) r (merged (Count fault)) from (count_fails IsIt e options fault is fails)
+
+-- memory was refused beside a count
+pub out_of_memory : {T : Type 0} (IsIt : ElectionView → Type 0) (options : CountOptions) (r : Result T AppFault) → IsErrAnd r (λ app. app ≡ Memory) → IfErr r (CheckFails IsIt options)
+out_of_memory IsIt options r from = given_fault (CheckFails IsIt options) r Memory from refl
+
+-- a fault from outside is none of a count
+outside_fails : (IsIt : ElectionView → Type 0) (options : CountOptions) (app : AppFault) → IsOutsideFault app → CheckFails IsIt options app
+outside_fails IsIt options (Count count.WorkerCount) out = absurd (omega (arith, out))
+outside_fails IsIt options (Count count.StepRange) out = absurd (omega (arith, out))
+outside_fails IsIt options (Count count.RaisesRange) out = absurd (omega (arith, out))
+outside_fails IsIt options (Count count.RaisesSpent) out = absurd (omega (arith, out))
+outside_fails IsIt options (Count count.NoMemory) out = absurd (omega (arith, out))
+outside_fails IsIt options app out = out
+
+pub outside_refused : {T : Type 0} (IsIt : ElectionView → Type 0) (options : CountOptions) (r : Result T AppFault) → IfErr r IsOutsideFault → IfErr r (CheckFails IsIt options)
+outside_refused IsIt options (Ok done) out = tt
+outside_refused IsIt options (Err app) out = outside_fails IsIt options app out
