@@ -14,6 +14,7 @@ mod serve;
 mod spent;
 mod terminal;
 mod typing;
+mod what_if;
 mod words;
 
 use crate::perform::{Notes, Refusal, perform};
@@ -170,7 +171,7 @@ fn write_line<R: Print>(rt: &R, refusal: &Refusal) -> u8 {
             NOT_READY
         }
         // Words alone say it, as of all arguments that are refused.
-        Refusal::Barred => BAD_ARGUMENTS,
+        Refusal::Barred | Refusal::WhatIf(_) => BAD_ARGUMENTS,
         // Each of them has its line already.
         Refusal::BadRows(_) => BAD_ROWS,
     }
