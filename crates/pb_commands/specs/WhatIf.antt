@@ -1,6 +1,5 @@
 -- What would have made a project win, as text.
-use Rattle.std.specs.Prelude.{◌≡◌, ◌≢◌, ℕ, Bool, Contains, List, [], ◌∷◌, ◌++◌, Some, codes, decimal, map, slice_get}
-use Rattle.std.specs.Option.{option_map_or}
+use Rattle.std.specs.Prelude.{◌≡◌, ◌≢◌, ℕ, Contains, List, [], ◌∷◌, ◌++◌, ◌==◌, Some, codes, decimal, if◌then◌else◌}
 use Rattle.pb_core.specs.Election.{ElectionView, project_ids}
 use Rattle.pb_core.specs.MoneyText.{money_text}
 use Rattle.pb_price.specs.Supporters.{cost_at, support_of}
@@ -14,7 +13,7 @@ use Rattle.pb_commands.specs.declared.what_if_rows.Changes.{Changes}
 use Rattle.pb_commands.specs.declared.what_if_rows.Changes.TheVariants.{Searched, One}
 use Rattle.pb_commands.specs.declared.what_if_rows.WhatIfFault.{WhatIfFault}
 use Rattle.pb_commands.specs.declared.what_if_rows.WhatIfFault.TheVariants.{NoProject, OutOfRange, Count}
-use Rattle.pb_whatif.specs.WhatIf.{CanBe, HasWon, IsTrue, IsWhatIf, seen}
+use Rattle.pb_whatif.specs.WhatIf.{CanBe, IsTrue, IsWhatIf, seen}
 use Rattle.pb_whatif.specs.declared.change.Change.{Change}
 use Rattle.pb_whatif.specs.declared.change.Change.TheVariants.{Cost, Voters}
 use Rattle.pb_whatif.specs.declared.change.Row.{Row}
@@ -24,45 +23,31 @@ use Rattle.pb_whatif.specs.declared.found.Found.{Found}
 use Rattle.pb_whatif.specs.declared.found.WhatIf.{WhatIf}
 use Rattle.pb_whatif.specs.declared.question.Question.{Question}
 
--- what is changed, to what, and what the count says
-abbrev pub change_text : Change → List ℕ
-change_text Cost = codes "cost"
-change_text Voters = codes "voters"
-
-abbrev pub value_text : Change → ℕ → List ℕ
-value_text Cost value = money_text value
-value_text Voters value = decimal value
-
 abbrev pub verdict_text : Verdict → List ℕ
 verdict_text Lost = codes "0"
 verdict_text Won = codes "1"
 verdict_text Refused = codes "refused"
 
-abbrev pub what_if_row : Row → Fields
-what_if_row row = change_text row.change ∷ value_text row.change row.value ∷ verdict_text row.verdict ∷ []
+-- what is changed, to what, and what the count says
+abbrev pub what_if_row : Change → Row → Fields
+what_if_row Cost row = codes "cost" ∷ money_text row.value ∷ verdict_text row.verdict ∷ []
+what_if_row Voters row = codes "voters" ∷ decimal row.value ∷ verdict_text row.verdict ∷ []
+
+-- the two rows of one kind of change, or the one where its range is one value
+abbrev pub found_rows : Change → Found → List Fields
+found_rows change f = what_if_row change f.first
+    ∷ (if f.first.value == f.second.value then [] else what_if_row change f.second ∷ [])
 
 -- rows as text, below their columns
-abbrev pub what_if_text : List Row → List ℕ
-what_if_text rows = codes "change;value;won\n" ++ text_of_rows (map what_if_row rows)
-
--- the rows of one kind of change
-abbrev pub rows_found : Found → List Row
-rows_found found = found.first ∷ option_map_or (λ second. second ∷ []) found.second []
+abbrev pub what_if_text : List Fields → List ℕ
+what_if_text rows = text_of_rows ((codes "change" ∷ codes "value" ∷ codes "won" ∷ []) ∷ rows)
 
 -- the text is what is found of a project of the election, or what the count of one changed election says of it
-abbrev pub IsWhatIfOf : ElectionView → Question → Changes → List ℕ → Type 0
-IsWhatIfOf e q Searched text =
-    (won : Bool) × (w : WhatIf) × HasWon e q won × IsWhatIf (seen e) q won (cost_at (support_of e) q.place) w
-    × (text ≡ what_if_text (rows_found w.cost ++ rows_found w.voters))
-IsWhatIfOf e q (One change value) text =
-    (verdict : Verdict) × IsTrue (seen e) q (record { change = change; value = value; verdict = verdict })
-    × (text ≡ what_if_text (record { change = change; value = value; verdict = verdict } ∷ []))
-
--- the same, for a project that is named by its id
-abbrev pub IsWhatIfText : ElectionView → CountOptions → (fills_up : Bool) → (id : List ℕ) → Changes → List ℕ → Type 0
-IsWhatIfText e options fills_up id changes text =
-    (place : ℕ) × (slice_get (project_ids e) place ≡ Some id)
-    × IsWhatIfOf e (record { options = options; fills_up = fills_up; place = place }) changes text
+abbrev pub IsWhatIfText : ElectionView → Question → Changes → List ℕ → Type 0
+IsWhatIfText e q Searched text = (w : WhatIf) × IsWhatIf e q (cost_at (support_of e) q.place) w
+    × (text ≡ what_if_text (found_rows Cost w.cost ++ found_rows Voters w.voters))
+IsWhatIfText e q (One change value) text = (row : Row) × (row.value ≡ value) × IsTrue (seen e) q change row
+    × (text ≡ what_if_text (what_if_row change row ∷ []))
 
 -- when each fault comes, out of memory aside: no project has the id; the count of the election is refused, or the options are
 -- out of their ranges; the election can't be changed so

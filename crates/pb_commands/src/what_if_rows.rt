@@ -1,11 +1,16 @@
 //! What would have made a project win, as text.
 
-ghost use Rattle.std.specs.Prelude.{◌≡◌, ◌↔◌, ◌<◌, ◌≤◌, ◌++◌, ℕ, Contains, IfErr, IfOk, IsTrue, List, MatchOption, OnOk, Some, length, map, slice_get, string_bytes};
-ghost use Rattle.pb_core.specs.Election.{most_projects, most_voters};
+ghost use Rattle.std.specs.Prelude.{◌≡◌, ◌≢◌, ◌↔◌, ◌<◌, ◌≤◌, ◌++◌, ◌∷◌, [], ℕ, Contains, IfErr, IfOk, IfSome, IsTrue, List, None, OnOk, Some, length, slice_get, string_bytes};
+ghost use Rattle.pb_core.specs.Election.{most_voters, project_ids};
+ghost use Rattle.pb_rounds.specs.Counted.{IsCountFault};
+ghost use Rattle.pb_rounds.specs.CountFault.{refusal_of};
+ghost use Rattle.pb_rounds.specs.declared.count_fault.CountFault.TheVariants.{NoMemory};
 ghost use Rattle.pb_rows.specs.Writing.{text_of_row, text_of_rows};
-ghost use Rattle.pb_commands.specs.WhatIf.{IsWhatIfOf, IsWhatIfText, WhatIfRefuses, change_text, rows_found, value_text, verdict_text, what_if_row, what_if_text};
-ghost use Rattle.pb_commands.specs.Inner.WhatIf.{most_of};
+ghost use Rattle.pb_commands.specs.WhatIf.{IsWhatIfText, WhatIfRefuses, found_rows, verdict_text, what_if_row, what_if_text};
+ghost use Rattle.pb_commands.specs.Inner.WhatIf.{change_text, most_of, value_text, what_if_columns};
+ghost use Rattle.pb_commands.specs.declared.what_if_rows.Changes.TheVariants.{Searched, One};
 ghost use Rattle.pb_whatif.specs.WhatIf.{CanBe, seen};
+ghost use Rattle.pb_whatif.specs.declared.change.Change.TheVariants.{Cost, Voters};
 
 use crate::counting::Counting;
 use itoa::Buffer;
@@ -13,7 +18,6 @@ use pb_core::election::{Election, MOST_VOTERS};
 use pb_core::gate::Gate;
 use pb_core::money::Money;
 use pb_core::no_memory::NoMemory;
-use pb_core::project::Project;
 use pb_rounds::count_fault::CountFault;
 use pb_rows::RowsWriter;
 use pb_whatif::{Change, Found, Question, Recount, Row, Verdict, WhatIf, one_change, what_if};
@@ -40,12 +44,6 @@ pub enum WhatIfFault {
     Count(CountFault),
 }
 
-impl From<NoMemory> for WhatIfFault {
-    fn from(_: NoMemory) -> WhatIfFault {
-        WhatIfFault::Count(CountFault::NoMemory)
-    }
-}
-
 /// What would have made the project with this id win, or lose, as text: each row of a whole count by these options.
 pub fn what_if_text<T: Threads + Sync, G: Gate>(
     counting: &Counting<T, G>,
@@ -53,10 +51,15 @@ pub fn what_if_text<T: Threads + Sync, G: Gate>(
     project: &str,
     changes: Changes,
 ) -> Result<Vec<u8>, WhatIfFault>
-    ensures ok { IfOk result (λ text. IsWhatIfText election counting.now.options.now counting.now.fills_up project.now changes text.items) }
+    ensures ok { IfOk result (λ text. (place : ℕ) × (slice_get (project_ids election) place ≡ Some project.now)
+        × IsWhatIfText election (record {
+          options = counting.now.options.now;
+          fills_up = counting.now.fills_up;
+          place = place;
+        }) changes text.items) }
     ensures fault { IfErr result (WhatIfRefuses election counting.now.options.now project.now changes) }
 {
-    let Some(place) = place_of(election.projects(), project) else {
+    let Some(place) = place_of(&election, project) else {
         drop(election);
         return Err(WhatIfFault::NoProject);
     };
@@ -83,16 +86,18 @@ fn searched_text<T: Threads + Sync, G: Gate>(
     election: Election,
 ) -> Result<Vec<u8>, WhatIfFault>
     requires known { recount.now.question.place < length election.projects }
-    ensures ok { IfOk result (λ text. IsWhatIfOf election recount.now.question Changes.Searched text.items) }
-    ensures fault { (id : List ℕ) → IfErr result (WhatIfRefuses election recount.now.question.options id Changes.Searched) }
+    ensures ok { IfOk result (λ text. IsWhatIfText election recount.now.question Searched text.items) }
+    ensures fault { (id : List ℕ) → IfErr result (WhatIfRefuses election recount.now.question.options id Searched) }
 {
     let alloc = recount.alloc;
     let found = match what_if(recount, election) {
         Ok(found) => found,
         Err(fault) => return Err(WhatIfFault::Count(fault)),
     };
-    let rows = rows_of(alloc, &found)?;
-    Ok(text_of(alloc, rows.as_slice())?)
+    match found_text(alloc, &found) {
+        Ok(text) => Ok(text),
+        Err(_) => Err(WhatIfFault::Count(CountFault::NoMemory)),
+    }
 }
 
 /// What the count of one changed election says, as text.
@@ -103,17 +108,23 @@ fn one_text<T: Threads + Sync, G: Gate>(
     value: u64,
 ) -> Result<Vec<u8>, WhatIfFault>
     requires known { recount.now.question.place < length election.projects }
-    ensures ok { IfOk result (λ text. IsWhatIfOf election recount.now.question (Changes.One change value) text.items) }
-    ensures fault { (id : List ℕ) → IfErr result (WhatIfRefuses election recount.now.question.options id (Changes.One change value)) }
+    ensures ok { IfOk result (λ text. IsWhatIfText election recount.now.question (One change value) text.items) }
+    ensures fault { (id : List ℕ)
+        → IfErr result (WhatIfRefuses election recount.now.question.options id (One change value)) }
 {
+    let alloc = recount.alloc;
     if !can_be(&election, change, value) {
         let most = most_of(&election, change);
         drop(election);
         return Err(WhatIfFault::OutOfRange(most));
     }
-    match one_change(recount, election, change, value) {
-        Ok(row) => Ok(text_of(recount.alloc, &[row])?),
-        Err(fault) => Err(WhatIfFault::Count(fault)),
+    let row = match one_change(recount, election, change, value) {
+        Ok(row) => row,
+        Err(fault) => return Err(WhatIfFault::Count(fault)),
+    };
+    match row_text(alloc, change, row) {
+        Ok(text) => Ok(text),
+        Err(_) => Err(WhatIfFault::Count(CountFault::NoMemory)),
     }
 }
 
@@ -121,9 +132,10 @@ fn one_text<T: Threads + Sync, G: Gate>(
 fn can_be(election: &Election, change: Change, value: u64) -> bool
     ensures { IsTrue result ↔ CanBe (seen election.now) change value }
 {
+    let most = most_of(election, change);
     match change {
-        Change::Cost => 0 < value && value <= most_of(election, change),
-        Change::Voters => value <= most_of(election, change),
+        Change::Cost => 0 < value && value <= most,
+        Change::Voters => value <= most,
     }
 }
 
@@ -132,77 +144,81 @@ fn most_of(election: &Election, change: Change) -> u64
     ensures most { result ≡ most_of election.now change }
     ensures few { length election.now.voters ≤ most_voters }
 {
+    let voters = election.voters().len();
     match change {
         Change::Cost => Money::LARGEST.0,
-        Change::Voters => (MOST_VOTERS - election.voters().len()) as u64,
+        Change::Voters => (MOST_VOTERS - voters) as u64,
     }
 }
 
 /// The place of the project with this id.
-fn place_of(projects: &[Project], id: &str) -> Option<u32> {
-    for (place, project) in projects.iter().enumerate() {
-        if project.id() == id {
+fn place_of(election: &Election, id: &str) -> Option<u32>
+    ensures known { IfSome result (λ place. place < length election.now.projects) }
+    ensures named { IfSome result (λ place. slice_get (project_ids election.now) place ≡ Some id.now) }
+    ensures nobody { result ≡ None → ¬ Contains (project_ids election.now) id.now }
+{
+    let projects = election.projects();
+    for place in 0..projects.len() {
+        if projects[place].id() == id {
             return Some(place as u32);
         }
     }
     None
 }
 
-/// The rows of what a search finds, those of the cost first.
-fn rows_of(alloc: Global, found: &WhatIf) -> Result<Vec<Row>, NoMemory>
-    ensures { IfOk result (λ rows. rows.items ≡ rows_found found.now.cost ++ rows_found found.now.voters) }
-{
-    let mut rows = Vec::with_capacity(alloc, 4)?;
-    put_found(&mut rows, &found.cost)?;
-    put_found(&mut rows, &found.voters)?;
-    Ok(rows)
-}
-
-/// Puts the rows of one kind of change after others.
-fn put_found(rows: &mut Vec<Row>, found: &Found) -> Result<(), NoMemory>
-    ensures { OnOk result (rows.new.items ≡ rows.old.items ++ rows_found found.now) }
-{
-    rows.push(found.first)?;
-    if let Some(second) = found.second {
-        rows.push(second)?;
-    }
-    Ok(())
-}
-
-/// These rows as text, below their columns.
-fn text_of(alloc: Global, rows: &[Row]) -> Result<Vec<u8>, NoMemory>
-    ensures { IfOk result (λ text. text.items ≡ what_if_text rows.now) }
+/// What a search finds as text: the columns, and the rows, those of the cost first.
+fn found_text(alloc: Global, found: &WhatIf) -> Result<Vec<u8>, NoMemory>
+    ensures { IfOk result (λ text. text.items
+        ≡ what_if_text (found_rows Cost found.now.cost ++ found_rows Voters found.now.voters)) }
 {
     let mut text = RowsWriter::start(alloc);
-    put_rows(alloc, &mut text, rows)?;
+    put_columns(&mut text)?;
+    put_found(alloc, &mut text, Change::Cost, &found.cost)?;
+    put_found(alloc, &mut text, Change::Voters, &found.voters)?;
     Ok(text.finish()?)
 }
 
-/// Writes the columns, and a row for each of these.
-fn put_rows(alloc: Global, text: &mut RowsWriter, rows: &[Row]) -> Result<(), NoMemory>
-    ensures { OnOk result (text.new.text ≡ text.old.text ++ what_if_text rows.now) }
+/// One row as text, below the columns.
+fn row_text(alloc: Global, change: Change, row: Row) -> Result<Vec<u8>, NoMemory>
+    ensures { IfOk result (λ text. text.items ≡ what_if_text (what_if_row change row ∷ [])) }
 {
-    text.put_row(&["change", "value", "won"])?;
-    put_each(alloc, text, rows)
+    let mut text = RowsWriter::start(alloc);
+    put_columns(&mut text)?;
+    put_one(alloc, &mut text, change, row)?;
+    Ok(text.finish()?)
 }
 
-/// Writes a row for each of these.
-fn put_each(alloc: Global, text: &mut RowsWriter, rows: &[Row]) -> Result<(), NoMemory>
-    ensures { OnOk result (text.new.text ≡ text.old.text ++ text_of_rows (map what_if_row rows.now)) }
+/// Writes the columns.
+fn put_columns(text: &mut RowsWriter) -> Result<(), NoMemory>
+    ensures { OnOk result (text.new.text ≡ text.old.text ++ text_of_row what_if_columns) }
 {
-    for row in rows {
-        put_one(alloc, text, *row)?;
-    }
+    text.put_row(&["change", "value", "won"])?;
     Ok(())
 }
 
-/// Writes a row.
-fn put_one(alloc: Global, text: &mut RowsWriter, row: Row) -> Result<(), NoMemory>
-    ensures { OnOk result (text.new.text ≡ text.old.text ++ text_of_row (what_if_row row)) }
+/// Writes the two rows of one kind of change, or the one where its range is one value.
+fn put_found(
+    alloc: Global,
+    text: &mut RowsWriter,
+    change: Change,
+    found: &Found,
+) -> Result<(), NoMemory>
+    ensures { OnOk result (text.new.text ≡ text.old.text ++ text_of_rows (found_rows change found.now)) }
 {
-    let value = value_text(alloc, row)?;
+    put_one(alloc, text, change, found.first)?;
+    if found.first.value == found.second.value {
+        return Ok(());
+    }
+    put_one(alloc, text, change, found.second)
+}
+
+/// Writes a row.
+fn put_one(alloc: Global, text: &mut RowsWriter, change: Change, row: Row) -> Result<(), NoMemory>
+    ensures { OnOk result (text.new.text ≡ text.old.text ++ text_of_row (what_if_row change row)) }
+{
+    let value = value_text(alloc, change, row.value)?;
     let fields = [
-        change_text(row.change),
+        change_text(change),
         value.as_str(),
         verdict_text(row.verdict),
     ];
@@ -232,14 +248,14 @@ fn verdict_text(verdict: Verdict) -> &'static str
 }
 
 /// A cost as an amount, a number of voters as a number.
-fn value_text(alloc: Global, row: Row) -> Result<String, NoMemory>
-    ensures { IfOk result (λ text. string_bytes text ≡ value_text row.change row.value) }
+fn value_text(alloc: Global, change: Change, value: u64) -> Result<String, NoMemory>
+    ensures { IfOk result (λ text. string_bytes text ≡ value_text change value) }
 {
-    match row.change {
-        Change::Cost => Money(row.value).text(alloc),
+    match change {
+        Change::Cost => Money(value).text(alloc),
         Change::Voters => {
             let mut digits = Buffer::new();
-            Ok(String::from_str(alloc, digits.format(row.value))?)
+            Ok(String::from_str(alloc, digits.format(value))?)
         }
     }
 }

@@ -27,6 +27,7 @@ changed_seen Voters place value s t r more same budget costs ballots further = �
 -- an election is itself with its project's own cost, and with no further voter
 pub known : (e : ElectionView) (q : Question) (p : ProjectView) (verdict : Verdict) → IsElection e → q.place < length e.projects → p ≡ get_or e.projects q.place p
     → Says e q verdict → AreKnown (seen e) q p.cost verdict
+unfolding IsTrue
 known e q p verdict is within at says = record {
   own = (e, is, (λ i. record { budget = e.budget; costs = sym (own_cost e.projects q.place p within at) i; ballots = (seen e).ballots }), says);
   nobody = (e, is, (λ i. record { budget = e.budget; costs = (seen e).costs; ballots = sym (append-nil (seen e).ballots) i }), says);

@@ -1,114 +1,117 @@
 -- Rows of a search, and what ends one.
-use Rattle.std.proofs.Common.{◌≡◌, ◌≢◌, ◌<◌, ◌≤◌, ◌+◌, ℕ, ◌⊎◌, Some, None, refl, sym, ◌∙◌, arith, inl, inr}
+use Rattle.std.proofs.Common.{◌≡◌, ◌≢◌, ◌<◌, ◌≤◌, ◌+◌, ℕ, ◌⊎◌, Bool, true, false, Some, refl, sym, ◌∙◌, ap, subst, arith, inl, inr}
 use Rattle.pb_core.specs.Election.{ElectionView}
 use Rattle.pb_rounds.specs.Counted.{IsCountFault}
 use Rattle.pb_rounds.specs.declared.count_fault.CountFault.{CountFault}
 use Rattle.pb_rounds.specs.declared.count_fault.CountFault.TheVariants.{WorkerCount, StepRange, RaisesRange, RaisesSpent, NoMemory}
-use Rattle.pb_whatif.specs.WhatIf.{IsFound, IsPair, IsTrue, Seen}
-use Rattle.pb_whatif.specs.Inner.Searching.{AreOpposed, IsStop}
+use Rattle.pb_whatif.specs.WhatIf.{CanBe, IsFound, IsTrue, Says, Seen}
+use Rattle.pb_whatif.specs.Inner.Searching.{AreEnds, AreNear, AreOpposed, HasWon, IsStop, wins}
 use Rattle.pb_whatif.specs.declared.change.Change.{Change}
+use Rattle.pb_whatif.specs.declared.change.Change.TheVariants.{Cost, Voters}
 use Rattle.pb_whatif.specs.declared.change.Row.{Row}
 use Rattle.pb_whatif.specs.declared.change.Verdict.{Verdict}
 use Rattle.pb_whatif.specs.declared.change.Verdict.TheVariants.{Lost, Won, Refused}
 use Rattle.pb_whatif.specs.declared.question.Question.{Question}
 
-won_not_lost : Won ≢ Lost
-won_not_lost same = cc
+lost_refused : Lost ≢ Refused
+lost_refused same = cc
 
-opposed_differ : (a b : Row) → AreOpposed a b → a.verdict ≢ b.verdict
-opposed_differ a b (inl (won, lost)) same = won_not_lost (sym won ∙ same ∙ lost)
-opposed_differ a b (inr (lost, won)) same = won_not_lost (sym won ∙ sym same ∙ lost)
+-- verdicts that are alike, and yet not the same: one is refused
+alike_apart : (x y : Verdict) → wins x ≡ wins y → x ≢ y → x ≢ Refused → y ≢ Refused → ⊥
+alike_apart Won Won alike apart x y = apart refl
+alike_apart Won Lost alike apart x y = cc
+alike_apart Won Refused alike apart x y = y refl
+alike_apart Lost Won alike apart x y = cc
+alike_apart Lost Lost alike apart x y = apart refl
+alike_apart Lost Refused alike apart x y = y refl
+alike_apart Refused Won alike apart x y = x refl
+alike_apart Refused Lost alike apart x y = x refl
+alike_apart Refused Refused alike apart x y = apart refl
 
-opposed_by : (x y : Verdict) → x ≢ y → x ≢ Refused → y ≢ Refused → (x ≡ Won) × (y ≡ Lost) ⊎ (x ≡ Lost) × (y ≡ Won)
-opposed_by Won Won apart x y = absurd (apart refl)
-opposed_by Won Lost apart x y = inl (refl, refl)
-opposed_by Won Refused apart x y = absurd (y refl)
-opposed_by Lost Won apart x y = inr (refl, refl)
-opposed_by Lost Lost apart x y = absurd (apart refl)
-opposed_by Lost Refused apart x y = absurd (y refl)
-opposed_by Refused Won apart x y = absurd (x refl)
-opposed_by Refused Lost apart x y = absurd (x refl)
-opposed_by Refused Refused apart x y = absurd (apart refl)
+-- a value between two that a change can have
+pub can_be_between : (s : Seen) (change : Change) (low value high : ℕ) → CanBe s change low → CanBe s change high → low ≤ value → value ≤ high
+    → CanBe s change value
+can_be_between s Cost low value high from to above below = (omega (arith, from.0, above), omega (arith, to.1, below))
+can_be_between s Voters low value high from to above below = omega (arith, to, below)
 
--- one wins and one loses, and they are one step apart
-pub pair_step : (low high : ℕ) (a b : Row) → a.value < b.value → b.value ≤ a.value + 1 → AreOpposed a b → IsPair low high a b
-pair_step low high a b less near opposed = record {
-  ordered = less;
-  agree = λ same. absurd (opposed_differ a b opposed same);
-  differ = λ apart first second. omega (arith, less, near);
+-- a row between two takes the place of the one that is like it
+pub opposed_low : (s : Seen) (q : Question) (change : Change) (from to : ℕ) (low high row : Row) → AreOpposed s q change from to low high
+    → IsTrue s q change row → low.value < row.value → row.value < high.value → wins low.verdict ≡ wins row.verdict
+    → AreOpposed s q change from to row high
+opposed_low s q change from to low high row are is above below alike = record {
+  ends = record {
+    low_is = is;
+    high_is = are.ends.high_is;
+    ordered = below;
+    from = can_be_between s change low.value row.value high.value are.ends.from are.ends.to (omega (arith, above)) (omega (arith, below));
+    to = are.ends.to;
+  };
+  one_wins = λ same. are.one_wins (alike ∙ same);
+  from = omega (arith, above, are.from);
+  to = are.to;
 }
 
--- the second is refused and the first is not, or the other way round
-pub pair_stopped : (low high : ℕ) (a b : Row) → a.value < b.value → a.verdict ≢ Refused → b.verdict ≡ Refused → IsPair low high a b
-pair_stopped low high a b less counted refused = record {
-  ordered = less;
-  agree = λ same. absurd (counted (same ∙ refused));
-  differ = λ apart first second. absurd (second refused);
+pub opposed_high : (s : Seen) (q : Question) (change : Change) (from to : ℕ) (low high row : Row) → AreOpposed s q change from to low high
+    → IsTrue s q change row → low.value < row.value → row.value < high.value → wins low.verdict ≢ wins row.verdict
+    → AreOpposed s q change from to low row
+opposed_high s q change from to low high row are is above below apart = record {
+  ends = record {
+    low_is = are.ends.low_is;
+    high_is = is;
+    ordered = above;
+    from = are.ends.from;
+    to = can_be_between s change low.value row.value high.value are.ends.from are.ends.to (omega (arith, above)) (omega (arith, below));
+  };
+  one_wins = apart;
+  from = are.from;
+  to = omega (arith, below, are.to);
 }
 
-pub pair_begun : (low high : ℕ) (a b : Row) → a.value < b.value → a.verdict ≡ Refused → b.verdict ≢ Refused → IsPair low high a b
-pair_begun low high a b less refused counted = record {
-  ordered = less;
-  agree = λ same. absurd (counted (sym same ∙ refused));
-  differ = λ apart first second. absurd (first refused);
+-- what halving finds of a part of a range is found of the range
+pub found_near : (s : Seen) (q : Question) (change : Change) (low from to high : ℕ) (a b : Row) → AreNear s q change from to a b → low ≤ from → to ≤ high
+    → IsFound s q change low high a b
+found_near s q change low from to high a b are below above =
+    let o = are.opposed in
+    record {
+      first_is = o.ends.low_is;
+      second_is = o.ends.high_is;
+      agree = λ same. absurd (o.one_wins (ap wins same));
+      differ = λ apart. (omega (arith, below, o.from), o.ends.ordered, omega (arith, o.to, above));
+      step = λ apart first second. omega (arith, are.near first second, o.ends.ordered);
+    }
+
+-- the ends of a range, which are alike
+pub found_ends : (s : Seen) (q : Question) (change : Change) (a b : Row) → AreEnds s q change a b → wins a.verdict ≡ wins b.verdict
+    → IsFound s q change a.value b.value a b
+found_ends s q change a b ends alike = record {
+  first_is = ends.low_is;
+  second_is = ends.high_is;
+  agree = λ same. (refl, refl);
+  differ = λ apart. (omega arith, ends.ordered, omega arith);
+  step = λ apart first second. absurd (alike_apart a.verdict b.verdict alike apart first second);
 }
 
--- the ends of a range, of which not one wins and the other loses
-pub pair_ends : (low high : ℕ) (a b : Row) → a.value < b.value → a.value ≡ low → b.value ≡ high → ¬ AreOpposed a b → IsPair low high a b
-pair_ends low high a b less first_is second_is agree = record {
-  ordered = less;
-  agree = λ same. (first_is, second_is);
-  differ = λ apart first second. absurd (agree (opposed_by a.verdict b.verdict apart first second));
+-- two rows that say the same, at both ends of a range, also of one value
+pub found_same : (s : Seen) (q : Question) (change : Change) (low high : ℕ) (a b : Row) → IsTrue s q change a → IsTrue s q change b → a.value ≡ low
+    → b.value ≡ high → a.verdict ≡ b.verdict → IsFound s q change low high a b
+found_same s q change low high a b a_is b_is a_at b_at same = record {
+  first_is = a_is;
+  second_is = b_is;
+  agree = λ alike. (a_at, b_at);
+  differ = λ apart. absurd (apart same);
+  step = λ apart first second. absurd (apart same);
 }
 
-pub found_pair : (s : Seen) (q : Question) (change : Change) (low high : ℕ) (a b : Row) → IsTrue s q a → a.change ≡ change → low ≤ a.value
-    → IsTrue s q b → b.change ≡ change → b.value ≤ high → IsPair low high a b
-    → IsFound s q change low high (record { first = a; second = Some b })
-found_pair s q change low high a b a_true a_change from b_true b_change to pair =
-    (a_true, a_change, from, omega (arith, pair.ordered, to), (b_true, b_change, to, pair))
-
-pub found_alone : (s : Seen) (q : Question) (change : Change) (low high : ℕ) (a : Row) → IsTrue s q a → a.change ≡ change → a.value ≡ low → low ≡ high
-    → IsFound s q change low high (record { first = a; second = None })
-found_alone s q change low high a a_true a_change at same = (a_true, a_change, omega (arith, at), omega (arith, at, same), same)
-
--- a row that is opposed to one that wins loses, and so on
-pub opposed_low : (low high row : Row) → AreOpposed low high → row.verdict ≡ low.verdict → AreOpposed row high
-opposed_low low high row (inl (won, lost)) same = inl (same ∙ won, lost)
-opposed_low low high row (inr (lost, won)) same = inr (same ∙ lost, won)
-
-pub opposed_high : (low high row : Row) → AreOpposed low high → row.verdict ≢ low.verdict → row.verdict ≢ Refused → AreOpposed low row
-opposed_high low high row (inl (won, lost)) apart counted = inl (won, other_lost row.verdict (λ same. apart (same ∙ sym won)) counted)
-  where
-    other_lost : (x : Verdict) → x ≢ Won → x ≢ Refused → x ≡ Lost
-    other_lost Won unlike counted = absurd (unlike refl)
-    other_lost Lost unlike counted = refl
-    other_lost Refused unlike counted = absurd (counted refl)
-opposed_high low high row (inr (lost, won)) apart counted = inr (lost, other_won row.verdict (λ same. apart (same ∙ sym lost)) counted)
-  where
-    other_won : (x : Verdict) → x ≢ Lost → x ≢ Refused → x ≡ Won
-    other_won Won unlike counted = refl
-    other_won Lost unlike counted = absurd (unlike refl)
-    other_won Refused unlike counted = absurd (counted refl)
-
-pub opposed_low_counted : (low high : Row) → AreOpposed low high → low.verdict ≢ Refused
-opposed_low_counted low high (inl (won, lost)) same = won_refused (sym won ∙ same)
-  where
-    won_refused : Won ≢ Refused
-    won_refused same = cc
-opposed_low_counted low high (inr (lost, won)) same = lost_refused (sym lost ∙ same)
-  where
-    lost_refused : Lost ≢ Refused
-    lost_refused same = cc
-
-pub opposed_high_counted : (low high : Row) → AreOpposed low high → high.verdict ≢ Refused
-opposed_high_counted low high (inl (won, lost)) same = lost_refused (sym lost ∙ same)
-  where
-    lost_refused : Lost ≢ Refused
-    lost_refused same = cc
-opposed_high_counted low high (inr (lost, won)) same = won_refused (sym won ∙ same)
-  where
-    won_refused : Won ≢ Refused
-    won_refused same = cc
+-- a row that loses, and one that is refused
+pub found_refused : (s : Seen) (q : Question) (change : Change) (low high : ℕ) (a b : Row) → IsTrue s q change a → IsTrue s q change b → low ≤ a.value
+    → a.value < b.value → b.value ≤ high → a.verdict ≡ Lost → b.verdict ≡ Refused → IsFound s q change low high a b
+found_refused s q change low high a b a_is b_is from ordered to lost refused = record {
+  first_is = a_is;
+  second_is = b_is;
+  agree = λ same. absurd (lost_refused (sym lost ∙ same ∙ refused));
+  differ = λ apart. (from, ordered, to);
+  step = λ apart first second. absurd (second refused);
+}
 
 -- a count's fault ends a search, but for raises that are spent; and what ends one is a count's fault
 pub stop_by : (e : ElectionView) (q : Question) (fault : CountFault) → fault ≢ RaisesSpent → IsCountFault e q.options fault → IsStop q fault
@@ -130,3 +133,10 @@ memory_stops q = record { out_of_range = λ unlike. absurd (unlike refl); not_sp
   where
     memory_spent : NoMemory ≢ RaisesSpent
     memory_spent same = cc
+
+-- what a count says that elects or adds the project, or does neither
+pub says_won : (e : ElectionView) (q : Question) → HasWon e q true → Says e q Won
+says_won e q (o, is, won) = (o, is, rw won refl)
+
+pub says_lost : (e : ElectionView) (q : Question) → HasWon e q false → Says e q Lost
+says_lost e q (o, is, lost) = (o, is, rw lost refl)

@@ -1,19 +1,22 @@
 //! What would have made a project win.
 
-ghost use Rattle.std.specs.Prelude.{◌≡◌, ◌≢◌, ◌<◌, Bool, IfErr, IfOk, Some, false, length, true};
+ghost use Rattle.std.specs.Prelude.{◌≡◌, ◌≢◌, ◌*◌, ◌-◌, ◌<◌, IfErr, IfOk, Some, length, min};
+ghost use Rattle.pb_core.specs.Election.{most_voters};
+ghost use Rattle.pb_core.specs.Money.{largest_money};
 ghost use Rattle.pb_price.specs.Supporters.{cost_at, support_of};
 ghost use Rattle.pb_rounds.specs.CountFault.{refusal_of};
 ghost use Rattle.pb_rounds.specs.Counted.{IsCountFault};
 ghost use Rattle.pb_rounds.specs.declared.count_fault.CountFault.TheVariants.{NoMemory};
+ghost use Rattle.pb_whatif.specs.declared.change.Change.TheVariants.{Cost, Voters};
 ghost use Rattle.pb_whatif.specs.declared.change.Verdict.TheVariants.{Lost, Won};
-ghost use Rattle.pb_whatif.specs.WhatIf.{CanBe, HasWon, IsTrue, IsWhatIf, seen};
+ghost use Rattle.pb_whatif.specs.WhatIf.{CanBe, IsFound, IsTrue, IsWhatIf, seen};
 ghost use Rattle.pb_whatif.specs.Inner.Searching.{AreKnown, IsStop};
 
 use crate::change::{Change, Row, Verdict};
 use crate::changing::Changing;
-use crate::found::WhatIf;
+use crate::found::{Found, WhatIf};
 use crate::recount::{Recount, has_won};
-use crate::search::{alone, between, doubled};
+use crate::search::{between, doubled};
 use pb_core::election::{Election, MOST_VOTERS};
 use pb_core::gate::Gate;
 use pb_core::money::Money;
@@ -31,9 +34,8 @@ pub fn what_if<T: Threads + Sync, G: Gate>(
     election: Election,
 ) -> Result<WhatIf, CountFault>
     requires known { recount.now.question.place < length election.projects }
-    ensures found { IfOk result (λ found. (won : Bool) × HasWon election recount.now.question won
-        × IsWhatIf (seen election) recount.now.question won
-        (cost_at (support_of election) recount.now.question.place) found) }
+    ensures found { IfOk result (IsWhatIf election recount.now.question
+        (cost_at (support_of election) recount.now.question.place)) }
     ensures fault { IfErr result (λ fault. fault ≢ NoMemory
         → IsCountFault election recount.now.question.options fault) }
 {
@@ -62,8 +64,7 @@ pub fn one_change<T: Threads + Sync, G: Gate>(
 ) -> Result<Row, CountFault>
     requires known { recount.now.question.place < length election.projects }
     requires can_be { CanBe (seen election) change value }
-    ensures row { IfOk result (IsTrue (seen election) recount.now.question) }
-    ensures change { IfOk result (λ row. row.change ≡ change) }
+    ensures row { IfOk result (IsTrue (seen election) recount.now.question change) }
     ensures value { IfOk result (λ row. row.value ≡ value) }
     ensures fault { IfErr result (λ fault. fault ≢ NoMemory
         → refusal_of recount.now.question.options ≡ Some fault) }
@@ -80,23 +81,19 @@ fn winner<T: Threads + Sync, G: Gate>(
 ) -> Result<WhatIf, CountFault>
     requires known { recount.now.question.place < length changing.old.costs }
     requires won { AreKnown changing.old recount.now.question cost Won }
-    ensures found { IfOk result (IsWhatIf changing.old recount.now.question true cost) }
+    ensures cost { IfOk result (λ found.
+        IsFound changing.old recount.now.question Cost cost (min (10 * cost) largest_money)
+        found.cost.first found.cost.second) }
+    ensures voters { IfOk result (λ found.
+        IsFound changing.old recount.now.question Voters 0 0 found.voters.first found.voters.second) }
     ensures fault { IfErr result (IsStop recount.now.question) }
 {
-    let own = Row {
-        change: Change::Cost,
-        value: cost.0,
-        verdict: Verdict::Won,
-    };
-    let nobody = Row {
-        change: Change::Voters,
-        value: 0,
-        verdict: Verdict::Won,
-    };
+    let own = row_of(cost.0, Verdict::Won);
+    let nobody = row_of(0, Verdict::Won);
     let most = (10 * cost.0).min(Money::LARGEST.0);
     let found = if cost.0 < most {
         let high = changing.row(recount, Change::Cost, most)?;
-        between(recount, changing, own, high)?
+        between(recount, changing, Change::Cost, own, high)?
     } else {
         alone(own)
     };
@@ -114,24 +111,57 @@ fn loser<T: Threads + Sync, G: Gate>(
 ) -> Result<WhatIf, CountFault>
     requires known { recount.now.question.place < length changing.old.costs }
     requires lost { AreKnown changing.old recount.now.question cost Lost }
-    ensures found { IfOk result (IsWhatIf changing.old recount.now.question false cost) }
+    ensures cost { IfOk result (λ found.
+        IsFound changing.old recount.now.question Cost 1 cost found.cost.first found.cost.second) }
+    ensures voters { IfOk result (λ found. IsFound changing.old recount.now.question Voters 0
+        (min (length changing.old.ballots) (most_voters - length changing.old.ballots))
+        found.voters.first found.voters.second) }
     ensures fault { IfErr result (IsStop recount.now.question) }
 {
-    let own = Row {
-        change: Change::Cost,
-        value: cost.0,
-        verdict: Verdict::Lost,
-    };
-    let found = if 1 < cost.0 {
-        let low = changing.row(recount, Change::Cost, 1)?;
-        between(recount, changing, low, own)?
-    } else {
-        alone(own)
-    };
+    let found = cheaper(recount, changing, cost)?;
     let voters = changing.voters();
     let most = voters.min(MOST_VOTERS - voters);
     Ok(WhatIf {
         cost: found,
         voters: doubled(recount, changing, most as u64)?,
     })
+}
+
+/// What is found of a loser's cost.
+fn cheaper<T: Threads + Sync, G: Gate>(
+    recount: &Recount<T, G>,
+    changing: &mut Changing,
+    cost: Money,
+) -> Result<Found, CountFault>
+    requires known { recount.now.question.place < length changing.old.costs }
+    requires lost { AreKnown changing.old recount.now.question cost Lost }
+    ensures found { IfOk result (λ found.
+        IsFound changing.old recount.now.question Cost 1 cost found.first found.second) }
+    ensures kept { IfOk result (λ _. changing.new ≡ changing.old) }
+    ensures fault { IfErr result (IsStop recount.now.question) }
+{
+    let own = row_of(cost.0, Verdict::Lost);
+    if 1 < cost.0 {
+        let low = changing.row(recount, Change::Cost, 1)?;
+        between(recount, changing, Change::Cost, low, own)
+    } else {
+        Ok(alone(own))
+    }
+}
+
+/// What a count says where this value is changed.
+fn row_of(value: u64, verdict: Verdict) -> Row
+    ensures { result ≡ record { value = value; verdict = verdict } }
+{
+    Row { value, verdict }
+}
+
+/// The row of a range that is one value.
+fn alone(row: Row) -> Found
+    ensures { result ≡ record { first = row; second = row } }
+{
+    Found {
+        first: row,
+        second: row,
+    }
 }

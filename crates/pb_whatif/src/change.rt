@@ -20,10 +20,9 @@ pub enum Verdict {
     Refused,
 }
 
-/// A changed election, and what its count says.
+/// A value that is changed, and what the count of the election so changed says.
 #[derive(Clone, Copy, Debug, PartialEq, Eq)]
 pub struct Row {
-    pub change: Change,
     /// The cost, in hundredths, or the number of further voters.
     pub value: u64,
     pub verdict: Verdict,

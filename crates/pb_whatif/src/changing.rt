@@ -75,8 +75,7 @@ impl Changing {
     ) -> Result<Row, CountFault>
         requires known { recount.now.question.place < length self.old.costs }
         requires can_be { CanBe self.old change value }
-        ensures is_true { IfOk result (IsTrue self.old recount.now.question) }
-        ensures change { IfOk result (λ row. row.change ≡ change) }
+        ensures is_true { IfOk result (IsTrue self.old recount.now.question change) }
         ensures value { IfOk result (λ row. row.value ≡ value) }
         ensures kept { IfOk result (λ _. self.new ≡ self.old) }
         ensures fault { IfErr result (IsStop recount.now.question) }
@@ -98,11 +97,7 @@ impl Changing {
         drop(changed);
         voters.truncate(own);
         drop(mem::replace(&mut self.voters, voters));
-        Ok(Row {
-            change,
-            value,
-            verdict,
-        })
+        Ok(Row { value, verdict })
     }
 }
 

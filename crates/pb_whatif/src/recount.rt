@@ -5,8 +5,8 @@ ghost use Rattle.pb_greedy.specs.MostVotes.{is_taken};
 ghost use Rattle.pb_reasons.specs.Counted.{is_selected};
 ghost use Rattle.pb_rounds.specs.Run.{is_elected};
 ghost use Rattle.pb_rounds.specs.Counted.{IsCountFault};
-ghost use Rattle.pb_whatif.specs.WhatIf.{HasWon, Says};
-ghost use Rattle.pb_whatif.specs.Inner.Searching.{IsStop};
+ghost use Rattle.pb_whatif.specs.WhatIf.{Says};
+ghost use Rattle.pb_whatif.specs.Inner.Searching.{HasWon, IsStop};
 
 use crate::change::Verdict;
 use crate::question::Question;

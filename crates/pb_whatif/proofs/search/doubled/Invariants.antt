@@ -7,8 +7,7 @@ use Rattle.pb_whatif.proofs.search.doubled.Given as goal
 abbrev pub invariant-doubling : goal.invariant-doubling
 invariant-doubling g l = record {
   same : l.changing ≡ l.initial.changing;
-  is_true : IsTrue l.changing l.recount.question l.last;
-  change : l.last.change ≡ Voters;
+  is_true : IsTrue l.changing l.recount.question Voters l.last;
   verdict : l.last.verdict ≡ Lost;
   within : l.last.value ≤ l.most;
 }

@@ -2,7 +2,7 @@ use Rattle.std.proofs.Common.{◌≡◌, ◌∙◌, ◌++◌, ℕ, List, ap, len
 use Rattle.std.proofs.Math.Seq.{take_at}
 use Rattle.std.proofs.lemmas.List.{map-append}
 use Rattle.pb_core.specs.Election.{ElectionView, IsElection, VoterView}
-use Rattle.pb_whatif.specs.WhatIf.{Seen, changed, seen}
+use Rattle.pb_whatif.specs.WhatIf.{IsTrue, Seen, changed, seen}
 use Rattle.pb_whatif.specs.Inner.Numbered.{AreNumbered}
 use Rattle.pb_whatif.proofs.Changed.{changed_seen}
 use Rattle.pb_whatif.proofs.Numbering.{numbers_differ}
@@ -21,6 +21,7 @@ invariant_of-self-2 g c =
     (c.self.invariant.0, subst (AreNumbered (length c.self.inside.frame.projects)) (sym restored) c.self.invariant.1)
 
 pub returns-clause-is_true : goal.returns-clause-is_true
+unfolding IsTrue
 returns-clause-is_true g c =
     let o : ElectionView = c.replace_voters.new.self in
     let s : Seen = c.args.self.now in
