@@ -4,3 +4,4 @@ pub mod Copies
 pub mod Numbering
 pub mod Searches
 pub mod Tidy
+pub mod Ranges

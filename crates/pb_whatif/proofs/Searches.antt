@@ -1,5 +1,5 @@
 -- Rows of a search, and what ends one.
-use Rattle.std.proofs.Common.{◌≡◌, ◌≢◌, ◌<◌, ◌≤◌, ◌+◌, ℕ, ◌⊎◌, Bool, true, false, Some, refl, sym, ◌∙◌, ap, subst, arith, inl, inr}
+use Rattle.std.proofs.Common.{◌≡◌, ◌≢◌, ◌<◌, ◌≤◌, ◌+◌, ℕ, Bool, true, false, if◌then◌else◌, Some, refl, sym, ◌∙◌, ap, arith}
 use Rattle.pb_core.specs.Election.{ElectionView}
 use Rattle.pb_rounds.specs.Counted.{IsCountFault}
 use Rattle.pb_rounds.specs.declared.count_fault.CountFault.{CountFault}
@@ -136,7 +136,7 @@ memory_stops q = record { out_of_range = λ unlike. absurd (unlike refl); not_sp
 
 -- what a count says that elects or adds the project, or does neither
 pub says_won : (e : ElectionView) (q : Question) → HasWon e q true → Says e q Won
-says_won e q (o, is, won) = (o, is, rw won refl)
+says_won e q (o, is, won) = (o, is, ap (λ (b : Bool). if b then Won else Lost) (sym won))
 
 pub says_lost : (e : ElectionView) (q : Question) → HasWon e q false → Says e q Lost
-says_lost e q (o, is, lost) = (o, is, rw lost refl)
+says_lost e q (o, is, lost) = (o, is, ap (λ (b : Bool). if b then Won else Lost) (sym lost))

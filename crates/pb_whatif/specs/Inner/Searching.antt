@@ -44,15 +44,15 @@ pub record AreEnds (s : Seen) (q : Question) (change : Change) (low high : Row) 
   pub to : CanBe s change high.value
 
 -- two such rows of a range, of which one wins and the other does not
-pub record AreOpposed (s : Seen) (q : Question) (change : Change) (from to : ℕ) (low high : Row) : Type 0 where
+pub record AreOpposed (s : Seen) (q : Question) (change : Change) (least most : ℕ) (low high : Row) : Type 0 where
   pub ends : AreEnds s q change low high
   pub one_wins : wins low.verdict ≢ wins high.verdict
-  pub from : from ≤ low.value
-  pub to : high.value ≤ to
+  pub from : least ≤ low.value
+  pub to : high.value ≤ most
 
 -- the same, one step apart where neither is refused
-pub record AreNear (s : Seen) (q : Question) (change : Change) (from to : ℕ) (a b : Row) : Type 0 where
-  pub opposed : AreOpposed s q change from to a b
+pub record AreNear (s : Seen) (q : Question) (change : Change) (least most : ℕ) (a b : Row) : Type 0 where
+  pub opposed : AreOpposed s q change least most a b
   pub near : a.verdict ≢ Refused → b.verdict ≢ Refused → b.value ≤ a.value + 1
 
 -- what is known of the election as it is, and of its project with its own cost
