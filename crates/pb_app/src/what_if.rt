@@ -10,7 +10,7 @@ use pb_commands::{
 use pb_core::election::Election;
 use pb_streams::{Progress, open_shown};
 use pb_whatif::Change;
-use pb_words::warnings::ResultWarnings;
+use pb_witness::warnings::ResultWarnings;
 use std::fs::File;
 use std::io::Write;
 use std::rt::{Clock, Files};

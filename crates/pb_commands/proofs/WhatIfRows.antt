@@ -1,13 +1,13 @@
 -- The rows of changed elections, and the place of the project that is asked about.
-use Rattle.std.proofs.Common.{◌≡◌, ◌∙◌, ◌++◌, ◌<◌, ◌==◌, ℕ, List, [], ◌∷◌, Bool, true, false, if◌then◌else◌, Some, length, map, refl, sym, ap, append_assoc, append-nil}
+use Rattle.std.proofs.Common.{◌≡◌, ◌∙◌, ◌++◌, ◌<◌, ◌==◌, ℕ, List, [], ◌∷◌, Bool, Ok, Err, if◌then◌else◌, Some, length, map, refl, sym, ap}
 use Rattle.std.specs.List.{slice_get, slice_index_or}
 use Rattle.std.specs.Option.{option_map}
+use Rattle.std.specs.Prelude.{OnOk, Result}
 use Rattle.std.proofs.lemmas.Bool.{eq-eqb, ne_eqb}
 use Rattle.std.proofs.lemmas.Option.{slice_get-map, slice_get_read}
 use Rattle.pb_core.specs.Election.{ProjectView}
 use Rattle.pb_rows.specs.Reading.{Fields}
 use Rattle.pb_rows.specs.Writing.{text_of_row, text_of_rows}
-use Rattle.pb_rows.proofs.RowsText.{text_of_rows-cons, text_of_rows-nil}
 use Rattle.pb_commands.proofs.RowsGrown.{none_grown, row_grown, rows_grown, two_grown}
 use Rattle.pb_commands.specs.Inner.WhatIf.{change_text, value_text}
 use Rattle.pb_commands.specs.WhatIf.{found_rows, verdict_text, what_if_row}
@@ -57,3 +57,10 @@ pub whole_one : (columns row : Fields) (t0 t1 t2 : List ℕ) → t0 ≡ [] → t
     → t2 ≡ text_of_rows (columns ∷ row ∷ [])
 whole_one columns row t0 t1 t2 none first second =
     two_grown columns row t0 t1 t2 first second ∙ ap (λ (t : List ℕ). t ++ text_of_rows (columns ∷ row ∷ [])) none
+
+-- the same, where memory suffices for the second
+pub two_put : {E : Type 0} (r : Result (Unit {0}) E) (change : Change) (f : Found) (old middle new : List ℕ) → ¬ (f.first.value ≡ f.second.value)
+    → middle ≡ old ++ text_of_row (what_if_row change f.first) → OnOk r (new ≡ middle ++ text_of_row (what_if_row change f.second))
+    → OnOk r (new ≡ old ++ text_of_rows (found_rows change f))
+two_put (Err fault) change f old middle new apart first second = tt
+two_put (Ok done) change f old middle new apart first second = two_found change f old middle new apart first second
