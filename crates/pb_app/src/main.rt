@@ -17,6 +17,7 @@ mod spent;
 mod terminal;
 mod typing;
 mod worded;
+mod what_if;
 mod words;
 
 use crate::perform::{Notes, Refusal, perform};
@@ -180,7 +181,7 @@ fn write_line<R: Print>(rt: &R, refusal: &Refusal) -> u8 {
             words_status(fault)
         }
         // Words alone say it, as of all arguments that are refused.
-        Refusal::Barred => BAD_ARGUMENTS,
+        Refusal::Barred | Refusal::WhatIf(_) => BAD_ARGUMENTS,
         // Each of them has its line already.
         Refusal::BadRows(_) => BAD_ROWS,
     }

@@ -13,12 +13,13 @@ use crate::page::page;
 use crate::serve::serve;
 use crate::terminal::ShownWriter;
 use crate::typing::Typing;
+use crate::what_if::what_if;
 use crate::words::is_quiet;
 use pb_command_line::{Asked, Ballots, CompareRun, DeskRun, Source, Task};
 use pb_commands::run_count::run_count_watched;
 use pb_commands::run_desk::run_admitted_desk;
 use pb_commands::run_table::{run_closed_table, run_table};
-use pb_commands::{AppFault, Counting, Table};
+use pb_commands::{AppFault, Counting, Table, WhatIfFault};
 use pb_core::gate::NoGate;
 use pb_page::WordsFault;
 use pb_read::{ReadFault, read_pb};
@@ -35,6 +36,8 @@ use std::thread::Threads;
 pub(crate) enum Refusal {
     /// The runs of the commands say why.
     Fault(AppFault),
+    /// No changed election is counted, for this reason, which is not a count's.
+    WhatIf(WhatIfFault),
     /// Another run serves the journal at the path of this number: 2 is JOURNAL, 3 where the result goes.
     Locked(u8),
     /// The result would replace what it never does, which the output tells.
@@ -210,6 +213,9 @@ where
                 kinship,
                 &mut notes.seen,
             )
+        }
+        Task::WhatIf(run) => {
+            return what_if(counting, run, kinship, writer, &mut notes.seen);
         }
         Task::Page(run) => return page(counting, run, kinship, writer, &mut notes.seen),
         Task::Export(ballots, _) => {

@@ -3,8 +3,8 @@
 use crate::perform::{Notes, Refusal};
 use crate::spent::look_further;
 use crate::worded::words_file_words;
-use pb_command_line::{Asked, BallotsRun, Source, Task};
-use pb_commands::AppFault;
+use pb_command_line::{Asked, BallotsRun, OneChange, Source, Task, WhatIfRun};
+use pb_commands::{AppFault, WhatIfFault};
 use pb_desk::desk::MOST_CLERKS;
 use pb_durable::file_beside::file_path;
 use pb_durable::moved::kept_path;
@@ -32,6 +32,7 @@ use pb_words::serve_words::{
 };
 use pb_words::tally_words::tally_words;
 use pb_words::warning_words::warning_words;
+use pb_words::what_if_words::{no_cost_words, no_project_words, too_many_voters_words};
 use pb_words::{mistaken_words, open_words, write_words};
 use std::alloc::{AllocError, Global};
 use std::fs;
@@ -87,6 +88,7 @@ pub(crate) fn say_refusal<R: Files + Eprint + AllocGlobal>(
     match refusal {
         Refusal::Locked(3) => say_bar(rt, asked.output, Some(Bar::IsServed)),
         Refusal::Barred => say_bar(rt, asked.output, output.bar),
+        Refusal::WhatIf(fault) => say_words(rt, words_of_what_if(rt.alloc(), &asked.task, fault)),
         Refusal::Fault(AppFault::OtherFile) => {
             say_words(rt, words_of_other_file(rt.alloc(), &asked.task));
         }
@@ -150,9 +152,34 @@ fn words_of_serve(alloc: Global, task: &Task<'_>, refusal: &Refusal) -> Result<S
         }
         Refusal::Moved(Err(reason)) => lost_words(alloc, path, reason),
         Refusal::BadRows(rows) => bad_rows_words(alloc, *rows),
-        Refusal::Unanswered | Refusal::Barred | Refusal::Words(_) | Refusal::Fault(_) => Err(
+        Refusal::Unanswered | Refusal::Barred | Refusal::Words(_) | Refusal::WhatIf(_) | Refusal::Fault(_) => {
+            Err(
             AllocError,
-        ),
+        )
+        }
+    }
+}
+
+/// Words where no changed election is counted.
+fn words_of_what_if(
+    alloc: Global,
+    task: &Task<'_>,
+    fault: &WhatIfFault,
+) -> Result<String, AllocError> {
+    match (task, fault) {
+        (Task::WhatIf(run), WhatIfFault::NoProject) => {
+            no_project_words(alloc, run.project, run.ballots.file.path())
+        }
+        (
+            Task::WhatIf(
+                WhatIfRun {
+                    change: Some(OneChange::Voters(_)),
+                    ..
+                },
+            ),
+            WhatIfFault::OutOfRange(most),
+        ) => too_many_voters_words(alloc, *most),
+        _ => no_cost_words(alloc),
     }
 }
 
@@ -282,6 +309,7 @@ pub(crate) fn say_tally<R: Eprint + AllocGlobal>(
         | Task::Projects(..)
         | Task::Voters(..)
         | Task::Compare(_)
+        | Task::WhatIf(..)
         | Task::Page(..)
         | Task::Export(..)
         | Task::Ballots(..)

@@ -1,8 +1,8 @@
 //! What parsed arguments ask for.
 
 use crate::task::{
-    Admits, Asked, AuditRun, Ballots, BallotsRun, CheckRun, CompareRun, DeskRun, PageRun, ServeRun,
-    Source, Task,
+    Admits, Asked, AuditRun, Ballots, BallotsRun, CheckRun, CompareRun, DeskRun, OneChange, PageRun,
+    Source, ServeRun, Source, Task, WhatIfRun,
 };
 use clap::ArgMatches;
 use pb_core::money::Money;
@@ -44,6 +44,12 @@ fn task_of<'a>(name: &str, given: &ArgMatches<'a>) -> Task<'a> {
             ballots: ballots_of(given, file),
             options: options_of(given),
             by_project: given.get_flag("projects"),
+        }),
+        "whatif" => Task::WhatIf(WhatIfRun {
+            ballots: ballots_of(given, file),
+            options: options_of(given),
+            project: given.get_str("project").unwrap_or(""),
+            change: change_of(given),
         }),
         "page" => Task::Page(PageRun {
             ballots: ballots_of(given, file),
@@ -87,6 +93,14 @@ fn task_of<'a>(name: &str, given: &ArgMatches<'a>) -> Task<'a> {
             requires_shut: given.get_flag("require-shut"),
             digests: given.get_flag("digests"),
         }),
+    }
+}
+
+/// The one change that is counted, if an option says so. A text that names no cost is one of 0.
+fn change_of(given: &ArgMatches<'_>) -> Option<OneChange> {
+    match given.get_str("cost") {
+        Some(text) => Some(OneChange::Cost(Money::read(text).unwrap_or(Money(0)))),
+        None => given.get_one("voters").map(OneChange::Voters),
     }
 }
 

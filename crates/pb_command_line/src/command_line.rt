@@ -126,6 +126,10 @@ enum Takes {
     Completion,
     /// A text, which its help calls so.
     Text(&'static str),
+    /// A text that has to be given.
+    NeededText(&'static str),
+    /// An amount of money, where no further voters are asked about by an option of their own.
+    Amount(&'static str),
     /// Nothing: it is given or not.
     Nothing,
 }
@@ -400,6 +404,27 @@ const COMPARE: Argument = Argument {
     help: "Adds a table that compares this count with most votes",
 };
 
+/// Which project is asked about.
+const PROJECT: Argument = Argument {
+    name: "project",
+    takes: Takes::NeededText("ID"),
+    help: "The id of the project",
+};
+
+/// The one cost that is tried.
+const COST: Argument = Argument {
+    name: "cost",
+    takes: Takes::Amount("X"),
+    help: "Tries only this cost for the project, an amount above 0, for example 53.66",
+};
+
+/// The one number of further voters that is tried.
+const VOTERS: Argument = Argument {
+    name: "voters",
+    takes: Takes::Number("N"),
+    help: "Tries only N further voters, who approve this project and no other; N can be 0",
+};
+
 /// The commands that read a .pb file, and count its ballots or those of a journal.
 const COUNTS: &[CommandForm] = &[
     CommandForm {
@@ -436,6 +461,15 @@ const COUNTS: &[CommandForm] = &[
         arguments: &[
             ELECTION, BY_PROJECT, LEFT_BY, OTHER_FILE, WORKERS, STEP, RAISES, PLAIN, COMPLETION,
             MEASURE, STRICT, OUTPUT, QUIET, PROGRESS,
+        ],
+    },
+    CommandForm {
+        name: "whatif",
+        notes: "Each row is a whole count of the changed election. Nothing is known of costs or numbers of voters between the rows.\n\nManual pages: man pb_app-election, man 5 pb_app-whatif, man pb_app-proposers.",
+        about: "Counts a .pb file again and again, and prints at which cost, or with how many further voters, a project wins",
+        arguments: &[
+            ELECTION, PROJECT, COST, VOTERS, LEFT_BY, OTHER_FILE, WORKERS, STEP, RAISES, PLAIN,
+            COMPLETION, MEASURE, STRICT, OUTPUT, QUIET, PROGRESS,
         ],
     },
     CommandForm {
@@ -652,6 +686,16 @@ fn made<'a>(alloc: Global, argument: &Argument) -> Result<Arg<'a>, AllocError> {
             .long(argument.name)
             .value_name(name)
             .action(ArgAction::Set),
+        Takes::NeededText(name) => arg
+            .long(argument.name)
+            .value_name(name)
+            .required(true)
+            .action(ArgAction::Set),
+        Takes::Amount(name) => arg
+            .long(argument.name)
+            .value_name(name)
+            .action(ArgAction::Set)
+            .conflicts_with("voters")?,
         Takes::Nothing => arg.long(argument.name).action(ArgAction::SetTrue),
     };
     Ok(arg)

@@ -9,6 +9,6 @@ pub mod task;
 
 pub use parse::Parsed;
 pub use task::{
-    Admits, Asked, AuditRun, Ballots, BallotsRun, CheckRun, CompareRun, DeskRun, PageRun, ServeRun,
-    Source, Task,
+    Admits, Asked, AuditRun, Ballots, BallotsRun, CheckRun, CompareRun, DeskRun, OneChange, PageRun,
+    Source, ServeRun, Source, Task, WhatIfRun,
 };

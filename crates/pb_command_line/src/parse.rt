@@ -3,9 +3,10 @@
 use crate::address::is_address;
 use crate::asked::asked_by;
 use crate::command_line::command_line;
-use crate::task::{Admits, Asked, DeskRun, PageRun, ServeRun, Source, Task};
+use crate::task::{Admits, Asked, DeskRun, OneChange, PageRun, ServeRun, Source, Task, WhatIfRun};
 use clap::Error;
 use clap::error::ErrorKind;
+use pb_core::money::Money;
 use std::alloc::{AllocError, Global};
 
 /// The status of arguments that are refused.
@@ -47,6 +48,9 @@ pub fn parse<'a, R: Print + Eprint>(
             }
             if leads_elsewhere(&asked.task) {
                 return Ok(Parsed::Ends(refuse_address(rt)));
+            }
+            if has_no_cost(&asked.task) {
+                return Ok(Parsed::Ends(refuse_cost(rt)));
             }
             Ok(Parsed::Asks(asked))
         }
@@ -125,6 +129,27 @@ fn leads_elsewhere(task: &Task<'_>) -> bool {
         ) => !is_address(address),
         _ => false,
     }
+}
+
+/// Whether the one cost that is tried is none that a project can have.
+fn has_no_cost(task: &Task<'_>) -> bool {
+    match task {
+        Task::WhatIf(
+            WhatIfRun {
+                change: Some(OneChange::Cost(cost)),
+                ..
+            },
+        ) => *cost == Money(0),
+        _ => false,
+    }
+}
+
+/// Refuses a cost that no project can have.
+fn refuse_cost<R: Eprint>(rt: &R) -> u8 {
+    let _ = eprintln!(rt;
+        "error: --cost takes an amount above 0, at most 10000000000000, with up to two decimals, for example 53.66"
+    );
+    BAD_ARGUMENTS
 }
 
 /// Refuses an address that no link may lead to.

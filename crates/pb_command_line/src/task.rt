@@ -1,5 +1,6 @@
 //! What the arguments of the command line ask for.
 
+use pb_core::money::Money;
 use pb_rounds::options::CountOptions;
 
 /// Where a text is read from.
@@ -131,6 +132,26 @@ pub struct PageRun<'a> {
     pub compares: bool,
 }
 
+/// The one change of an election that is counted.
+#[derive(Clone, Copy)]
+pub enum OneChange {
+    /// The project has this cost; 0 where the text names none, and such arguments are refused.
+    Cost(Money),
+    /// There are so many further voters, who approve the project alone.
+    Voters(u32),
+}
+
+/// A question about changed elections: what would have made a project win.
+#[derive(Clone, Copy)]
+pub struct WhatIfRun<'a> {
+    pub ballots: Ballots<'a>,
+    pub options: CountOptions,
+    /// The project's id.
+    pub project: &'a str,
+    /// The one change that is counted; with none, changes are searched.
+    pub change: Option<OneChange>,
+}
+
 /// What the arguments ask for.
 #[derive(Clone, Copy)]
 pub enum Task<'a> {
@@ -142,6 +163,8 @@ pub enum Task<'a> {
     Voters(Ballots<'a>, CountOptions),
     /// A count of these ballots beside most votes first.
     Compare(CompareRun<'a>),
+    /// Counts of changed elections.
+    WhatIf(WhatIfRun<'a>),
     /// The page of a count.
     Page(PageRun<'a>),
     /// The .pb file of these ballots, with what their count came to.
@@ -167,6 +190,7 @@ impl<'a> Task<'a> {
             | Task::Voters(_, options)
             | Task::Export(_, options) => *options,
             Task::Compare(run) => run.options,
+            Task::WhatIf(run) => run.options,
             Task::Page(run) => run.options,
             Task::Audit(run) => run.options,
             Task::Check(run) => run.against.unwrap_or(CountOptions::standard()),
@@ -182,6 +206,7 @@ impl<'a> Task<'a> {
             | Task::Voters(ballots, _)
             | Task::Export(ballots, _)
             | Task::Compare(CompareRun { ballots, .. })
+            | Task::WhatIf(WhatIfRun { ballots, .. })
             | Task::Page(PageRun { ballots, .. }) => (ballots.file, ballots.journal),
             Task::Desk(DeskRun { file, script, .. }) => (file, Some(script)),
             Task::Audit(AuditRun { file, journal, .. })

@@ -26,3 +26,4 @@ pub mod GivenBallots
 pub mod BallotRows
 pub mod IdsText
 mod Exports
+pub mod WhatIfRows

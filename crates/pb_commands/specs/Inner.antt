@@ -6,3 +6,4 @@ pub mod Compared
 pub mod DeskRun
 pub mod Exporting
 pub mod Tables
+pub mod WhatIf

@@ -11,4 +11,5 @@ pub mod DeskRun
 pub mod Checked
 pub mod Closed
 pub mod Exported
+pub mod WhatIf
 pub mod Inner

@@ -23,8 +23,10 @@ pub mod run_table;
 pub mod table;
 pub mod table_laws;
 mod voters_table;
+pub mod what_if_rows;
 
 pub use closed_desk::{closed_ballots, own_ballots};
 pub use counting::{Counting, counted};
 pub use pb_faults::{AppFault, BAD_ARGUMENTS, write_out};
 pub use table::Table;
+pub use what_if_rows::{Changes, WhatIfFault, what_if_text};

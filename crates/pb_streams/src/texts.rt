@@ -28,6 +28,7 @@ pub(crate) fn pairs_ids(task: &Task<'_>) -> bool {
         Task::Count(..)
         | Task::Projects(..)
         | Task::Compare(_)
+        | Task::WhatIf(..)
         | Task::Page(..)
         | Task::Check(_)
         | Task::Audit(_)

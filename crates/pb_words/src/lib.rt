@@ -28,6 +28,7 @@ pub mod serve_words;
 pub mod tally_words;
 mod terminal;
 pub mod warning_words;
+pub mod what_if_words;
 mod words;
 
 pub use file_words::{mistaken_words, open_words, write_words};

@@ -1,0 +1,12 @@
+META
+key;value
+budget;100
+vote_type;approval
+PROJECTS
+project_id;cost
+p;40
+cent;0.01
+VOTES
+voter_id;vote
+v1;p
+v2;p

@@ -1,0 +1,17 @@
+META
+key;value
+budget;11.00
+vote_type;approval
+PROJECTS
+project_id;cost
+a;4
+b;6
+c;3
+VOTES
+voter_id;vote
+v1;a
+v2;a,c
+v3;c
+v4;a,b,c
+v5;b
+v6;b

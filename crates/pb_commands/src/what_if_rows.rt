@@ -1,0 +1,261 @@
+//! What would have made a project win, as text.
+
+ghost use Rattle.std.specs.Prelude.{◌≡◌, ◌≢◌, ◌↔◌, ◌<◌, ◌≤◌, ◌++◌, ◌∷◌, [], ℕ, Contains, IfErr, IfOk, IfSome, IsTrue, List, None, OnOk, Some, length, slice_get, string_bytes};
+ghost use Rattle.pb_core.specs.Election.{most_voters, project_ids};
+ghost use Rattle.pb_rounds.specs.Counted.{IsCountFault};
+ghost use Rattle.pb_rounds.specs.CountFault.{refusal_of};
+ghost use Rattle.pb_rounds.specs.declared.count_fault.CountFault.TheVariants.{NoMemory};
+ghost use Rattle.pb_rows.specs.Writing.{text_of_row, text_of_rows};
+ghost use Rattle.pb_commands.specs.WhatIf.{IsWhatIfText, WhatIfRefuses, found_rows, verdict_text, what_if_row, what_if_text};
+ghost use Rattle.pb_commands.specs.Inner.WhatIf.{change_text, most_of, value_text, what_if_columns};
+ghost use Rattle.pb_commands.specs.declared.what_if_rows.Changes.TheVariants.{Searched, One};
+ghost use Rattle.pb_whatif.specs.WhatIf.{CanBe, seen};
+ghost use Rattle.pb_whatif.specs.declared.change.Change.TheVariants.{Cost, Voters};
+
+use crate::counting::Counting;
+use itoa::Buffer;
+use pb_core::election::{Election, MOST_VOTERS};
+use pb_core::gate::Gate;
+use pb_core::money::Money;
+use pb_core::no_memory::NoMemory;
+use pb_rounds::count_fault::CountFault;
+use pb_rows::RowsWriter;
+use pb_whatif::{Change, Found, Question, Recount, Row, Verdict, WhatIf, one_change, what_if};
+use std::alloc::Global;
+use std::thread::Threads;
+
+/// Which changes of an election are counted.
+#[derive(Clone, Copy, Debug, PartialEq, Eq)]
+pub enum Changes {
+    /// Costs and numbers of further voters are searched.
+    Searched,
+    /// This one alone: a cost in hundredths, or a number of further voters.
+    One(Change, u64),
+}
+
+/// Why no changed election is counted.
+#[derive(Clone, Copy, Debug, PartialEq, Eq)]
+pub enum WhatIfFault {
+    /// No project has the id that is asked about.
+    NoProject,
+    /// The cost is 0, or the value is above this: the largest cost of a file, or how many further voters an election can have.
+    OutOfRange(u64),
+    /// The count of the election as it is, is refused; or that of a changed one is, for another reason than its raises.
+    Count(CountFault),
+}
+
+/// What would have made the project with this id win, or lose, as text: each row of a whole count by these options.
+pub fn what_if_text<T: Threads + Sync, G: Gate>(
+    counting: &Counting<T, G>,
+    election: Election,
+    project: &str,
+    changes: Changes,
+) -> Result<Vec<u8>, WhatIfFault>
+    ensures ok { IfOk result (λ text. (place : ℕ) × (slice_get (project_ids election) place ≡ Some project.now)
+        × IsWhatIfText election (record {
+          options = counting.now.options.now;
+          fills_up = counting.now.fills_up;
+          place = place;
+        }) changes text.items) }
+    ensures fault { IfErr result (WhatIfRefuses election counting.now.options.now project.now changes) }
+{
+    let Some(place) = place_of(&election, project) else {
+        drop(election);
+        return Err(WhatIfFault::NoProject);
+    };
+    let question = Question {
+        options: *counting.options,
+        fills_up: counting.fills_up,
+        place,
+    };
+    let recount = Recount {
+        rt: counting.rt,
+        alloc: counting.alloc,
+        gate: counting.gate,
+        question,
+    };
+    match changes {
+        Changes::Searched => searched_text(&recount, election),
+        Changes::One(change, value) => one_text(&recount, election, change, value),
+    }
+}
+
+/// What a search finds, as text.
+fn searched_text<T: Threads + Sync, G: Gate>(
+    recount: &Recount<T, G>,
+    election: Election,
+) -> Result<Vec<u8>, WhatIfFault>
+    requires known { recount.now.question.place < length election.projects }
+    ensures ok { IfOk result (λ text. IsWhatIfText election recount.now.question Searched text.items) }
+    ensures fault { (id : List ℕ) → IfErr result (WhatIfRefuses election recount.now.question.options id Searched) }
+{
+    let alloc = recount.alloc;
+    let found = match what_if(recount, election) {
+        Ok(found) => found,
+        Err(fault) => return Err(WhatIfFault::Count(fault)),
+    };
+    match found_text(alloc, &found) {
+        Ok(text) => Ok(text),
+        Err(_) => Err(WhatIfFault::Count(CountFault::NoMemory)),
+    }
+}
+
+/// What the count of one changed election says, as text.
+fn one_text<T: Threads + Sync, G: Gate>(
+    recount: &Recount<T, G>,
+    election: Election,
+    change: Change,
+    value: u64,
+) -> Result<Vec<u8>, WhatIfFault>
+    requires known { recount.now.question.place < length election.projects }
+    ensures ok { IfOk result (λ text. IsWhatIfText election recount.now.question (One change value) text.items) }
+    ensures fault { (id : List ℕ)
+        → IfErr result (WhatIfRefuses election recount.now.question.options id (One change value)) }
+{
+    let alloc = recount.alloc;
+    if !can_be(&election, change, value) {
+        let most = most_of(&election, change);
+        drop(election);
+        return Err(WhatIfFault::OutOfRange(most));
+    }
+    let row = match one_change(recount, election, change, value) {
+        Ok(row) => row,
+        Err(fault) => return Err(WhatIfFault::Count(fault)),
+    };
+    match row_text(alloc, change, row) {
+        Ok(text) => Ok(text),
+        Err(_) => Err(WhatIfFault::Count(CountFault::NoMemory)),
+    }
+}
+
+/// Whether an election can be changed so.
+fn can_be(election: &Election, change: Change, value: u64) -> bool
+    ensures { IsTrue result ↔ CanBe (seen election.now) change value }
+{
+    let most = most_of(election, change);
+    match change {
+        Change::Cost => 0 < value && value <= most,
+        Change::Voters => value <= most,
+    }
+}
+
+/// The largest cost of a file, or how many further voters the election can have.
+fn most_of(election: &Election, change: Change) -> u64
+    ensures most { result ≡ most_of election.now change }
+    ensures few { length election.now.voters ≤ most_voters }
+{
+    let voters = election.voters().len();
+    match change {
+        Change::Cost => Money::LARGEST.0,
+        Change::Voters => (MOST_VOTERS - voters) as u64,
+    }
+}
+
+/// The place of the project with this id.
+fn place_of(election: &Election, id: &str) -> Option<u32>
+    ensures known { IfSome result (λ place. place < length election.now.projects) }
+    ensures named { IfSome result (λ place. slice_get (project_ids election.now) place ≡ Some id.now) }
+    ensures nobody { result ≡ None → ¬ Contains (project_ids election.now) id.now }
+{
+    let projects = election.projects();
+    for place in 0..projects.len() {
+        if projects[place].id() == id {
+            return Some(place as u32);
+        }
+    }
+    None
+}
+
+/// What a search finds as text: the columns, and the rows, those of the cost first.
+fn found_text(alloc: Global, found: &WhatIf) -> Result<Vec<u8>, NoMemory>
+    ensures { IfOk result (λ text. text.items
+        ≡ what_if_text (found_rows Cost found.now.cost ++ found_rows Voters found.now.voters)) }
+{
+    let mut text = RowsWriter::start(alloc);
+    put_columns(&mut text)?;
+    put_found(alloc, &mut text, Change::Cost, &found.cost)?;
+    put_found(alloc, &mut text, Change::Voters, &found.voters)?;
+    Ok(text.finish()?)
+}
+
+/// One row as text, below the columns.
+fn row_text(alloc: Global, change: Change, row: Row) -> Result<Vec<u8>, NoMemory>
+    ensures { IfOk result (λ text. text.items ≡ what_if_text (what_if_row change row ∷ [])) }
+{
+    let mut text = RowsWriter::start(alloc);
+    put_columns(&mut text)?;
+    put_one(alloc, &mut text, change, row)?;
+    Ok(text.finish()?)
+}
+
+/// Writes the columns.
+fn put_columns(text: &mut RowsWriter) -> Result<(), NoMemory>
+    ensures { OnOk result (text.new.text ≡ text.old.text ++ text_of_row what_if_columns) }
+{
+    text.put_row(&["change", "value", "won"])?;
+    Ok(())
+}
+
+/// Writes the two rows of one kind of change, or the one where its range is one value.
+fn put_found(
+    alloc: Global,
+    text: &mut RowsWriter,
+    change: Change,
+    found: &Found,
+) -> Result<(), NoMemory>
+    ensures { OnOk result (text.new.text ≡ text.old.text ++ text_of_rows (found_rows change found.now)) }
+{
+    put_one(alloc, text, change, found.first)?;
+    if found.first.value == found.second.value {
+        return Ok(());
+    }
+    put_one(alloc, text, change, found.second)
+}
+
+/// Writes a row.
+fn put_one(alloc: Global, text: &mut RowsWriter, change: Change, row: Row) -> Result<(), NoMemory>
+    ensures { OnOk result (text.new.text ≡ text.old.text ++ text_of_row (what_if_row change row)) }
+{
+    let value = value_text(alloc, change, row.value)?;
+    let fields = [
+        change_text(change),
+        value.as_str(),
+        verdict_text(row.verdict),
+    ];
+    text.put_row(&fields)?;
+    Ok(())
+}
+
+/// What is changed, in a word.
+fn change_text(change: Change) -> &'static str
+    ensures { result.now ≡ change_text change }
+{
+    match change {
+        Change::Cost => "cost",
+        Change::Voters => "voters",
+    }
+}
+
+/// What a changed count says, as it is written.
+fn verdict_text(verdict: Verdict) -> &'static str
+    ensures { result.now ≡ verdict_text verdict }
+{
+    match verdict {
+        Verdict::Lost => "0",
+        Verdict::Won => "1",
+        Verdict::Refused => "refused",
+    }
+}
+
+/// A cost as an amount, a number of voters as a number.
+fn value_text(alloc: Global, change: Change, value: u64) -> Result<String, NoMemory>
+    ensures { IfOk result (λ text. string_bytes text ≡ value_text change value) }
+{
+    match change {
+        Change::Cost => Money(value).text(alloc),
+        Change::Voters => {
+            let mut digits = Buffer::new();
+            Ok(String::from_str(alloc, digits.format(value))?)
+        }
+    }
+}
