@@ -26,6 +26,7 @@ mod section;
 pub mod serve_words;
 pub mod tally_words;
 mod terminal;
+pub mod unwritten_words;
 pub mod warning_words;
 mod words;
 
