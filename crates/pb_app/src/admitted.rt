@@ -1,7 +1,7 @@
 //! Which requests the desk admits, and what is said of those that it does not.
 
 use crate::words;
-use pb_command_line::Admits;
+use pb_command_line::{Admits, Source};
 use pb_commands::AppFault;
 use pb_commands::run_desk::Rules;
 use pb_ids::IdTable;
@@ -18,6 +18,10 @@ const ROLL: u32 = 3;
 #[derive(Drop)]
 pub(crate) struct Told<'a, R> {
     rt: &'a R,
+    /// The path of the text with the rows; none is standard input.
+    path: Option<&'a str>,
+    /// The path of the voters' roll.
+    roll: Option<&'a str>,
     /// How many projects a ballot has at least.
     least: u32,
     /// Whether a row that is refused refuses the script.
@@ -27,9 +31,11 @@ pub(crate) struct Told<'a, R> {
 
 impl<'a, R> Told<'a, R> {
     /// Says it of rows that are answered one by one.
-    pub(crate) fn rows(rt: &'a R, admits: &Admits<'_>) -> Told<'a, R> {
+    pub(crate) fn rows(rt: &'a R, admits: &Admits<'a>) -> Told<'a, R> {
         Told {
             rt,
+            path: None,
+            roll: admits.roll,
             least: admits.least,
             refuses_script: false,
             by_rules: Cell::new(0),
@@ -37,9 +43,11 @@ impl<'a, R> Told<'a, R> {
     }
 
     /// Says it of a row that refuses its script.
-    pub(crate) fn script(rt: &'a R, admits: &Admits<'_>) -> Told<'a, R> {
+    pub(crate) fn script(rt: &'a R, script: &Source<'a>, admits: &Admits<'a>) -> Told<'a, R> {
         Told {
             rt,
+            path: script.path(),
+            roll: admits.roll,
             least: admits.least,
             refuses_script: true,
             by_rules: Cell::new(0),
@@ -52,7 +60,7 @@ impl<'a, R> Told<'a, R> {
     }
 }
 
-impl<R: Eprint + AllocGlobal> Notice for Told<'_, R> {
+impl<R: Files + Eprint + AllocGlobal> Notice for Told<'_, R> {
     fn refused(&self, row: u64, why: RowRefusal, unknown: &str) {
         if why == RowRefusal::Bad {
             return;
@@ -62,6 +70,8 @@ impl<R: Eprint + AllocGlobal> Notice for Told<'_, R> {
             row,
             why,
             unknown,
+            path: self.path,
+            roll: self.roll,
             least: self.least,
             refuses_script: self.refuses_script,
         };

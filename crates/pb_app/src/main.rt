@@ -74,7 +74,7 @@ where
         Err(error) if error.kind() == io::ErrorKind::OutOfMemory => return Err(AppFault::Memory),
         Err(_) => {
             let _ = eprintln!(rt;
-                "error: an argument is not UTF-8 text. Rename the file, or type the argument again"
+                "error: an argument is not UTF-8 text. If it names a file, rename the file."
             );
             return Ok(ExitCode::from(BAD_ARGUMENTS));
         }
@@ -132,7 +132,7 @@ where
             status_of(notes.faults.as_slice())
         }
         Err(refusal) => {
-            if let Refusal::BadRows(_) = refusal {
+            if let Refusal::BadRows(..) = refusal {
                 words::say_tally(rt, asked, &notes.written, &notes.audited);
             }
             let took = begun.and_then(|begun| begun.elapsed(rt).ok());
@@ -183,7 +183,7 @@ fn write_line<R: Print>(rt: &R, refusal: &Refusal) -> u8 {
         // Words alone say it, as of all arguments that are refused.
         Refusal::Barred | Refusal::WhatIf(_) => BAD_ARGUMENTS,
         // Each of them has its line already.
-        Refusal::BadRows(_) => BAD_ROWS,
+        Refusal::BadRows(..) => BAD_ROWS,
     }
 }
 

@@ -60,8 +60,8 @@ pub(crate) enum Refusal {
     Unanswered,
     /// The file with the words of a page is refused.
     Words(WordsFault),
-    /// All rows were answered, and some were refused; so many were not of the form.
-    BadRows(u64),
+    /// All rows were answered, and some were refused; so many were not of the form, of which these are the first.
+    BadRows(u64, [u64; 5]),
 }
 
 impl From<AppFault> for Refusal {
@@ -123,7 +123,8 @@ where
         fills_up: asked.fills_up,
     };
     let kinship = Kinship::new(asked.takes_other);
-    let typing = Typing::new(terminals.input && !is_quiet(asked));
+    let is_told = terminals.input && !is_quiet(asked);
+    let typing = Typing::new(is_told, names_by_id(&asked.task));
     let is_shown = terminals.output && asked.output.is_none();
     let mut writer = ShownWriter::new(rt.alloc(), output, is_shown);
     let done = match run(
@@ -148,6 +149,14 @@ where
     match output.finish() {
         Ok(()) => Ok(()),
         Err(why) => Err(unplaced(output, why)),
+    }
+}
+
+/// Whether the rows that are typed name projects by their ids.
+fn names_by_id(task: &Task<'_>) -> bool {
+    match task {
+        Task::Serve(run) => run.admits.by_id,
+        _ => false,
     }
 }
 
@@ -299,7 +308,7 @@ where
     };
     let (clerks, shuts) = (asked.clerks, asked.shuts);
     let mut entries = CountedWriter::new(writer, tally);
-    let told = Told::script(rt, &asked.admits);
+    let told = Told::script(rt, &asked.script, &asked.admits);
     run_admitted_desk(
         rt,
         alloc,

@@ -20,6 +20,7 @@ use pb_serving::run_serve::run_serve;
 use pb_serving::{AtHand, Paced, ServingFault, Session};
 use pb_streams::{Digested, open_file};
 use pb_witness::witness::Witness;
+use std::alloc::{AllocError, Global};
 use std::cell::Cell;
 use std::fs::File;
 use std::io::{Error, ErrorKind, Write};
@@ -63,6 +64,8 @@ struct Hearing<'a, R> {
     admission: &'a Admission,
     told: Told<'a, R>,
     typing: &'a Typing,
+    /// An id of a project that reads as a position, where rows name positions.
+    like_a_place: Option<String>,
 }
 
 /// Serves the requests of standard input on the desk of a .pb file, which stands on a journal. FILE and the roll are read
@@ -96,6 +99,14 @@ where
     R: Files<File = File> + Input + Eprint + Clock + AllocGlobal,
 {
     let (election, admission) = read_both(rt, asked, kinship, witness)?;
+    let like_a_place = match id_like_a_place(rt.alloc(), &asked.admits, &election) {
+        Ok(id) => id,
+        Err(fault) => {
+            drop(admission);
+            drop(election);
+            return Err(Refusal::Fault(AppFault::from(fault)));
+        }
+    };
     let failure = Cell::new(None);
     let served = match FileDevice::open(rt, asked.journal, &failure) {
         Ok(device) => {
@@ -103,8 +114,9 @@ where
                 admission: &admission,
                 told: Told::rows(rt, &asked.admits),
                 typing,
+                like_a_place,
             };
-            serve_device(
+            let served = serve_device(
                 rt,
                 election,
                 device,
@@ -112,9 +124,12 @@ where
                 kinship,
                 &hearing,
                 writer,
-            )
+            );
+            drop(hearing);
+            served
         }
         Err(fault) => {
+            drop(like_a_place);
             drop(election);
             Err(unopened(fault))
         }
@@ -153,7 +168,12 @@ where
     let mut answers = HeardWriter::new(writer, hearing.typing);
     let served = match open_on(rt, election, device, &mut torn) {
         Ok((desk, torn)) => match keep_file(rt, journal, standing, kinship) {
-            Ok(()) => serve_desk(rt, desk, torn, hearing, &mut answers),
+            Ok(()) => {
+                if let Some(id) = &hearing.like_a_place {
+                    words::say_like_a_place(rt, id.as_str());
+                }
+                serve_desk(rt, desk, torn, hearing, &mut answers)
+            }
             Err(refusal) => {
                 drop(desk);
                 return Err(refusal);
@@ -163,7 +183,10 @@ where
     };
     match served {
         Ok(0) => Ok(()),
-        Ok(rows) => Err(Refusal::BadRows(rows.saturating_sub(hearing.told.by_rules()))),
+        Ok(rows) => Err(Refusal::BadRows(
+            rows.saturating_sub(hearing.told.by_rules()),
+            hearing.typing.bad_rows(),
+        )),
         Err(fault) => Err(refusal_of(fault, failure.get(), beside.get())),
     }
 }
@@ -274,25 +297,27 @@ where
     R: Files<File = File> + Eprint + AllocGlobal,
 {
     let rules = rules_of(rt, admits)?;
-    if !rules.by_id {
-        warn_of_ids(rt, election)?;
-    }
     Ok(admission_of(rt.alloc(), rules, election)?)
 }
 
-/// Says, once, that an id of the election is itself a number below the number of projects, where one is: a place and an id
-/// are then easily confused.
-fn warn_of_ids<R: Eprint + AllocGlobal>(rt: &R, election: &Election) -> Result<(), AppFault> {
+/// The first id of the election that is itself a number below the number of projects, where rows name projects by their
+/// places: a place and an id are then easily confused.
+fn id_like_a_place(
+    alloc: Global,
+    admits: &Admits<'_>,
+    election: &Election,
+) -> Result<Option<String>, AllocError> {
     let projects = election.projects();
     for project in projects {
-        if let Some(number) = read_number(project.id()) {
-            if (number as usize) < projects.len() {
-                words::say_like_a_place(rt, project.id());
-                return Ok(());
-            }
+        let is_place = match read_number(project.id()) {
+            Some(number) => (number as usize) < projects.len(),
+            None => false,
+        };
+        if is_place && !admits.by_id {
+            return Ok(Some(String::from_str(alloc, project.id())?));
         }
     }
-    Ok(())
+    Ok(None)
 }
 
 /// Opens the desk of an election on a device. Answers how many bytes were cut off, too.

@@ -5,20 +5,80 @@ use pb_witness::typed_row::TypedRow;
 use std::cell::Cell;
 use std::io::{Read, Result, Write};
 
-/// What is said to whoever types.
+/// How the line of a fault begins.
+const FAULT: &[u8] = b"fault";
+
+/// The end of the row of a desk that is shut, which no other row has.
+const SHUT: &[u8] = b";shut\n";
+
+/// The most bytes of a fault's line that are kept.
+const MOST_KEPT: usize = 48;
+
+/// How the answer to a row begins that is not of the form; the row's number follows.
+const BAD_ROW: &[u8] = b"fault;script;2;BadRow;";
+
+/// The number in the last field of a row.
+fn number_of(row: &[u8]) -> u64 {
+    let mut number = 0u64;
+    for byte in row {
+        number = if *byte == b';' {
+            0
+        } else {
+            let digit = u64::from(byte.saturating_sub(b'0'));
+            number.saturating_mul(10).saturating_add(digit)
+        };
+    }
+    number
+}
+
+/// What is said to whoever types, and what is heard of the answers.
 #[derive(Drop)]
 pub(crate) struct Typing {
     /// Whether somebody types who is told.
     is_told: bool,
-    /// Whether the last row was answered by a fault.
+    /// Whether rows name projects by their ids.
+    by_id: bool,
+    /// Whether the desk was shut before the first row.
+    is_shut: Cell<bool>,
+    /// Whether the last row was not of the form.
     is_bad: Cell<bool>,
+    /// The numbers of the first rows that were not of the form; 0 is none.
+    bad_rows: Cell<[u64; 5]>,
 }
 
 impl Typing {
-    pub(crate) fn new(is_told: bool) -> Typing {
+    pub(crate) fn new(is_told: bool, by_id: bool) -> Typing {
         Typing {
             is_told,
+            by_id,
+            is_shut: Cell::new(false),
             is_bad: Cell::new(false),
+            bad_rows: Cell::new([0; 5]),
+        }
+    }
+
+    /// The numbers of the first rows that were not of the form; 0 is none.
+    pub(crate) fn bad_rows(&self) -> [u64; 5] {
+        self.bad_rows.get()
+    }
+
+    /// Hears the line of a fault that was written.
+    fn hear(&self, row: &[u8]) {
+        if row.starts_with(BAD_ROW) {
+            self.is_bad.set(true);
+            self.keep(number_of(row));
+        }
+    }
+
+    /// Keeps the number of a row that was not of the form, unless there are enough of them.
+    fn keep(&self, number: u64) {
+        let mut rows = self.bad_rows.get();
+        for i in 0..5usize {
+            if rows[i] == 0 {
+                rows[i] = number;
+                self.bad_rows.set(rows);
+                return;
+            }
         }
     }
 }
@@ -48,7 +108,7 @@ impl<'a, R: Input + Eprint + AllocGlobal> TypedReader<'a, R> {
     /// Says how to ask before the first row, and then of the last row why it was none.
     fn say_before(&mut self) {
         if !self.has_begun {
-            words::say_how_to_ask(self.rt);
+            words::say_how_to_ask(self.rt, self.typing.by_id, self.typing.is_shut.get());
             self.has_begun = true;
         }
         if self.typing.is_bad.replace(false) {
@@ -74,24 +134,56 @@ impl<R: Input + Eprint + AllocGlobal> Read for TypedReader<'_, R> {
     }
 }
 
-/// A writer of answers, of which it is heard whether one is a fault.
+/// A writer of answers, of which it is heard which say that a row is not of the form.
 #[derive(Drop)]
 pub(crate) struct HeardWriter<'a, W> {
     writer: &'a mut W,
     typing: &'a Typing,
+    /// The first bytes of the fault's line that is being written, and how many they are.
+    line: [u8; 48],
+    length: usize,
+    is_fault: bool,
 }
 
 impl<'a, W> HeardWriter<'a, W> {
     pub(crate) fn new(writer: &'a mut W, typing: &'a Typing) -> HeardWriter<'a, W> {
-        HeardWriter { writer, typing }
+        HeardWriter {
+            writer,
+            typing,
+            line: [0; 48],
+            length: 0,
+            is_fault: false,
+        }
+    }
+
+    /// Hears what is written: a fault's line comes in pieces, the first of which begins with its first word.
+    fn hear(&mut self, piece: &[u8]) {
+        if piece.ends_with(SHUT) {
+            self.typing.is_shut.set(true);
+        }
+        if piece.starts_with(FAULT) {
+            self.is_fault = true;
+            self.length = 0;
+        }
+        if !self.is_fault {
+            return;
+        }
+        for byte in piece {
+            if *byte == b'\n' {
+                let length = self.length.min(MOST_KEPT);
+                self.typing.hear(&self.line[..length]);
+                self.is_fault = false;
+            } else if self.length < MOST_KEPT {
+                self.line[self.length] = *byte;
+                self.length += 1;
+            }
+        }
     }
 }
 
 impl<W: Write> Write for HeardWriter<'_, W> {
     fn write(&mut self, buf: &[u8]) -> Result<usize> {
-        if buf.starts_with(b"fault") {
-            self.typing.is_bad.set(true);
-        }
+        self.hear(buf);
         self.writer.write(buf)
     }
 

@@ -6,7 +6,7 @@ use crate::worded::words_file_words;
 use pb_command_line::{Asked, BallotsRun, OneChange, Source, Task, WhatIfRun};
 use pb_commands::{AppFault, WhatIfFault};
 use pb_desk::desk::MOST_CLERKS;
-use pb_durable::file_beside::file_path;
+use pb_durable::file_beside::{file_path, read_file_beside};
 use pb_durable::moved::kept_path;
 use pb_export::ExportFault;
 use pb_rounds::count_fault::CountFault;
@@ -25,17 +25,19 @@ use pb_words::output_words::{
 };
 use pb_words::read_words::{list_words, read_words};
 use pb_words::refused_words::{RefusedRow, like_a_place_words, refused_words, roll_words};
-use pb_words::script_words::{script_words, typed_words};
+use pb_words::script_words::{Taking, script_words, typed_words};
 use pb_words::serve_words::{
-    bad_rows_words, locked_words, lost_words, moved_words, spelling_words, torn_words,
-    unanswered_words, unkept_words, unopened_words,
+    bad_rows_words, locked_words, lost_words, moved_words, open_desk_words, spelling_words,
+    torn_words, unanswered_words, unkept_words, unopened_words,
 };
 use pb_words::tally_words::tally_words;
+use pb_words::unwritten_words::{comma_words, heading_words};
 use pb_words::warning_words::warning_words;
 use pb_words::what_if_words::{no_cost_words, no_project_words, too_many_voters_words};
 use pb_words::{mistaken_words, open_words, write_words};
 use std::alloc::{AllocError, Global};
 use std::fs;
+use std::fs::File;
 use std::io::Error;
 use std::rt::{Clock, Files};
 use std::thread::Threads;
@@ -43,18 +45,6 @@ use std::time::Duration;
 
 /// What is said where memory is refused, also for words.
 const NO_MEMORY: &str = "Memory ran out.\nRun again on a machine with more memory.\n";
-
-/// What is said of a desk that is open and was to be shut.
-const OPEN_DESK: &str =
-    "The desk is still open: no row of the journal shuts it.\nGet the journal that the desk left when it was shut.\n";
-
-/// What is said of an election that has a section's name as an id.
-const SECTION_WORD: &str =
-    "An id is META, PROJECTS or VOTES: in a .pb file its row would begin that section.\nGive that project or voter another id.\n";
-
-/// What is said of an election with a vote that no file can name.
-const COMMA_IN_ID: &str =
-    "A ballot names a project whose id has a comma, but in a .pb file commas separate the ids of a vote.\nGive that project another id.\n";
 
 /// What is said of a file that a warning refuses.
 const STRICT: &str =
@@ -69,15 +59,25 @@ For more: pb_app --help
 /// How requests are typed.
 const HOW_TO_ASK: &str =
     "Type one request on each row: CLERK;REQUEST;VOTER;PLACES, for example `0;cast;ann;0,2`, `0;replace;ann;1` or `0;withdraw;ann;`.
-PLACES are the positions of projects in FILE, counted from 0; with --by-id their ids. Ctrl-D on a line of its own ends the run.
+PLACES are the positions of projects in FILE, counted from 0. Ctrl-D on a line of its own ends the run.
 ";
+
+/// The same, where rows name projects by their ids.
+const HOW_TO_ASK_BY_ID: &str =
+    "Type one request on each row: CLERK;REQUEST;VOTER;PLACES, for example `0;cast;ann;a,b`, `0;replace;ann;b` or `0;withdraw;ann;`.
+PLACES are the ids of projects, with `,` between them. Ctrl-D on a line of its own ends the run.
+";
+
+/// What is said of a desk that is shut.
+const SHUT_DESK: &str =
+    "The desk is shut: each request gets the answer desk-shut. Ctrl-D on a line of its own ends the run.\n";
 
 /// What is said of a row that goes on.
 const OPEN_ROW: &str =
     "A quotation mark is open, so the next line belongs to the same row. Type `\"` to close it.\n";
 
 /// Says why a run has no result.
-pub(crate) fn say_refusal<R: Files + Eprint + AllocGlobal>(
+pub(crate) fn say_refusal<R: Files<File = File> + Eprint + AllocGlobal>(
     rt: &R,
     asked: &Asked<'_>,
     refusal: &Refusal,
@@ -90,11 +90,15 @@ pub(crate) fn say_refusal<R: Files + Eprint + AllocGlobal>(
         Refusal::Barred => say_bar(rt, asked.output, output.bar),
         Refusal::WhatIf(fault) => say_words(rt, words_of_what_if(rt.alloc(), &asked.task, fault)),
         Refusal::Fault(AppFault::OtherFile) => {
-            say_words(rt, words_of_other_file(rt.alloc(), &asked.task));
+            say_words(rt, words_of_other_file(rt, &asked.task));
         }
-        Refusal::Fault(AppFault::OpenDesk) => say(rt, OPEN_DESK),
-        Refusal::Fault(AppFault::Export(ExportFault::SectionWord)) => say(rt, SECTION_WORD),
-        Refusal::Fault(AppFault::Export(_)) => say(rt, COMMA_IN_ID),
+        Refusal::Fault(AppFault::OpenDesk) => {
+            let (_, journal) = asked.task.paths();
+            say_words(rt, open_desk_words(rt.alloc(), journal))
+        }
+        Refusal::Fault(AppFault::Export(fault)) => {
+            say_words(rt, words_of_export(rt, &asked.task, *fault))
+        }
         Refusal::Fault(AppFault::Memory) => say(rt, NO_MEMORY),
         Refusal::Fault(AppFault::Warned(_)) => say(rt, STRICT),
         // It was said when the row was read.
@@ -112,7 +116,7 @@ pub(crate) fn say_refusal<R: Files + Eprint + AllocGlobal>(
         Refusal::Fault(fault) => say_words(rt, words_of(rt, asked, fault, failure, notes)),
         Refusal::Unanswered => say_words(rt, unanswered_words(rt.alloc(), failure)),
         // Why each of the others was refused was said when it was read.
-        Refusal::BadRows(0) => {}
+        Refusal::BadRows(0, _) => {}
         _ => say_words(rt, words_of_serve(rt.alloc(), &asked.task, refusal)),
     }
 }
@@ -151,7 +155,10 @@ fn words_of_serve(alloc: Global, task: &Task<'_>, refusal: &Refusal) -> Result<S
             words
         }
         Refusal::Moved(Err(reason)) => lost_words(alloc, path, reason),
-        Refusal::BadRows(rows) => bad_rows_words(alloc, *rows),
+        Refusal::BadRows(rows, first) => {
+            let known = first.iter().filter(|row| **row > 0).count().min(5);
+            bad_rows_words(alloc, *rows, &first[..known])
+        }
         Refusal::Unanswered | Refusal::Barred | Refusal::Words(_) | Refusal::WhatIf(_) | Refusal::Fault(_) => {
             Err(
             AllocError,
@@ -183,11 +190,33 @@ fn words_of_what_if(
     }
 }
 
-/// Words where a journal belongs to another file.
-fn words_of_other_file(alloc: Global, task: &Task<'_>) -> Result<String, AllocError> {
+/// Words where the election of a task can't be written as a .pb file.
+fn words_of_export<R: Files + AllocGlobal>(
+    rt: &R,
+    task: &Task<'_>,
+    fault: ExportFault,
+) -> Result<String, AllocError> {
     let (file, journal) = task.paths();
-    let beside = file_path(alloc, journal.unwrap_or("-"))?;
-    let words = other_file_words(alloc, file, journal, beside.as_str());
+    match fault {
+        ExportFault::SectionWord => heading_words(rt, rt.alloc(), file, journal),
+        _ => comma_words(rt, rt.alloc(), file, task.texts().1.is_some()),
+    }
+}
+
+/// Words where a journal belongs to another file.
+fn words_of_other_file<R: Files<File = File> + AllocGlobal>(
+    rt: &R,
+    task: &Task<'_>,
+) -> Result<String, AllocError> {
+    let (file, journal) = task.paths();
+    let (alloc, path) = (rt.alloc(), journal.unwrap_or("-"));
+    let beside = file_path(alloc, path)?;
+    let text = match read_file_beside(rt, alloc, path) {
+        Ok(Some(text)) => text,
+        _ => Vec::new(alloc),
+    };
+    let words = other_file_words(alloc, file, journal, beside.as_str(), text.as_slice());
+    drop(text);
     drop(beside);
     words
 }
@@ -205,25 +234,33 @@ fn words_of<R: Files + AllocGlobal>(
     match fault {
         AppFault::Read(fault) => read_words(rt, alloc, first, fault, &notes.seen.witness),
         AppFault::Script(fault) if is_serve(&asked.task) => {
-            script_words(rt, alloc, None, Some(*fault), clerks_of(&asked.task))
+            script_words(rt, alloc, None, Some(*fault), taking_of(&asked.task))
         }
         AppFault::Script(fault) => {
-            script_words(rt, alloc, second, Some(*fault), clerks_of(&asked.task))
+            script_words(rt, alloc, second, Some(*fault), taking_of(&asked.task))
         }
-        AppFault::ClerkCount => script_words(rt, alloc, second, None, clerks_of(&asked.task)),
+        AppFault::ClerkCount => script_words(rt, alloc, second, None, taking_of(&asked.task)),
         AppFault::Audit(fault) => {
             let paths = AuditPaths {
                 file: first,
                 journal: second,
+                is_served: is_serve(&asked.task),
             };
             journal_words(rt, alloc, paths, *fault)
         }
-        AppFault::Count(fault) => count_words(alloc, first, *fault, &asked.task.options()),
+        AppFault::Count(fault) => {
+            count_words(
+                alloc,
+                counted_path(&asked.task),
+                *fault,
+                &asked.task.options(),
+            )
+        }
         AppFault::Open(1) => open_words(rt, alloc, first.unwrap_or("-")),
         AppFault::Open(3) => open_words(rt, alloc, asked.task.roll().unwrap_or("-")),
         AppFault::Open(_) => open_words(rt, alloc, second.unwrap_or("-")),
         AppFault::Write => write_words(alloc, asked.output, failure),
-        AppFault::Roll(fault) => roll_words(alloc, asked.task.roll().unwrap_or("-"), *fault),
+        AppFault::Roll(fault) => { roll_words(rt, alloc, asked.task.roll().unwrap_or("-"), *fault) }
         AppFault::OtherFile
         | AppFault::OpenDesk
         | AppFault::Export(_)
@@ -251,12 +288,22 @@ fn is_serve(task: &Task<'_>) -> bool {
     }
 }
 
-fn clerks_of(task: &Task<'_>) -> u32 {
-    match task {
-        Task::Desk(run) => run.clerks,
-        Task::Serve(..) => MOST_CLERKS,
-        _ => 1,
+/// The path of the text whose ballots are counted: a journal, or the .pb file where there is none.
+fn counted_path<'a>(task: &Task<'a>) -> Option<&'a str> {
+    match task.texts() {
+        (_, Some(journal)) => journal.path(),
+        (file, None) => file.path(),
     }
+}
+
+/// How a run takes the rows of requests.
+fn taking_of(task: &Task<'_>) -> Taking {
+    let (clerks, by_id) = match task {
+        Task::Desk(run) => (run.clerks, run.admits.by_id),
+        Task::Serve(run) => (MOST_CLERKS, run.admits.by_id),
+        _ => (1, false),
+    };
+    Taking { clerks, by_id }
 }
 
 /// Says what is wrong with a file that was checked.
@@ -347,9 +394,18 @@ pub(crate) fn is_quiet(asked: &Asked<'_>) -> bool {
     asked.shows == Some(false)
 }
 
-/// Says how requests are typed.
-pub(crate) fn say_how_to_ask<R: Eprint>(rt: &R) {
-    say(rt, HOW_TO_ASK);
+/// Says how requests are typed on this desk.
+pub(crate) fn say_how_to_ask<R: Eprint>(rt: &R, by_id: bool, is_shut: bool) {
+    say(
+        rt,
+        if is_shut {
+            SHUT_DESK
+        } else if by_id {
+            HOW_TO_ASK_BY_ID
+        } else {
+            HOW_TO_ASK
+        },
+    );
 }
 
 /// Says that the row that is being typed goes on.
@@ -427,8 +483,8 @@ fn words_of_adopted(alloc: Global, journal: &str, digest: &str) -> Result<String
 }
 
 /// Says why a rule refuses a row, and what comes of it.
-pub(crate) fn say_refused_row<R: Eprint + AllocGlobal>(rt: &R, refused: &RefusedRow<'_>) {
-    say_words(rt, refused_words(rt.alloc(), refused));
+pub(crate) fn say_refused_row<R: Files + Eprint + AllocGlobal>(rt: &R, refused: &RefusedRow<'_>) {
+    say_words(rt, refused_words(rt, rt.alloc(), refused));
 }
 
 /// Says that this id of a project reads as a place.

@@ -1,6 +1,6 @@
 //! The commands and options that the program knows.
 
-use clap::{Arg, ArgAction, Command, value_parser};
+use clap::{Arg, ArgAction, Command};
 use std::alloc::{AllocError, Global};
 
 /// The program's version, and of which commit it is, which `tools/package` fills in.
@@ -25,11 +25,13 @@ Words:
   journal  a file with every request that the desk answered, and its answer, in order
   script   a file of requests, one on each row
   share    the money that each voter can spend: at first the budget divided by the number of voters
+  price    the most that one supporter pays for a project
   raise    adds --step to every voter's share, and counts again, so that less of the budget is left unspent (Add1)
 
 Which rule your city has:
-  With the Method of Equal Shares it is probably --measure cost --completion add1u; the defaults are votes and add1.
-  Without it, the projects with the most votes probably come first; compare shows the result of both rules.
+  If your city uses the Method of Equal Shares, its rule is probably --measure cost --completion add1u.
+  Without these options the program uses --measure votes --completion add1.
+  If your city does not use this method, the projects with the most votes probably win: compare shows both results.
   A by-law should name the measure, the completion, the step of a raise, and how ties are broken.
 
 Examples:
@@ -49,7 +51,7 @@ Exit status:
 
 A refusal is one line on standard output, for programs. Standard error explains it in words.
 
-Manual pages:
+Manual pages (they come with the package):
   man pb_app-count     one such page for each command
   man pb_app-election  the .pb file
   man pb_app-journal   the journal
@@ -66,7 +68,7 @@ as soon as that row is on the disk.
 A refused row is not recorded. Its answer is fault;script;CODE;NAME;ROW.
 
 Why a row is refused:
-  2;BadRow     the row has another form
+  2;BadRow     the row is not a valid request: see the form above
   5;UnknownId  with --by-id: no project has this id
   6;NotOnRoll  with --roll: the voter is not on the roll
   7;TooFew     with --min: the ballot names too few projects
@@ -74,9 +76,9 @@ Why a row is refused:
 The output begins with entries;N;open or entries;N;shut: the journal has N entries. If the journal ended in an
 incomplete row, that end was cut off and kept in JOURNAL.torn, and a row torn;BYTES comes first.
 
-JOURNAL.file says to which .pb file the journal belongs: its first line is the SHA-256 of FILE. In another FILE the same
-positions can be other projects. So serve refuses another FILE once the journal has entries (fault;other-file). With
---other-file it accepts FILE. Use this only if the old projects keep their order: names and costs may differ, and
+JOURNAL.file says to which .pb file the journal belongs: its first line is the SHA-256 of FILE. With another FILE, a
+position may mean another project. So once the journal has entries, serve refuses any other file (fault;other-file).
+--other-file makes it accept one. Use this only if the old projects keep their order: names and costs may differ, and
 projects may be added at the end.
 
 Examples:
@@ -97,7 +99,7 @@ Manual pages: man pb_app-script, man pb_app-journal, man pb_app-office.";
 const AFTER_BALLOTS: &str =
     "Each row is voter_id;entry;project_ids. entry is the number of the journal's entry that gave the ballot, counted from 1;
 if it is empty, the ballot is still the one in FILE. project_ids are the ids of the ballot's projects, with `,` between
-them. A serve may be using JOURNAL at the same time.
+them. You can run this while pb_app serve is using JOURNAL.
 
 The table shows who votes for what. A new file that --output creates is for its owner alone.
 
@@ -109,7 +111,7 @@ Manual pages: man pb_app-election, man pb_app-journal, man 5 pb_app-ballots.";
 
 /// What an argument of a command takes.
 #[derive(Clone, Copy)]
-enum Takes {
+pub(crate) enum Takes {
     /// The path of a file, which has to be named.
     Path,
     /// Where a text is read from, which its help calls so, behind an option.
@@ -136,20 +138,20 @@ enum Takes {
 
 /// An argument of a command.
 #[derive(Clone, Copy)]
-struct Argument {
-    name: &'static str,
-    takes: Takes,
+pub(crate) struct Argument {
+    pub(crate) name: &'static str,
+    pub(crate) takes: Takes,
     help: &'static str,
 }
 
 /// A command that the program knows.
 #[derive(Clone, Copy)]
-struct CommandForm {
-    name: &'static str,
+pub(crate) struct CommandForm {
+    pub(crate) name: &'static str,
     /// What stands below its arguments.
     notes: &'static str,
     about: &'static str,
-    arguments: &'static [Argument],
+    pub(crate) arguments: &'static [Argument],
 }
 
 /// The file that each command reads first.
@@ -163,7 +165,7 @@ const ELECTION: Argument = Argument {
 const SCRIPT: Argument = Argument {
     name: "SCRIPT",
     takes: Takes::Path,
-    help: "The clerks' requests, one on each row; - is standard input",
+    help: "The clerks' requests, one on each row, in the form CLERK;REQUEST;VOTER;PLACES (see pb_app serve --help); - is standard input",
 };
 
 /// The journal that is audited.
@@ -205,7 +207,7 @@ const CLERKS: Argument = Argument {
 const SHUT: Argument = Argument {
     name: "shut",
     takes: Takes::Nothing,
-    help: "Shuts the desk after the last row, in the name of clerk 0; with several clerks, a shut row in SCRIPT may be taken before other clerks' rows",
+    help: "Shuts the desk after the last row, in the name of clerk 0; with several clerks use this, and no shut row in SCRIPT",
 };
 
 /// Whether rows name projects by their ids.
@@ -233,7 +235,7 @@ const LEAST: Argument = Argument {
 const WORKERS: Argument = Argument {
     name: "workers",
     takes: Takes::Number("N"),
-    help: "How many threads compute prices, 1 to 64; the result is the same for every number [default: 1]",
+    help: "How many processors the count may use, 1 to 64; more can be faster, and the result is the same [default: 1]",
 };
 
 /// The step of a raise.
@@ -261,14 +263,14 @@ const PLAIN: Argument = Argument {
 const COMPLETION: Argument = Argument {
     name: "completion",
     takes: Takes::Completion,
-    help: "none: no raises; add1: raises; utilitarian and add1u: like none and add1, but then the money that is left goes to other projects, most votes first [default: add1]",
+    help: "none: no raises; add1: raises; utilitarian: no raises, then the money that is left goes to the other projects, those with the most votes first; add1u: raises, then the same [default: add1]",
 };
 
 /// What a project is worth to those who approve it.
 const MEASURE: Argument = Argument {
     name: "measure",
     takes: Takes::Measure,
-    help: "votes: the next winner has the lowest price; cost: the lowest price divided by its cost [default: votes]",
+    help: "votes: the project with the lowest price wins next (price: the most that one supporter pays); cost: the project whose price is the smallest part of its cost wins next [default: votes]",
 };
 
 /// The file that gets the result.
@@ -310,14 +312,14 @@ const KEEP_VOTERS: Argument = Argument {
 const STRICT: Argument = Argument {
     name: "strict",
     takes: Takes::Nothing,
-    help: "Refuses a file with one of the warnings VotesMissing, ProjectsMissing, SurplusFields, ThousandsMark, RepeatedKey, FooterRow",
+    help: "Refuses a file that has a warning which may make the result wrong, for example missing rows, or 60.000 read as 60.00",
 };
 
 /// Whether a journal of another file is read all the same.
 const OTHER_FILE: Argument = Argument {
     name: "other-file",
     takes: Takes::Nothing,
-    help: "Accepts a journal that was made with another .pb file; position 0 in its ballots then means the first project in FILE, and so on",
+    help: "Accepts a journal that was made with another .pb file; use it only if all old projects are in FILE, in the same order as before",
 };
 
 /// Whether it is not shown how far the work has come.
@@ -338,7 +340,7 @@ const QUIET_DESK: Argument = Argument {
 const QUIET_BALLOTS: Argument = Argument {
     name: "quiet",
     takes: Takes::Nothing,
-    help: "Shows no progress, and does not say that the voter of --voter has no ballot",
+    help: "Shows no progress, and no message if the voter has no ballot",
 };
 
 /// Whether nothing is told of the rows that are served.
@@ -426,7 +428,7 @@ const VOTERS: Argument = Argument {
 };
 
 /// The commands that read a .pb file, and count its ballots or those of a journal.
-const COUNTS: &[CommandForm] = &[
+pub(crate) const COUNTS: &[CommandForm] = &[
     CommandForm {
         name: "count",
         notes: "Manual pages: man pb_app-election, man pb_app-report, man pb_app-counting.",
@@ -484,7 +486,7 @@ const COUNTS: &[CommandForm] = &[
     CommandForm {
         name: "export",
         notes: "Manual pages: man pb_app-election, man 5 pb_app-export, man pb_app-counting.",
-        about: "Counts a .pb file, and prints ballots and result as a new .pb file; counting that file gives the same result",
+        about: "Counts a .pb file, and prints ballots and result as a new .pb file; counting that file with the same options gives the same result",
         arguments: &[
             ELECTION,
             LEFT_BY,
@@ -505,7 +507,7 @@ const COUNTS: &[CommandForm] = &[
 ];
 
 /// The commands that check a .pb file, or take its ballots on a desk.
-const DESKS: &[CommandForm] = &[
+pub(crate) const DESKS: &[CommandForm] = &[
     CommandForm {
         name: "check",
         notes: "Manual pages: man pb_app-election, man pb_app-faults.",
@@ -571,23 +573,18 @@ const DESKS: &[CommandForm] = &[
 pub(crate) fn command_line<'a>(alloc: Global) -> Result<Command<'a>, AllocError> {
     let program = Command::new(alloc, "pb_app").bin_name("pb_app")?;
     let program = program.version(VERSION).about(ABOUT).after_help(AFTER_HELP);
-    let program = with_counts(alloc, program)?;
-    with_desks(alloc, program)
+    let program = with_commands(alloc, program, COUNTS)?;
+    with_commands(alloc, program, DESKS)
 }
 
-/// The program with the commands that count.
-fn with_counts<'a>(alloc: Global, program: Command<'a>) -> Result<Command<'a>, AllocError> {
+/// The program with the commands of these forms.
+fn with_commands<'a>(
+    alloc: Global,
+    program: Command<'a>,
+    forms: &[CommandForm],
+) -> Result<Command<'a>, AllocError> {
     let mut program = program;
-    for form in COUNTS {
-        program = with_command(alloc, program, form)?;
-    }
-    Ok(program)
-}
-
-/// The program with the commands that check a file or run a desk.
-fn with_desks<'a>(alloc: Global, program: Command<'a>) -> Result<Command<'a>, AllocError> {
-    let mut program = program;
-    for form in DESKS {
+    for form in forms {
         program = with_command(alloc, program, form)?;
     }
     Ok(program)
@@ -669,7 +666,7 @@ fn made<'a>(alloc: Global, argument: &Argument) -> Result<Arg<'a>, AllocError> {
         Takes::Number(name) => arg
             .long(argument.name)
             .value_name(name)
-            .value_parser(value_parser!(u32))
+            .allow_negative_numbers(true)
             .action(ArgAction::Set),
         Takes::Measure => arg
             .long(argument.name)

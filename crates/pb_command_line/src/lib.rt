@@ -4,6 +4,8 @@
 mod address;
 mod asked;
 mod command_line;
+mod elsewhere;
+mod numbers;
 pub mod parse;
 pub mod task;
 

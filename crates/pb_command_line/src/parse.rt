@@ -3,6 +3,8 @@
 use crate::address::is_address;
 use crate::asked::asked_by;
 use crate::command_line::command_line;
+use crate::elsewhere::{elsewhere_words, without_dashes};
+use crate::numbers::{BadNumber, bad_number};
 use crate::task::{Admits, Asked, DeskRun, OneChange, PageRun, ServeRun, Source, Task, WhatIfRun};
 use clap::Error;
 use clap::error::ErrorKind;
@@ -32,8 +34,15 @@ pub fn parse<'a, R: Print + Eprint>(
 ) -> Result<Parsed<'a>, AllocError> {
     match command_line(alloc)?.try_get_matches_from(arguments) {
         Ok(matches) => {
+            let bad = match matches.subcommand() {
+                Some((_, given)) => bad_number(given),
+                None => None,
+            };
             let asked = asked_by(&matches);
             drop(matches);
+            if let Some(bad) = bad {
+                return Ok(Parsed::Ends(refuse_number(rt, &bad)));
+            }
             if let Some(name) = needs_path(&asked.task) {
                 return Ok(Parsed::Ends(refuse_input(rt, name)));
             }
@@ -46,8 +55,8 @@ pub fn parse<'a, R: Print + Eprint>(
             if has_piped_words(&asked.task) {
                 return Ok(Parsed::Ends(refuse_words(rt)));
             }
-            if leads_elsewhere(&asked.task) {
-                return Ok(Parsed::Ends(refuse_address(rt)));
+            if let Some(address) = leads_elsewhere(&asked.task) {
+                return Ok(Parsed::Ends(refuse_address(rt, address)));
             }
             if has_no_cost(&asked.task) {
                 return Ok(Parsed::Ends(refuse_cost(rt)));
@@ -55,7 +64,7 @@ pub fn parse<'a, R: Print + Eprint>(
             Ok(Parsed::Asks(asked))
         }
         Err(error) => {
-            let end = refused(rt, &error);
+            let end = refused(rt, alloc, &error, arguments);
             drop(error);
             end
         }
@@ -105,7 +114,7 @@ fn has_piped_roll(task: &Task<'_>) -> bool {
     }
 }
 
-/// Whether the words of a page are standard input, which can be FILE or JOURNAL alone.
+/// The address to which the words of a page are standard input, which can be FILE or JOURNAL alone.
 fn has_piped_words(task: &Task<'_>) -> bool {
     match task {
         Task::Page(
@@ -118,16 +127,16 @@ fn has_piped_words(task: &Task<'_>) -> bool {
     }
 }
 
-/// Whether a page would lead to what no link of it may lead to.
-fn leads_elsewhere(task: &Task<'_>) -> bool {
+/// Whether a page would lead, and to which no link of it may lead, if there is one.
+fn leads_elsewhere<'a>(task: &Task<'a>) -> Option<&'a str> {
     match task {
         Task::Page(
             PageRun {
                 recount: Some(address),
                 ..
             },
-        ) => !is_address(address),
-        _ => false,
+        ) if !is_address(address) => Some(*address),
+        _ => None,
     }
 }
 
@@ -152,10 +161,21 @@ fn refuse_cost<R: Eprint>(rt: &R) -> u8 {
     BAD_ARGUMENTS
 }
 
+/// Refuses what is no number of an option.
+fn refuse_number<R: Eprint>(rt: &R, bad: &BadNumber<'_>) -> u8 {
+    let BadNumber { name, value, range } = *bad;
+    let _ = if bad.is_whole() {
+        eprintln!(rt; "option --{name}: {value} is not allowed. Give a value {range}.")
+    } else {
+        eprintln!(rt; "option --{name}: {value:?} is not a whole number. Give a value {range}.")
+    };
+    BAD_ARGUMENTS
+}
+
 /// Refuses an address that no link may lead to.
-fn refuse_address<R: Eprint>(rt: &R) -> u8 {
+fn refuse_address<R: Eprint>(rt: &R, address: &str) -> u8 {
     let _ = eprintln!(rt;
-        "error: --recount takes an address that begins with https: or http:, or one relative to the page, without spaces"
+        "error: --recount {address:?} can't be the address of a link. Give one that begins with https:// or http://, or the name of a file beside the page, such as recount.html. It must not have spaces."
     );
     BAD_ARGUMENTS
 }
@@ -163,14 +183,14 @@ fn refuse_address<R: Eprint>(rt: &R) -> u8 {
 /// Refuses arguments of which this one is standard input, where the requests stand there.
 fn refuse_input<R: Eprint>(rt: &R, name: &str) -> u8 {
     let _ = eprintln!(rt;
-        "error: {name} can't be standard input (-), because the requests come from there. Name a file"
+        "error: {name} can't be standard input (-), because the requests come from there. Name a file."
     );
     BAD_ARGUMENTS
 }
 
 /// Refuses a roll that is standard input.
 fn refuse_roll<R: Eprint>(rt: &R) -> u8 {
-    let _ = eprintln!(rt; "error: ROLL can't be standard input (-). Name a file");
+    let _ = eprintln!(rt; "error: ROLL can't be standard input (-). Name a file.");
     BAD_ARGUMENTS
 }
 
@@ -183,30 +203,52 @@ fn refuse_words<R: Eprint>(rt: &R) -> u8 {
 /// Refuses arguments of which FILE and this one are standard input.
 fn refuse_twice<R: Eprint>(rt: &R, name: &str) -> u8 {
     let _ = eprintln!(rt;
-        "error: FILE and {name} can't both be standard input (-). Give one of them as a file"
+        "error: FILE and {name} can't both be standard input (-). Name a file for one of them."
     );
     BAD_ARGUMENTS
 }
 
 /// How the program ends where `clap` refuses its arguments, or prints what they ask for.
-fn refused<'a, R: Print + Eprint>(rt: &R, error: &Error) -> Result<Parsed<'a>, AllocError> {
+fn refused<'a, R: Print + Eprint>(
+    rt: &R,
+    alloc: Global,
+    error: &Error,
+    arguments: &[String],
+) -> Result<Parsed<'a>, AllocError> {
     if error.kind() == ErrorKind::OutOfMemory {
         return Err(AllocError);
     }
-    let printed = error.print(rt);
-    if error.kind() == ErrorKind::ValueValidation {
-        let _ = eprintln!(rt;
-            "This option takes a whole number: `pb_app COMMAND --help` says which are allowed."
-        );
-    }
     if error.exit_code() != 0 {
+        say_refused(rt, alloc, error, arguments)?;
         return Ok(Parsed::Ends(BAD_ARGUMENTS));
     }
-    match printed {
+    match error.print(rt) {
         Ok(()) => Ok(Parsed::Ends(0)),
         Err(reason) => {
             let _ = eprintln!(rt; "standard output: {reason}.");
             Ok(Parsed::Ends(NOT_PRINTED))
         }
     }
+}
+
+/// Says why `clap` refuses these arguments, and which commands have an option that the named one has not.
+fn say_refused<R: Eprint>(
+    rt: &R,
+    alloc: Global,
+    error: &Error,
+    arguments: &[String],
+) -> Result<(), AllocError> {
+    let text = format!(in alloc; "{error}")?;
+    let words = without_dashes(alloc, text.as_str());
+    drop(text);
+    let words = words?;
+    let _ = rt.eprint(words.as_str());
+    drop(words);
+    if error.kind() == ErrorKind::UnknownArgument {
+        if let Some(words) = elsewhere_words(alloc, arguments)? {
+            let _ = rt.eprint(words.as_str());
+            drop(words);
+        }
+    }
+    Ok(())
 }

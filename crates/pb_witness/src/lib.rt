@@ -27,6 +27,7 @@ pub mod seen;
 pub mod tally;
 pub mod text;
 pub mod typed_row;
+pub mod unwritable;
 pub mod voters;
 pub mod warnings;
 pub mod witness;

@@ -5,18 +5,32 @@ use crate::words::Words;
 use std::alloc::{AllocError, Global};
 use std::io::Error;
 
-/// Words for a journal that belongs to another file than the one with this path, as the file beside it says.
+/// Words for a journal that belongs to another file than the one with this path, as the file beside it says, whose text is
+/// this.
 pub fn other_file_words(
     alloc: Global,
     file: Option<&str>,
     journal: Option<&str>,
     beside: &str,
+    text: &[u8],
 ) -> Result<String, AllocError> {
     let mut out = Words::new(alloc);
-    out.fill(
-        "{} was made with another .pb file: the SHA-256 of {} differs from the one noted in {}.\nThe journal names projects by their positions in the file, and in another file the same positions can be other projects. Name the .pb file with which the desk was opened.\nIf you want to use {}, give `--other-file`. Do so only if the projects have the same order as before: names and costs may differ, and projects may be added at the end.\n",
-        &[Name(journal), Name(file), Name(Some(beside)), Name(file)],
-    );
+    let start = text.iter().take(64);
+    if start.filter(|byte| byte.is_ascii_hexdigit()).count() == 64 {
+        out.fill(
+            "{} was made with another .pb file: the SHA-256 of {} differs from the one noted in {}.\n",
+            &[Name(journal), Name(file), Name(Some(beside))],
+        );
+        out.fill(
+            "The journal has only the numbers of the projects, in the order of the .pb file. With another file, a number may mean another project. Run the command again with the .pb file with which the desk was opened.\nIf you want to use {}, give `--other-file`. Do so only if the projects have the same order as before: names and costs may differ, and projects may be added at the end.\n",
+            &[Name(file)],
+        );
+    } else {
+        out.fill(
+            "{} should begin with the SHA-256 of the .pb file, but it does not. So the program can't tell to which .pb file {} belongs.\nGet {} from last evening's copy.\n",
+            &[Name(Some(beside)), Name(journal), Name(Some(beside))],
+        );
+    }
     out.finish()
 }
 
@@ -29,7 +43,7 @@ pub fn adopted_words(
 ) -> Result<String, AllocError> {
     let mut out = Words::new(alloc);
     out.fill(
-        "{} was missing, so the program can't tell to which .pb file {} belongs.\nThe program has now made it for the .pb file that you named, whose SHA-256 is {}.\nCompare this with the SHA-256 that you noted when the desk was opened. If they differ, stop, and find the right .pb file.\n",
+        "{} was missing, so the program can't tell to which .pb file {} belongs.\nThe program has now made it for the .pb file of this command, whose SHA-256 is {}.\nCompare this with the SHA-256 that you noted when the desk was opened. If they differ, stop, and find the right .pb file.\n",
         &[Name(Some(beside)), Name(Some(journal)), Own(digest)],
     );
     out.finish()

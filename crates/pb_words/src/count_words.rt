@@ -32,19 +32,9 @@ pub fn count_words(
     let mut out = Words::new(alloc);
     match fault {
         CountFault::RaisesSpent => {
-            let raises = if options.max_raises == 1 {
-                "raise"
-            } else {
-                "raises"
-            };
-            out.fill(
-                "{}: the count is not finished after {} {} of ",
-                &[
-                    Name(path),
-                    Number(u64::from(options.max_raises)),
-                    Own(raises),
-                ],
-            );
+            out.fill("{}: the count is not finished after ", &[Name(path)]);
+            put_count(&mut out, options.max_raises);
+            out.put(" of ");
             put_amount(&mut out, options.step.0);
             out.put(", so there is no result.\n")
         }
@@ -65,9 +55,19 @@ pub fn spent_words(
     out.put("First see what the rules of your vote say about the step and the number of raises.\n");
     put_raises(&mut out, deciding);
     if options.max_raises > 0 {
-        put_step(&mut out, sure_step(options.max_raises, budget));
+        put_step(
+            &mut out,
+            options.max_raises,
+            sure_step(options.max_raises, budget),
+        );
     }
     out.finish()
+}
+
+/// Puts how many raises are meant.
+fn put_count(out: &mut Words, raises: u32) {
+    let unit = if raises == 1 { "raise" } else { "raises" };
+    out.fill("{} {}", &[Number(u64::from(raises)), Own(unit)])
 }
 
 /// Puts how many raises would decide.
@@ -82,33 +82,30 @@ fn put_raises(out: &mut Words, deciding: Deciding) {
             &[Number(u64::from(raises))],
         ),
         Deciding::NoneIs => out.put(
-            "More raises can't help: `--raises` can be 1000000 at most, and that is not enough.\n",
+            "More raises can't help: `--raises` can be at most 1000000, and that is not enough.\n",
         ),
         Deciding::NotFound => out.put(
-            "You can allow more raises, up to 1000000. How many are needed is not known: the program stopped searching after about the time that the count took.\n",
+            "You can allow more raises, up to 1000000. The program does not know how many you need: it searched for about as long as the count took, and then stopped.\n",
         ),
         Deciding::Unread => out.put(
-            "You can allow more raises, up to 1000000. How many are needed is not known: the ballots can't be read a second time.\n",
+            "You can allow more raises, up to 1000000. The program can't say how many you need: it can't read the ballots twice from standard input or a pipe. Save them in a file, and name that file.\n",
         ),
     }
 }
 
-/// Puts a larger step, which is known to decide where it is given, and what it may cost.
-fn put_step(out: &mut Words, step: Option<u64>) {
+/// Puts a larger step, which is known to decide with so many raises where it is given, and what it may cost.
+fn put_step(out: &mut Words, raises: u32, step: Option<u64>) {
     match step {
         Some(step) => {
-            out.fill(
-                "You can use a larger step: with `--step {}` (",
-                &[Number(step)],
-            );
+            out.put("You can use a larger step: with ");
+            put_count(out, raises);
+            out.fill(", `--step {}` (", &[Number(step)]);
             put_amount(out, step);
-            out.put(
-                ") the last raise makes each voter's share as large as the budget, which is always enough.\n",
-            );
+            out.put(") is always enough.\n");
         }
-        None => out.put("You can use a larger step.\n"),
+        None => out.put("You can try a larger step: `--step` can be at most 1000000000.\n"),
     }
-    out.put("But a larger step skips the shares in between, so fewer projects may win.\n")
+    out.put("But with a larger step fewer different shares are tried, so fewer projects may win.\n")
 }
 
 /// Puts which option a count refuses.

@@ -2,7 +2,7 @@
 
 use crate::mark_words::put_subject;
 use crate::read_rules::{put_broken, words_of};
-use crate::section::{Names, is_again, names_of, wrong_head};
+use crate::section::{Names, names_of, wrong_head};
 use crate::words::Value::{Bytes, Number, Own, Quoted};
 use crate::words::{Words, is_hidden};
 use csv::ByteRecord;
@@ -15,21 +15,6 @@ use pb_witness::seen::Seen;
 /// What to do about the column names of VOTES among the projects.
 const NO_VOTES: &str =
     "These are the column names of VOTES: write the heading VOTES on a line above them.\n";
-
-/// What to do where a file does not begin with META.
-const NO_META: &str =
-    "Write META on the first line. If the beginning of the file is missing, get the whole file again.\n";
-
-/// What to do about a section that comes twice.
-const ONCE: &str =
-    "Each section may come only once. If the file has two elections, put each into a file of its own.\n";
-
-/// What to do about a project's row that ends too early.
-const SHORT_PROJECT: &str = "Complete the row, or delete it if it does not belong here.\n";
-
-/// What to do about a row of invisible characters.
-const INVISIBLE: &str =
-    "The line has only an invisible character, which some programs put at the end of a file: delete the line.\n";
 
 /// A record with its fault.
 #[derive(Clone, Copy)]
@@ -75,14 +60,23 @@ impl<'r> FaultyRecord<'r> {
             (_, Stage::InProjects(_)) if column_of(self.record, "voter_id").is_some() => {
                 Some(NO_VOTES)
             }
-            (ReadKind::NoSection, _) => Some(NO_META),
-            (ReadKind::SectionOrder, stage) if is_again(stage, text_at(self.record, 0)) => {
-                Some(ONCE)
-            }
+            (ReadKind::NoSection, _) => Some(
+                "Check that this is the .pb file (it comes first in the command). If it is, write META on its first line, or get the whole file again.\n",
+            ),
+            (ReadKind::SectionOrder, stage) => Some(wrong_head(stage, text_at(self.record, 0)).1),
             (ReadKind::NoHeader, _) => Some(self.names().add_header),
             (ReadKind::MissingColumn, _) => Some(self.names().add_column),
-            (ReadKind::MissingField, _) if is_invisible(self.record) => Some(INVISIBLE),
-            (ReadKind::MissingField, Stage::InProjects(_)) => Some(SHORT_PROJECT),
+            (ReadKind::MissingField, _) if is_invisible(self.record) => Some(
+                "The line has only an invisible character, which some programs put at the end of a file: delete the line.\n",
+            ),
+            (ReadKind::MissingField, Stage::InProjects(_)) if self.record.len() == 1 => {
+                Some(
+                    "If it is the heading of the votes, write VOTES. If not, complete the row, or delete it.\n",
+                )
+            }
+            (ReadKind::MissingField, Stage::InProjects(_)) => Some(
+                "Complete the row, or delete it if it does not belong here.\n",
+            ),
             _ => None,
         }
     }
@@ -116,12 +110,16 @@ impl<'r> FaultyRecord<'r> {
                 &[Quoted(text_at(self.record, 0))],
             ),
             ReadKind::SectionOrder => {
-                self.put_head(out, wrong_head(self.stage, text_at(self.record, 0)))
+                let head = text_at(self.record, 0);
+                out.fill(wrong_head(self.stage, head).0, &[Quoted(head)])
             }
-            ReadKind::NoHeader => {
-                self.put_head(out, " begins another section, but ");
-                out.put(self.names().header_due)
-            }
+            ReadKind::NoHeader => out.fill(
+                ": {} begins another section, but {}",
+                &[
+                    Quoted(text_at(self.record, 0)),
+                    Own(self.names().header_due),
+                ],
+            ),
             ReadKind::MissingColumn => self.put_no_column(out),
             ReadKind::MissingField => self.put_short(out),
             ReadKind::EmptyId => self.put_value(out, self.names().id_column, "", self.id()),
@@ -131,7 +129,7 @@ impl<'r> FaultyRecord<'r> {
             | ReadKind::ZeroCost => {
                 self.put_value(out, self.names().value_column, self.id(), self.value())
             }
-            kind => out.fill(": {}.\n", &[Own(words_of(kind).what)]),
+            kind => out.fill(": {}.\n", &[Own(words_of(kind).0)]),
         }
     }
 
@@ -158,11 +156,6 @@ impl<'r> FaultyRecord<'r> {
         )
     }
 
-    fn put_head(&self, out: &mut Words, rule: &str) {
-        out.fill(": {}", &[Quoted(text_at(self.record, 0))]);
-        out.put(rule)
-    }
-
     fn put_no_column(&self, out: &mut Words) {
         let names = self.names();
         let missing = if column_of(self.record, names.id_column).is_some() {
@@ -178,6 +171,12 @@ impl<'r> FaultyRecord<'r> {
 
     fn put_short(&self, out: &mut Words) {
         let names = self.names();
+        if self.record.len() == 1 && matches!(self.stage, Stage::InProjects(_)) {
+            return out.fill(
+                " has only {}, and no field for the column `cost`.\n",
+                &[Quoted(text_at(self.record, 0))],
+            );
+        }
         put_subject(out, names.subject, self.id());
         let missing = if self.places().0 < self.record.len() {
             names.value_column

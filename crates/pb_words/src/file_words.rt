@@ -9,6 +9,9 @@ use std::alloc::{AllocError, Global};
 use std::io::{Error, ErrorKind};
 use std::rt::Files;
 
+/// What is said of a folder in the place of a file.
+pub(crate) const FOLDER: &str = "{}: this is a folder.\nName a file in it.\n";
+
 /// Words for a file that could not be opened. It is tried once more, for the system's reason.
 pub fn open_words<R: Files>(rt: &R, alloc: Global, path: &str) -> Result<String, AllocError> {
     let mut out = Words::new(alloc);
@@ -41,7 +44,17 @@ pub fn write_words(
     reason: Option<&Error>,
 ) -> Result<String, AllocError> {
     let mut out = Words::new(alloc);
-    out.put_name(path.unwrap_or("standard output"));
+    match (path, reason) {
+        (Some(""), _) => {
+            out.put("--output: the name of the file is empty.\nName a file.\n");
+            return out.finish();
+        }
+        (Some(path), Some(error)) if error.kind() == ErrorKind::IsADirectory => {
+            out.fill(FOLDER, &[Name(Some(path))]);
+            return out.finish();
+        }
+        _ => out.put_name(path.unwrap_or("standard output")),
+    }
     match reason {
         Some(error) => out.put_error(error),
         None => out.put(": the output could not be written.\n"),
@@ -61,7 +74,6 @@ fn write_remedy(reason: Option<&Error>) -> &'static str {
         None => ErrorKind::Other,
     };
     match kind {
-        ErrorKind::IsADirectory => "Name a file, not a folder.\n",
         ErrorKind::NotFound => {
             "The result was not written. Name a file in a folder that exists.\n"
         }
@@ -76,10 +88,7 @@ pub(crate) fn put_reading_failed<R: Files>(out: &mut Words, text: &Text<'_, R>, 
         return false;
     };
     if is_folder(text.rt, path) {
-        out.fill(
-            "{}: this is a folder.\nName a file in it.\n",
-            &[Name(Some(path))],
-        );
+        out.fill(FOLDER, &[Name(Some(path))]);
         return true;
     }
     put_record_number(out, text, at);

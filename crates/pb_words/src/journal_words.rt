@@ -1,9 +1,9 @@
 //! Words for the faults of a journal.
 
 use crate::file_words::put_reading_failed;
-use crate::mark_words::{put_mark, put_quotes, put_record_number, put_subject, put_unclosed};
+use crate::mark_words::{put_mark, put_record_number, put_subject, put_unclosed};
 use crate::row_words::{JOURNAL_FIELDS, put_field_count, put_flaw};
-use crate::words::Value::{Bytes, Number, Own};
+use crate::words::Value::{Bytes, Name, Number, Own};
 use crate::words::Words;
 use csv::ByteRecord;
 use pb_core::answer::Answer;
@@ -18,13 +18,19 @@ use pb_witness::row_flaw::{Condition, flaw_of_journal_row};
 use std::alloc::{AllocError, Global};
 use std::rt::Files;
 
-/// What to do about a row that no desk wrote.
-const EDITED: &str =
-    "The journal was changed after the desk wrote it: get the desk's own copy. If only its last row is broken (after a power cut), run `pb_app serve` first, which cuts off an incomplete end.";
+/// What is said of a row whose number is not the next one.
+const MISPLACED: &str = "A row is missing, repeated or in the wrong order.";
 
-/// What to do about a first row that seems to be of another file.
-const NOT_JOURNAL: &str =
-    "Check that this is the journal: in the command, the .pb file comes first and the journal second. If it is, it was changed after the desk wrote it: get the desk's own copy.";
+/// What is said of a row whose answer is wrong.
+const OTHER_ANSWER: &str =
+    "Check that {} is the .pb file with which the desk was opened. If it is, this row or a row above it was changed.";
+
+/// Where to get a journal that is right.
+const GET_IT: &str = " Get the journal from the desk's machine, or last evening's copy.\n";
+
+/// Where a desk gets it.
+const GET_COPY: &str =
+    " `pb_app serve` did not change the journal. Get last evening's copy, and compare the two.\n";
 
 /// Words for a fault of a journal that was audited on a .pb file.
 pub fn journal_words<R: Files>(
@@ -45,30 +51,46 @@ fn put_words<R: Files>(out: &mut Words, audited: &Audited<'_, R>) {
     };
     if !is_put {
         put_record_number(out, &audited.journal, audited.at);
-        out.put(what_and_remedy(audited.fault));
+        put_fault(out, audited);
     }
 }
 
-/// What is wrong and what to do, where no more than the fault is known.
-fn what_and_remedy(fault: AuditFault) -> &'static str {
-    match fault {
-        AuditFault::ReadFailed(_) => {
-            ": the journal could not be read to its end.\nCheck the disk or the connection, then run again.\n"
-        }
-        AuditFault::BadRow(_) => {
-            ": the row is not a journal's row.\nCheck that this is the journal. If it is, it was changed after the desk wrote it: get the desk's own copy.\n"
-        }
+/// Puts this sentence, and where to get a journal that is right.
+fn put_get<R>(out: &mut Words, audited: &Audited<'_, R>, why: &str) {
+    out.put(why);
+    out.put(if audited.is_served { GET_COPY } else { GET_IT })
+}
+
+/// Puts what to do about a wrong answer.
+fn put_other_answer<R>(out: &mut Words, audited: &Audited<'_, R>) {
+    out.fill(OTHER_ANSWER, &[Name(audited.file.path)]);
+    put_get(out, audited, "")
+}
+
+/// Puts what is wrong and what to do, where no more than the fault is known.
+fn put_fault<R>(out: &mut Words, audited: &Audited<'_, R>) {
+    match audited.fault {
+        AuditFault::ReadFailed(_) => out.put(
+            ": the journal could not be read to its end.\nCheck the disk or the connection, then run again.\n",
+        ),
+        AuditFault::BadRow(_) => put_get(
+            out,
+            audited,
+            ": the row is not a journal's row.\nCheck that this is the journal. If it is, it is not as the desk wrote it.",
+        ),
         AuditFault::WrongNumber(_) => {
-            ": the row's number is not the next one.\nA row is missing, repeated or in the wrong order: get the desk's own copy of the journal.\n"
+            out.put(": the row's number is not the next one.\n");
+            put_get(out, audited, MISPLACED)
         }
-        AuditFault::JournalFull(_) => {
-            ": the journal has more rows than a desk of this program can write.\nIt is not from this program.\n"
-        }
+        AuditFault::JournalFull(_) => out.put(
+            ": the journal has more rows than a desk of this program can write.\nIt is not from this program.\n",
+        ),
         AuditFault::WrongAnswer(_) => {
-            ": the answer in the journal is wrong; the desk would have given another.\nCheck that this is the .pb file with which the desk was opened. If it is, this row or an earlier one was changed later: get the desk's own copy of the journal.\n"
+            out.put(": the answer in the journal is wrong; the desk would have given another.\n");
+            put_other_answer(out, audited)
         }
         AuditFault::NoMemory => {
-            ": memory ran out.\nRun the audit on a machine with more memory.\n"
+            out.put(": memory ran out.\nRun again on a machine with more memory.\n")
         }
     }
 }
@@ -78,6 +100,7 @@ fn put_found<R: Files>(out: &mut Words, audited: &Audited<'_, R>) -> bool {
     if let Some(desk) = audited.answer(ROOM) {
         let _ = put_mark(out, &audited.journal, desk.mark);
         put_wrong_answer(out, &desk.row, Some(&desk));
+        put_other_answer(out, audited);
         drop(desk);
         return true;
     }
@@ -92,42 +115,64 @@ fn put_found<R: Files>(out: &mut Words, audited: &Audited<'_, R>) -> bool {
 fn put_row<R: Files>(out: &mut Words, audited: &Audited<'_, R>, row: &ByteRecord, mark: Mark) {
     let span = put_mark(out, &audited.journal, mark);
     match audited.fault {
-        AuditFault::BadRow(0) => out.fill(
-            ": this program can't read journals of version {}; the first line should be `journal;2`.\nIf a newer pb_app wrote the journal, use that program. Otherwise get the desk's own copy of the journal.\n",
-            &[Bytes(bytes_at(row, 1))],
-        ),
+        AuditFault::BadRow(0) => {
+            out.fill(
+                ": this program can't read journals of version {}; the first line should be `journal;2`.\n",
+                &[Bytes(bytes_at(row, 1))],
+            );
+            put_get(
+                out,
+                audited,
+                "If a newer pb_app wrote the journal, use that program. If not, the journal is not as the desk wrote it.",
+            )
+        }
         AuditFault::BadRow(_) => {
             if !put_unclosed(out, span) {
-                put_bad_row(out, row, remedy_at(audited));
-                let _ = put_quotes(out, span);
+                put_bad_row(out, row);
             }
+            put_bad_remedy(out, audited, mark)
         }
-        AuditFault::WrongNumber(at) => out.fill(
-            ", field number: this row has the number {}, but the next number is {}.\nA row is missing, repeated or in the wrong order: get the desk's own copy of the journal.\n",
-            &[Bytes(bytes_at(row, 0)), Number(at)],
-        ),
-        AuditFault::WrongAnswer(_) => put_wrong_answer(out, row, None),
-        fault => out.put(what_and_remedy(fault)),
+        AuditFault::WrongNumber(at) => {
+            out.fill(
+                ", field number: this row has the number {}, but the next number is {}.\n",
+                &[Bytes(bytes_at(row, 0)), Number(at)],
+            );
+            put_get(out, audited, MISPLACED)
+        }
+        AuditFault::WrongAnswer(_) => {
+            put_wrong_answer(out, row, None);
+            put_other_answer(out, audited)
+        }
+        _ => put_fault(out, audited),
     }
 }
 
-/// What to do about a bad row: a text whose first row is one, and that does not begin as journals do, may be another file.
-fn remedy_at<R>(audited: &Audited<'_, R>) -> &'static str {
+/// Puts what to do about a bad row: a text whose first row is one, and that does not begin as journals do, may be another file.
+fn put_bad_remedy<R: Files>(out: &mut Words, audited: &Audited<'_, R>, mark: Mark) {
     if audited.at == 1 && audited.journal.before == 0 {
-        NOT_JOURNAL
+        out.fill(
+            "Check that {} is the journal. (The .pb file comes first in the command, then the journal.) If it is the journal, it is not as the desk wrote it.",
+            &[Name(audited.journal.path)],
+        );
+        put_get(out, audited, "")
+    } else if !audited.is_served && audited.has_gap_before(mark) {
+        put_get(
+            out,
+            audited,
+            "If the power failed, run `pb_app serve` first: it cuts off the incomplete end. If not, the journal is not as the desk wrote it.",
+        )
     } else {
-        EDITED
+        put_get(out, audited, "The journal is not as the desk wrote it.")
     }
 }
 
-/// Puts which condition a row breaks, and what to do.
-fn put_bad_row(out: &mut Words, row: &ByteRecord, remedy: &str) {
+/// Puts which condition a row breaks.
+fn put_bad_row(out: &mut Words, row: &ByteRecord) {
     match flaw_of_journal_row(row) {
         Some(flaw) if flaw.condition == Condition::FieldCount => {
-            put_field_count(out, row, JOURNAL_FIELDS.len());
-            out.fill("{}\n", &[Own(remedy)])
+            put_field_count(out, row, JOURNAL_FIELDS.len())
         }
-        Some(flaw) => put_flaw(out, &flaw, JOURNAL_FIELDS, MOST_CLERKS, remedy),
+        Some(flaw) => put_flaw(out, &flaw, JOURNAL_FIELDS, MOST_CLERKS),
         None => out.put(": the row is refused.\n"),
     }
 }
@@ -143,9 +188,6 @@ fn put_wrong_answer(out: &mut Words, row: &ByteRecord, desk: Option<&DeskAnswer>
         Some(desk) => put_answer(out, desk, raw_text(row, 2), raw_text(row, 5)),
         None => out.put(", but the right answer is another one.\n"),
     }
-    out.put(
-        "Check that this is the .pb file with which the desk was opened. If it is, this row or an earlier one was changed later: get the desk's own copy of the journal.\n",
-    )
 }
 
 /// Puts the answer to this request, and why it is given and not the one that the journal says.

@@ -27,6 +27,7 @@ mod section;
 pub mod serve_words;
 pub mod tally_words;
 mod terminal;
+pub mod unwritten_words;
 pub mod warning_words;
 pub mod what_if_words;
 mod words;

@@ -28,7 +28,8 @@ const LOOKS: &[(&[u8], &str)] = &[
 const UTF_16: &str =
     ": the file looks like text in the encoding UTF-16.\nSave the file again with the encoding UTF-8.\n";
 
-const EMPTY: &str = ": the file is empty.\nGet or save the file again.\n";
+/// What is said of a file in which no line has a text.
+pub(crate) const EMPTY: &str = ": the file is empty.\nGet or save the file again.\n";
 
 const WEB_PAGE: &str =
     ": the file looks like a web page.\nGet the file itself, and not the page that shows it.\n";

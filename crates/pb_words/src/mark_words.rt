@@ -9,14 +9,16 @@ use std::rt::Files;
 
 /// What is said of a quotation mark that is never closed.
 const UNCLOSED: &str =
-    "{} quotation mark opens on line {} and is never closed, so the rest of the file is read as one field.
-Close it. If it belongs to the text, write `\"\"` for it, and put quotation marks around the whole field, like `\"Playground \"\"Otter\"`.
-";
+    "{} quotation mark opens on line {} and is never closed, so the rest of the file is read as one field.\n";
+
+/// What to do about a quotation mark that is never closed.
+pub(crate) const CLOSE_IT: &str =
+    "Write a second quotation mark where this text should end. If the text itself has quotation marks, write each of them twice, and put the whole text in quotation marks: `\"Playground \"\"Otter\"\"\"`.\n";
 
 /// What is said of a field in quotes that runs over several lines.
 const OVER_LINES: &str =
     "A quotation mark opens on line {} and is closed on line {}, so these lines are read as one field.
-If they should not be, delete both quotation marks, or close the first one on its own line.
+If each line should be a row of its own, delete the quotation mark on line {} and the one on line {}.
 ";
 
 /// Puts where a record stands that was not read again: `standard input: record 32`.
@@ -43,7 +45,7 @@ pub(crate) fn put_subject(out: &mut Words, subject: &str, id: &str) {
     }
 }
 
-/// Puts that a quotation mark in this record is never closed, if one is; answers whether it is so.
+/// Puts that a quotation mark in this record is never closed, if one is; answers whether it is so. What to do is not said.
 pub(crate) fn put_unclosed(out: &mut Words, span: Span) -> bool {
     let Some(opened) = span.unclosed() else {
         return false;
@@ -57,10 +59,14 @@ pub(crate) fn put_unclosed(out: &mut Words, span: Span) -> bool {
 pub(crate) fn put_quotes(out: &mut Words, span: Span) -> bool {
     if let Some(opened) = span.unclosed() {
         out.fill(UNCLOSED, &[Own("A"), Number(opened)]);
+        out.put(CLOSE_IT);
         return true;
     }
     if let Some((opens, closes)) = span.over {
-        out.fill(OVER_LINES, &[Number(opens), Number(closes)]);
+        out.fill(
+            OVER_LINES,
+            &[Number(opens), Number(closes), Number(opens), Number(closes)],
+        );
     }
     false
 }

@@ -13,16 +13,13 @@ use pb_witness::seen::Seen;
 use pb_witness::text::Text;
 use std::rt::Files;
 
-/// What to do where META has no budget.
-const ADD_BUDGET: &str = "Add it above this line, in the form `budget;AMOUNT`.\n";
-
 /// What to do where META has no vote type.
 const ADD_VOTE_TYPE: &str =
     "If the votes are approval votes, add `vote_type;approval` above this line.\n";
 
 /// What to do where fields are separated by something else than `;`.
 const SAVE_AGAIN: &str =
-    "The fields are separated by {}. Save the file again with `;` between the fields. Commas within a vote are right.\n";
+    "The fields are separated by {}. Save the file again with `;` between the fields. Keep the commas between the ids of a vote.\n";
 
 /// What to do about a row that is one field in quotes.
 const NO_QUOTES: &str =
@@ -60,18 +57,25 @@ pub(crate) fn put_value_words<R: Files>(
         return false;
     };
     let _ = put_mark(out, text, last);
-    put_value(out, key, kind, text_at(&records.last, 1));
+    let value = text_at(&records.last, 1);
+    out.fill(", key {}", &[Quoted(key)]);
+    put_broken(out, kind, value);
+    let remedy = value_remedy(kind, value);
     drop(records);
     if first.at != last.at {
         out.fill(REPEATED_KEY, &[Number(line_of(text, first))]);
     }
-    out.put(words_of(kind).remedy);
+    out.put(remedy);
     true
 }
 
-fn put_value(out: &mut Words, key: &str, kind: ReadKind, value: &str) {
-    out.fill(", key {}", &[Quoted(key)]);
-    put_broken(out, kind, value)
+/// What to do about a value of META.
+fn value_remedy(kind: ReadKind, value: &str) -> &'static str {
+    match (kind, value) {
+        (ReadKind::VoteType, "ordinal" | "cumulative" | "scoring") =>
+            "This program counts approval votes only. Use another program for this file.\n",
+        _ => words_of(kind).1,
+    }
 }
 
 /// Puts which key META lacks, and what to do.
@@ -84,7 +88,7 @@ pub(crate) fn put_missing_key<R: Files>(
     let _ = put_mark(out, text, mark);
     let remedy = if seen.keys.budget().is_none() {
         out.put(": META has no row for the key `budget`.\n");
-        ADD_BUDGET
+        "Add it above this line, in the form `budget;AMOUNT`.\n"
     } else {
         out.put(": META has no row for the key `vote_type`.\n");
         ADD_VOTE_TYPE

@@ -25,7 +25,7 @@ pub fn beside_output_words(
 ) -> Result<String, AllocError> {
     said(
         alloc,
-        "error: --output {}: the program keeps this name for a file of its own beside the journal ({}).\nName another file.\n",
+        "error: --output {}: pb_app uses this name itself, for a file that belongs to the journal {}.\nName another file.\n",
         &[Name(Some(path)), Name(journal)],
     )
 }

@@ -8,7 +8,7 @@ use crate::read_rules::words_of;
 use crate::record_words::{put_end, put_found};
 use crate::words::Value::{Name, Own};
 use crate::words::Words;
-use pb_read::{ReadFault, ReadKind};
+use pb_read::{ReadFault, ReadKind, Stage};
 use pb_witness::ids::Known;
 use pb_witness::text::Text;
 use pb_witness::voters::first_rows;
@@ -70,8 +70,12 @@ fn put_faults<R: Files>(
     let mut place = 0usize;
     for fault in faults {
         match witness.refused.get(place) {
-            Some(refused) if can_be_read && refused.fault == *fault => {
-                put_fault(out, text, &known, refused)
+            Some(refused) if refused.fault == *fault => {
+                if can_be_read {
+                    put_fault(out, text, &known, refused)
+                } else {
+                    put_from_input(out, text, &known, refused)
+                }
             }
             _ => put_unread(out, text, *fault),
         }
@@ -106,6 +110,32 @@ fn put_fault<R: Files>(out: &mut Words, text: &Text<'_, R>, known: &Known<'_>, r
     }
 }
 
+/// Puts what is said of a fault of a text that can't be read again: little more than the fault says.
+fn put_from_input<R: Files>(
+    out: &mut Words,
+    text: &Text<'_, R>,
+    known: &Known<'_>,
+    refused: &Refused,
+) {
+    match (refused.fault.kind, &refused.stage) {
+        (ReadKind::NoSection, Stage::Start) => {
+            let form = if refused.record.len() == 0 {
+                "{} is empty.\nName a .pb file in the command, for example `pb_app count FILE`.\n"
+            } else {
+                "{}: a .pb file begins with the line META, but this text does not.\nCheck that this is the .pb file. If it is, write META on its first line, or get the whole file again.\n"
+            };
+            out.fill(form, &[Name(text.path)])
+        }
+        (ReadKind::UnknownProject, _) if known.ids.left_out.len() > 0 => {
+            put_record_number(out, text, u64::from(refused.fault.at));
+            out.put(
+                ": the vote names an id that no project has, or the id of a project whose row has a fault.\nCorrect the rows of the projects first.\n",
+            )
+        }
+        _ => put_unread(out, text, refused.fault),
+    }
+}
+
 /// Puts what is said of a fault by itself.
 fn put_unread<R: Files>(out: &mut Words, text: &Text<'_, R>, fault: ReadFault) {
     let at = u64::from(fault.at);
@@ -113,8 +143,8 @@ fn put_unread<R: Files>(out: &mut Words, text: &Text<'_, R>, fault: ReadFault) {
         return;
     }
     put_record_number(out, text, at);
-    let words = words_of(fault.kind);
-    out.fill(": {}.\n{}", &[Own(words.what), Own(words.remedy)])
+    let (what, remedy) = words_of(fault.kind);
+    out.fill(": {}.\n{}", &[Own(what), Own(remedy)])
 }
 
 /// Puts what the file looks like that is none, and answers whether it does.

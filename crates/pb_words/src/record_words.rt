@@ -1,7 +1,8 @@
 //! Words for a record of a .pb file that is refused, and for the end of one that is refused there.
 
 use crate::faulty_record::FaultyRecord;
-use crate::mark_words::{line_of, put_mark, put_quotes, put_subject, put_unclosed};
+use crate::looks::EMPTY;
+use crate::mark_words::{CLOSE_IT, line_of, put_mark, put_quotes, put_subject, put_unclosed};
 use crate::meta_words::{
     put_joined, put_late_meta, put_missing_key, put_odd_head, put_value_words,
 };
@@ -15,9 +16,6 @@ use pb_witness::mark::Mark;
 use pb_witness::quote::span_of;
 use pb_witness::text::Text;
 use std::rt::Files;
-
-/// What to do about a vote for a project whose row has a fault.
-const MEND_PROJECT: &str = "Correct that line first. This vote may be right.\n";
 
 /// What to do about a vote whose ids blanks separate.
 const NO_BLANKS: &str = "The vote has spaces between the ids: write `,` instead.\n";
@@ -52,9 +50,9 @@ fn put_record<R: Files>(
     let ids = known.ids;
     let span = put_mark(out, text, faulty.mark);
     if put_unclosed(out, span) {
-        return;
+        return out.put(CLOSE_IT);
     }
-    let mut remedy = words_of(faulty.kind).remedy;
+    let mut remedy = words_of(faulty.kind).1;
     match faulty.kind {
         ReadKind::UnknownProject => {
             let unknown = ids.unknown_of(faulty.value());
@@ -105,17 +103,19 @@ fn put_unknown(out: &mut Words, ids: &Ids, unknown: &str, left_out: Option<u64>)
                 ": the row of project {} on line {} has a fault, so this vote can't be accepted.\n",
                 &[Quoted(unknown), Number(line)],
             );
-            MEND_PROJECT
+            "Correct that line first. This vote may be right.\n"
         }
         None => put_no_project(out, ids, unknown),
     }
 }
 
-/// Puts that an id is no project's, and the nearest one; answers what to do.
+/// Puts that an id is no project's, and the nearest one; answers what to do. Of an id with a line end the quotation marks
+/// around it say that.
 fn put_no_project(out: &mut Words, ids: &Ids, unknown: &str) -> &'static str {
-    if ids.are_apart_by_blanks(unknown) {
+    let are_apart = ids.are_apart_by_blanks(unknown);
+    if are_apart || unknown.contains('\n') {
         out.fill(": no project has the id {}.\n", &[Quoted(unknown)]);
-        return NO_BLANKS;
+        return if are_apart { NO_BLANKS } else { "" };
     }
     match ids.nearest(unknown) {
         Ok(Some(near)) => out.fill(
@@ -125,7 +125,7 @@ fn put_no_project(out: &mut Words, ids: &Ids, unknown: &str) -> &'static str {
         Ok(None) => out.fill(": no project has the id {}.\n", &[Quoted(unknown)]),
         Err(_) => out.fail(),
     }
-    words_of(ReadKind::UnknownProject).remedy
+    words_of(ReadKind::UnknownProject).1
 }
 
 /// Puts what is missing at the end of the file, where it was read so far and its records say this; answers that it did.
@@ -135,15 +135,15 @@ pub(crate) fn put_end<R: Files>(
     end: &FaultyRecord<'_>,
 ) -> bool {
     let (due, last) = (due_at_end(end.stage), end.seen.last);
-    let span = span_of(text, last);
-    if last.at > 0 {
-        out.fill(
-            "{}: the file ends after line {}, and {}",
-            &[Name(text.path), Number(span.begins), Own(due)],
-        );
-    } else {
-        out.fill("{}: the file ends, and {}", &[Name(text.path), Own(due)]);
+    if last.at == 0 {
+        out.fill("{}{}", &[Name(text.path), Own(EMPTY)]);
+        return true;
     }
+    let span = span_of(text, last);
+    out.fill(
+        "{}: the file ends after line {}, and {}",
+        &[Name(text.path), Number(span.begins), Own(due)],
+    );
     if put_quotes(out, span) {
         return true;
     }

@@ -1,9 +1,16 @@
 //! Words for rows that a desk refuses by its rules, and for the voters' roll.
 
+use crate::file_words::FOLDER;
+use crate::mark_words::{put_mark, put_record_number};
 use crate::words::Value::{Name, Number, Own, Quoted};
 use crate::words::Words;
 use pb_script::{RollFault, RowRefusal};
+use pb_witness::failures::is_folder;
+use pb_witness::fields::text_at;
+use pb_witness::mark::Mark;
+use pb_witness::text::Text;
 use std::alloc::{AllocError, Global};
+use std::rt::Files;
 
 /// A row that a desk refuses by its rules.
 #[derive(Clone, Copy)]
@@ -14,6 +21,10 @@ pub struct RefusedRow<'a> {
     pub why: RowRefusal,
     /// The id that no project has, where that is why.
     pub unknown: &'a str,
+    /// The path of the text that it is from; none is standard input.
+    pub path: Option<&'a str>,
+    /// The path of the voters' roll.
+    pub roll: Option<&'a str>,
     /// How many projects a ballot has at least.
     pub least: u32,
     /// Whether its script is refused by it.
@@ -21,33 +32,60 @@ pub struct RefusedRow<'a> {
 }
 
 /// Words for a row that a desk refuses by its rules.
-pub fn refused_words(alloc: Global, refused: &RefusedRow<'_>) -> Result<String, AllocError> {
+pub fn refused_words<R: Files>(
+    rt: &R,
+    alloc: Global,
+    refused: &RefusedRow<'_>,
+) -> Result<String, AllocError> {
     let mut out = Words::new(alloc);
-    out.fill("Row {}: ", &[Number(refused.row)]);
+    let text = Text::new(rt, alloc, refused.path, "row");
+    match text.records_at(Mark::start(), refused.row) {
+        Some(records) => {
+            let _ = put_mark(&mut out, &text, records.mark());
+            put_why(&mut out, refused, Some(text_at(&records.last, 2)));
+            drop(records);
+        }
+        None => {
+            put_record_number(&mut out, &text, refused.row);
+            put_why(&mut out, refused, None);
+        }
+    }
     let remedy = match refused.why {
-        RowRefusal::UnknownId => {
-            out.fill("no project has the id {}.", &[Quoted(refused.unknown)]);
-            "Correct the id"
-        }
-        RowRefusal::TooFew => {
-            out.fill(
-                "the ballot names too few projects: `--min` asks for {} at least.",
-                &[Number(u64::from(refused.least))],
-            );
-            "Add projects to the ballot"
-        }
+        RowRefusal::UnknownId => "Correct the id",
+        RowRefusal::TooFew => "Add projects to the ballot",
         RowRefusal::NotOnRoll | RowRefusal::Bad => {
-            out.put("the voter is not on the roll.");
-            "Correct the voter's id, or add the voter to the roll"
+            "Correct the voter's id, or add it to the roll as the first field of a row"
         }
     };
     let form = if refused.refuses_script {
-        " The script is refused.\n{}, and run again.\n"
+        " Nothing was written.\n{}, and run again.\n"
     } else {
         " The request is not recorded.\n{}, and send the request again.\n"
     };
     out.fill(form, &[Own(remedy)]);
     out.finish()
+}
+
+/// Puts why a row of this voter, if it is known, is refused.
+fn put_why(out: &mut Words, refused: &RefusedRow<'_>, voter: Option<&str>) {
+    match (refused.why, voter) {
+        (RowRefusal::UnknownId, _) => out.fill(
+            ", field places: no project has the id {}.",
+            &[Quoted(refused.unknown)],
+        ),
+        (RowRefusal::TooFew, _) => out.fill(
+            ", field places: the ballot names too few projects: `--min` asks for at least {}.",
+            &[Number(u64::from(refused.least))],
+        ),
+        (_, Some(voter)) => out.fill(
+            ", field voter: {} is not on the roll {}.",
+            &[Quoted(voter), Name(refused.roll)],
+        ),
+        (_, None) => out.fill(
+            ", field voter: the voter is not on the roll {}.",
+            &[Name(refused.roll)],
+        ),
+    }
 }
 
 /// Words for an id of a project that reads as a position.
@@ -61,8 +99,14 @@ pub fn like_a_place_words(alloc: Global, id: &str) -> Result<String, AllocError>
 }
 
 /// Words for a fault of the voters' roll with this path.
-pub fn roll_words(alloc: Global, path: &str, fault: RollFault) -> Result<String, AllocError> {
+pub fn roll_words<R: Files>(
+    rt: &R,
+    alloc: Global,
+    path: &str,
+    fault: RollFault,
+) -> Result<String, AllocError> {
     let (row, form) = match fault {
+        RollFault::ReadFailed(_) if is_folder(rt, path) => (0, FOLDER),
         RollFault::ReadFailed(row) => (
             row,
             "{}: row {}: the roll could not be read to its end.\nCheck the disk or the connection, then run again.\n",

@@ -41,7 +41,7 @@ pub(crate) fn script_remedy(condition: Condition, clerks: u32) -> &'static str {
             "Write the number in digits, without spaces or leading zeros. If this is a row of column names, delete it: a script has none."
         }
         Condition::KnownClerk if clerks < MOST_CLERKS => {
-            "Correct the number, or allow more clerks: `--clerks` can be 64 at most, and clerks are numbered from 0."
+            "Correct the number, or allow more clerks: `--clerks` can be at most 64, and clerks are numbered from 0."
         }
         Condition::KnownClerk => "Correct the number: clerks are numbered from 0.",
         Condition::Request => "Write `cast`, `replace`, `withdraw` or `shut`, in small letters.",
@@ -58,14 +58,8 @@ pub(crate) fn script_remedy(condition: Condition, clerks: u32) -> &'static str {
     }
 }
 
-/// Puts which condition a row with these fields breaks, in a run of so many clerks, and what to do.
-pub(crate) fn put_flaw(
-    out: &mut Words,
-    flaw: &RowFlaw<'_>,
-    fields: &[&'static str],
-    clerks: u32,
-    remedy: &str,
-) {
+/// Puts which condition a row with these fields breaks, in a run of so many clerks.
+pub(crate) fn put_flaw(out: &mut Words, flaw: &RowFlaw<'_>, fields: &[&'static str], clerks: u32) {
     let field = fields.get(flaw.place).copied().unwrap_or("after the last");
     out.fill(
         ", field {}: {}{}",
@@ -74,7 +68,7 @@ pub(crate) fn put_flaw(
     if flaw.condition == Condition::KnownClerk {
         out.fill("{}", &[Number(u64::from(clerks).saturating_sub(1))]);
     }
-    out.fill(".\n{}\n", &[Own(remedy)])
+    out.put(".\n")
 }
 
 /// Puts how many fields a row has, and how many it needs.

@@ -2,10 +2,10 @@
 
 use crate::count_words::put_range;
 use crate::file_words::put_reading_failed;
-use crate::mark_words::{put_mark, put_quotes, put_record_number, put_unclosed};
+use crate::mark_words::{CLOSE_IT, put_mark, put_quotes, put_record_number, put_unclosed};
 use crate::meta_words::put_joined;
 use crate::row_words::{SCRIPT_FIELDS, put_field_count, put_flaw, script_remedy};
-use crate::words::Value::Number;
+use crate::words::Value::{Number, Own};
 use crate::words::Words;
 use csv::ByteRecord;
 use pb_desk::desk::MOST_CLERKS;
@@ -27,33 +27,57 @@ const JOURNAL_ROW: &str = ": this is a row of a journal, not a request.
 To check a journal, run `pb_app audit FILE JOURNAL`. To continue its desk, run `pb_app serve FILE JOURNAL`.
 ";
 
-/// Words for a fault of the script with this path, of a run with this many clerks; no path is standard input.
+/// The form of requests that name projects by their positions.
+const BY_POSITIONS: &str =
+    "A request has the form CLERK;REQUEST;VOTER;PLACES. PLACES are positions such as 0,1; for ids, run again with `--by-id`.\n";
+
+/// The form of requests that name projects by their ids.
+const BY_IDS: &str =
+    "A request has the form CLERK;REQUEST;VOTER;PLACES. PLACES are ids of projects, with `,` between them.\n";
+
+/// How a run takes the rows of a script.
+#[derive(Clone, Copy)]
+pub struct Taking {
+    /// How many clerks there are.
+    pub clerks: u32,
+    /// Whether rows name projects by their ids.
+    pub by_id: bool,
+}
+
+/// Words for a fault of the script with this path, which a run takes so; no path is standard input.
 /// No fault is a run whose number of clerks is not 1 to 64.
 pub fn script_words<R: Files>(
     rt: &R,
     alloc: Global,
     path: Option<&str>,
     fault: Option<ScriptFault>,
-    clerks: u32,
+    taking: Taking,
 ) -> Result<String, AllocError> {
     let mut out = Words::new(alloc);
     match fault {
-        Some(fault) => put_words(&mut out, &Text::new(rt, alloc, path, "row"), fault, clerks),
-        None => put_range(&mut out, "clerks", u64::from(clerks), "1 to 64"),
+        Some(ScriptFault::BadRow(_)) | None if taking.clerks == 0 => {
+            put_range(&mut out, "clerks", 0, "1 to 64")
+        }
+        Some(fault) => put_words(&mut out, &Text::new(rt, alloc, path, "row"), fault, taking),
+        None => put_range(&mut out, "clerks", u64::from(taking.clerks), "1 to 64"),
     }
     out.finish()
 }
 
-fn put_words<R: Files>(out: &mut Words, text: &Text<'_, R>, fault: ScriptFault, clerks: u32) {
+fn put_words<R: Files>(out: &mut Words, text: &Text<'_, R>, fault: ScriptFault, taking: Taking) {
     let at = u64::from(fault.at());
     let is_put = match fault {
         ScriptFault::ReadFailed(_) => put_reading_failed(out, text, at),
-        ScriptFault::BadRow(_) => put_row(out, text, at, clerks),
+        ScriptFault::BadRow(_) => put_row(out, text, at, taking.clerks),
         _ => false,
     };
     if !is_put {
         put_record_number(out, text, at);
         out.put(what_and_remedy(fault));
+        if let ScriptFault::BadRow(_) = fault {
+            out.put(if taking.by_id { BY_IDS } else { BY_POSITIONS });
+            out.put("The clerk's number must be less than --clerks (1 if you do not give it).\n");
+        }
     }
 }
 
@@ -61,10 +85,10 @@ fn put_words<R: Files>(out: &mut Words, text: &Text<'_, R>, fault: ScriptFault, 
 fn what_and_remedy(fault: ScriptFault) -> &'static str {
     match fault {
         ScriptFault::ReadFailed(_) => {
-            ": the script could not be read to its end.\nCheck the disk or the connection, then run again.\n"
+            ": the requests could not be read to their end.\nCheck the disk or the connection, then run again.\n"
         }
         ScriptFault::BadRow(_) => {
-            ": the row is not a valid request, or its clerk's number is too high.\nA request has the form CLERK;REQUEST;VOTER;PLACES. The clerk's number must be below the value of `--clerks`, which is 1 if it is not given.\n"
+            ": the row is not a valid request, or its clerk's number is too high.\n"
         }
         ScriptFault::TooManyRows => {
             ": the script has more than 2,000,000 rows.\nA longer script can't be used.\n"
@@ -82,7 +106,9 @@ fn put_row<R: Files>(out: &mut Words, text: &Text<'_, R>, at: u64, clerks: u32) 
         return false;
     };
     let span = put_mark(out, text, records.mark());
-    if !put_unclosed(out, span) {
+    if put_unclosed(out, span) {
+        out.put(CLOSE_IT);
+    } else {
         put_row_words(out, &records.last, clerks);
         let _ = put_quotes(out, span);
     }
@@ -93,7 +119,7 @@ fn put_row<R: Files>(out: &mut Words, text: &Text<'_, R>, at: u64, clerks: u32) 
 /// Words for why the row that was typed last is none.
 pub fn typed_words(alloc: Global, row: &TypedRow) -> Result<String, AllocError> {
     let mut out = Words::new(alloc);
-    out.fill("row {}", &[Number(row.number())]);
+    out.fill("standard input: row {}", &[Number(row.number())]);
     let mut records = row.records();
     if records.advance() {
         put_row_words(&mut out, &records.last, MOST_CLERKS);
@@ -114,8 +140,8 @@ fn put_row_words(out: &mut Words, row: &ByteRecord, clerks: u32) {
         }
         Some(flaw) => {
             let clerks = clerks.min(MOST_CLERKS);
-            let remedy = script_remedy(flaw.condition, clerks);
-            put_flaw(out, &flaw, SCRIPT_FIELDS, clerks, remedy)
+            put_flaw(out, &flaw, SCRIPT_FIELDS, clerks);
+            out.fill("{}\n", &[Own(script_remedy(flaw.condition, clerks))])
         }
         None => out.put(": the row is refused.\n"),
     }

@@ -56,7 +56,7 @@ pub(crate) fn names_of(section: Section) -> &'static Names {
 }
 
 /// Whether the section with this head has begun already at a stage where its head is refused.
-pub(crate) fn is_again(stage: &Stage, head: &str) -> bool {
+fn is_again(stage: &Stage, head: &str) -> bool {
     match stage {
         Stage::Start => false,
         Stage::InMeta(_) => head.eq_ignore_ascii_case("META"),
@@ -64,12 +64,21 @@ pub(crate) fn is_again(stage: &Stage, head: &str) -> bool {
     }
 }
 
-/// What is wrong with this head of a section at a stage where it is refused.
-pub(crate) fn wrong_head(stage: &Stage, head: &str) -> &'static str {
+/// What is wrong with this head of a section at a stage where it is refused, with the head in place of `{}`, and what to do.
+pub(crate) fn wrong_head(stage: &Stage, head: &str) -> (&'static str, &'static str) {
     match stage {
-        Stage::Start => " comes before META.\n",
-        _ if is_again(stage, head) => " begins a section that the file has already.\n",
-        _ => " comes before PROJECTS.\n",
+        Stage::Start => (
+            ": there is no heading META above {}.\n",
+            "If the beginning of the file is missing, get the whole file again. If not, put the sections in this order: META, PROJECTS, VOTES.\n",
+        ),
+        _ if is_again(stage, head) => (
+            ": {} begins a section that the file has already.\n",
+            "Each section may come only once. If the file has two elections, put each into a file of its own.\n",
+        ),
+        _ => (
+            ": there is no heading PROJECTS above {}.\n",
+            "Write it above the projects, or correct its spelling, or put the sections in this order: META, PROJECTS, VOTES.\n",
+        ),
     }
 }
 
@@ -77,8 +86,12 @@ pub(crate) fn wrong_head(stage: &Stage, head: &str) -> &'static str {
 pub(crate) fn end_remedy(stage: &Stage) -> &'static str {
     match stage {
         Stage::Header(section) => names_of(*section).add_header,
-        _ =>
-            "Get the whole file again: it may be cut off. If the section has no rows yet, add its heading and column names.\n",
+        Stage::InProjects(_) => {
+            "Get the whole file again: it may be cut off. If there are no votes yet, add two lines at the end: VOTES, and `voter_id;vote`.\n"
+        }
+        _ => {
+            "Get the whole file again: it may be cut off. If it is whole, write the heading PROJECTS above the projects, and VOTES above the votes.\n"
+        }
     }
 }
 

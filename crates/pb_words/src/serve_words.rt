@@ -1,21 +1,31 @@
 //! Words for a desk that stands on a file: why it does not, and which rows it did not take.
 
+use crate::file_words::FOLDER;
 use crate::words::Value::{Name, Number, Own};
 use crate::words::Words;
 use std::alloc::{AllocError, Global};
-use std::io::Error;
+use std::io::{Error, ErrorKind};
 
 /// Words for a journal that another run serves.
 pub fn locked_words(alloc: Global, path: &str) -> Result<String, AllocError> {
     path_words(
         alloc,
         path,
-        "{}: another `pb_app serve` is using this journal.\nWait until it ends, or enter your requests there.\n",
+        "{}: another `pb_app serve` is using this journal.\nWait until it ends, or type your requests where it runs.\n",
     )
 }
 
 /// Words for a journal that could not be opened or made, for this reason.
 pub fn unopened_words(alloc: Global, path: &str, reason: &Error) -> Result<String, AllocError> {
+    match reason.kind() {
+        ErrorKind::IsADirectory => return path_words(alloc, path, FOLDER),
+        ErrorKind::Unsupported => return path_words(
+            alloc,
+            path,
+            "{}: this is not an ordinary file.\nName another file.\n",
+        ),
+        _ => {}
+    }
     failure_words(
         alloc,
         path,
@@ -74,8 +84,18 @@ pub fn spelling_words(alloc: Global, path: &str) -> Result<String, AllocError> {
     path_words(
         alloc,
         path,
-        "{}: the rows are right, but another program saved the file again: it has other line ends, extra quotation marks, or a byte order mark.\nThe program left the file as it was. Get the desk's own copy.\n",
+        "{}: the rows are right, but another program saved the file again: it has other line ends, extra quotation marks, or an invisible mark at its start.\n`pb_app serve` did not change the file. Get the journal from last evening's copy. Do not open a journal in a spreadsheet or a text program.\n",
     )
+}
+
+/// Words for a journal of a desk that is open and was to be shut.
+pub fn open_desk_words(alloc: Global, journal: Option<&str>) -> Result<String, AllocError> {
+    let mut out = Words::new(alloc);
+    out.fill(
+        "{}: the desk is still open.\nIf it was shut since, get the journal from the desk's machine. If not, shut the desk first: give `pb_app serve` the request `0;shut;;`.\n",
+        &[Name(journal)],
+    );
+    out.finish()
 }
 
 /// Words for so many bytes behind a journal's text that are kept in this file.
@@ -83,21 +103,33 @@ pub fn torn_words(alloc: Global, path: &str, bytes: usize) -> Result<String, All
     let mut out = Words::new(alloc);
     let cut = if bytes == 1 { "byte was" } else { "bytes were" };
     out.fill(
-        "The end of the journal was incomplete: {} {} cut off, and kept in {}.\nSend each request that got no answer again.\n",
+        "The end of the journal was incomplete: {} {} cut off, and kept in {}.\nSend again each request that got no answer.\n",
         &[Number(bytes as u64), Own(cut), Name(Some(path))],
     );
     out.finish()
 }
 
-/// Words for so many rows that were not of the form.
-pub fn bad_rows_words(alloc: Global, rows: u64) -> Result<String, AllocError> {
-    let form = if rows == 1 {
-        "{} row did not have the form CLERK;REQUEST;VOTER;PLACES. It is not in the journal.\n"
-    } else {
-        "{} rows did not have the form CLERK;REQUEST;VOTER;PLACES. They are not in the journal.\n"
-    };
+/// Words for so many rows that were not of the form; these are the numbers of the first of them.
+pub fn bad_rows_words(alloc: Global, rows: u64, first: &[u64]) -> Result<String, AllocError> {
     let mut out = Words::new(alloc);
-    out.fill(form, &[Number(rows)]);
+    let more = rows.saturating_sub(first.len() as u64);
+    out.put(if rows == 1 { "Row" } else { "Rows" });
+    for i in 0..first.len() {
+        let is_last = i + 1 == first.len() && more == 0;
+        let before = if is_last { " and " } else { ", " };
+        out.fill(
+            "{}{}",
+            &[Own(if i == 0 { " " } else { before }), Number(first[i])],
+        );
+    }
+    if more > 0 {
+        out.fill(" and {} more", &[Number(more)]);
+    }
+    out.put(if rows == 1 {
+        " is not a valid request, and is not in the journal.\nCorrect it, and send it again: `pb_app serve --help` shows the form of a request.\n"
+    } else {
+        " are not valid requests, and are not in the journal.\nCorrect them, and send them again: `pb_app serve --help` shows the form of a request.\n"
+    });
     out.finish()
 }
 

@@ -40,18 +40,12 @@ fn said_of(oddity: Oddity, is_vote: bool) -> &'static Said {
             remedy: "If rows are missing, get the whole file again. Otherwise correct the number.\n",
         },
         Oddity::SurplusFields => &Said {
-            what: "only {} is read as the vote: the row has more fields than the row of column names, which has ",
-            alone: "the row has more fields than the row of column names, which has ",
+            what: "only {} is counted. The row has {} fields, but the number of column names is ",
+            alone: "the row has too many fields: the number of column names is ",
             ends_in_number: true,
             remedy: "If `;` is between the ids of the vote, write `,` instead: only the ids before the first `;` are counted.\n",
         },
-        Oddity::TooLongBallot => &Said {
-            what: "the vote {} names ",
-            alone: "the vote names ",
-            ends_in_number: true,
-            remedy: "This ballot is counted. If your rules do not allow it, delete the row.\n",
-        },
-        Oddity::TooShortBallot => &Said {
+        Oddity::TooLongBallot | Oddity::TooShortBallot => &Said {
             what: "the vote {} names ",
             alone: "the vote names ",
             ends_in_number: true,
@@ -147,10 +141,12 @@ fn put_oddities<R: Files>(out: &mut Words, text: &Text<'_, R>, oddities: &Odditi
         }
         let more = oddities.more(oddity);
         if more > 0 {
-            out.fill(
-                "Further warnings {}, not shown here: {}.\n",
-                &[Own(oddity.name()), Number(more)],
-            );
+            let form = if more == 1 {
+                "{} more warning {} is not shown.\n"
+            } else {
+                "{} more warnings {} are not shown.\n"
+            };
+            out.fill(form, &[Number(more), Own(oddity.name())]);
         }
     }
 }
@@ -182,12 +178,15 @@ fn put_row<R: Files>(out: &mut Words, text: &Text<'_, R>, odd: &Odd, said: &Said
         text_at(&records.last, odd.id_place),
     );
     out.put(": ");
-    let before = line_of(text, odd.before.unwrap_or(odd.mark));
+    let number = match odd.before {
+        Some(before) => line_of(text, before),
+        None => records.last.len() as u64,
+    };
     out.fill(
         said.what,
         &[
             Quoted(text_at(&records.last, odd.value_place)),
-            Number(before),
+            Number(number),
         ],
     );
     if odd.oddity == Oddity::ThousandsMark {

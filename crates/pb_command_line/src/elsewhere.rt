@@ -1,0 +1,104 @@
+//! Options that a command does not have.
+
+use crate::command_line::{COUNTS, CommandForm, DESKS, Takes};
+use std::alloc::{AllocError, Global};
+
+/// What `clap` says of what it can't pass as a value either.
+const DASHES: &str = "  tip: to pass '";
+
+/// The text of a refusal by `clap`, without the lines about `--`, behind which nothing is an option: no command takes a
+/// value that looks like one.
+pub(crate) fn without_dashes(alloc: Global, text: &str) -> Result<String, AllocError> {
+    let mut out = String::new(alloc);
+    let mut is_blank = false;
+    for line in text.split('\n') {
+        if !line.starts_with(DASHES) && !(line.is_empty() && is_blank) {
+            out.push_str(if out.is_empty() { "" } else { "\n" })?;
+            out.push_str(line)?;
+            is_blank = line.is_empty();
+        }
+    }
+    Ok(out)
+}
+
+/// Words for the first of these arguments that is an option of other commands, and not of the one that is named.
+pub(crate) fn elsewhere_words(
+    alloc: Global,
+    arguments: &[String],
+) -> Result<Option<String>, AllocError> {
+    let Some(command) = arguments.get(1) else {
+        return Ok(None);
+    };
+    for argument in arguments {
+        let option = argument.as_str().strip_prefix("--").unwrap_or("");
+        let name = match option.split_once('=') {
+            Some((name, _)) => name,
+            None => option,
+        };
+        if !name.is_empty() && !has_command(command.as_str(), name) {
+            return others_with(alloc, command.as_str(), name);
+        }
+    }
+    Ok(None)
+}
+
+/// Words for which other commands have an option, where some have.
+fn others_with(alloc: Global, command: &str, name: &str) -> Result<Option<String>, AllocError> {
+    let others = have_option(alloc, name)?;
+    if others.is_empty() {
+        drop(others);
+        return Ok(None);
+    }
+    let words = if command.starts_with("-") {
+        format!(in alloc;
+            "Name a command first. These commands have the option --{name}: {others}.\n"
+        )?
+    } else {
+        format!(in alloc;
+            "`pb_app {command}` has no option --{name}. These commands have it: {others}.\n"
+        )?
+    };
+    drop(others);
+    Ok(Some(words))
+}
+
+/// Whether a command has this option, or `--help`, which each has.
+fn has_command(command: &str, option: &str) -> bool {
+    for forms in [COUNTS, DESKS] {
+        for form in forms {
+            if form.name == command && form.has(option) {
+                return true;
+            }
+        }
+    }
+    option == "help"
+}
+
+/// The names of the commands that have this option, with commas between them.
+fn have_option(alloc: Global, option: &str) -> Result<String, AllocError> {
+    let mut names = String::new(alloc);
+    for forms in [COUNTS, DESKS] {
+        for form in forms {
+            if form.has(option) {
+                names.push_str(if names.is_empty() { "" } else { ", " })?;
+                names.push_str(form.name)?;
+            }
+        }
+    }
+    Ok(names)
+}
+
+impl CommandForm {
+    /// Whether an option of this name is among the command's arguments.
+    fn has(&self, option: &str) -> bool {
+        let mut has = false;
+        for argument in self.arguments {
+            let is_option = match argument.takes {
+                Takes::Path => false,
+                _ => true,
+            };
+            has |= is_option && argument.name == option;
+        }
+        has
+    }
+}

@@ -1,0 +1,60 @@
+//! Words for an election that can't be written as a .pb file.
+
+use crate::words::Value::{Name, Quoted};
+use crate::words::Words;
+use pb_witness::text::Text;
+use pb_witness::unwritable::{project_with_comma, voter_like_a_heading};
+use std::alloc::{AllocError, Global};
+use std::rt::Files;
+
+/// Words for an election with a section's name as an id, whose ballots are those of this .pb file, or of a journal.
+pub fn heading_words<R: Files>(
+    rt: &R,
+    alloc: Global,
+    file: Option<&str>,
+    journal: Option<&str>,
+) -> Result<String, AllocError> {
+    let mut out = Words::new(alloc);
+    match voter_like_a_heading(&Text::new(rt, alloc, journal, "row"))? {
+        Some(voter) => {
+            out.fill(
+                "{}: the voter {} can't be written into a .pb file, because this id is a heading there.\nGive this voter another id in copies of the file and the journal (tools/replace_ids.py does it), and export these.\n",
+                &[Name(journal), Quoted(voter.as_str())],
+            );
+            drop(voter);
+        }
+        None => out.fill(
+            "{}: the id of a voter or a project is META, PROJECTS or VOTES. It can't be written into a .pb file, because it is a heading there.\nGive the voter or project another id in a copy of the file, and export this.\n",
+            &[Name(file)],
+        ),
+    }
+    out.finish()
+}
+
+/// Words for an election with a vote for a project whose id has a comma; whether its ballots are those of a journal.
+pub fn comma_words<R: Files>(
+    rt: &R,
+    alloc: Global,
+    file: Option<&str>,
+    has_journal: bool,
+) -> Result<String, AllocError> {
+    let mut out = Words::new(alloc);
+    let project = project_with_comma(&Text::new(rt, alloc, file, "record"))?;
+    out.fill("{}: a ballot names ", &[Name(file)]);
+    match project {
+        Some(id) => {
+            out.fill("the project {}", &[Quoted(id.as_str())]);
+            drop(id);
+        }
+        None => out.put("a project whose id has a comma"),
+    }
+    out.put(
+        ", but in a .pb file commas separate the ids of a vote.\nGive this project another id in a copy of the .pb file, and run again with that copy",
+    );
+    out.put(if has_journal {
+        " and with `--other-file`.\n"
+    } else {
+        ".\n"
+    });
+    out.finish()
+}
