@@ -16,8 +16,8 @@ mod serve;
 mod spent;
 mod terminal;
 mod typing;
-mod worded;
 mod what_if;
+mod worded;
 mod words;
 
 use crate::perform::{Notes, Refusal, perform};

@@ -159,11 +159,11 @@ fn words_of_serve(alloc: Global, task: &Task<'_>, refusal: &Refusal) -> Result<S
             let known = first.iter().filter(|row| **row > 0).count().min(5);
             bad_rows_words(alloc, *rows, &first[..known])
         }
-        Refusal::Unanswered | Refusal::Barred | Refusal::Words(_) | Refusal::WhatIf(_) | Refusal::Fault(_) => {
-            Err(
-            AllocError,
-        )
-        }
+        Refusal::Unanswered
+        | Refusal::Barred
+        | Refusal::Words(_)
+        | Refusal::WhatIf(_)
+        | Refusal::Fault(_) => { Err(AllocError) }
     }
 }
 

@@ -1,8 +1,8 @@
 //! What parsed arguments ask for.
 
 use crate::task::{
-    Admits, Asked, AuditRun, Ballots, BallotsRun, CheckRun, CompareRun, DeskRun, OneChange, PageRun,
-    Source, ServeRun, Source, Task, WhatIfRun,
+    Admits, Asked, AuditRun, Ballots, BallotsRun, CheckRun, CompareRun, DeskRun, OneChange,
+    PageRun, ServeRun, Source, Task, WhatIfRun,
 };
 use clap::ArgMatches;
 use pb_core::money::Money;

@@ -11,6 +11,6 @@ pub mod task;
 
 pub use parse::Parsed;
 pub use task::{
-    Admits, Asked, AuditRun, Ballots, BallotsRun, CheckRun, CompareRun, DeskRun, OneChange, PageRun,
-    Source, ServeRun, Source, Task, WhatIfRun,
+    Admits, Asked, AuditRun, Ballots, BallotsRun, CheckRun, CompareRun, DeskRun, OneChange,
+    PageRun, ServeRun, Source, Task, WhatIfRun,
 };

@@ -114,7 +114,7 @@ fn has_piped_roll(task: &Task<'_>) -> bool {
     }
 }
 
-/// The address to which the words of a page are standard input, which can be FILE or JOURNAL alone.
+/// Whether the words of a page are standard input, which can be FILE or JOURNAL alone.
 fn has_piped_words(task: &Task<'_>) -> bool {
     match task {
         Task::Page(
@@ -127,7 +127,7 @@ fn has_piped_words(task: &Task<'_>) -> bool {
     }
 }
 
-/// Whether a page would lead, and to which no link of it may lead, if there is one.
+/// The address to which a page would lead, and to which no link of it may lead, if there is one.
 fn leads_elsewhere<'a>(task: &Task<'a>) -> Option<&'a str> {
     match task {
         Task::Page(
@@ -196,7 +196,7 @@ fn refuse_roll<R: Eprint>(rt: &R) -> u8 {
 
 /// Refuses words that are standard input.
 fn refuse_words<R: Eprint>(rt: &R) -> u8 {
-    let _ = eprintln!(rt; "error: WORDS can't be standard input (-). Name a file");
+    let _ = eprintln!(rt; "error: WORDS can't be standard input (-). Name a file.");
     BAD_ARGUMENTS
 }
 
