@@ -1,5 +1,5 @@
 -- What a count reads of an election that is changed.
-use Rattle.std.proofs.Common.{◌≡◌, ◌∙◌, ◌<◌, ◌++◌, ◌∷◌, [], ℕ, List, append-nil, ap, get_or, length, map, refl, replicate, slice_set, subst, sym, arith}
+use Rattle.std.proofs.Common.{◌≡◌, ◌∙◌, ◌<◌, ◌++◌, ◌∷◌, [], ℕ, List, append-nil, ap, get_or, length, replicate, slice_set, subst, sym}
 use Rattle.pb_core.specs.Election.{ElectionView, IsElection, IsProject, ProjectView}
 use Rattle.pb_whatif.specs.WhatIf.{IsTrue, Says, Seen, changed, seen}
 use Rattle.pb_whatif.specs.Inner.Searching.{AreKnown, further_of}

@@ -1,7 +1,7 @@
 -- The projects of an election, copied one by one, with another cost for one of them.
-use Rattle.std.proofs.Common.{◌≡◌, ◌∙◌, ℕ, ◌+◌, ◌<◌, List, Contains, ◌∷◌, ◌++◌, [], get_or, length, map, slice_set, take, sym, ap, subst, arith}
+use Rattle.std.proofs.Common.{◌≡◌, ◌∙◌, ℕ, ◌+◌, ◌<◌, List, Contains, ◌∷◌, ◌++◌, [], get_or, length, map, slice_set, take, sym, ap, arith}
 use Rattle.std.specs.List.{slice_index_or}
-use Rattle.std.proofs.lemmas.List.{get_or-map, get_or-set_other, get_or-set_same, get_or-take, get_or_default, length-map, length-set, length-take, map_more, map_push, set-get_or, take_more}
+use Rattle.std.proofs.lemmas.List.{get_or-map, get_or-set_other, get_or-set_same, get_or-take, get_or_default, length-map, length-take, map_more, map_push, set-get_or, take_more}
 use Rattle.pb_core.proofs.Elections.{not-Contains-ids}
 use Rattle.pb_core.specs.Election.{ProjectView}
 use Rattle.pb_core.specs.Inner.Ids.{AreDistinct}

@@ -1,5 +1,5 @@
 -- What is found of a changed election is found of the election as it is read.
-use Rattle.std.proofs.Common.{◌≡◌, ◌∙◌, ◌<◌, ◌-◌, ◌*◌, ℕ, Ok, Err, Result, ap, get_or, inl, inr, length, map, min, subst, sym}
+use Rattle.std.proofs.Common.{◌≡◌, ◌∙◌, ◌<◌, ◌-◌, ◌*◌, ℕ, Ok, Err, Result, ap, get_or, inl, inr, length, min, subst, sym}
 use Rattle.std.specs.Prelude.{IfOk}
 use Rattle.std.proofs.lemmas.List.{get_or-map, length-map}
 use Rattle.pb_core.specs.Election.{ElectionView, ProjectView, VoterView, most_voters}

@@ -1,5 +1,5 @@
 -- Rows of a search, and what ends one.
-use Rattle.std.proofs.Common.{◌≡◌, ◌≢◌, ◌<◌, ◌≤◌, ◌+◌, ℕ, Bool, true, false, if◌then◌else◌, Some, refl, sym, ◌∙◌, ap, arith}
+use Rattle.std.proofs.Common.{◌≡◌, ◌≢◌, ◌<◌, ◌≤◌, ℕ, Bool, true, false, if◌then◌else◌, refl, sym, ◌∙◌, ap, arith}
 use Rattle.pb_core.specs.Election.{ElectionView}
 use Rattle.pb_rounds.specs.Counted.{IsCountFault}
 use Rattle.pb_rounds.specs.declared.count_fault.CountFault.{CountFault}

@@ -1,4 +1,4 @@
-use Rattle.std.proofs.Common.{◌≡◌, ◌∙◌, ◌<◌, ℕ, ap, get_or, length, map, slice_set, sym, rules}
+use Rattle.std.proofs.Common.{◌≡◌, ◌∙◌, ap, get_or, map, slice_set, rules}
 use Rattle.pb_core.specs.Election.{ProjectView}
 use Rattle.pb_whatif.proofs.Copies.{own_cost}
 use Rattle.pb_whatif.proofs.frame.changed_frame.Goals as goal
