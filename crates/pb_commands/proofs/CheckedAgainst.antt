@@ -6,6 +6,7 @@ use Rattle.pb_read.specs.Listed.{IsHandedOut}
 use Rattle.pb_read.specs.StandsFor.{StandsFor}
 use Rattle.pb_read.specs.declared.fault.ReadFault.{ReadFault}
 use Rattle.pb_rounds.specs.Counted.{IsCountFault}
+use Rattle.pb_rounds.specs.Outcome.{OutcomeView}
 use Rattle.pb_rounds.specs.declared.count_fault.CountFault.{CountFault}
 use Rattle.pb_rounds.specs.declared.count_fault.CountFault.TheVariants as count
 use Rattle.pb_rounds.specs.declared.options.CountOptions.{CountOptions}
@@ -22,19 +23,20 @@ handed_stands : (records : List Fields) (faults : List ReadFault) (e : ElectionV
 handed_stands records [] e handed = handed
 handed_stands records (first ∷ more) e handed = absurd handed
 
--- where there is no fault, what is so of the election that is handed out is so of the file's
-handed_has : (P : ElectionView → Type 0) (records : List Fields) (faults : List ReadFault) (election : Option ElectionView) → IsHandedOut records faults election → IfSome election P
-    → faults ≡ [] → (e : ElectionView) × StandsFor records e × P e
-handed_has P records [] (Some e) handed has none = (e, handed, has)
-handed_has P records [] None handed has none = absurd handed
-handed_has P records (first ∷ more) election handed has none = absurd cc
+-- where there is no fault, what is so of the election that is handed out, and of its count, is so of the file's
+handed_has : (Counts Compares : ElectionView → OutcomeView → Type 0) (records : List Fields) (faults : List ReadFault) (election : Option ElectionView) → IsHandedOut records faults election
+    → IfSome election (λ e. (o : OutcomeView) × Counts e o × Compares e o)
+    → faults ≡ [] → (e : ElectionView) × StandsFor records e × (o : OutcomeView) × Counts e o × Compares e o
+handed_has Counts Compares records [] (Some e) handed has none = (e, handed, has.0, has.1, has.2)
+handed_has Counts Compares records [] None handed has none = absurd handed
+handed_has Counts Compares records (first ∷ more) election handed has none = absurd cc
 
-pub known_has : (P : ElectionView → Type 0) (known : Option (List ℕ)) (faults result : List ReadFault) (election : Option ElectionView)
-    → IfSome known (λ bytes. IsHandedOut (records_of bytes) faults election) → IfSome election P → result ≡ faults
-    → IfSome known (λ bytes. result ≡ [] → (e : ElectionView) × StandsFor (records_of bytes) e × P e)
-known_has P None faults result election handed has same = tt
-known_has P (Some bytes) faults result election handed has same = λ none.
-    handed_has P (records_of bytes) faults election handed has (subst (λ (x : List ReadFault). x ≡ []) same none)
+pub known_has : (Counts Compares : ElectionView → OutcomeView → Type 0) (known : Option (List ℕ)) (faults result : List ReadFault) (election : Option ElectionView)
+    → IfSome known (λ bytes. IsHandedOut (records_of bytes) faults election) → IfSome election (λ e. (o : OutcomeView) × Counts e o × Compares e o) → result ≡ faults
+    → IfSome known (λ bytes. result ≡ [] → (e : ElectionView) × StandsFor (records_of bytes) e × (o : OutcomeView) × Counts e o × Compares e o)
+known_has Counts Compares None faults result election handed has same = tt
+known_has Counts Compares (Some bytes) faults result election handed has same = λ none.
+    handed_has Counts Compares (records_of bytes) faults election handed has (subst (λ (x : List ReadFault). x ≡ []) same none)
 
 -- the count of the file's election is refused
 fails_of : (records : List Fields) (faults : List ReadFault) (election : Option ElectionView) (options : CountOptions) (app : AppFault) → IsHandedOut records faults election

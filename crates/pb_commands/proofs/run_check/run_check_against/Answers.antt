@@ -1,4 +1,6 @@
 use Rattle.std.proofs.Common.{ap}
+use Rattle.pb_reasons.specs.Counted.{counted, winners_of}
+use Rattle.pb_rounds.specs.Counted.{IsCountOf}
 use Rattle.pb_commands.proofs.CheckedAgainst.{known_fails, known_has, memory_refused}
 use Rattle.pb_commands.proofs.run_check.run_check_against.Goals as goal
 
@@ -11,4 +13,4 @@ returns-in-Err-clause-fault g c =
 
 pub returns-in-Ok-clause-compared : goal.returns-in-Ok-clause-compared
 returns-in-Ok-clause-compared g c =
-    known_has _ _ c.in_ok-checked.checked.faults.items _ c.in_ok-checked.checked.election c.in_ok-checked.ensures.election c.in-Ok.ensures.compared (ap (λ faults. faults.items) c.into_faults.ensures)
+    known_has (λ e o. IsCountOf e c.args.counting.now.options.now o) (λ e o. g.N.Compare.has_compared c.put_checked.new.notes (winners_of (counted e c.args.counting.now.fills_up o))) _ c.in_ok-checked.checked.faults.items _ c.in_ok-checked.checked.election c.in_ok-checked.ensures.election c.in-Ok.ensures.compared (ap (λ faults. faults.items) c.into_faults.ensures)
