@@ -41,6 +41,13 @@ struct Contents {
     journal: Option<Hex>,
 }
 
+/// What was read, and the language of its page.
+#[derive(Drop)]
+struct Spoken {
+    read: Contents,
+    speech: Speech,
+}
+
 /// Counts these ballots, and writes the page of the outcome, in the language of a file of words if one is given, which is read
 /// first. What else refuses it, and when, is as for the tables.
 pub(crate) fn page<'a, R, W: Write>(
@@ -55,9 +62,9 @@ where
 {
     let speech = speech_of(counting.rt, counting.alloc, run.words)?;
     let read = read_ballots(counting, run, kinship, seen)?;
-    let written = write_spoken(counting, &read, run, &speech, writer);
-    drop(read);
-    drop(speech);
+    let spoken = Spoken { read, speech };
+    let written = write_spoken(counting, &spoken, run, writer);
+    drop(spoken);
     written
 }
 
@@ -138,11 +145,12 @@ fn read_both<P: Read + Drop, J: Read + Drop>(
 /// Counts what was read, and writes the page of the outcome in this language.
 fn write_spoken<'a, T: Threads + Sync, G: Gate, W: Write>(
     counting: &Counting<'_, T, G>,
-    read: &'a Contents,
+    spoken: &'a Spoken,
     run: &PageRun<'a>,
-    speech: &'a Speech,
     writer: &mut W,
 ) -> Result<(), Refusal> {
+    let read = &spoken.read;
+    let speech = &spoken.speech;
     let sentences = speech.sentences(counting.alloc)?;
     let (before, after) = match run.currency {
         Some(currency) => speech.around(counting.alloc, currency)?,
