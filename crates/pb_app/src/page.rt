@@ -61,7 +61,17 @@ where
     R: Files<File = File> + Input + Eprint + Clock + Threads + Sync,
 {
     let speech = speech_of(counting.rt, counting.alloc, run.words)?;
-    let read = read_ballots(counting, run, kinship, seen)?;
+    let read = match &run.ballots.journal {
+        None => {
+            let file = open_shown(counting.gate, &run.ballots.file)?;
+            let file = Digested::new(file, &kinship.file);
+            read_file(counting.alloc, file, kinship, seen)
+        }
+        Some(journal) => {
+            let (file, journal) = open_with_journal(counting, &run.ballots.file, journal, kinship)?;
+            read_both(counting.alloc, file, journal, kinship, seen)
+        }
+    }?;
     let spoken = Spoken { read, speech };
     let written = write_spoken(counting, &spoken, run, writer);
     drop(spoken);
@@ -84,29 +94,6 @@ fn speech_of<R: Files>(rt: &R, alloc: Global, path: Option<&str>) -> Result<Spee
     };
     drop(text);
     Ok(speech?)
-}
-
-/// Reads the ballots that are counted.
-fn read_ballots<'a, R>(
-    counting: &Counting<'a, R, Progress<'a, R>>,
-    run: &PageRun<'a>,
-    kinship: &'a Kinship,
-    seen: &mut ResultWarnings,
-) -> Result<Contents, AppFault>
-where
-    R: Files<File = File> + Input + Eprint + Clock + Threads + Sync,
-{
-    match &run.ballots.journal {
-        None => {
-            let file = open_shown(counting.gate, &run.ballots.file)?;
-            let file = Digested::new(file, &kinship.file);
-            read_file(counting.alloc, file, kinship, seen)
-        }
-        Some(journal) => {
-            let (file, journal) = open_with_journal(counting, &run.ballots.file, journal, kinship)?;
-            read_both(counting.alloc, file, journal, kinship, seen)
-        }
-    }
 }
 
 /// Reads the file's own ballots.
