@@ -41,6 +41,13 @@ struct Contents {
     journal: Option<Hex>,
 }
 
+/// What was read, and the language of its page.
+#[derive(Drop)]
+struct Spoken {
+    read: Contents,
+    speech: Speech,
+}
+
 /// Counts these ballots, and writes the page of the outcome, in the language of a file of words if one is given, which is read
 /// first. What else refuses it, and when, is as for the tables.
 pub(crate) fn page<'a, R, W: Write>(
@@ -54,10 +61,20 @@ where
     R: Files<File = File> + Input + Eprint + Clock + Threads + Sync,
 {
     let speech = speech_of(counting.rt, counting.alloc, run.words)?;
-    let read = read_ballots(counting, run, kinship, seen)?;
-    let written = write_spoken(counting, &read, run, &speech, writer);
-    drop(read);
-    drop(speech);
+    let read = match &run.ballots.journal {
+        None => {
+            let file = open_shown(counting.gate, &run.ballots.file)?;
+            let file = Digested::new(file, &kinship.file);
+            read_file(counting.alloc, file, kinship, seen)
+        }
+        Some(journal) => {
+            let (file, journal) = open_with_journal(counting, &run.ballots.file, journal, kinship)?;
+            read_both(counting.alloc, file, journal, kinship, seen)
+        }
+    }?;
+    let spoken = Spoken { read, speech };
+    let written = write_spoken(counting, &spoken, run, writer);
+    drop(spoken);
     written
 }
 
@@ -77,29 +94,6 @@ fn speech_of<R: Files>(rt: &R, alloc: Global, path: Option<&str>) -> Result<Spee
     };
     drop(text);
     Ok(speech?)
-}
-
-/// Reads the ballots that are counted.
-fn read_ballots<'a, R>(
-    counting: &Counting<'a, R, Progress<'a, R>>,
-    run: &PageRun<'a>,
-    kinship: &'a Kinship,
-    seen: &mut ResultWarnings,
-) -> Result<Contents, AppFault>
-where
-    R: Files<File = File> + Input + Eprint + Clock + Threads + Sync,
-{
-    match &run.ballots.journal {
-        None => {
-            let file = open_shown(counting.gate, &run.ballots.file)?;
-            let file = Digested::new(file, &kinship.file);
-            read_file(counting.alloc, file, kinship, seen)
-        }
-        Some(journal) => {
-            let (file, journal) = open_with_journal(counting, &run.ballots.file, journal, kinship)?;
-            read_both(counting.alloc, file, journal, kinship, seen)
-        }
-    }
 }
 
 /// Reads the file's own ballots.
@@ -138,11 +132,12 @@ fn read_both<P: Read + Drop, J: Read + Drop>(
 /// Counts what was read, and writes the page of the outcome in this language.
 fn write_spoken<'a, T: Threads + Sync, G: Gate, W: Write>(
     counting: &Counting<'_, T, G>,
-    read: &'a Contents,
+    spoken: &'a Spoken,
     run: &PageRun<'a>,
-    speech: &'a Speech,
     writer: &mut W,
 ) -> Result<(), Refusal> {
+    let read = &spoken.read;
+    let speech = &spoken.speech;
     let sentences = speech.sentences(counting.alloc)?;
     let (before, after) = match run.currency {
         Some(currency) => speech.around(counting.alloc, currency)?,

@@ -54,7 +54,7 @@ fn line_of(fault: &WordsFault) -> Option<u32> {
 /// The key of a fault, if it has one.
 fn key_of(fault: &WordsFault) -> Option<&'static str> {
     match *fault {
-        WordsFault::MissingKey(key) | WordsFault::UnusedKey(key) => Some(key),
+        WordsFault::MissingKey(key) | WordsFault::UnusedKey(key) => Some(key.text()),
         _ => None,
     }
 }

@@ -1,5 +1,5 @@
 -- The page of a result: which number stands where.
-use Rattle.std.specs.Prelude.{◌≡◌, ℕ, Bool, ◌+◌, ◌-◌, ◌*◌, ◌/◌, ◌==◌, List, [], ◌∷◌, ◌++◌, Option, codes, count_by, decimal, flat_map, if◌then◌else◌, length, map, max, min, nat_le, slice_index_or}
+use Rattle.std.specs.Prelude.{◌≡◌, ℕ, Bool, ◌+◌, ◌-◌, ◌*◌, ◌/◌, ◌==◌, List, [], ◌∷◌, ◌++◌, codes, count_by, decimal, flat_map, if◌then◌else◌, length, map, max, min, nat_le, slice_index_or}
 use Rattle.std.specs.List.{range_with_len}
 use Rattle.std.specs.Option.{option_map_or}
 use Rattle.pb_core.specs.Election.{ElectionView, ProjectView}

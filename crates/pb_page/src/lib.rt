@@ -30,4 +30,4 @@ pub use language::Language;
 pub use made::page_of;
 pub use speech::Speech;
 pub use table::{Entry, TABLE};
-pub use words_fault::WordsFault;
+pub use words_fault::{Key, WordsFault};

@@ -3,7 +3,7 @@
 use crate::keys;
 use crate::sentence::{is_plain, with_places};
 use crate::table::TABLE;
-use crate::words_fault::WordsFault;
+use crate::words_fault::{Key, WordsFault};
 use pb_markup::Plural;
 use std::alloc::Global;
 use std::{mem, str};
@@ -146,22 +146,22 @@ impl Speech {
 
     /// Whether all is there, and nothing that is of no use.
     fn judge(&self) -> Result<(), WordsFault> {
-        let plural = self.plural.ok_or(WordsFault::MissingKey("plural"))?;
+        let plural = self.plural.ok_or(WordsFault::MissingKey(Key::Plural))?;
         if self.group.is_none() {
-            return Err(WordsFault::MissingKey("group"));
+            return Err(WordsFault::MissingKey(Key::Group));
         }
         if self.point.is_none() {
-            return Err(WordsFault::MissingKey("point"));
+            return Err(WordsFault::MissingKey(Key::Point));
         }
         for index in 0..TABLE.len() {
             let entry = &TABLE[index];
             let is_there = self.sentence(index) != "";
             let is_needed = is_needed(entry.key, plural);
             if is_needed && !is_there {
-                return Err(WordsFault::MissingKey(entry.key));
+                return Err(WordsFault::MissingKey(Key::Sentence(index as u16)));
             }
             if is_there && !is_needed {
-                return Err(WordsFault::UnusedKey(entry.key));
+                return Err(WordsFault::UnusedKey(Key::Sentence(index as u16)));
             }
         }
         Ok(())

@@ -1,7 +1,33 @@
 //! Why a file of words is refused.
 
+use crate::table::TABLE;
 use pb_core::no_memory::NoMemory;
 use std::alloc::{AllocError, AllocFailed};
+
+/// A key of a file of words.
+#[derive(Clone, Copy, Debug, PartialEq, Eq)]
+pub enum Key {
+    Plural,
+    Group,
+    Point,
+    /// That of the sentence at this index of the table.
+    Sentence(u16),
+}
+
+impl Key {
+    /// The key, as a file has it.
+    pub fn text(self) -> &'static str {
+        match self {
+            Key::Plural => "plural",
+            Key::Group => "group",
+            Key::Point => "point",
+            Key::Sentence(index) => match TABLE.get(usize::from(index)) {
+                Some(entry) => entry.key,
+                None => "",
+            },
+        }
+    }
+}
 
 /// Why a file of words is refused. Lines have their numbers from 1.
 #[derive(Clone, Copy, Debug, PartialEq, Eq)]
@@ -23,9 +49,9 @@ pub enum WordsFault {
     /// The value of this line is none of those that its key takes.
     BadValue(u32),
     /// No line has this key.
-    MissingKey(&'static str),
+    MissingKey(Key),
     /// A line has this key, which is of no use with the plural of the file.
-    UnusedKey(&'static str),
+    UnusedKey(Key),
     /// The file could not be read.
     ReadFailed,
     /// Memory was refused.
