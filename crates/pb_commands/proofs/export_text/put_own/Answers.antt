@@ -9,8 +9,8 @@ returns-then-is_empty c =
     let none : List ℕ = [] in
     sym (ap (λ (t : List ℕ). old ++ t) (cond-true (length own == 0) none (codes ". " ++ own) (sym c.is_empty.ensures ∙ c.if-is_empty.true)) ∙ append-nil old)
 
-pub returns-in_ok-push_str-2 : goal.returns-in_ok-push_str-2
-returns-in_ok-push_str-2 c =
+pub returns : goal.returns-in_ok-push_str-2
+returns c =
     let own = c.args.own.now in
     let old = string_bytes c.args.text.now in
     let none : List ℕ = [] in
