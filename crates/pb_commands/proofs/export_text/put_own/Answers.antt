@@ -9,7 +9,7 @@ returns-then-is_empty c =
     let none : List ℕ = [] in
     sym (ap (λ (t : List ℕ). old ++ t) (cond-true (length own == 0) none (codes ". " ++ own) (sym c.is_empty.ensures ∙ c.if-is_empty.true)) ∙ append-nil old)
 
-pub returns : goal.returns-in_ok-push_str-2
+pub returns : goal.returns
 returns c =
     let own = c.args.own.now in
     let old = string_bytes c.args.text.now in

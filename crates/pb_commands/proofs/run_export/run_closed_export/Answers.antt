@@ -10,11 +10,11 @@ returns-in-Err-clause-accepts g c = λ none. barred_early c.args.counting.now.op
 pub returns-in-Ok-made-clause-ok : goal.returns-in-Ok-made-clause-ok
 returns-in-Ok-made-clause-ok g c =
     file_written c.args.counting.now.options.now c.in-Ok.election _ _ _ _ _ _ c.in-Ok-made.text.items c.write_out.result
-    (rw c.as_slice.ensures.value at c.write_out.ensures.ok) c.in-Ok.ensures.ok c.in-Ok-made.ensures.ok
+    (rw c.as_slice.ensures.value at c.write_out.ensures.ok) c.in-Ok.ensures.ok (rw c.carried.ensures at c.in-Ok-made.ensures.ok)
 
 pub returns-in-Ok-made-clause-fault : goal.returns-in-Ok-made-clause-fault
 returns-in-Ok-made-clause-fault g c =
-    file_not_written c.args.counting.now.options.now c.in-Ok.election _ _ _ _ c.in-Ok-made.text.items c.write_out.result c.write_out.ensures.fault c.in-Ok.ensures.ok c.in-Ok-made.ensures.ok
+    file_not_written c.args.counting.now.options.now c.in-Ok.election _ _ _ _ c.in-Ok-made.text.items c.write_out.result c.write_out.ensures.fault c.in-Ok.ensures.ok (rw c.carried.ensures at c.in-Ok-made.ensures.ok)
 
 pub returns-in-Err-made-clause-fault : goal.returns-in-Err-made-clause-fault
 returns-in-Err-made-clause-fault g c =

@@ -24,9 +24,9 @@ returns-in-Err-clause-accepts g c = λ none.
 pub returns-in-Ok-clause-ok : goal.returns-in-Ok-clause-ok
 returns-in-Ok-clause-ok g c =
     alone_written c.args.counting.now.options.now _ _ _ _ _ c.in_ok-election.election c.in-Ok.text.items c.write_out.result
-    (rw c.as_slice.ensures.value at c.write_out.ensures.ok) c.in_ok-election.ensures.ok c.in-Ok.ensures.ok
+    (rw c.as_slice.ensures.value at c.write_out.ensures.ok) c.in_ok-election.ensures.ok (rw c.carried.ensures at c.in-Ok.ensures.ok)
 
 pub returns-in-Ok-clause-fault : goal.returns-in-Ok-clause-fault
 returns-in-Ok-clause-fault g c =
     alone_not_written c.args.counting.now.options.now _ _ _ c.in_ok-election.election c.in-Ok.text.items c.write_out.result
-    c.write_out.ensures.fault c.in_ok-election.ensures.ok c.in-Ok.ensures.ok
+    c.write_out.ensures.fault c.in_ok-election.ensures.ok (rw c.carried.ensures at c.in-Ok.ensures.ok)
