@@ -16,12 +16,12 @@ const ROLL: u32 = 3;
 
 /// Says on standard error why a row is refused, and counts the rows that the rules refuse.
 #[derive(Drop)]
-pub(crate) struct Told<'a, R> {
+pub(crate) struct Told<'a, 'p, R> {
     rt: &'a R,
     /// The path of the text with the rows; none is standard input.
-    path: Option<&'a str>,
+    path: Option<&'p str>,
     /// The path of the voters' roll.
-    roll: Option<&'a str>,
+    roll: Option<&'p str>,
     /// How many projects a ballot has at least.
     least: u32,
     /// Whether a row that is refused refuses the script.
@@ -29,9 +29,9 @@ pub(crate) struct Told<'a, R> {
     by_rules: Cell<u64>,
 }
 
-impl<'a, R> Told<'a, R> {
+impl<'a, 'p, R> Told<'a, 'p, R> {
     /// Says it of rows that are answered one by one.
-    pub(crate) fn rows(rt: &'a R, admits: &Admits<'a>) -> Told<'a, R> {
+    pub(crate) fn rows(rt: &'a R, admits: &Admits<'p>) -> Told<'a, 'p, R> {
         Told {
             rt,
             path: None,
@@ -43,7 +43,7 @@ impl<'a, R> Told<'a, R> {
     }
 
     /// Says it of a row that refuses its script.
-    pub(crate) fn script(rt: &'a R, script: &Source<'a>, admits: &Admits<'a>) -> Told<'a, R> {
+    pub(crate) fn script(rt: &'a R, script: &Source<'p>, admits: &Admits<'p>) -> Told<'a, 'p, R> {
         Told {
             rt,
             path: script.path(),
@@ -60,7 +60,7 @@ impl<'a, R> Told<'a, R> {
     }
 }
 
-impl<R: Files + Eprint + AllocGlobal> Notice for Told<'_, R> {
+impl<R: Files + Eprint + AllocGlobal> Notice for Told<'_, '_, R> {
     fn refused(&self, row: u64, why: RowRefusal, unknown: &str) {
         if why == RowRefusal::Bad {
             return;

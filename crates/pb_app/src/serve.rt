@@ -60,12 +60,10 @@ impl<R: Files<File = File> + Eprint + AllocGlobal> Beside for TornFile<'_, R> {
 
 /// Which requests a run admits, who hears of those that it does not, and whether rows are typed.
 #[derive(Drop)]
-struct Hearing<'a, R> {
+struct Hearing<'a, 'p, R> {
     admission: &'a Admission,
-    told: Told<'a, R>,
+    told: Told<'a, 'p, R>,
     typing: &'a Typing,
-    /// An id of a project that reads as a position, where rows name positions.
-    like_a_place: Option<String>,
 }
 
 /// Serves the requests of standard input on the desk of a .pb file, which stands on a journal. FILE and the roll are read
@@ -107,35 +105,55 @@ where
             return Err(Refusal::Fault(AppFault::from(fault)));
         }
     };
+    let hearing = Hearing {
+        admission: &admission,
+        told: Told::rows(rt, &asked.admits),
+        typing,
+    };
+    let served = serve_journal(
+        rt,
+        election,
+        asked.journal,
+        kinship,
+        &hearing,
+        text_of(&like_a_place),
+        writer,
+    );
+    drop(like_a_place);
+    drop(admission);
+    served
+}
+
+/// Serves the desk of an election on the journal with this path.
+fn serve_journal<R, W: Write>(
+    rt: &R,
+    election: Election,
+    journal: &str,
+    kinship: &Kinship,
+    hearing: &Hearing<'_, '_, R>,
+    like_a_place: Option<&str>,
+    writer: &mut W,
+) -> Result<(), Refusal>
+where
+    R: Files<File = File> + Input + Eprint + Clock + AllocGlobal,
+{
     let failure = Cell::new(None);
-    let served = match FileDevice::open(rt, asked.journal, &failure) {
-        Ok(device) => {
-            let hearing = Hearing {
-                admission: &admission,
-                told: Told::rows(rt, &asked.admits),
-                typing,
-                like_a_place,
-            };
-            let served = serve_device(
-                rt,
-                election,
-                device,
-                asked.journal,
-                kinship,
-                &hearing,
-                writer,
-            );
-            drop(hearing);
-            served
-        }
+    match FileDevice::open(rt, journal, &failure) {
+        Ok(device) => serve_device(
+            rt,
+            election,
+            device,
+            journal,
+            kinship,
+            hearing,
+            like_a_place,
+            writer,
+        ),
         Err(fault) => {
-            drop(like_a_place);
             drop(election);
             Err(unopened(fault))
         }
-    };
-    drop(admission);
-    served
+    }
 }
 
 /// Serves the desk of an election whose journal stands on a device, if it belongs to the .pb file that was read.
@@ -145,7 +163,8 @@ fn serve_device<R, W: Write>(
     mut device: FileDevice<'_, R>,
     journal: &str,
     kinship: &Kinship,
-    hearing: &Hearing<'_, R>,
+    hearing: &Hearing<'_, '_, R>,
+    like_a_place: Option<&str>,
     writer: &mut W,
 ) -> Result<(), Refusal>
 where
@@ -169,8 +188,8 @@ where
     let served = match open_on(rt, election, device, &mut torn) {
         Ok((desk, torn)) => match keep_file(rt, journal, standing, kinship) {
             Ok(()) => {
-                if let Some(id) = &hearing.like_a_place {
-                    words::say_like_a_place(rt, id.as_str());
+                if let Some(id) = like_a_place {
+                    words::say_like_a_place(rt, id);
                 }
                 serve_desk(rt, desk, torn, hearing, &mut answers)
             }
@@ -320,6 +339,14 @@ fn id_like_a_place(
     Ok(None)
 }
 
+/// A text that may be there.
+fn text_of(kept: &Option<String>) -> Option<&str> {
+    match kept {
+        Some(text) => Some(text.as_str()),
+        None => None,
+    }
+}
+
 /// Opens the desk of an election on a device. Answers how many bytes were cut off, too.
 fn open_on<'a, R, B: Beside>(
     rt: &R,
@@ -346,7 +373,7 @@ fn serve_desk<R, W: Write>(
     rt: &R,
     mut desk: DurableDesk<FileDevice<'_, R>>,
     torn: usize,
-    hearing: &Hearing<'_, R>,
+    hearing: &Hearing<'_, '_, R>,
     writer: &mut W,
 ) -> Result<u64, ServingFault>
 where
