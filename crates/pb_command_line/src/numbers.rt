@@ -31,6 +31,10 @@ const NUMBERED: &[Numbered] = &[
         name: "min",
         range: "from 0 to 4294967295",
     },
+    Numbered {
+        name: "voters",
+        range: "from 0 to 1000000",
+    },
 ];
 
 /// A text that was given in the place of a number of 32 bits.
