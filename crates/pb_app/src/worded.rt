@@ -111,11 +111,11 @@ fn words_of(fault: &WordsFault) -> (&'static str, &'static str) {
         ),
         WordsFault::MissingKey(_) => (
             "there is no line with the key",
-            "Copy its line from words/en.words, and translate it.",
+            "Copy its line from words/en.words, and write the text or value for your language.",
         ),
         WordsFault::UnusedKey(_) => (
-            "with its plural, the file has no use for the key",
-            "Delete that line, or choose another plural.",
+            "the rule in its line plural does not use the key",
+            "Delete that key's line, or change the line plural.",
         ),
         WordsFault::ReadFailed => ("the file could not be read.", "Check the disk."),
         WordsFault::NoMemory => (

@@ -52,7 +52,7 @@ const STRICT: &str =
 
 /// How the program is used.
 const USAGE: &str = "pb_app counts a participatory budgeting election: pb_app count FILE
-Without a command it counts standard input, which is a terminal here.
+Without a command it counts what another program sends to it, and here nothing is sent.
 For more: pb_app --help
 ";
 

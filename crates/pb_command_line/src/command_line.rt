@@ -263,14 +263,14 @@ const PLAIN: Argument = Argument {
 const COMPLETION: Argument = Argument {
     name: "completion",
     takes: Takes::Completion,
-    help: "none: no raises; add1: raises; utilitarian: no raises, then the money that is left goes to the other projects, those with the most votes first; add1u: raises, then the same [default: add1]",
+    help: "none: no raises; add1: raises; utilitarian: no raises, then the money that is left goes to the other projects, those with the most votes first; add1u: raises, then the money that is left goes to the other projects, as with utilitarian [default: add1]",
 };
 
 /// What a project is worth to those who approve it.
 const MEASURE: Argument = Argument {
     name: "measure",
     takes: Takes::Measure,
-    help: "votes: the project with the lowest price wins next (price: the most that one supporter pays); cost: the project whose price is the smallest part of its cost wins next [default: votes]",
+    help: "votes: the project with the lowest price wins next (price: the most that one supporter pays); cost: the project whose price, divided by its cost, is lowest wins next [default: votes]",
 };
 
 /// The file that gets the result.
@@ -298,7 +298,7 @@ const REQUIRE_SHUT: Argument = Argument {
 const AGAINST: Argument = Argument {
     name: "against",
     takes: Takes::Nothing,
-    help: "Counts a file without a fault, by the options below, and warns where the column selected of PROJECTS says something else",
+    help: "If the file has no fault, also counts it with the options below, and warns where its column `selected` differs from the result",
 };
 
 /// Whether the further columns of VOTES are exported.
@@ -312,7 +312,7 @@ const KEEP_VOTERS: Argument = Argument {
 const STRICT: Argument = Argument {
     name: "strict",
     takes: Takes::Nothing,
-    help: "Refuses a file that has a warning which may make the result wrong, for example missing rows, or 60.000 read as 60.00",
+    help: "Refuses a file if a warning says that the result may be wrong, for example because rows are missing, or 60.000 is read as 60.00",
 };
 
 /// Whether a journal of another file is read all the same.
@@ -368,28 +368,28 @@ const DIGESTS: Argument = Argument {
 const BY_PROJECT: Argument = Argument {
     name: "projects",
     takes: Takes::Nothing,
-    help: "Prints a row for each project, with 1 or 0 for each rule, instead of a row for each rule",
+    help: "Prints one row for each project instead of one for each rule: 1 if the project wins by that rule, 0 if not",
 };
 
 /// What a page is about.
 const TITLE: Argument = Argument {
     name: "title",
     takes: Takes::Text("TEXT"),
-    help: "The title of the page [default: Participatory budgeting, or as WORDS has it]",
+    help: "The title of the page [default: the title in the file WORDS, or Participatory budgeting]",
 };
 
 /// Where a page leads those who recount it.
 const RECOUNT: Argument = Argument {
     name: "recount",
     takes: Takes::Text("URL"),
-    help: "The address of your copy of recount.html, to which the page links; https, http, or relative to the page",
+    help: "Puts a link to your copy of recount.html on the page: an address with https:// or http://, or the name of a file beside the page",
 };
 
 /// What a page says.
 const WORDS: Argument = Argument {
     name: "words",
     takes: Takes::OptionalFile("WORDS"),
-    help: "Takes what the page says, in another language than English, from this file, such as words/de.words",
+    help: "Reads the texts of the page from this file, for a page in another language than English, for example words/de.words",
 };
 
 /// The currency of its amounts.
@@ -467,7 +467,7 @@ pub(crate) const COUNTS: &[CommandForm] = &[
     },
     CommandForm {
         name: "whatif",
-        notes: "Each row is a whole count of the changed election. Nothing is known of costs or numbers of voters between the rows.\n\nManual pages: man pb_app-election, man 5 pb_app-whatif, man pb_app-proposers.",
+        notes: "For each row the changed election was counted completely. Of values without a row the table says nothing: try them with --cost or --voters.\n\nManual pages: man pb_app-election, man 5 pb_app-whatif, man pb_app-proposers.",
         about: "Counts a .pb file again and again, and prints at which cost, or with how many further voters, a project wins",
         arguments: &[
             ELECTION, PROJECT, COST, VOTERS, LEFT_BY, OTHER_FILE, WORKERS, STEP, RAISES, PLAIN,

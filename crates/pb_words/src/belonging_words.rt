@@ -43,7 +43,7 @@ pub fn adopted_words(
 ) -> Result<String, AllocError> {
     let mut out = Words::new(alloc);
     out.fill(
-        "{} was missing, so the program can't tell to which .pb file {} belongs.\nThe program has now made it for the .pb file of this command, whose SHA-256 is {}.\nCompare this with the SHA-256 that you noted when the desk was opened. If they differ, stop, and find the right .pb file.\n",
+        "{} was missing, so the program can't tell to which .pb file {} belongs.\nThe program has now created it. It says that the journal belongs to the .pb file of this command, whose SHA-256 is {}.\nCompare this with the SHA-256 that you noted when the desk was opened. If they differ, stop, and find the right .pb file.\n",
         &[Name(Some(beside)), Name(Some(journal)), Own(digest)],
     );
     out.finish()

@@ -194,7 +194,7 @@ fn put_wrong_answer(out: &mut Words, row: &ByteRecord, desk: Option<&DeskAnswer>
 fn put_answer(out: &mut Words, desk: &DeskAnswer, request: &str, said: &str) {
     match desk.answer {
         Answer::UnknownPlace(place) => out.fill(
-            ", but the right answer is `unknown-place {}`, because {} is the first position in the ballot that no project has: the number of projects is {}, and positions count from 0.\n",
+            ", but the right answer is `unknown-place {}`, because no project has the position {}: the number of projects is {}, and positions count from 0.\n",
             &[
                 Number(u64::from(place)),
                 Number(u64::from(place)),

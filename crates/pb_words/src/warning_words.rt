@@ -82,7 +82,7 @@ fn said_of(oddity: Oddity, is_vote: bool) -> &'static Said {
             remedy: "If the point or comma separates thousands, delete it. Otherwise write two decimals.\n",
         },
         Oddity::RepeatedKey => &Said {
-            what: "the last row of a key counts: this row, with {}, replaces the one on line {}",
+            what: "the key comes twice, and the last row counts: this one, with {}, replaces the one on line {}",
             alone: "a key is repeated; only the last row of a key counts",
             ends_in_number: false,
             remedy: "Delete the wrong row.\n",
