@@ -29,11 +29,6 @@ def ids_of(text):
     return list(dict.fromkeys(filter(None, (piece.strip(SPACE) for piece in text.split(',')))))
 
 
-def with_decimals(amount):
-    """An amount of an exported file, in which a whole one has no decimals."""
-    return amount if '.' in amount else f'{amount}.00'
-
-
 class Election:
     """The projects in the file's order, how many a ballot may have at least and at most, and the file's ballots by voter."""
 
@@ -44,7 +39,8 @@ class Election:
             if row in (['META'], ['PROJECTS'], ['VOTES']):
                 section, _ = row[0], next(rows)
             elif section == 'PROJECTS':
-                self.projects.append(Project(row[0], row[3], with_decimals(row[1])))
+                # A whole amount of an exported file has no decimals.
+                self.projects.append(Project(row[0], row[3], row[1] if '.' in row[1] else f'{row[1]}.00'))
             elif section == 'VOTES':
                 self.votes[row[0]] = row[1]
             elif row[0] == 'max_length':
