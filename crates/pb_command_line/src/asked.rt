@@ -1,13 +1,13 @@
 //! What parsed arguments ask for.
 
+use crate::rule::{fills_up, options_of};
 use crate::task::{
     Admits, Asked, AuditRun, Ballots, BallotsRun, CheckRun, CompareRun, DeskRun, OneChange,
     PageRun, ServeRun, Source, Task, WhatIfRun,
 };
 use clap::ArgMatches;
 use pb_core::money::Money;
-use pb_rounds::measure::Measure;
-use pb_rounds::options::{Completion, CountOptions};
+use pb_rounds::options::CountOptions;
 
 /// What parsed arguments ask for; without a command it is a count of standard input.
 pub(crate) fn asked_by<'a>(matches: &ArgMatches<'a>) -> Asked<'a> {
@@ -36,38 +36,56 @@ pub(crate) fn asked_by<'a>(matches: &ArgMatches<'a>) -> Asked<'a> {
 /// What the arguments of a command ask for.
 fn task_of<'a>(name: &str, given: &ArgMatches<'a>) -> Task<'a> {
     let file = source_of(given, "FILE");
-    match name {
-        "count" => Task::Count(file, options_of(given)),
-        "projects" => Task::Projects(ballots_of(given, file), options_of(given)),
-        "voters" => Task::Voters(ballots_of(given, file), options_of(given)),
+    match count_of(name, given, ballots_of(given, file)) {
+        Some(task) => task,
+        None => desk_of(name, given, file),
+    }
+}
+
+/// What the arguments of a command ask for that counts these ballots; no other command has a task here.
+fn count_of<'a>(name: &str, given: &ArgMatches<'a>, ballots: Ballots<'a>) -> Option<Task<'a>> {
+    let options = options_of(given);
+    let task = match name {
+        "count" => Task::Count(ballots.file, options),
+        "projects" => Task::Projects(ballots, options),
+        "voters" => Task::Voters(ballots, options),
         "compare" => Task::Compare(CompareRun {
-            ballots: ballots_of(given, file),
-            options: options_of(given),
+            ballots,
+            options,
             by_project: given.get_flag("projects"),
         }),
         "whatif" => Task::WhatIf(WhatIfRun {
-            ballots: ballots_of(given, file),
-            options: options_of(given),
+            ballots,
+            options,
             project: given.get_str("project").unwrap_or(""),
             change: change_of(given),
         }),
-        "page" => Task::Page(PageRun {
-            ballots: ballots_of(given, file),
-            options: options_of(given),
-            title: given.get_str("title"),
-            recount: given.get_str("recount"),
-            words: given.get_str("words"),
-            currency: given.get_str("currency"),
-            compares: given.get_flag("compare"),
-        }),
-        "export" => Task::Export(ballots_of(given, file), options_of(given)),
+        "page" => Task::Page(page_of(given, ballots, options)),
+        "export" => Task::Export(ballots, options),
+        _ => return None,
+    };
+    Some(task)
+}
+
+/// The page that the arguments ask for.
+fn page_of<'a>(given: &ArgMatches<'a>, ballots: Ballots<'a>, options: CountOptions) -> PageRun<'a> {
+    PageRun {
+        ballots,
+        options,
+        title: given.get_str("title"),
+        recount: given.get_str("recount"),
+        words: given.get_str("words"),
+        currency: given.get_str("currency"),
+        compares: given.get_flag("compare"),
+    }
+}
+
+/// What the arguments of a command ask for that checks a file, or has to do with a desk.
+fn desk_of<'a>(name: &str, given: &ArgMatches<'a>, file: Source<'a>) -> Task<'a> {
+    match name {
         "check" => Task::Check(CheckRun {
             file,
-            against: if given.get_flag("against") {
-                Some(options_of(given))
-            } else {
-                None
-            },
+            against: against_of(given),
         }),
         "desk" => Task::Desk(DeskRun {
             file,
@@ -93,6 +111,15 @@ fn task_of<'a>(name: &str, given: &ArgMatches<'a>) -> Task<'a> {
             requires_shut: given.get_flag("require-shut"),
             digests: given.get_flag("digests"),
         }),
+    }
+}
+
+/// The options of the count with which the column `selected` is compared, if it is.
+fn against_of(given: &ArgMatches<'_>) -> Option<CountOptions> {
+    if given.get_flag("against") {
+        Some(options_of(given))
+    } else {
+        None
     }
 }
 
@@ -149,40 +176,4 @@ fn source_at<'a>(path: &'a str) -> Source<'a> {
 /// A file's path; a parse succeeds only where those that are required are given.
 fn path_of<'a>(given: &ArgMatches<'a>, name: &str) -> &'a str {
     given.get_str(name).unwrap_or("")
-}
-
-/// Whether what is left is filled up by votes.
-fn fills_up(given: &ArgMatches<'_>) -> bool {
-    matches!(given.get_str("completion"), Some("utilitarian" | "add1u"))
-}
-
-/// Whether the shares are raised, if an option says so.
-fn completion_of(given: &ArgMatches<'_>) -> Option<Completion> {
-    if given.get_flag("plain") {
-        return Some(Completion::Plain);
-    }
-    match given.get_str("completion") {
-        Some("none" | "utilitarian") => Some(Completion::Plain),
-        Some(_) => Some(Completion::Add1),
-        None => None,
-    }
-}
-
-/// The options of a count; those that are not given are the standard ones.
-fn options_of(given: &ArgMatches<'_>) -> CountOptions {
-    let standard = CountOptions::standard();
-    CountOptions {
-        step: match given.get_one::<u32>("step") {
-            Some(hundredths) => Money(u64::from(hundredths)),
-            None => standard.step,
-        },
-        max_raises: given.get_one("raises").unwrap_or(standard.max_raises),
-        workers: given.get_one("workers").unwrap_or(standard.workers),
-        completion: completion_of(given).unwrap_or(standard.completion),
-        measure: match given.get_str("measure") {
-            Some("cost") => Measure::Cost,
-            Some(_) => Measure::Votes,
-            None => standard.measure,
-        },
-    }
 }

@@ -1,6 +1,7 @@
 //! Options that a command does not have.
 
-use crate::command_line::{COUNTS, CommandForm, DESKS, Takes};
+use crate::argument::Takes;
+use crate::commands::{COUNTS, CommandForm, DESKS};
 use std::alloc::{AllocError, Global};
 
 /// What `clap` says of what it can't pass as a value either.
@@ -64,41 +65,46 @@ fn others_with(alloc: Global, command: &str, name: &str) -> Result<Option<String
 
 /// Whether a command has this option, or `--help`, which each has.
 fn has_command(command: &str, option: &str) -> bool {
-    for forms in [COUNTS, DESKS] {
-        for form in forms {
-            if form.name == command && form.has(option) {
-                return true;
-            }
+    option == "help" || has_among(COUNTS, command, option) || has_among(DESKS, command, option)
+}
+
+/// Whether a command is among these, and has this option.
+fn has_among(forms: &[CommandForm], command: &str, option: &str) -> bool {
+    for form in forms {
+        if form.name == command && form.has(option) {
+            return true;
         }
     }
-    option == "help"
+    false
 }
 
 /// The names of the commands that have this option, with commas between them.
 fn have_option(alloc: Global, option: &str) -> Result<String, AllocError> {
     let mut names = String::new(alloc);
-    for forms in [COUNTS, DESKS] {
-        for form in forms {
-            if form.has(option) {
-                names.push_str(if names.is_empty() { "" } else { ", " })?;
-                names.push_str(form.name)?;
-            }
+    add_names(&mut names, COUNTS, option)?;
+    add_names(&mut names, DESKS, option)?;
+    Ok(names)
+}
+
+/// Adds the names of those of these commands that have this option, with commas between them.
+fn add_names(names: &mut String, forms: &[CommandForm], option: &str) -> Result<(), AllocError> {
+    for form in forms {
+        if form.has(option) {
+            names.push_str(if names.is_empty() { "" } else { ", " })?;
+            names.push_str(form.name)?;
         }
     }
-    Ok(names)
+    Ok(())
 }
 
 impl CommandForm {
     /// Whether an option of this name is among the command's arguments.
     fn has(&self, option: &str) -> bool {
-        let mut has = false;
         for argument in self.arguments {
-            let is_option = match argument.takes {
-                Takes::Path => false,
-                _ => true,
-            };
-            has |= is_option && argument.name == option;
+            if argument.name == option && !argument.is_path() {
+                return true;
+            }
         }
-        has
+        false
     }
 }

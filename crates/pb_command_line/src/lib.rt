@@ -2,11 +2,17 @@
 #![tactic(auto)]
 
 mod address;
+mod argument;
+mod arguments;
 mod asked;
 mod command_line;
+mod commands;
 mod elsewhere;
+mod flaw;
+mod helps;
 mod numbers;
 pub mod parse;
+mod rule;
 pub mod task;
 
 pub use parse::Parsed;

@@ -1,14 +1,13 @@
 //! What given arguments ask for.
 
-use crate::address::is_address;
 use crate::asked::asked_by;
 use crate::command_line::command_line;
 use crate::elsewhere::{elsewhere_words, without_dashes};
+use crate::flaw::Flaw;
 use crate::numbers::{BadNumber, bad_number};
-use crate::task::{Admits, Asked, DeskRun, OneChange, PageRun, ServeRun, Source, Task, WhatIfRun};
+use crate::task::Asked;
 use clap::Error;
 use clap::error::ErrorKind;
-use pb_core::money::Money;
 use std::alloc::{AllocError, Global};
 
 /// The status of arguments that are refused.
@@ -43,23 +42,9 @@ pub fn parse<'a, R: Print + Eprint>(
             if let Some(bad) = bad {
                 return Ok(Parsed::Ends(refuse_number(rt, &bad)));
             }
-            if let Some(name) = needs_path(&asked.task) {
-                return Ok(Parsed::Ends(refuse_input(rt, name)));
-            }
-            if let Some(name) = read_twice(&asked.task) {
-                return Ok(Parsed::Ends(refuse_twice(rt, name)));
-            }
-            if has_piped_roll(&asked.task) {
-                return Ok(Parsed::Ends(refuse_roll(rt)));
-            }
-            if has_piped_words(&asked.task) {
-                return Ok(Parsed::Ends(refuse_words(rt)));
-            }
-            if let Some(address) = leads_elsewhere(&asked.task) {
-                return Ok(Parsed::Ends(refuse_address(rt, address)));
-            }
-            if has_no_cost(&asked.task) {
-                return Ok(Parsed::Ends(refuse_cost(rt)));
+            if let Some(flaw) = Flaw::of(&asked.task) {
+                flaw.say(rt);
+                return Ok(Parsed::Ends(BAD_ARGUMENTS));
             }
             Ok(Parsed::Asks(asked))
         }
@@ -71,96 +56,6 @@ pub fn parse<'a, R: Print + Eprint>(
     }
 }
 
-/// The argument that is standard input beside FILE, where it is.
-fn read_twice(task: &Task<'_>) -> Option<&'static str> {
-    match (task.texts(), task) {
-        ((Source::Input, Some(Source::Input)), Task::Desk(_)) => Some("SCRIPT"),
-        ((Source::Input, Some(Source::Input)), _) => Some("JOURNAL"),
-        _ => None,
-    }
-}
-
-/// The argument that is standard input where the requests stand there, if it is.
-fn needs_path(task: &Task<'_>) -> Option<&'static str> {
-    match task {
-        Task::Serve(ServeRun { file: "-", .. }) => Some("FILE"),
-        Task::Serve(ServeRun { journal: "-", .. }) => Some("JOURNAL"),
-        Task::Serve(
-            ServeRun {
-                admits: Admits {
-                    roll: Some("-"),
-                    ..
-                },
-                ..
-            },
-        ) => Some("ROLL"),
-        _ => None,
-    }
-}
-
-/// Whether the roll of a script's desk is standard input, which can be FILE or SCRIPT alone.
-fn has_piped_roll(task: &Task<'_>) -> bool {
-    match task {
-        Task::Desk(
-            DeskRun {
-                admits: Admits {
-                    roll: Some("-"),
-                    ..
-                },
-                ..
-            },
-        ) => true,
-        _ => false,
-    }
-}
-
-/// Whether the words of a page are standard input, which can be FILE or JOURNAL alone.
-fn has_piped_words(task: &Task<'_>) -> bool {
-    match task {
-        Task::Page(
-            PageRun {
-                words: Some("-"),
-                ..
-            },
-        ) => true,
-        _ => false,
-    }
-}
-
-/// The address to which a page would lead, and to which no link of it may lead, if there is one.
-fn leads_elsewhere<'a>(task: &Task<'a>) -> Option<&'a str> {
-    match task {
-        Task::Page(
-            PageRun {
-                recount: Some(address),
-                ..
-            },
-        ) if !is_address(address) => Some(*address),
-        _ => None,
-    }
-}
-
-/// Whether the one cost that is tried is none that a project can have.
-fn has_no_cost(task: &Task<'_>) -> bool {
-    match task {
-        Task::WhatIf(
-            WhatIfRun {
-                change: Some(OneChange::Cost(cost)),
-                ..
-            },
-        ) => *cost == Money(0),
-        _ => false,
-    }
-}
-
-/// Refuses a cost that no project can have.
-fn refuse_cost<R: Eprint>(rt: &R) -> u8 {
-    let _ = eprintln!(rt;
-        "error: --cost takes an amount above 0, at most 10000000000000, with up to two decimals, for example 53.66"
-    );
-    BAD_ARGUMENTS
-}
-
 /// Refuses what is no number of an option.
 fn refuse_number<R: Eprint>(rt: &R, bad: &BadNumber<'_>) -> u8 {
     let BadNumber { name, value, range } = *bad;
@@ -169,42 +64,6 @@ fn refuse_number<R: Eprint>(rt: &R, bad: &BadNumber<'_>) -> u8 {
     } else {
         eprintln!(rt; "option --{name}: {value:?} is not a whole number. Give a value {range}.")
     };
-    BAD_ARGUMENTS
-}
-
-/// Refuses an address that no link may lead to.
-fn refuse_address<R: Eprint>(rt: &R, address: &str) -> u8 {
-    let _ = eprintln!(rt;
-        "error: --recount {address:?} can't be the address of a link. Give one that begins with https:// or http://, or the name of a file beside the page, such as recount.html. It must not have spaces."
-    );
-    BAD_ARGUMENTS
-}
-
-/// Refuses arguments of which this one is standard input, where the requests stand there.
-fn refuse_input<R: Eprint>(rt: &R, name: &str) -> u8 {
-    let _ = eprintln!(rt;
-        "error: {name} can't be standard input (-), because the requests come from there. Name a file."
-    );
-    BAD_ARGUMENTS
-}
-
-/// Refuses a roll that is standard input.
-fn refuse_roll<R: Eprint>(rt: &R) -> u8 {
-    let _ = eprintln!(rt; "error: ROLL can't be standard input (-). Name a file.");
-    BAD_ARGUMENTS
-}
-
-/// Refuses words that are standard input.
-fn refuse_words<R: Eprint>(rt: &R) -> u8 {
-    let _ = eprintln!(rt; "error: WORDS can't be standard input (-). Name a file.");
-    BAD_ARGUMENTS
-}
-
-/// Refuses arguments of which FILE and this one are standard input.
-fn refuse_twice<R: Eprint>(rt: &R, name: &str) -> u8 {
-    let _ = eprintln!(rt;
-        "error: FILE and {name} can't both be standard input (-). Name a file for one of them."
-    );
     BAD_ARGUMENTS
 }
 

@@ -1,0 +1,276 @@
+//! The arguments that the commands have, each with its help.
+
+use crate::argument::{Argument, Takes};
+
+/// The file that each command reads first.
+pub(crate) const ELECTION: Argument = Argument {
+    name: "FILE",
+    takes: Takes::Path,
+    help: "The election, a .pb file with approval votes; - is standard input",
+};
+
+/// The script that the desk serves.
+pub(crate) const SCRIPT: Argument = Argument {
+    name: "SCRIPT",
+    takes: Takes::Path,
+    help: "The clerks' requests, one on each row, in the form CLERK;REQUEST;VOTER;PLACES (see pb_app serve --help); - is standard input",
+};
+
+/// The journal that is audited.
+pub(crate) const JOURNAL: Argument = Argument {
+    name: "JOURNAL",
+    takes: Takes::Path,
+    help: "The journal of a desk that was opened with FILE; - is standard input",
+};
+
+/// The file whose desk stands on a disk.
+pub(crate) const SERVED: Argument = Argument {
+    name: "FILE",
+    takes: Takes::Path,
+    help: "The election, a .pb file with approval votes",
+};
+
+/// The file that a desk stands on.
+pub(crate) const DURABLE: Argument = Argument {
+    name: "JOURNAL",
+    takes: Takes::Path,
+    help: "The file of the desk's journal; if it exists, the desk continues it; if not, it is created",
+};
+
+/// The journal whose desk leaves the ballots.
+pub(crate) const LEFT_BY: Argument = Argument {
+    name: "journal",
+    takes: Takes::OptionalSource("JOURNAL"),
+    help: "Counts the ballots as they were when the desk of this journal was shut; - is standard input",
+};
+
+/// How many clerks a desk has.
+pub(crate) const CLERKS: Argument = Argument {
+    name: "clerks",
+    takes: Takes::Number("N"),
+    help: "How many clerks work at the same time, 1 to 64; rows of different clerks may be taken in any order [default: 1]",
+};
+
+/// Whether the desk is shut at the end of a run.
+pub(crate) const SHUT: Argument = Argument {
+    name: "shut",
+    takes: Takes::Nothing,
+    help: "Shuts the desk after the last row, in the name of clerk 0; with several clerks use this, and no shut row in SCRIPT",
+};
+
+/// Whether rows name projects by their ids.
+pub(crate) const BY_ID: Argument = Argument {
+    name: "by-id",
+    takes: Takes::Nothing,
+    help: "Requests name projects by their ids instead of their positions; write `,` between ids",
+};
+
+/// The voters' roll.
+pub(crate) const ROLL: Argument = Argument {
+    name: "roll",
+    takes: Takes::OptionalFile("ROLL"),
+    help: "Takes requests only for the voters in this file; the first field of each row is a voter's id",
+};
+
+/// How many projects a ballot has at least.
+pub(crate) const LEAST: Argument = Argument {
+    name: "min",
+    takes: Takes::Number("N"),
+    help: "The smallest number of projects that a new ballot may name [default: 0]",
+};
+
+/// How many workers a count has.
+pub(crate) const WORKERS: Argument = Argument {
+    name: "workers",
+    takes: Takes::Number("N"),
+    help: "How many processors the count may use, 1 to 64; more can be faster, and the result is the same [default: 1]",
+};
+
+/// The step of a raise.
+pub(crate) const STEP: Argument = Argument {
+    name: "step",
+    takes: Takes::Number("H"),
+    help: "How much each raise adds to a voter's share, in hundredths (100 is 1.00), 1 to 1000000000 [default: 100]",
+};
+
+/// The limit of raises.
+pub(crate) const RAISES: Argument = Argument {
+    name: "raises",
+    takes: Takes::Number("L"),
+    help: "The most raises that are allowed, 0 to 1000000; a count that needs more is refused [default: 1000000]",
+};
+
+/// Whether completion is left out.
+pub(crate) const PLAIN: Argument = Argument {
+    name: "plain",
+    takes: Takes::Nothing,
+    help: "Stops after the first count: the share is not raised (no Add1); the same as --completion none",
+};
+
+/// What is done with the money that a first run leaves.
+pub(crate) const COMPLETION: Argument = Argument {
+    name: "completion",
+    takes: Takes::Completion,
+    help: "none: no raises; add1: raises; utilitarian: no raises, then the money that is left goes to the other projects, those with the most votes first; add1u: raises, then the money that is left goes to the other projects, as with utilitarian [default: add1]",
+};
+
+/// What a project is worth to those who approve it.
+pub(crate) const MEASURE: Argument = Argument {
+    name: "measure",
+    takes: Takes::Measure,
+    help: "votes: the project with the lowest price wins next (price: the most that one supporter pays); cost: the project whose price, divided by its cost, is lowest wins next [default: votes]",
+};
+
+/// The file that gets the result.
+pub(crate) const OUTPUT: Argument = Argument {
+    name: "output",
+    takes: Takes::OptionalPath('o'),
+    help: "Writes the result to this file; an older file is replaced only when the result is complete",
+};
+
+/// The voter whose ballot is asked for.
+pub(crate) const VOTER: Argument = Argument {
+    name: "voter",
+    takes: Takes::Text("ID"),
+    help: "Prints only the ballot of the voter with this id",
+};
+
+/// Whether an open desk is refused.
+pub(crate) const REQUIRE_SHUT: Argument = Argument {
+    name: "require-shut",
+    takes: Takes::Nothing,
+    help: "Refuses the journal if its desk is still open",
+};
+
+/// Whether the column `selected` is compared with a count.
+pub(crate) const AGAINST: Argument = Argument {
+    name: "against",
+    takes: Takes::Nothing,
+    help: "If the file has no fault, also counts it with the options below, and warns where its column `selected` differs from the result",
+};
+
+/// Whether the further columns of VOTES are exported.
+pub(crate) const KEEP_VOTERS: Argument = Argument {
+    name: "keep-voters",
+    takes: Takes::Nothing,
+    help: "Keeps the further columns of VOTES (age, sex, ..), which are left out otherwise; new voters of a journal have them empty",
+};
+
+/// Whether a warning refuses the file.
+pub(crate) const STRICT: Argument = Argument {
+    name: "strict",
+    takes: Takes::Nothing,
+    help: "Refuses a file if a warning says that the result may be wrong, for example because rows are missing, or 60.000 is read as 60.00",
+};
+
+/// Whether a journal of another file is read all the same.
+pub(crate) const OTHER_FILE: Argument = Argument {
+    name: "other-file",
+    takes: Takes::Nothing,
+    help: "Accepts a journal that was made with another .pb file; use it only if all old projects are in FILE, in the same order as before",
+};
+
+/// Whether it is not shown how far the work has come.
+pub(crate) const QUIET: Argument = Argument {
+    name: "quiet",
+    takes: Takes::Nothing,
+    help: "Shows no progress",
+};
+
+/// Whether nothing is told of a desk's work either.
+pub(crate) const QUIET_DESK: Argument = Argument {
+    name: "quiet",
+    takes: Takes::Nothing,
+    help: "Shows no progress and no summary; refusals and warnings are still shown",
+};
+
+/// Whether nothing is told of a voter without a ballot either.
+pub(crate) const QUIET_BALLOTS: Argument = Argument {
+    name: "quiet",
+    takes: Takes::Nothing,
+    help: "Shows no progress, and no message if the voter has no ballot",
+};
+
+/// Whether nothing is told of the rows that are served.
+pub(crate) const QUIET_SERVE: Argument = Argument {
+    name: "quiet",
+    takes: Takes::Nothing,
+    help: "Shows no summary and, at a terminal, no instructions and no explanations of refused rows",
+};
+
+/// Whether it is shown.
+pub(crate) const PROGRESS: Argument = Argument {
+    name: "progress",
+    takes: Takes::Nothing,
+    help: "Shows progress on standard error, even if that is not a terminal",
+};
+
+/// Whether digests stand before a report.
+pub(crate) const DIGESTS: Argument = Argument {
+    name: "digests",
+    takes: Takes::Nothing,
+    help: "Prints the SHA-256 of FILE and of JOURNAL before the report",
+};
+
+/// Whether a comparison has a row for each project.
+pub(crate) const BY_PROJECT: Argument = Argument {
+    name: "projects",
+    takes: Takes::Nothing,
+    help: "Prints one row for each project instead of one for each rule: 1 if the project wins by that rule, 0 if not",
+};
+
+/// What a page is about.
+pub(crate) const TITLE: Argument = Argument {
+    name: "title",
+    takes: Takes::Text("TEXT"),
+    help: "The title of the page [default: the title in the file WORDS, or Participatory budgeting]",
+};
+
+/// Where a page leads those who recount it.
+pub(crate) const RECOUNT: Argument = Argument {
+    name: "recount",
+    takes: Takes::Text("URL"),
+    help: "Puts a link to your copy of recount.html on the page: an address with https:// or http://, or the name of a file beside the page",
+};
+
+/// What a page says.
+pub(crate) const WORDS: Argument = Argument {
+    name: "words",
+    takes: Takes::OptionalFile("WORDS"),
+    help: "Reads the texts of the page from this file, for a page in another language than English, for example words/de.words",
+};
+
+/// The currency of its amounts.
+pub(crate) const CURRENCY: Argument = Argument {
+    name: "currency",
+    takes: Takes::Text("TEXT"),
+    help: "The currency that the page shows with each amount, such as EUR [default: none]",
+};
+
+/// What the page has besides.
+pub(crate) const COMPARE: Argument = Argument {
+    name: "compare",
+    takes: Takes::Nothing,
+    help: "Adds a table that compares this count with most votes",
+};
+
+/// Which project is asked about.
+pub(crate) const PROJECT: Argument = Argument {
+    name: "project",
+    takes: Takes::NeededText("ID"),
+    help: "The id of the project",
+};
+
+/// The one cost that is tried.
+pub(crate) const COST: Argument = Argument {
+    name: "cost",
+    takes: Takes::Amount("X"),
+    help: "Tries only this cost for the project, an amount above 0, for example 53.66",
+};
+
+/// The one number of further voters that is tried.
+pub(crate) const VOTERS: Argument = Argument {
+    name: "voters",
+    takes: Takes::Number("N"),
+    help: "Tries only N further voters, who approve this project and no other; N can be 0",
+};

@@ -1,0 +1,122 @@
+//! Arguments that are refused although each has its form.
+
+use crate::address::is_address;
+use crate::task::{OneChange, PageRun, Source, Task, WhatIfRun};
+use pb_core::money::Money;
+
+/// Why arguments are refused although each has its form.
+#[derive(Clone, Copy)]
+pub(crate) enum Flaw<'a> {
+    /// This argument is standard input, from which the requests come.
+    Requests(&'static str),
+    /// FILE and this argument are both standard input.
+    Twice(&'static str),
+    /// This argument is standard input, and can only be a file.
+    Piped(&'static str),
+    /// No link of a page may lead to this address.
+    Address(&'a str),
+    /// No project can have the one cost that is tried.
+    Cost,
+}
+
+impl<'a> Flaw<'a> {
+    /// The first flaw of the arguments that ask for this, if they have one.
+    pub(crate) fn of(task: &Task<'a>) -> Option<Flaw<'a>> {
+        if let Some(name) = among_requests(task) {
+            return Some(Flaw::Requests(name));
+        }
+        if let Some(name) = read_twice(task) {
+            return Some(Flaw::Twice(name));
+        }
+        if let Some(name) = piped(task) {
+            return Some(Flaw::Piped(name));
+        }
+        if let Some(address) = leads_elsewhere(task) {
+            return Some(Flaw::Address(address));
+        }
+        if has_no_cost(task) {
+            return Some(Flaw::Cost);
+        }
+        None
+    }
+
+    /// Says it on standard error.
+    pub(crate) fn say<R: Eprint>(self, rt: &R) {
+        let _ = match self {
+            Flaw::Requests(name) => eprintln!(rt;
+                "error: {name} can't be standard input (-), because the requests come from there. Name a file."
+            ),
+            Flaw::Twice(name) => eprintln!(rt;
+                "error: FILE and {name} can't both be standard input (-). Name a file for one of them."
+            ),
+            Flaw::Piped(name) => {
+                eprintln!(rt; "error: {name} can't be standard input (-). Name a file.")
+            }
+            Flaw::Address(address) => eprintln!(rt;
+                "error: --recount {address:?} can't be the address of a link. Give one that begins with https:// or http://, or the name of a file beside the page, such as recount.html. It must not have spaces."
+            ),
+            Flaw::Cost => eprintln!(rt;
+                "error: --cost takes an amount above 0, at most 10000000000000, with up to two decimals, for example 53.66"
+            ),
+        };
+    }
+}
+
+/// Whether a path is given, and is that of standard input.
+fn is_input(path: Option<&str>) -> bool {
+    matches!(path, Some("-"))
+}
+
+/// The argument that is standard input and can only be a file, if one is.
+fn piped(task: &Task<'_>) -> Option<&'static str> {
+    match task {
+        Task::Desk(run) if is_input(run.admits.roll) => Some("ROLL"),
+        Task::Page(run) if is_input(run.words) => Some("WORDS"),
+        _ => None,
+    }
+}
+
+/// The address to which a page would lead, and to which no link of it may lead, if there is one.
+fn leads_elsewhere<'a>(task: &Task<'a>) -> Option<&'a str> {
+    match task {
+        Task::Page(
+            PageRun {
+                recount: Some(address),
+                ..
+            },
+        ) if !is_address(address) => Some(*address),
+        _ => None,
+    }
+}
+
+/// Whether the one cost that is tried is none that a project can have.
+fn has_no_cost(task: &Task<'_>) -> bool {
+    match task {
+        Task::WhatIf(
+            WhatIfRun {
+                change: Some(OneChange::Cost(cost)),
+                ..
+            },
+        ) => *cost == Money(0),
+        _ => false,
+    }
+}
+
+/// The argument that is standard input where the requests come from there, if one is.
+fn among_requests(task: &Task<'_>) -> Option<&'static str> {
+    match task {
+        Task::Serve(run) if run.file == "-" => Some("FILE"),
+        Task::Serve(run) if run.journal == "-" => Some("JOURNAL"),
+        Task::Serve(run) if is_input(run.admits.roll) => Some("ROLL"),
+        _ => None,
+    }
+}
+
+/// The argument that is standard input beside FILE, where it is.
+fn read_twice(task: &Task<'_>) -> Option<&'static str> {
+    match (task.texts(), task) {
+        ((Source::Input, Some(Source::Input)), Task::Desk(_)) => Some("SCRIPT"),
+        ((Source::Input, Some(Source::Input)), _) => Some("JOURNAL"),
+        _ => None,
+    }
+}

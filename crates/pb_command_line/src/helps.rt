@@ -1,0 +1,98 @@
+//! What the helps say besides the commands and their arguments.
+
+/// What the program is.
+pub(crate) const ABOUT: &str =
+    "Participatory budgeting by the Method of Equal Shares: counts the ballots of a .pb file, runs a desk for ballots, and checks the desk's journal";
+
+/// What stands below the commands.
+pub(crate) const AFTER_HELP: &str = "Without a command, the program counts standard input.
+
+Words:
+  desk     takes requests of clerks, and answers each, until a clerk shuts it
+  request  what a clerk asks of the desk: cast, replace or withdraw a voter's ballot, or shut the desk
+  journal  a file with every request that the desk answered, and its answer, in order
+  script   a file of requests, one on each row
+  share    the money that each voter can spend: at first the budget divided by the number of voters
+  price    the most that one supporter pays for a project
+  raise    adds --step to every voter's share, and counts again, so that less of the budget is left unspent (Add1)
+
+Which rule your city has:
+  If your city uses the Method of Equal Shares, its rule is probably --measure cost --completion add1u.
+  Without these options the program uses --measure votes --completion add1.
+  If your city does not use this method, the projects with the most votes probably win: compare shows both results.
+  A by-law should name the measure, the completion, the step of a raise, and how ties are broken.
+
+Examples:
+  pb_app check city.pb
+  pb_app count city.pb
+  pb_app count city.pb --step 1000 --output city.report
+  pb_app compare city.pb --measure cost --completion add1u
+  pb_app desk city.pb requests.script --clerks 2 --output trial.journal
+  pb_app audit city.pb city.journal --require-shut
+  pb_app serve city.pb city.journal < requests.script
+
+Exit status:
+  0  the whole result was written
+  1  a file, script, journal or count was refused
+  2  the arguments were refused
+  3  a device failed, or memory ran out
+
+A refusal is one line on standard output, for programs. Standard error explains it in words.
+
+Manual pages (they come with the package):
+  man pb_app-count     one such page for each command
+  man pb_app-election  the .pb file
+  man pb_app-journal   the journal
+  man pb_app-faults    what to do about each fault
+  man pb_app-counting  how the count works
+  man pb_app-office    the days of an election office";
+
+/// What stands below the arguments of `serve`.
+pub(crate) const AFTER_SERVE: &str =
+    "Standard input has one request on each row, in the form CLERK;REQUEST;VOTER;PLACES. PLACES are the positions of the
+projects in FILE, counted from 0, with `,` between them. The answer to a request is its row of the journal, printed
+as soon as that row is on the disk.
+
+A refused row is not recorded. Its answer is fault;script;CODE;NAME;ROW.
+
+Why a row is refused:
+  2;BadRow     the row is not a valid request: see the form above
+  5;UnknownId  with --by-id: no project has this id
+  6;NotOnRoll  with --roll: the voter is not on the roll
+  7;TooFew     with --min: the ballot names too few projects
+
+The output begins with entries;N;open or entries;N;shut: the journal has N entries. If the journal ended in an
+incomplete row, that end was cut off and kept in JOURNAL.torn, and a row torn;BYTES comes first.
+
+JOURNAL.file says to which .pb file the journal belongs: its first line is the SHA-256 of FILE. With another FILE, a
+position may mean another project. So once the journal has entries, serve refuses any other file (fault;other-file).
+--other-file makes it accept one. Use this only if the old projects keep their order: names and costs may differ, and
+projects may be added at the end.
+
+Examples:
+  pb_app serve city.pb city.journal
+  pb_app serve city.pb city.journal < requests.script > answers
+  pb_app serve city.pb city.journal --by-id --roll voters.csv --min 1
+  pb_app serve city.pb city.journal < /dev/null
+
+Exit status:
+  0  all rows were taken
+  1  a row, FILE, JOURNAL or ROLL was refused
+  2  the arguments were refused
+  3  a device failed, memory ran out, or another serve is using JOURNAL (fault;locked;2)
+
+Manual pages: man pb_app-script, man pb_app-journal, man pb_app-office.";
+
+/// What stands below the arguments of `ballots`.
+pub(crate) const AFTER_BALLOTS: &str =
+    "Each row is voter_id;entry;project_ids. entry is the number of the journal's entry that gave the ballot, counted from 1;
+if it is empty, the ballot is still the one in FILE. project_ids are the ids of the ballot's projects, with `,` between
+them. You can run this while pb_app serve is using JOURNAL.
+
+The table shows who votes for what. A new file that --output creates is for its owner alone.
+
+Examples:
+  pb_app ballots city.pb city.journal
+  pb_app ballots city.pb city.journal --voter ann
+
+Manual pages: man pb_app-election, man pb_app-journal, man 5 pb_app-ballots.";
