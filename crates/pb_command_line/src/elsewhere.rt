@@ -36,16 +36,24 @@ pub(crate) fn elsewhere_words(
             Some((name, _)) => name,
             None => option,
         };
-        if !name.is_empty() && !has_command(command.as_str(), name) {
-            return others_with(alloc, command.as_str(), name);
+        if !name.is_empty() && name != "help" {
+            let owners = owners_of(alloc, name)?;
+            if !is_listed(owners.as_str(), command.as_str()) {
+                return others_with(alloc, command.as_str(), name, owners);
+            }
+            drop(owners);
         }
     }
     Ok(None)
 }
 
 /// Words for which other commands have an option, where some have.
-fn others_with(alloc: Global, command: &str, name: &str) -> Result<Option<String>, AllocError> {
-    let others = have_option(alloc, name)?;
+fn others_with(
+    alloc: Global,
+    command: &str,
+    name: &str,
+    others: String,
+) -> Result<Option<String>, AllocError> {
     if others.is_empty() {
         drop(others);
         return Ok(None);
@@ -53,25 +61,20 @@ fn others_with(alloc: Global, command: &str, name: &str) -> Result<Option<String
     let words = if command.starts_with("-") {
         format!(in alloc;
             "Name a command first. These commands have the option --{name}: {others}.\n"
-        )?
+        )
     } else {
         format!(in alloc;
             "`pb_app {command}` has no option --{name}. These commands have it: {others}.\n"
-        )?
+        )
     };
     drop(others);
-    Ok(Some(words))
+    Ok(Some(words?))
 }
 
-/// Whether a command has this option, or `--help`, which each has.
-fn has_command(command: &str, option: &str) -> bool {
-    option == "help" || has_among(COUNTS, command, option) || has_among(DESKS, command, option)
-}
-
-/// Whether a command is among these, and has this option.
-fn has_among(forms: &[CommandForm], command: &str, option: &str) -> bool {
-    for form in forms {
-        if form.name == command && form.has(option) {
+/// Whether a command is among these, which have commas between them.
+fn is_listed(commands: &str, command: &str) -> bool {
+    for name in commands.split(',') {
+        if name.trim() == command {
             return true;
         }
     }
@@ -79,22 +82,25 @@ fn has_among(forms: &[CommandForm], command: &str, option: &str) -> bool {
 }
 
 /// The names of the commands that have this option, with commas between them.
-fn have_option(alloc: Global, option: &str) -> Result<String, AllocError> {
-    let mut names = String::new(alloc);
-    add_names(&mut names, COUNTS, option)?;
-    add_names(&mut names, DESKS, option)?;
-    Ok(names)
+fn owners_of(alloc: Global, option: &str) -> Result<String, AllocError> {
+    let names = with_owners(String::new(alloc), COUNTS, option)?;
+    with_owners(names, DESKS, option)
 }
 
-/// Adds the names of those of these commands that have this option, with commas between them.
-fn add_names(names: &mut String, forms: &[CommandForm], option: &str) -> Result<(), AllocError> {
-    for form in forms {
+/// These names, and behind them those of these commands that have this option.
+fn with_owners(
+    names: String,
+    commands: &[CommandForm],
+    option: &str,
+) -> Result<String, AllocError> {
+    let mut names = names;
+    for form in commands {
         if form.has(option) {
             names.push_str(if names.is_empty() { "" } else { ", " })?;
             names.push_str(form.name)?;
         }
     }
-    Ok(())
+    Ok(names)
 }
 
 impl CommandForm {
