@@ -18,7 +18,7 @@ use Rattle.pb_reasons.specs.Totals.{totals_of}
 use Rattle.pb_reasons.specs.Inner.Told.{AreApart}
 use Rattle.pb_reasons.proofs.Tellable.{count_can_be_told}
 
-elected_are_taken : (elected : List ElectedView) (place : ℕ) → is_elected elected place ≡ is_taken (map (λ w. w.place) elected) place
+pub elected_are_taken : (elected : List ElectedView) (place : ℕ) → is_elected elected place ≡ is_taken (map (λ w. w.place) elected) place
 elected_are_taken [] place = refl
 elected_are_taken (w ∷ elected) place = ap (λ b. (w.place == place) || b) (elected_are_taken elected place)
 

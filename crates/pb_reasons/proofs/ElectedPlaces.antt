@@ -55,7 +55,7 @@ pub record AreProjects (e : ElectionView) (elected : List ElectedView) : Type 0 
   pub few : length elected ≤ length e.projects
   pub apart : AllPairs AreApart elected
 
-run_elects_projects : (m : Measure) (e : ElectionView) (share : ℕ) → AreProjects e (outcome_of m e share).elected
+pub run_elects_projects : (m : Measure) (e : ElectionView) (share : ℕ) → AreProjects e (outcome_of m e share).elected
 unfolding run_of
 run_elects_projects m e share =
     let s = support_of e in

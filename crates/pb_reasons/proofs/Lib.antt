@@ -11,6 +11,7 @@ pub mod Paying
 pub mod Reasoned
 pub mod Listing
 mod Numbering
+pub mod RaiseEnds
 pub mod Results
 pub mod VoterTold
 pub mod WinnerSums

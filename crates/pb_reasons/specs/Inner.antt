@@ -3,6 +3,7 @@ pub mod Comparing
 pub mod Kept
 pub mod Numbers
 pub mod OfOutcome
+pub mod Raises
 pub mod Replay
 pub mod Told
 pub mod Turns

@@ -77,7 +77,11 @@ impl Counted {
 }
 
 /// What most votes first adds to the elected of an outcome.
-fn added_to(alloc: Global, election: &Election, outcome: &Outcome) -> Result<Vec<u32>, NoMemory>
+pub(crate) fn added_to(
+    alloc: Global,
+    election: &Election,
+    outcome: &Outcome,
+) -> Result<Vec<u32>, NoMemory>
     requires { IsOutcome election.now outcome.now }
     ensures { IfOk result (λ added. added.items ≡ added_to election.now outcome.now) }
 {
@@ -90,7 +94,7 @@ fn added_to(alloc: Global, election: &Election, outcome: &Outcome) -> Result<Vec
 }
 
 /// The places of the elected.
-fn places_of(alloc: Global, elected: &[Elected]) -> Result<Vec<u32>, NoMemory>
+pub(crate) fn places_of(alloc: Global, elected: &[Elected]) -> Result<Vec<u32>, NoMemory>
     ensures { IfOk result (λ places. places.items ≡ map (λ w. w.place) elected.now) }
 {
     let mut places = Vec::with_capacity(alloc, elected.len())?;

@@ -1,0 +1,180 @@
+-- Why the raises of a count ended.
+use Rattle.std.proofs.Common.{◌≡◌, ◌≢◌, ℕ, ◌+◌, ◌-◌, ◌*◌, ◌<◌, ◌≤◌, ◌^◌, Bool, true, false, not, List, [], ◌∷◌, ◌++◌, length, map, get_or, take, cond, refl, sym, subst, ◌∙◌, ap, inl, inr, arith}
+use Rattle.std.specs.Prelude.{◌==◌, All, filter}
+use Rattle.std.proofs.lemmas.Bool.{true≢false, not-true, not_from_false, and_parts, and_cases, cases_eq, lt-ltb, ltb-true, leb-false, eq-eqb, eqb-true, ne_eqb}
+use Rattle.std.proofs.lemmas.List.{append-nil, map-append}
+use Rattle.std.proofs.lemmas.List.Elements.{filter_more}
+use Rattle.std.proofs.lemmas.List.Folds.{list_any_at, list_any_none}
+use Rattle.std.proofs.Math.Nat.{mul-le-mul}
+use Rattle.pb_core.specs.Election.{ElectionView, IsElection}
+use Rattle.pb_greedy.proofs.Computed.{fitting_is_known, fitting_is_paid}
+use Rattle.pb_greedy.proofs.Filled.{IsFilled}
+use Rattle.pb_greedy.specs.MostVotes.{is_taken, votes_at}
+use Rattle.pb_price.proofs.SupporterLists.{support_form}
+use Rattle.pb_price.specs.Price.{largest_share}
+use Rattle.pb_price.specs.Supporters.{SupportView, cost_at, support_of}
+use Rattle.pb_rounds.proofs.Completing.{opening_of_nobody, opening_within}
+use Rattle.pb_rounds.proofs.Counted.{can_complete}
+use Rattle.pb_rounds.proofs.RunIs.{only_run}
+use Rattle.pb_rounds.proofs.TrialRounds.{spent_small}
+use Rattle.pb_rounds.specs.Cheapest.{IsRun}
+use Rattle.pb_rounds.specs.Completed.{After, GoesOn, IsExhausted}
+use Rattle.pb_rounds.specs.Count.{opening_share, spent_on}
+use Rattle.pb_rounds.specs.Counted.{IsCountOf}
+use Rattle.pb_rounds.specs.Outcome.{OutcomeView}
+use Rattle.pb_rounds.specs.Run.{ElectedView, RunView, is_elected}
+use Rattle.pb_rounds.specs.declared.measure.Measure.{Measure}
+use Rattle.pb_rounds.specs.declared.options.Completion.TheVariants.{Add1}
+use Rattle.pb_rounds.specs.declared.options.CountOptions.{CountOptions}
+use Rattle.pb_reasons.specs.RaiseEnd.{IsRaiseEnd}
+use Rattle.pb_reasons.specs.Inner.Raises.{TellsExhausted}
+use Rattle.pb_reasons.specs.declared.raise_end.NextRaise.{NextRaise}
+use Rattle.pb_reasons.specs.declared.raise_end.RaiseEnd.TheVariants.{Over}
+use Rattle.pb_reasons.proofs.AllWinners.{elected_are_taken}
+use Rattle.pb_reasons.proofs.ElectedPlaces.{AreProjects, run_elects_projects}
+
+others_are_free : (elected : List ElectedView) (place : ℕ) → All (λ w. w.place ≢ place) elected → is_taken (map (λ w. w.place) elected) place ≡ false
+others_are_free elected place h =
+    sym (elected_are_taken elected place) ∙ list_any_none (λ w. w.place == place) elected (λ k d below. ne_eqb _ _ (h k d below))
+
+free_are_others : (elected : List ElectedView) (place : ℕ) → is_taken (map (λ w. w.place) elected) place ≡ false → All (λ w. w.place ≢ place) elected
+free_are_others elected place e k d below same =
+    true≢false (sym (list_any_at (λ w. w.place == place) elected k d below (eq-eqb _ _ same)) ∙ elected_are_taken elected place ∙ e)
+
+-- most votes first adds none where the outcome is exhausted, and some where it is not
+pub added_tell : (e : ElectionView) (o : OutcomeView) → IsElection e → spent_on (support_of e) o.elected ≤ e.budget → (added : List ℕ)
+    → IsFilled (support_of e) (map (λ w. w.place) o.elected) (e.budget - spent_on (support_of e) o.elected) added
+    → (b : Bool) → (length added == 0) ≡ b → TellsExhausted e o b
+added_tell e o h within [] filled false is = absurd (true≢false (sym (eq-eqb 0 0 refl) ∙ is))
+added_tell e o h within [] filled true is = record {
+  within = within;
+  no_room = λ place left supported. elim (and_cases _ _ (filled place)) [
+    | inl none ↦ absurd (true≢false (sym (lt-ltb 0 (votes_at (support_of e) place) supported) ∙ none))
+    | inr other ↦ elim (and_cases _ _ other) [
+      | inl taken ↦ absurd (true≢false (sym (not_from_false _ (others_are_free o.elected place left.1)) ∙ taken))
+      | inr dear ↦
+          let more = leb-false (cost_at (support_of e) place) (e.budget - spent_on (support_of e) o.elected) dear in
+          omega (arith, more, within)
+    ]
+  ];
+}
+added_tell e o h within (p ∷ added) filled true is = (let none = eqb-true _ _ is in absurd (omega (arith, none)))
+added_tell e o h within (p ∷ added) filled false is = λ exhausted.
+    let s = support_of e in
+    let taken = map (λ (w : ElectedView). w.place) o.elected in
+    let left = e.budget - spent_on s o.elected in
+    let fits_now = filled.0.does_fit in
+    let known = fitting_is_known s (support_form s (e, h, refl)) taken left p fits_now in
+    let paid = fitting_is_paid s taken left p fits_now in
+    let parts = and_parts _ _ fits_now in
+    let free = not-true _ (and_parts _ _ parts.1).0 in
+    let room = exhausted.no_room p (known, free_are_others o.elected p free) (ltb-true 0 (votes_at s p) parts.0) in
+    omega (arith, room, paid, within)
+
+-- those of the elected that are not taken, with one more
+pub one_kept : (p : ElectedView → Bool) (elected : List ElectedView) (i : ℕ) (w : ElectedView) → i < length elected → w ≡ get_or elected i w → p w ≡ true
+    → map (λ v. v.place) (filter p (take (i + 1) elected)) ≡ map (λ v. v.place) (filter p (take i elected)) ++ w.place ∷ []
+one_kept p elected i w below here kept =
+    let place : ElectedView → ℕ = λ v. v.place in
+    ap (map place) (filter_more p elected i w below ∙ ap (λ b. filter p (take i elected) ++ cond b (get_or elected i w ∷ []) []) (ap p (sym here) ∙ kept))
+    ∙ map-append place (filter p (take i elected)) (get_or elected i w ∷ [])
+    ∙ ap (λ (v : ElectedView). map place (filter p (take i elected)) ++ v.place ∷ []) (sym here)
+
+pub one_left_out : (p : ElectedView → Bool) (elected : List ElectedView) (i : ℕ) (w : ElectedView) → i < length elected → w ≡ get_or elected i w → p w ≡ false
+    → map (λ v. v.place) (filter p (take (i + 1) elected)) ≡ map (λ v. v.place) (filter p (take i elected))
+one_left_out p elected i w below here out =
+    ap (map (λ v. v.place))
+    (filter_more p elected i w below ∙ ap (λ b. filter p (take i elected) ++ cond b (get_or elected i w ∷ []) []) (ap p (sym here) ∙ out)
+    ∙ append-nil (filter p (take i elected)))
+
+-- who is not elected is not taken
+pub not_elected_are_free : (now : List ElectedView) (taken : List ℕ) → taken ≡ map (λ w. w.place) now → (next : List ElectedView)
+    → map (λ w. w.place) (filter (λ w. not (is_taken taken w.place)) next) ≡ map (λ w. w.place) (filter (λ w. not (is_elected now w.place)) next)
+not_elected_are_free now taken are [] = refl
+not_elected_are_free now taken are (w ∷ next) =
+    let place : ElectedView → ℕ = λ v. v.place in
+    let same : is_taken taken w.place ≡ is_elected now w.place = ap (λ l. is_taken l w.place) are ∙ sym (elected_are_taken now w.place) in
+    let later = not_elected_are_free now taken are next in
+    kept_same (is_taken taken w.place) (is_elected now w.place) same later
+  where
+    kept_same : (b c : Bool) → b ≡ c
+        → map (λ w. w.place) (filter (λ w. not (is_taken taken w.place)) next) ≡ map (λ w. w.place) (filter (λ w. not (is_elected now w.place)) next)
+        → map (λ w. w.place) (cond (not b) (w ∷ filter (λ w. not (is_taken taken w.place)) next) (filter (λ w. not (is_taken taken w.place)) next))
+        ≡ map (λ w. w.place) (cond (not c) (w ∷ filter (λ w. not (is_elected now w.place)) next) (filter (λ w. not (is_elected now w.place)) next))
+    kept_same true true e later = later
+    kept_same false false e later = ap (λ l. w.place ∷ l) later
+    kept_same true false e later = absurd (true≢false e)
+    kept_same false true e later = absurd (true≢false (sym e))
+
+-- whom a run elects are projects of the election, and what they cost together is below the bound of 64 bits
+pub record CanBeSummed (e : ElectionView) (elected : List ElectedView) : Type 0 where
+  pub known : All (λ w. w.place < length e.projects) elected
+  pub fits : spent_on (support_of e) elected < 2 ^ 64
+
+pub run_can_be_summed : (m : Measure) (e : ElectionView) (share : ℕ) (elected : List ElectedView) (rests : List ℕ) → IsElection e
+    → IsRun m (support_of e) share elected rests → CanBeSummed e elected
+run_can_be_summed m e share elected rests h run =
+    let computed = only_run m (support_of e) share (record { elected = elected; rests = rests }) run in
+    let are : AreProjects e elected = subst (AreProjects e) (sym (ap (λ (r : RunView). r.elected) computed)) (run_elects_projects m e share) in
+    record {
+      known = are.known;
+      fits = omega (arith, spent_small (support_of e) (e, h, refl) elected, are.few, h.few_projects);
+    }
+
+-- two runs at one share elect the same
+same_elected : (m : Measure) (s : SupportView) (share : ℕ) (one two : RunView) → IsRun m s share one.elected one.rests → IsRun m s share two.elected two.rests
+    → one.elected ≡ two.elected
+same_elected m s share one two of_one of_two = ap (λ (r : RunView). r.elected) (only_run m s share one of_one ∙ sym (only_run m s share two of_two))
+
+module _ (e : ElectionView) (options : CountOptions) (o : OutcomeView) (h : IsCountOf e options o) where
+  -- what holds of whom a run after so many raises elects, holds of whom this run at its share elects
+  such_are : (raises share : ℕ) (run : RunView) (IsSuch : List ElectedView → Type 0) → share ≡ opening_share e + raises * options.step
+      → IsRun options.measure (support_of e) share run.elected run.rests → After options.measure e options.step raises IsSuch → IsSuch run.elected
+  such_are raises share run IsSuch share_is is (elected, rests, words, such) =
+      let here = subst (λ (n : ℕ). IsRun options.measure (support_of e) n run.elected run.rests) share_is is in
+      subst IsSuch (same_elected options.measure (support_of e) _ (record { elected = elected; rests = rests }) run words here) such
+
+  next_of : GoesOn options.measure e options.step o.raised × (o.raised < options.max_raises)
+      × After options.measure e options.step (o.raised + 1) (λ elected. e.budget < spent_on (support_of e) elected)
+      → (o.raised < options.max_raises) × After options.measure e options.step (o.raised + 1) (λ elected. e.budget < spent_on (support_of e) elected)
+  next_of (goes_on, below, over) = (below, over)
+
+  -- one raise more than those of a completed count that is not exhausted is allowed, and is over the budget
+  pub next_is_over : options.completion ≡ Add1 → ¬ IsExhausted (support_of e) e.budget o.elected
+      → (o.raised < options.max_raises) × After options.measure e options.step (o.raised + 1) (λ elected. e.budget < spent_on (support_of e) elected)
+  next_is_over add1 not_yet = elim (h.completed add1).ends [
+    | inl now ↦ absurd (not_yet (such_are o.raised o.share (record { elected = o.elected; rests = o.rests }) (IsExhausted (support_of e) e.budget) h.share_is h.run_is now))
+    | inr next ↦ next_of next
+  ]
+
+  next_share_is : o.share + options.step ≡ opening_share e + (o.raised + 1) * options.step
+  next_share_is = omega (arith, h.share_is)
+
+  pub next_share_small : IsElection e → options.completion ≡ Add1 → ¬ IsExhausted (support_of e) e.budget o.elected → o.share + options.step ≤ largest_share
+  next_share_small is_election add1 not_yet =
+      let below = (next_is_over add1 not_yet).0 in
+      let ranges = can_complete e (support_of e) refl options h.in_range options.max_raises (omega arith) in
+      let few : o.raised + 1 ≤ 1000000 = omega (arith, below, ranges.few_raises) in
+      let product = mul-le-mul few ranges.small_step in
+      omega (arith, next_share_is, opening_small, product, is_election.budget_bounded)
+    where
+      opening_small : opening_share e ≤ e.budget
+      opening_small = elim (cases_eq (length e.voters) 0) [
+        | inl none ↦ omega (arith, opening_of_nobody e none)
+        | inr some ↦
+            let least : 1 ≤ length e.voters = omega (arith, some) in
+            let same : opening_share e ≤ opening_share e = omega arith in
+            let product = mul-le-mul least same in
+            omega (arith, product, opening_within e)
+      ]
+
+  -- the end that is told of one run more
+  pub over_is_told : options.completion ≡ Add1 → ¬ IsExhausted (support_of e) e.budget o.elected → (next : RunView)
+      → IsRun options.measure (support_of e) (o.share + options.step) next.elected next.rests
+      → (raise : NextRaise) → raise.share ≡ o.share + options.step → raise.cost ≡ spent_on (support_of e) next.elected
+      → raise.only_then.items ≡ map (λ w. w.place) (filter (λ w. not (is_elected o.elected w.place)) next.elected)
+      → IsRaiseEnd e options o (Over raise)
+  over_is_told add1 not_yet next run raise share cost only_then =
+      let over = such_are (o.raised + 1) _ next (λ elected. e.budget < spent_on (support_of e) elected) next_share_is run (next_is_over add1 not_yet).1 in
+      let here = subst (λ (n : ℕ). IsRun options.measure (support_of e) n next.elected next.rests) next_share_is run in
+      (add1, not_yet, share, omega (arith, over, cost), (next.elected, next.rests, here, (cost, only_then)))

@@ -1,0 +1,178 @@
+//! Why the raises of a count ended.
+
+ghost use Rattle.std.specs.Prelude.{◌≡◌, ◌+◌, ◌<◌, ◌≤◌, ◌^◌, All, IfOk, filter, length, map, not};
+ghost use Rattle.pb_greedy.specs.MostVotes.{is_taken};
+ghost use Rattle.pb_price.specs.Price.{largest_share};
+ghost use Rattle.pb_price.specs.Supporters.{support_of};
+ghost use Rattle.pb_rounds.specs.Count.{spent_on};
+ghost use Rattle.pb_rounds.specs.Counted.{IsCountOf};
+ghost use Rattle.pb_rounds.specs.Run.{is_elected};
+ghost use Rattle.pb_rounds.specs.declared.options.Completion.TheVariants.{Add1};
+ghost use Rattle.pb_reasons.specs.RaiseEnd.{IsRaiseEnd};
+ghost use Rattle.pb_reasons.specs.Inner.OfOutcome.{IsOutcome};
+ghost use Rattle.pb_reasons.specs.Inner.Raises.{TellsExhausted};
+
+use crate::counted::{added_to, places_of};
+use crate::totals::spent_for;
+use crate::winners::Winners;
+use pb_core::election::Election;
+use pb_core::gate::Gate;
+use pb_core::money::Money;
+use pb_core::no_memory::NoMemory;
+use pb_rounds::count::equal_shares;
+use pb_rounds::options::{Completion, CountOptions};
+use pb_rounds::outcome::{Elected, Outcome};
+use std::alloc::Global;
+use std::thread::Threads;
+
+/// What one raise more than those of an outcome would elect.
+#[derive(Drop)]
+pub struct NextRaise {
+    /// Everyone's share after that raise, in hundredths.
+    pub share: Money,
+    /// What the projects that it elects cost together, in hundredths: more than the budget.
+    pub cost: Money,
+    /// The projects that the outcome does not elect and this raise does, by place, in order of election.
+    pub only_then: Vec<u32>,
+}
+
+/// Why the raises of a count ended.
+#[derive(Drop)]
+pub enum RaiseEnd {
+    /// A plain count raises no share.
+    Plain,
+    /// The outcome is exhausted: each other project that has a supporter costs more than what is left of the budget.
+    Exhausted,
+    /// The outcome is not exhausted, and one raise more would elect projects that cost more than the budget.
+    Over(NextRaise),
+}
+
+impl RaiseEnd {
+    /// Why the raises ended of a count by these options that has this outcome. Where it is not exhausted, the method is run
+    /// once more, at the share after one raise more, by as many workers as count.
+    pub fn of<R: Threads + Sync, G: Gate>(
+        rt: &R,
+        alloc: Global,
+        election: &Election,
+        options: &CountOptions,
+        outcome: &Outcome,
+        gate: &G,
+    ) -> Result<RaiseEnd, NoMemory>
+        requires { IsCountOf election.now options.now outcome.now }
+        ensures { IfOk result (IsRaiseEnd election.now options.now outcome.now) }
+    {
+        match options.completion {
+            Completion::Plain => Ok(RaiseEnd::Plain),
+            Completion::Add1 => completed_end(rt, alloc, election, options, outcome, gate),
+        }
+    }
+}
+
+/// Why the raises of a completed count ended.
+fn completed_end<R: Threads + Sync, G: Gate>(
+    rt: &R,
+    alloc: Global,
+    election: &Election,
+    options: &CountOptions,
+    outcome: &Outcome,
+    gate: &G,
+) -> Result<RaiseEnd, NoMemory>
+    requires counted { IsCountOf election.now options.now outcome.now }
+    requires add1 { options.now.completion ≡ Add1 }
+    ensures { IfOk result (IsRaiseEnd election.now options.now outcome.now) }
+{
+    // What is true of every election bounds the next share.
+    let _budget = election.budget();
+    if is_exhausted(alloc, election, outcome)? {
+        return Ok(RaiseEnd::Exhausted);
+    }
+    let share = next_share(outcome, options.step);
+    let (workers, measure) = (options.workers, options.measure);
+    match equal_shares(rt, alloc, election, share, workers, measure, gate) {
+        Ok(next) => {
+            let raise = next_raise(alloc, election, outcome, &next);
+            drop(next);
+            Ok(RaiseEnd::Over(raise?))
+        }
+        // The count had these workers, so only want of memory refuses the run.
+        Err(_) => Err(NoMemory),
+    }
+}
+
+/// The share after one raise more.
+fn next_share(outcome: &Outcome, step: Money) -> Money
+    requires { outcome.now.share + step ≤ largest_share }
+    ensures share { result ≡ outcome.now.share + step }
+    ensures small { result ≤ largest_share }
+{
+    Money(outcome.share.0 + step.0)
+}
+
+/// Whether each other project that has a supporter costs more than what the elected leave of the budget: most votes first then
+/// adds none.
+fn is_exhausted(alloc: Global, election: &Election, outcome: &Outcome) -> Result<bool, NoMemory>
+    requires { IsOutcome election.now outcome.now }
+    ensures { IfOk result (TellsExhausted election.now outcome.now) }
+{
+    // What is true of every election bounds what is left.
+    let _budget = election.budget();
+    let added = added_to(alloc, election, outcome)?;
+    Ok(added.as_slice().is_empty())
+}
+
+/// What is told of the run after one raise more than those of an outcome.
+fn next_raise(
+    alloc: Global,
+    election: &Election,
+    outcome: &Outcome,
+    next: &Outcome,
+) -> Result<NextRaise, NoMemory>
+    requires known { All (λ w. w.place < length election.now.projects) next.now.elected }
+    requires fits { spent_on (support_of election.now) next.now.elected < 2 ^ 64 }
+    ensures { IfOk result (λ raise. (raise.share ≡ next.now.share)
+        × (raise.cost ≡ spent_on (support_of election.now) next.now.elected)
+        × (raise.only_then.items ≡ map (λ w. w.place) (filter (λ w. not (is_elected outcome.now.elected w.place)) next.now.elected))) }
+{
+    let elected = next.elected.as_slice();
+    let cost = spent_for(election, elected);
+    let only_then = only_then(alloc, election, outcome.elected.as_slice(), elected)?;
+    Ok(NextRaise {
+        share: next.share,
+        cost: Money(cost),
+        only_then,
+    })
+}
+
+/// The places of those of the next elected that are not elected now.
+fn only_then(
+    alloc: Global,
+    election: &Election,
+    now: &[Elected],
+    next: &[Elected],
+) -> Result<Vec<u32>, NoMemory>
+    requires { All (λ w. w.place < length election.now.projects) next.now }
+    ensures { IfOk result (λ places. places.items
+        ≡ map (λ w. w.place) (filter (λ w. not (is_elected now.now w.place)) next.now)) }
+{
+    let places = places_of(alloc, now)?;
+    let winners = Winners::of(alloc, election, places.as_slice())?;
+    let others = others_of(alloc, &winners, next);
+    drop(winners);
+    drop(places);
+    others
+}
+
+/// The places of those of the elected that are not among the winners.
+fn others_of(alloc: Global, winners: &Winners, elected: &[Elected]) -> Result<Vec<u32>, NoMemory>
+    requires { All (λ w. w.place < length winners.now.0.projects) elected.now }
+    ensures { IfOk result (λ places. places.items
+        ≡ map (λ w. w.place) (filter (λ w. not (is_taken winners.now.1 w.place)) elected.now)) }
+{
+    let mut places = Vec::new(alloc);
+    for winner in elected {
+        if !winners.has(winner.place) {
+            places.push(winner.place)?;
+        }
+    }
+    Ok(places)
+}
