@@ -17,3 +17,5 @@ pub mod VoterTold
 pub mod WinnerSums
 pub mod PlaceSums
 pub mod AllWinners
+pub mod TiedRounds
+pub mod AllTies

@@ -5,5 +5,6 @@ pub mod Numbers
 pub mod OfOutcome
 pub mod Raises
 pub mod Replay
+pub mod Rounds
 pub mod Told
 pub mod Turns

@@ -4,5 +4,6 @@ pub mod Comparison
 pub mod Counted
 pub mod RaiseEnd
 pub mod Reasons
+pub mod Ties
 pub mod Totals
 pub mod Inner

@@ -13,7 +13,7 @@ use pb_rounds::outcome::Elected;
 use std::alloc::Global;
 
 /// Takes the price from the rest of each of these supporters, or the whole rest where that is less: what each paid.
-fn pay(
+pub(crate) fn pay(
     alloc: Global,
     supporters: &[u32],
     price: Money,

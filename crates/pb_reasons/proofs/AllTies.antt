@@ -1,0 +1,97 @@
+-- The ties of all rounds, round by round.
+use Rattle.std.proofs.Common.{◌≡◌, ℕ, ◌+◌, ◌*◌, ◌<◌, ◌≤◌, List, [], ◌∷◌, ◌++◌, length, get_or, take, replicate, Some, refl, sym, ◌∙◌, ap, inl, inr, arith}
+use Rattle.std.specs.Prelude.{All, flat_map}
+use Rattle.std.specs.List.{range_with_len}
+use Rattle.std.specs.Option.{option_map_or}
+use Rattle.std.proofs.lemmas.Bool.{cases_lt}
+use Rattle.std.proofs.lemmas.Grind.{flat_map-append}
+use Rattle.std.proofs.lemmas.List.{append-nil, length-map, take_more}
+use Rattle.std.proofs.lemmas.Option.{slice_get_read}
+use Rattle.std.proofs.Math.Nat.{mul-le-mul_left, mul-le-mul_right}
+use Rattle.pb_core.specs.Election.{ElectionView, IsElection}
+use Rattle.pb_core.specs.Money.{largest_money}
+use Rattle.pb_price.specs.Price.{largest_share}
+use Rattle.pb_price.specs.Supporters.{SupportView, support_of, supporters_at}
+use Rattle.pb_price.proofs.BuiltLists.{range_with_len_more}
+use Rattle.pb_rounds.specs.Cheapest.{rests_after}
+use Rattle.pb_rounds.specs.Count.{opening_share}
+use Rattle.pb_rounds.specs.CountFault.{largest_step, most_raises}
+use Rattle.pb_rounds.specs.Counted.{IsCountOf}
+use Rattle.pb_rounds.specs.Outcome.{OutcomeView}
+use Rattle.pb_rounds.specs.Run.{ElectedView, charged}
+use Rattle.pb_rounds.specs.declared.measure.Measure.{Measure}
+use Rattle.pb_rounds.specs.declared.options.Completion.{Completion}
+use Rattle.pb_rounds.specs.declared.options.Completion.TheVariants.{Plain, Add1}
+use Rattle.pb_rounds.specs.declared.options.CountOptions.{CountOptions}
+use Rattle.pb_rounds.proofs.Completing.{opening_of_nobody, opening_within}
+use Rattle.pb_rounds.proofs.Counted.{can_complete}
+use Rattle.pb_reasons.specs.Inner.Rounds.{ties_with}
+use Rattle.pb_reasons.specs.Ties.{ties_in}
+use Rattle.pb_reasons.specs.declared.tie.Tie.{Tie}
+use Rattle.pb_reasons.proofs.Tellable.{count_can_be_told}
+use Rattle.pb_reasons.proofs.TiedRounds.{take_again}
+
+-- ---- a share is at most the largest
+
+small_opening : (e : ElectionView) → IsElection e → opening_share e ≤ largest_money
+small_opening e h = elim (cases_lt 0 (length e.voters)) [
+  | inl some ↦
+      let within = opening_within e in
+      let one = mul-le-mul_right (opening_share e) some in
+      omega (arith, within, one, h.budget_bounded)
+  | inr nobody ↦ let none = opening_of_nobody e (omega arith) in omega (arith, none)
+]
+
+few_raises : (e : ElectionView) (options : CountOptions) (o : OutcomeView) → IsCountOf e options o → (c : Completion) → options.completion ≡ c → o.raised ≤ options.max_raises
+few_raises e options o h Plain is = omega (arith, h.plain is)
+few_raises e options o h Add1 is = (h.completed is).within_limit
+
+pub small_share : (e : ElectionView) (options : CountOptions) (o : OutcomeView) → IsElection e → IsCountOf e options o → o.share ≤ largest_share
+small_share e options o h counted =
+    let in_range = can_complete e (support_of e) refl options counted.in_range o.raised (few_raises e options o counted options.completion refl) in
+    let one = mul-le-mul_left o.raised in_range.small_step in
+    let two = mul-le-mul_right largest_step in_range.few_raises in
+    omega (arith, small_opening e h, counted.share_is, one, two)
+
+-- ---- the rests after one round more
+
+rests_after_push : (s : SupportView) (rests : List ℕ) (elected : List ElectedView) (w : ElectedView)
+    → rests_after s rests (elected ++ w ∷ []) ≡ charged (supporters_at s w.place) w.price (rests_after s rests elected)
+rests_after_push s rests [] w = refl
+rests_after_push s rests (v ∷ elected) w = rests_after_push s (charged (supporters_at s v.place) v.price rests) elected w
+
+pub rests_more : (s : SupportView) (rests : List ℕ) (elected : List ElectedView) (i : ℕ) (w : ElectedView) → i < length elected → w ≡ get_or elected i w
+    → rests_after s rests (take (i + 1) elected) ≡ charged (supporters_at s w.place) w.price (rests_after s rests (take i elected))
+rests_more s rests elected i w below here =
+    ap (rests_after s rests) (take_more elected i w below ∙ ap (λ v. take i elected ++ v ∷ []) (sym here))
+    ∙ rests_after_push s rests (take i elected) w
+
+-- ---- the elected are projects
+
+pub elected_are_known : (e : ElectionView) (options : CountOptions) (o : OutcomeView) → IsElection e → IsCountOf e options o
+    → All (λ w. w.place < length (support_of e).costs) o.elected
+elected_are_known e options o h counted = λ k d below.
+    let known = (count_can_be_told e options o h counted).known k d below in
+    let costs : length (support_of e).costs ≡ length e.projects = simp length-map in
+    omega (arith, known, costs)
+
+-- ---- the ties of one round more
+
+module _ (m : Measure) (s : SupportView) (share : ℕ) (elected : List ElectedView) where
+  here_is : (round : ℕ) (w : ElectedView) → round < length elected → w ≡ get_or elected round w → (rests : List ℕ)
+      → rests ≡ rests_after s (replicate s.voters share) (take round elected)
+      → ties_with m s elected rests w (round + 1) (length s.costs) ≡ ties_in m s share elected round
+  here_is round w below here rests is =
+      rw (is, slice_get_read elected (length elected) round w refl below here) refl
+
+  pub round_more : (round : ℕ) (w : ElectedView) → round < length elected → w ≡ get_or elected round w → (rests : List ℕ)
+      → rests ≡ rests_after s (replicate s.voters share) (take round elected) → (ties new : List Tie)
+      → ties ≡ take 100 (flat_map (ties_in m s share elected) (range_with_len 0 round))
+      → new ≡ take 100 (ties ++ ties_with m s elected rests w (round + 1) (length s.costs))
+      → new ≡ take 100 (flat_map (ties_in m s share elected) (range_with_len 0 (round + 1)))
+  round_more round w below here rests is ties new so_far found =
+      let before = flat_map (ties_in m s share elected) (range_with_len 0 round) in
+      found ∙ ap (λ (xs : List Tie). take 100 (xs ++ ties_with m s elected rests w (round + 1) (length s.costs))) so_far
+      ∙ take_again 100 before (ties_with m s elected rests w (round + 1) (length s.costs))
+      ∙ ap (λ (xs : List Tie). take 100 (before ++ xs)) (here_is round w below here rests is ∙ sym (append-nil (ties_in m s share elected round)))
+      ∙ ap (λ (xs : List Tie). take 100 xs) (sym (ap (flat_map (ties_in m s share elected)) (range_with_len_more round) ∙ flat_map-append (ties_in m s share elected) (range_with_len 0 round) (round ∷ [])))

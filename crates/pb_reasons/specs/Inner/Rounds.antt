@@ -1,0 +1,44 @@
+-- How the ties of a round are looked for, with a lower bound of each price; private contracts speak of it.
+use Rattle.std.specs.Prelude.{◌≡◌, ℕ, ◌+◌, ◌*◌, ◌<◌, ◌≤◌, Bool, false, List, Option, Some, None, filter, if◌then◌else◌, length, map, slice_index_or}
+use Rattle.std.specs.List.{range_with_len}
+use Rattle.pb_price.specs.Price.{price_at}
+use Rattle.pb_price.specs.Supporters.{SupportView, cost_at}
+use Rattle.pb_rounds.specs.Run.{ElectedView, is_elected}
+use Rattle.pb_rounds.specs.declared.measure.Measure.{Measure}
+use Rattle.pb_rounds.specs.declared.measure.Measure.TheVariants.{Votes, Cost}
+use Rattle.pb_reasons.specs.Ties.{is_tied}
+use Rattle.pb_reasons.specs.declared.tie.Tie.{Tie}
+
+-- the two numbers that are compared: what a price counts for, and what it has to count for to be as good as the winner's
+abbrev pub scaled : Measure → SupportView → (winner : ElectedView) → (price : ℕ) → ℕ
+scaled Votes s winner price = price
+scaled Cost s winner price = price * cost_at s winner.place
+
+abbrev pub target : Measure → SupportView → (winner : ElectedView) → (place : ℕ) → ℕ
+target Votes s winner place = winner.price
+target Cost s winner place = winner.price * cost_at s place
+
+-- a lower bound of a project's price at these rests; none where the project is elected or has no price
+abbrev pub IsTieBound : SupportView → (elected : List ElectedView) (rests : List ℕ) (place : ℕ) → Option ℕ → Type 0
+IsTieBound s elected rests place None = is_elected elected place ≡ false → price_at s rests place ≡ None
+IsTieBound s elected rests place (Some bound) =
+    (is_elected elected place ≡ false) × ((price : ℕ) → price_at s rests place ≡ Some price → bound ≤ price)
+
+-- one of each project
+pub record AreTieBounds (s : SupportView) (elected : List ElectedView) (rests : List ℕ) (bounds : List (Option ℕ)) : Type 0 where
+  pub one_each : length bounds ≡ length s.costs
+  pub each : (place : ℕ) → place < length s.costs
+      → IsTieBound s elected rests place (slice_index_or bounds place None)
+
+-- before the first round: 0, and none for the elected
+pub record AreOpeningBounds (projects : ℕ) (elected : List ElectedView) (bounds : List (Option ℕ)) : Type 0 where
+  pub one_each : length bounds ≡ projects
+  pub each : (place : ℕ) → place < projects
+      → slice_index_or bounds place None ≡ (if is_elected elected place then None else Some 0)
+
+-- the ties among the first projects with the winner of a round, from 1, at these rests
+abbrev pub ties_with : Measure → SupportView → (elected : List ElectedView) (rests : List ℕ) (winner : ElectedView)
+    → (round projects : ℕ) → List Tie
+ties_with m s elected rests winner round projects =
+    map (λ place. record { round = round; winner = winner.place; other = place })
+    (filter (is_tied m s elected rests winner) (range_with_len 0 projects))

@@ -1,0 +1,98 @@
+//! The ties of a count that the order of the file decided.
+
+ghost use Rattle.std.specs.Prelude.{◌≡◌, ◌<◌, ◌≤◌, All, IfOk, flat_map, length, replicate, take};
+ghost use Rattle.std.specs.List.{range_with_len};
+ghost use Rattle.pb_price.specs.Price.{largest_share};
+ghost use Rattle.pb_reasons.specs.Inner.Rounds.{AreOpeningBounds};
+ghost use Rattle.pb_reasons.specs.Ties.{ties_in, ties_of};
+ghost use Rattle.pb_rounds.specs.Counted.{IsCountOf};
+ghost use Rattle.pb_rounds.specs.declared.options.CountOptions.{CountOptions};
+
+use crate::replay::pay;
+use crate::tie::Tie;
+use crate::tied_round::TiedRound;
+use pb_core::election::Election;
+use pb_core::money::Money;
+use pb_core::no_memory::NoMemory;
+use pb_price::supporters::Supporters;
+use pb_rounds::measure::Measure;
+use pb_rounds::outcome::{Elected, Outcome};
+use std::alloc::Global;
+
+/// The ties of a count by this measure that the order of the file decided, in order of the rounds and then of the file: where
+/// a project that is not elected in the end had a price in a round as good as that of the project that the round elected.
+/// The first hundred are told.
+///
+/// It replays the rounds. A project is priced in a round only where its last known price, which never falls, is not already
+/// above a tie.
+pub fn ties_of(
+    alloc: Global,
+    election: &Election,
+    measure: Measure,
+    outcome: &Outcome,
+) -> Result<Vec<Tie>, NoMemory>
+    requires { (options : CountOptions) × IsCountOf election.now options outcome.now }
+    ensures { IfOk result (λ ties. ties.items ≡ ties_of measure election.now outcome.now) }
+{
+    // What is true of every election is true of its outcomes.
+    let _budget = election.budget();
+    let supporters = Supporters::build(alloc, election)?;
+    let elected = outcome.elected.as_slice();
+    let told = replay_ties(alloc, &supporters, measure, outcome.share, elected);
+    drop(supporters);
+    told
+}
+
+/// The ties of a run at this share that elected these.
+fn replay_ties(
+    alloc: Global,
+    supporters: &Supporters,
+    measure: Measure,
+    share: Money,
+    elected: &[Elected],
+) -> Result<Vec<Tie>, NoMemory>
+    requires known { All (λ w. w.place < length supporters.now.costs) elected.now }
+    requires small { share ≤ largest_share }
+    ensures { IfOk result (λ ties. ties.items ≡ take 100 (flat_map
+        (ties_in measure supporters.now share elected.now) (range_with_len 0 (length elected.now)))) }
+{
+    let mut bounds = opening_bounds(alloc, elected, supporters.projects() as usize)?;
+    let mut rests = opening_rests(alloc, share, supporters.voters())?;
+    let mut ties = Vec::new(alloc);
+    for (before, winner) in elected.iter().enumerate() {
+        let round = TiedRound {
+            measure,
+            supporters,
+            elected,
+            winner: *winner,
+            number: before + 1,
+        };
+        round.find(&rests, &mut bounds, &mut ties)?;
+        let _paid = pay(alloc, supporters.of(winner.place), winner.price, &mut rests)?;
+    }
+    Ok(ties)
+}
+
+/// What is left to each of this many voters before the first round.
+fn opening_rests(alloc: Global, share: Money, voters: u32) -> Result<Vec<Money>, NoMemory>
+    ensures { IfOk result (λ rests. rests.items ≡ replicate voters share) }
+{
+    let rests = vec![in alloc; share; voters as usize]?;
+    Ok(rests)
+}
+
+/// For each of this many projects 0, which is a lower bound of every price; none for the elected.
+fn opening_bounds(
+    alloc: Global,
+    elected: &[Elected],
+    projects: usize,
+) -> Result<Vec<Option<Money>>, NoMemory>
+    requires { All (λ w. w.place < projects) elected.now }
+    ensures { IfOk result (λ bounds. AreOpeningBounds projects elected.now bounds.items) }
+{
+    let mut bounds = vec![in alloc; Some(Money(0)); projects]?;
+    for winner in elected {
+        bounds[winner.place as usize] = None;
+    }
+    Ok(bounds)
+}
