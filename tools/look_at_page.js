@@ -26,6 +26,16 @@
     if (!node.data.trim() || parent.closest('svg') || parent.closest('thead') && getComputedStyle(parent.closest('thead')).position === 'absolute') continue;
     shown.push(node);
   }
+  // Where the blocks of the budget are, in pixels from where it begins, and those whose label is neither whole in its block nor hidden.
+  const budget = document.querySelector('div.budget'), blocks = [...budget.children];
+  const inside = budget.getBoundingClientRect(), begins = getComputedStyle(budget).direction === 'rtl'
+    ? it => inside.right - budget.clientLeft - it.right : it => it.left - inside.left - budget.clientLeft;
+  const isCut = block => {
+    const range = document.createRange(), bounds = block.getBoundingClientRect();
+    range.selectNodeContents(block.querySelector('bdi'));
+    return [...range.getClientRects()].some(it => it.top < bounds.bottom - 1 && (it.left < bounds.left - 1 || it.right > bounds.right + 1));
+  };
+  const isSeen = node => node.parentElement.closest('div.budget') === null || node.parentElement.getBoundingClientRect().top < inside.bottom - 1;
   const box = element => {
     while (getComputedStyle(element).display.startsWith('inline')) element = element.parentElement;
     return element.getBoundingClientRect();
@@ -43,21 +53,29 @@
     heading: text(document.querySelector('h1')),
     headings: [...document.querySelectorAll('h1, h2, h3, h4, h5, h6')].map(it => Number(it.tagName[1])),
     lead: [...document.querySelectorAll('.lead')].map(text),
-    winners: rows('.won'),
+    winners: rows('.won:not(.money)'),
+    categories: rows('.money'),
     others: rows('.lost'),
     voters: rows('.many'),
     got: (document.querySelector('.many p') || { textContent: '' }).textContent,
-    blocks: [...document.querySelectorAll('.budget rect')].map(it => [it.getAttribute('x'), it.getAttribute('width'), text(it)]),
-    bars: { won: widths('.won .bar rect'), lost: widths('.lost .bar rect'), many: widths('.many .bar rect') },
-    sentences: [...document.querySelectorAll('ol li')].map(text),
+    blocks: blocks.map(it => [it.style.getPropertyValue('--from'), it.style.getPropertyValue('--wide'), it.title, text(it)]),
+    placed: blocks.every(it => ['--from', '--wide'].every((name, at) => Math.abs(it.style.getPropertyValue(name) / 10000 * budget.clientWidth
+      - [begins(it.getBoundingClientRect()), it.getBoundingClientRect().width][at]) < 1)),
+    cut: blocks.filter(isCut).map(text),
+    caption: text(document.querySelector('figcaption')),
+    bars: { won: widths('.won:not(.money) .bar rect'), money: widths('.money .bar rect'), lost: widths('.lost .bar rect'), many: widths('.many .bar rect') },
+    sentences: [...document.querySelectorAll('ol > li')].map(text),
+    ties: [...document.querySelectorAll('ul.ties > li')].map(text),
+    ended: [...document.querySelectorAll('ol > li:not(:has(.ties))')].slice(4, -1).map(it => text(it).replace(/\s+/g, ' ').trim()),
     digests: [...document.querySelectorAll('dd code')].map(text),
     command: text(document.querySelector('pre')),
     data: [...document.querySelectorAll('data')].map(it => [(it.closest('[data-project]') || it).dataset.project || '', it.className, it.value])
       .filter(([project, name]) => project || name),
     figures: [...document.querySelectorAll('data')].map(it => [it.value, it.textContent]),
-    picture: document.querySelector('svg.budget').getAttribute('aria-label'),
+    picture: budget.getAttribute('aria-label'),
+    options: [...document.querySelectorAll('pre ~ p')].map(text),
     links: [...document.querySelectorAll('a')].map(it => [it.getAttribute('href'), text(it)]),
-    directions: [...document.querySelectorAll('bdi, h1')].every(it => it.getAttribute('dir') === 'auto')
+    directions: [...document.querySelectorAll('bdi, h1, .id')].every(it => it.getAttribute('dir') === 'auto')
       && [...document.querySelectorAll('data, code')].map(it => getComputedStyle(it)).every(it => it.direction === 'ltr' && it.unicodeBidi === 'isolate'),
     tables: [...document.querySelectorAll('table')].every(it => it.caption && it.caption.textContent.trim()
       && [...it.querySelectorAll('thead th')].every(th => th.scope === 'col') && [...it.rows].slice(1).every(row => row.querySelector('th[scope=row]'))),
@@ -65,7 +83,7 @@
     handlers: [...document.querySelectorAll('*')].flatMap(it => [...it.attributes]).filter(it => it.name.startsWith('on') || /^\s*javascript:/i.test(it.value)).length,
     elements: [...new Set([...document.querySelectorAll('body *')].map(it => it.localName))].sort(),
     wide: document.documentElement.scrollWidth > innerWidth,
-    leaving: shown.filter(leaves).map(it => it.data.slice(0, 60)),
+    leaving: shown.filter(it => isSeen(it) && leaves(it)).map(it => it.data.slice(0, 60)),
     faint: shown.filter(it => contrast(it.parentElement) < 4.5).map(it => `${it.data.trim().slice(0, 40)} ${contrast(it.parentElement).toFixed(2)}`),
   };
 })()

@@ -1,22 +1,27 @@
 //! The command `page`: a result that people look at.
 
 ghost use Rattle.std.specs.Prelude.{◌≡◌, IfErr, IfOk, OnOk};
-ghost use Rattle.pb_rounds.specs.Counted.{IsCountFault};
+ghost use Rattle.pb_reasons.specs.RaiseEnd.{IsRaiseEnd};
+ghost use Rattle.pb_rounds.specs.Counted.{IsCountFault, IsCountOf};
 ghost use Rattle.pb_commands.specs.Ends.{HasWritten};
 ghost use Rattle.pb_page.specs.Page.{IsPage};
 
 use crate::journal::open_with_journal;
 use crate::kinship::Kinship;
+use crate::page_watch::PageWatch;
 use crate::perform::Refusal;
-use pb_command_line::{PageRun, Source as Given};
+use pb_command_line::{PROGRAM, PageRun, Source as Given};
 use pb_commands::{AppFault, Counting, closed_ballots, counted, own_ballots, write_out};
 use pb_core::election::Election;
 use pb_core::gate::Gate;
 use pb_core::money::Money;
+use pb_core::no_memory::NoMemory;
 use pb_markup::{Form, Words};
-use pb_page::{Facts, Language, Source, Speech, WordsFault, page_of};
+use pb_page::{Categories, Facts, Language, Source, Speech, WordsFault, page_of};
+use pb_reasons::{Counted, RaiseEnd};
 use pb_rounds::count_fault::CountFault;
 use pb_streams::{Digested, Hex, Progress, open_file, open_shown};
+use pb_witness::page_notes::PageNotes;
 use pb_witness::warnings::ResultWarnings;
 use std::alloc::Global;
 use std::cell::Cell;
@@ -39,6 +44,8 @@ struct Contents {
     file: Option<Hex>,
     /// That of the journal, if there is one.
     journal: Option<Hex>,
+    /// What the page shows of the file that no count uses.
+    notes: PageNotes,
 }
 
 /// What was read, and the language of its page.
@@ -103,12 +110,11 @@ fn read_file<P: Read + Drop>(
     kinship: &Kinship,
     seen: &mut ResultWarnings,
 ) -> Result<Contents, AppFault> {
-    let election = own_ballots(alloc, file, seen)?;
-    Ok(Contents {
-        election,
-        file: kinship.file.get(),
-        journal: None,
-    })
+    let mut watch = PageWatch::new(alloc, seen);
+    let read = own_ballots(alloc, file, &mut watch);
+    let notes = watch.take_notes(alloc);
+    drop(watch);
+    read_with(read, notes, kinship, None)
 }
 
 /// Reads the ballots that a journal leaves.
@@ -121,12 +127,37 @@ fn read_both<P: Read + Drop, J: Read + Drop>(
 ) -> Result<Contents, AppFault> {
     let of_journal = Cell::new(None);
     let journal = Digested::new(journal, &of_journal);
-    let election = closed_ballots(alloc, file, journal, seen)?;
-    Ok(Contents {
-        election,
-        file: kinship.file.get(),
-        journal: of_journal.get(),
-    })
+    let mut watch = PageWatch::new(alloc, seen);
+    let read = closed_ballots(alloc, file, journal, &mut watch);
+    let notes = watch.take_notes(alloc);
+    drop(watch);
+    read_with(read, notes, kinship, of_journal.get())
+}
+
+/// What was read, where it was, with what its page shows besides.
+fn read_with(
+    read: Result<Election, AppFault>,
+    notes: PageNotes,
+    kinship: &Kinship,
+    journal: Option<Hex>,
+) -> Result<Contents, AppFault> {
+    match read {
+        Ok(election) if notes.is_whole() => Ok(Contents {
+            election,
+            file: kinship.file.get(),
+            journal,
+            notes,
+        }),
+        Ok(election) => {
+            drop(election);
+            drop(notes);
+            Err(AppFault::Memory)
+        }
+        Err(fault) => {
+            drop(notes);
+            Err(fault)
+        }
+    }
 }
 
 /// Counts what was read, and writes the page of the outcome in this language.
@@ -136,10 +167,29 @@ fn write_spoken<'a, T: Threads + Sync, G: Gate, W: Write>(
     run: &PageRun<'a>,
     writer: &mut W,
 ) -> Result<(), Refusal> {
+    let names = names_of(&spoken.read.notes)?;
+    let written = write_named(counting, spoken, run, names.as_slice(), writer);
+    drop(names);
+    written
+}
+
+/// The different categories of the projects.
+fn names_of(notes: &PageNotes) -> Result<Vec<&str>, AppFault> {
+    Ok(notes.categories()?)
+}
+
+/// The same, where the projects' categories have these names.
+fn write_named<'a, T: Threads + Sync, G: Gate, W: Write>(
+    counting: &Counting<'_, T, G>,
+    spoken: &'a Spoken,
+    run: &PageRun<'a>,
+    names: &'a [&'a str],
+    writer: &mut W,
+) -> Result<(), Refusal> {
     let read = &spoken.read;
     let speech = &spoken.speech;
     let sentences = speech.sentences(counting.alloc)?;
-    let (before, after) = match run.currency {
+    let (before, after) = match run.currency.or(read.notes.currency()) {
         Some(currency) => speech.around(counting.alloc, currency)?,
         None => (String::new(counting.alloc), String::new(counting.alloc)),
     };
@@ -152,8 +202,7 @@ fn write_spoken<'a, T: Threads + Sync, G: Gate, W: Write>(
         amounts: form_of(speech, around, false),
         costs: form_of(speech, around, is_whole(&read.election)),
     };
-    let title = run.title.unwrap_or(speech.title());
-    let written = write_page(counting, read, run, title, language, writer);
+    let written = write_page(counting, spoken, run, names, language, writer);
     drop(after);
     drop(before);
     drop(sentences);
@@ -163,28 +212,42 @@ fn write_spoken<'a, T: Threads + Sync, G: Gate, W: Write>(
 /// Counts what was read, and writes the page of the outcome.
 fn write_page<'a, T: Threads + Sync, G: Gate, W: Write>(
     counting: &Counting<'_, T, G>,
-    read: &'a Contents,
+    spoken: &'a Spoken,
     run: &PageRun<'a>,
-    title: &'a str,
+    names: &'a [&'a str],
     language: Language<'a>,
     writer: &mut W,
 ) -> Result<(), AppFault> {
+    let read = &spoken.read;
     let journal = match (&run.ballots.journal, &read.journal) {
         (Some(given), Some(digest)) => Some(source_of(given, Some(digest))),
         _ => None,
     };
     let facts = Facts {
-        title,
+        title: run.title.unwrap_or(spoken.speech.title()),
         file: source_of(&run.ballots.file, read.file.as_ref()),
         journal,
         recount: run.recount,
         options: *counting.options,
         fills_up: counting.fills_up,
         compares: run.compares,
+        categories: categories_of(&read.notes, names),
+        program: PROGRAM,
         language,
     };
     let text = page_text(counting, &read.election, &facts)?;
     write_whole(writer, text.as_slice())
+}
+
+/// The categories of the projects, which have these names, if a project has one.
+fn categories_of<'a>(notes: &'a PageNotes, names: &'a [&'a str]) -> Option<Categories<'a>> {
+    if !notes.has_categories() {
+        return None;
+    }
+    Some(Categories {
+        names,
+        of_project: notes.of_project(),
+    })
 }
 
 /// How amounts are shown, with this before and behind them.
@@ -240,7 +303,28 @@ fn page_text<T: Threads + Sync, G: Gate>(
     // What is true of every election is true of its reasons.
     let _budget = election.budget();
     let counted = counted(counting, election)?;
-    Ok(page_of(counting.alloc, election, &counted, facts)?)
+    let end = raise_end(counting, election, &counted)?;
+    Ok(page_of(counting.alloc, election, &counted, facts, &end)?)
+}
+
+/// Why the raises of this count ended.
+fn raise_end<T: Threads + Sync, G: Gate>(
+    counting: &Counting<T, G>,
+    election: &Election,
+    counted: &Counted,
+) -> Result<RaiseEnd, NoMemory>
+    requires { IsCountOf election.now counting.now.options.now counted.now.outcome }
+    ensures { IfOk result (IsRaiseEnd election.now counting.now.options.now counted.now.outcome) }
+{
+    let (rt, alloc, gate) = (counting.rt, counting.alloc, counting.gate);
+    RaiseEnd::of(
+        rt,
+        alloc,
+        election,
+        counting.options,
+        &counted.outcome,
+        gate,
+    )
 }
 
 /// Writes the whole page, and sees that it leaves the writer.

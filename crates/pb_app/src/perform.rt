@@ -114,6 +114,29 @@ where
     if let Err(why) = output.look() {
         return Err(unplaced(output, why));
     }
+    let done = write_result(rt, asked, output, notes, progress, terminals);
+    if done.is_err() {
+        output.give_up();
+        return done;
+    }
+    match output.finish() {
+        Ok(()) => Ok(()),
+        Err(why) => Err(unplaced(output, why)),
+    }
+}
+
+/// Does what the arguments ask for, and writes the result, which is put in its place later.
+fn write_result<'a, R>(
+    rt: &R,
+    asked: &'a Asked<'a>,
+    output: &mut Output<'a, R>,
+    notes: &mut Notes,
+    progress: &Progress<'_, R>,
+    terminals: Terminals,
+) -> Result<(), Refusal>
+where
+    R: Files<File = File> + Input + Print + Eprint + Clock + AllocGlobal + Threads + Sync,
+{
     let options = asked.task.options();
     let counting = Counting {
         rt,
@@ -127,29 +150,14 @@ where
     let typing = Typing::new(is_told, names_by_id(&asked.task));
     let is_shown = terminals.output && asked.output.is_none();
     let mut writer = ShownWriter::new(rt.alloc(), output, is_shown);
-    let done = match run(
-        &counting,
-        &asked.task,
-        asked.keeps_voters,
-        &mut writer,
-        &kinship,
-        notes,
-        &typing,
-    ) {
+    let done = match run(&counting, asked, &mut writer, &kinship, notes, &typing) {
         Err(refusal) => Err(kinship.refusal.get().unwrap_or(refusal)),
         done => done,
     };
     drop(writer);
     drop(kinship);
     drop(counting);
-    if done.is_err() {
-        output.give_up();
-        return done;
-    }
-    match output.finish() {
-        Ok(()) => Ok(()),
-        Err(why) => Err(unplaced(output, why)),
-    }
+    done
 }
 
 /// Whether the rows that are typed name projects by their ids.
@@ -181,8 +189,7 @@ fn unplaced<'a, R>(output: &mut Output<'a, R>, why: Unplaced<'a>) -> Refusal {
 /// Does a task; how it counts is said beside it.
 fn run<'a, R, W: Write>(
     counting: &Counting<'a, R, Progress<'a, R>>,
-    task: &Task<'a>,
-    keeps_voters: bool,
+    asked: &Asked<'a>,
     writer: &mut W,
     kinship: &'a Kinship,
     notes: &mut Notes,
@@ -191,52 +198,27 @@ fn run<'a, R, W: Write>(
 where
     R: Files<File = File> + Input + Eprint + Clock + AllocGlobal + Threads + Sync,
 {
-    let done = match task {
+    let done = match &asked.task {
         Task::Count(source, _) => count(counting, source, writer, &mut notes.seen),
-        Task::Projects(ballots, _) => {
-            tell(
-                counting,
-                ballots,
-                Table::Projects,
-                writer,
-                kinship,
-                &mut notes.seen,
-            )
-        }
-        Task::Voters(ballots, _) => {
-            tell(
-                counting,
-                ballots,
-                Table::Voters,
-                writer,
-                kinship,
-                &mut notes.seen,
-            )
-        }
-        Task::Compare(run) => {
-            tell(
-                counting,
-                &run.ballots,
-                compared_by(run),
-                writer,
-                kinship,
-                &mut notes.seen,
-            )
+        Task::Projects(ballots, _)
+        | Task::Voters(ballots, _)
+        | Task::Compare(CompareRun { ballots, .. }) => {
+            let table = table_of(&asked.task);
+            tell(counting, ballots, table, writer, kinship, &mut notes.seen)
         }
         Task::WhatIf(run) => {
             return what_if(counting, run, kinship, writer, &mut notes.seen);
         }
         Task::Page(run) => return page(counting, run, kinship, writer, &mut notes.seen),
         Task::Export(ballots, _) => {
+            let keeps_voters = asked.keeps_voters;
             export(counting, ballots, keeps_voters, writer, kinship, notes)
         }
         Task::Check(run) => check(counting, run, writer, notes),
-        Task::Desk(asked) => desk(counting, asked, writer, &mut notes.written),
-        Task::Audit(asked) => audit(counting, asked, writer, kinship, notes),
-        Task::Ballots(asked) => ballots(counting, asked, writer, kinship, notes),
-        Task::Serve(asked) => {
-            return serve(counting.rt, asked, kinship, writer, notes, typing);
-        }
+        Task::Desk(run) => desk(counting, run, writer, &mut notes.written),
+        Task::Audit(run) => audit(counting, run, writer, kinship, notes),
+        Task::Ballots(run) => ballots(counting, run, writer, kinship, notes),
+        Task::Serve(run) => return serve(counting.rt, run, kinship, writer, notes, typing),
     };
     Ok(done?)
 }
@@ -275,12 +257,13 @@ where
     run_closed_table(counting, file, journal, seen, writer, table)
 }
 
-/// The table that a comparison writes.
-fn compared_by(run: &CompareRun<'_>) -> Table {
-    if run.by_project {
-        Table::RuledProjects
-    } else {
-        Table::Rules
+/// The table that a task writes which writes one.
+fn table_of(task: &Task<'_>) -> Table {
+    match task {
+        Task::Voters(..) => Table::Voters,
+        Task::Compare(CompareRun { by_project, .. }) if *by_project => Table::RuledProjects,
+        Task::Compare(_) => Table::Rules,
+        _ => Table::Projects,
     }
 }
 

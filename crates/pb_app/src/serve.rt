@@ -10,6 +10,7 @@ use pb_command_line::{Admits, ServeRun};
 use pb_commands::AppFault;
 use pb_commands::run_desk::admission_of;
 use pb_core::election::Election;
+use pb_core::project::Project;
 use pb_durable::file_beside::{name_file, read_file_beside};
 use pb_durable::file_device::{FileDevice, FileFailure, FileFault, fault_of, keep_beside};
 use pb_durable::{Belonging, Beside, Device, DeviceFault, DurableDesk, JournalFile, Opened};
@@ -20,7 +21,6 @@ use pb_serving::run_serve::run_serve;
 use pb_serving::{AtHand, Paced, ServingFault, Session};
 use pb_streams::{Digested, open_file};
 use pb_witness::witness::Witness;
-use std::alloc::{AllocError, Global};
 use std::cell::Cell;
 use std::fs::File;
 use std::io::{Error, ErrorKind, Write};
@@ -58,9 +58,13 @@ impl<R: Files<File = File> + Eprint + AllocGlobal> Beside for TornFile<'_, R> {
     }
 }
 
-/// Which requests a run admits, who hears of those that it does not, and whether rows are typed.
+/// What a run of `serve` stands on: the journal's path, which .pb file it belongs to, which requests are admitted, who hears
+/// of those that are not, and whether rows are typed.
 #[derive(Drop)]
-struct Hearing<'a, 'p, R> {
+struct Serving<'a, 'p, R> {
+    rt: &'a R,
+    journal: &'p str,
+    kinship: &'a Kinship,
     admission: &'a Admission,
     told: Told<'a, 'p, R>,
     typing: &'a Typing,
@@ -79,76 +83,34 @@ pub(crate) fn serve<R, W: Write>(
 where
     R: Files<File = File> + Input + Eprint + Clock + AllocGlobal,
 {
-    let mut answers = CountedWriter::new(writer, &mut notes.written);
-    let witness = &mut notes.seen.witness;
-    serve_file(rt, asked, kinship, witness, typing, &mut answers)
-}
-
-/// The same; what is written is counted.
-fn serve_file<R, W: Write>(
-    rt: &R,
-    asked: &ServeRun<'_>,
-    kinship: &Kinship,
-    witness: &mut Witness,
-    typing: &Typing,
-    writer: &mut W,
-) -> Result<(), Refusal>
-where
-    R: Files<File = File> + Input + Eprint + Clock + AllocGlobal,
-{
-    let (election, admission) = read_both(rt, asked, kinship, witness)?;
-    let like_a_place = match id_like_a_place(rt.alloc(), &asked.admits, &election) {
-        Ok(id) => id,
-        Err(fault) => {
-            drop(admission);
-            drop(election);
-            return Err(Refusal::Fault(AppFault::from(fault)));
-        }
-    };
-    let hearing = Hearing {
+    let (election, admission) = read_both(rt, asked, kinship, &mut notes.seen.witness)?;
+    let serving = Serving {
+        rt,
+        journal: asked.journal,
+        kinship,
         admission: &admission,
         told: Told::rows(rt, &asked.admits),
         typing,
     };
-    let served = serve_journal(
-        rt,
-        election,
-        asked.journal,
-        kinship,
-        &hearing,
-        text_of(&like_a_place),
-        writer,
-    );
-    drop(like_a_place);
+    let mut answers = CountedWriter::new(writer, &mut notes.written);
+    let served = serve_journal(&serving, election, &mut answers);
+    drop(serving);
     drop(admission);
     served
 }
 
-/// Serves the desk of an election on the journal with this path.
+/// Serves the desk of an election on its journal.
 fn serve_journal<R, W: Write>(
-    rt: &R,
+    serving: &Serving<'_, '_, R>,
     election: Election,
-    journal: &str,
-    kinship: &Kinship,
-    hearing: &Hearing<'_, '_, R>,
-    like_a_place: Option<&str>,
     writer: &mut W,
 ) -> Result<(), Refusal>
 where
     R: Files<File = File> + Input + Eprint + Clock + AllocGlobal,
 {
     let failure = Cell::new(None);
-    match FileDevice::open(rt, journal, &failure) {
-        Ok(device) => serve_device(
-            rt,
-            election,
-            device,
-            journal,
-            kinship,
-            hearing,
-            like_a_place,
-            writer,
-        ),
+    match FileDevice::open(serving.rt, serving.journal, &failure) {
+        Ok(device) => serve_device(serving, election, device, writer),
         Err(fault) => {
             drop(election);
             Err(unopened(fault))
@@ -158,19 +120,15 @@ where
 
 /// Serves the desk of an election whose journal stands on a device, if it belongs to the .pb file that was read.
 fn serve_device<R, W: Write>(
-    rt: &R,
+    serving: &Serving<'_, '_, R>,
     election: Election,
     mut device: FileDevice<'_, R>,
-    journal: &str,
-    kinship: &Kinship,
-    hearing: &Hearing<'_, '_, R>,
-    like_a_place: Option<&str>,
     writer: &mut W,
 ) -> Result<(), Refusal>
 where
     R: Files<File = File> + Input + Eprint + AllocGlobal,
 {
-    let standing = match seen_on(rt, &mut device, journal, kinship) {
+    let standing = match seen_on(serving, &mut device) {
         Ok(standing) => standing,
         Err(refusal) => {
             drop(device);
@@ -180,19 +138,13 @@ where
     };
     let (failure, beside) = (device.failure(), Cell::new(None));
     let mut torn = TornFile {
-        rt,
-        journal,
+        rt: serving.rt,
+        journal: serving.journal,
         failure: &beside,
     };
-    let mut answers = HeardWriter::new(writer, hearing.typing);
-    let served = match open_on(rt, election, device, &mut torn) {
-        Ok((desk, torn)) => match keep_file(rt, journal, standing, kinship) {
-            Ok(()) => {
-                if let Some(id) = like_a_place {
-                    words::say_like_a_place(rt, id);
-                }
-                serve_desk(rt, desk, torn, hearing, &mut answers)
-            }
+    let served = match open_on(serving.rt, election, device, &mut torn) {
+        Ok((desk, torn)) => match keep_file(serving, standing) {
+            Ok(()) => serve_desk(serving, desk, torn, writer),
             Err(refusal) => {
                 drop(desk);
                 return Err(refusal);
@@ -203,8 +155,8 @@ where
     match served {
         Ok(0) => Ok(()),
         Ok(rows) => Err(Refusal::BadRows(
-            rows.saturating_sub(hearing.told.by_rules()),
-            hearing.typing.bad_rows(),
+            rows.saturating_sub(serving.told.by_rules()),
+            serving.typing.bad_rows(),
         )),
         Err(fault) => Err(refusal_of(fault, failure.get(), beside.get())),
     }
@@ -213,14 +165,13 @@ where
 /// What the journal on a device says of the .pb file that was read. One without an entry gets to belong to it, before it has
 /// a byte more.
 fn seen_on<R>(
-    rt: &R,
+    serving: &Serving<'_, '_, R>,
     device: &mut FileDevice<'_, R>,
-    journal: &str,
-    kinship: &Kinship,
 ) -> Result<Belonging, Refusal>
 where
     R: Files<File = File> + AllocGlobal,
 {
+    let (rt, kinship) = (serving.rt, serving.kinship);
     let bytes = match device.read(rt.alloc()) {
         Ok(bytes) => bytes,
         Err(fault) => {
@@ -229,12 +180,12 @@ where
         }
     };
     let digest = kinship.file.get();
-    let standing = standing_of(rt, rt.alloc(), journal, bytes.as_slice(), digest);
+    let standing = standing_of(rt, rt.alloc(), serving.journal, bytes.as_slice(), digest);
     drop(bytes);
     match standing? {
         Belonging::Other if !kinship.takes_other => Err(Refusal::Fault(AppFault::OtherFile)),
         Belonging::New => {
-            put_digest(rt, journal, kinship, &[])?;
+            put_digest(serving, &[])?;
             Ok(Belonging::New)
         }
         standing => Ok(standing),
@@ -242,20 +193,16 @@ where
 }
 
 /// Has it stand beside a journal, which was opened, that it belongs to the .pb file that was read.
-fn keep_file<R>(
-    rt: &R,
-    journal: &str,
-    standing: Belonging,
-    kinship: &Kinship,
-) -> Result<(), Refusal>
+fn keep_file<R>(serving: &Serving<'_, '_, R>, standing: Belonging) -> Result<(), Refusal>
 where
     R: Files<File = File> + Eprint + AllocGlobal,
 {
+    let (rt, journal) = (serving.rt, serving.journal);
     match standing {
         Belonging::New | Belonging::Same => Ok(()),
         Belonging::Unnamed => {
-            put_digest(rt, journal, kinship, &[])?;
-            if let Some(digest) = kinship.file.get() {
+            put_digest(serving, &[])?;
+            if let Some(digest) = serving.kinship.file.get() {
                 words::say_adopted(rt, journal, digest.text());
             }
             Ok(())
@@ -265,7 +212,7 @@ where
                 Ok(former) => former.unwrap_or(Vec::new(rt.alloc())),
                 Err(error) => return Err(Refusal::NoFileBeside(error)),
             };
-            let put = put_digest(rt, journal, kinship, former.as_slice());
+            let put = put_digest(serving, former.as_slice());
             drop(former);
             put
         }
@@ -273,11 +220,12 @@ where
 }
 
 /// Puts the digest of the .pb file that was read beside a journal, above what stood there.
-fn put_digest<R>(rt: &R, journal: &str, kinship: &Kinship, former: &[u8]) -> Result<(), Refusal>
+fn put_digest<R>(serving: &Serving<'_, '_, R>, former: &[u8]) -> Result<(), Refusal>
 where
     R: Files<File = File> + AllocGlobal,
 {
-    let Some(digest) = kinship.file.get() else {
+    let (rt, journal) = (serving.rt, serving.journal);
+    let Some(digest) = serving.kinship.file.get() else {
         return Err(Refusal::Fault(AppFault::OtherFile));
     };
     match name_file(rt, rt.alloc(), journal, digest.digits(), former) {
@@ -319,31 +267,18 @@ where
     Ok(admission_of(rt.alloc(), rules, election)?)
 }
 
-/// The first id of the election that is itself a number below the number of projects, where rows name projects by their
-/// places: a place and an id are then easily confused.
-fn id_like_a_place(
-    alloc: Global,
-    admits: &Admits<'_>,
-    election: &Election,
-) -> Result<Option<String>, AllocError> {
-    let projects = election.projects();
+/// Says the first id that is itself a number below the number of projects, where rows name projects by their places: a
+/// place and an id are then easily confused.
+fn say_like_a_place<R: Eprint + AllocGlobal>(rt: &R, projects: &[Project]) {
     for project in projects {
         let is_place = match read_number(project.id()) {
             Some(number) => (number as usize) < projects.len(),
             None => false,
         };
-        if is_place && !admits.by_id {
-            return Ok(Some(String::from_str(alloc, project.id())?));
+        if is_place {
+            words::say_like_a_place(rt, project.id());
+            return;
         }
-    }
-    Ok(None)
-}
-
-/// A text that may be there.
-fn text_of(kept: &Option<String>) -> Option<&str> {
-    match kept {
-        Some(text) => Some(text.as_str()),
-        None => None,
     }
 }
 
@@ -370,26 +305,30 @@ where
 
 /// Serves the requests of standard input on a desk that was opened.
 fn serve_desk<R, W: Write>(
-    rt: &R,
+    serving: &Serving<'_, '_, R>,
     mut desk: DurableDesk<FileDevice<'_, R>>,
     torn: usize,
-    hearing: &Hearing<'_, '_, R>,
     writer: &mut W,
 ) -> Result<u64, ServingFault>
 where
     R: Files<File = File> + Input + Eprint + AllocGlobal,
 {
+    let (rt, typing) = (serving.rt, serving.typing);
+    if !typing.by_id() {
+        say_like_a_place(rt, desk.desk().projects());
+    }
     let at_hand = AtHand::new();
-    let served = match Paced::new(rt.alloc(), TypedReader::new(rt, hearing.typing), &at_hand) {
+    let served = match Paced::new(rt.alloc(), TypedReader::new(rt, typing), &at_hand) {
         Ok(input) => {
             let mut rows = RequestRows::new(rt.alloc(), input);
             let session = Session {
                 torn,
                 pace: &at_hand,
-                admission: hearing.admission,
-                notice: &hearing.told,
+                admission: serving.admission,
+                notice: &serving.told,
             };
-            let served = run_serve(rt.alloc(), &mut desk, &mut rows, &session, writer);
+            let mut answers = HeardWriter::new(writer, typing);
+            let served = run_serve(rt.alloc(), &mut desk, &mut rows, &session, &mut answers);
             drop(rows);
             served
         }

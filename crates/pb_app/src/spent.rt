@@ -22,8 +22,8 @@ const MOST_HALVINGS: u32 = 19;
 #[derive(Clone, Copy)]
 pub(crate) struct Found {
     pub(crate) deciding: Deciding,
-    /// The budget in hundredths, where the ballots were read again.
-    pub(crate) budget: Option<u64>,
+    /// A step in hundredths that decides with the allowed raises, where the ballots were read again.
+    pub(crate) step: Option<u64>,
 }
 
 /// Looks for raises that would decide, in ballots that are read once more, where they stand in files. It looks for about as
@@ -40,16 +40,31 @@ where
     let allowed = Allowed::new(rt, took);
     match ballots_again(rt, task) {
         Some(election) => {
-            let deciding = search(rt, &election, &task.options(), &allowed, gate);
-            let budget = Some(election.budget().0);
+            let options = task.options();
+            let deciding = search(rt, &election, &options, &allowed, gate);
+            let step = sure_step(options.max_raises, election.budget());
             drop(election);
-            Found { deciding, budget }
+            Found { deciding, step }
         }
         None => Found {
             deciding: Deciding::Unread,
-            budget: None,
+            step: None,
         },
     }
+}
+
+/// The least step by which this many raises give each voter the whole budget; none where no raise is allowed. At a share of
+/// the whole budget the outcome is over or exhausted: what is not spent of it pays for any project that fits, by one of its
+/// supporters alone.
+fn sure_step(max_raises: u32, budget: Money) -> Option<u64> {
+    if max_raises == 0 {
+        return None;
+    }
+    let step = budget.0.div_ceil(u64::from(max_raises)).max(1);
+    if step > LARGEST_STEP.0 {
+        return None;
+    }
+    Some(step)
 }
 
 /// The ballots that a task counts, read once more, where they stand in files.

@@ -1,6 +1,6 @@
 //! Requests that are typed at a terminal: it is said how to ask, and of a row why it is none or that it goes on.
 
-use crate::words;
+use crate::prompts::{say_bad_row, say_how_to_ask, say_open_row};
 use pb_witness::typed_row::TypedRow;
 use std::cell::Cell;
 use std::io::{Read, Result, Write};
@@ -57,6 +57,11 @@ impl Typing {
         }
     }
 
+    /// Whether rows name projects by their ids.
+    pub(crate) fn by_id(&self) -> bool {
+        self.by_id
+    }
+
     /// The numbers of the first rows that were not of the form; 0 is none.
     pub(crate) fn bad_rows(&self) -> [u64; 5] {
         self.bad_rows.get()
@@ -83,7 +88,7 @@ impl Typing {
     }
 }
 
-/// A reader of what is typed.
+/// A reader of what is typed. Behind the end it asks for nothing more: at a terminal that would wait for a second end.
 #[derive(Drop)]
 pub(crate) struct TypedReader<'a, R: Input> {
     rt: &'a R,
@@ -91,6 +96,7 @@ pub(crate) struct TypedReader<'a, R: Input> {
     typing: &'a Typing,
     row: TypedRow,
     has_begun: bool,
+    has_ended: bool,
 }
 
 impl<'a, R: Input + Eprint + AllocGlobal> TypedReader<'a, R> {
@@ -102,32 +108,36 @@ impl<'a, R: Input + Eprint + AllocGlobal> TypedReader<'a, R> {
             typing,
             row: TypedRow::new(rt.alloc()),
             has_begun: false,
+            has_ended: false,
         }
     }
 
     /// Says how to ask before the first row, and then of the last row why it was none.
     fn say_before(&mut self) {
         if !self.has_begun {
-            words::say_how_to_ask(self.rt, self.typing.by_id, self.typing.is_shut.get());
+            say_how_to_ask(self.rt, self.typing.by_id, self.typing.is_shut.get());
             self.has_begun = true;
         }
         if self.typing.is_bad.replace(false) {
-            words::say_bad_row(self.rt, &self.row);
+            say_bad_row(self.rt, &self.row);
         }
     }
 }
 
 impl<R: Input + Eprint + AllocGlobal> Read for TypedReader<'_, R> {
     fn read(&mut self, buf: &mut [u8]) -> Result<usize> {
-        if !self.typing.is_told {
-            return self.reader.read(buf);
+        if self.has_ended {
+            return Ok(0);
         }
-        self.say_before();
+        if self.typing.is_told {
+            self.say_before();
+        }
         let count = self.reader.read(buf)?;
-        if 0 < count && count <= buf.len() {
+        self.has_ended = count == 0 && !buf.is_empty();
+        if self.typing.is_told && 0 < count && count <= buf.len() {
             self.row.take(&buf[..count]);
             if self.row.is_open() {
-                words::say_open_row(self.rt);
+                say_open_row(self.rt);
             }
         }
         Ok(count)

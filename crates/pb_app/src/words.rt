@@ -14,24 +14,21 @@ use pb_script::ScriptFault;
 use pb_streams::{Bar, Output, Progress};
 use pb_witness::audited::AuditPaths;
 use pb_witness::tally::Tally;
-use pb_witness::typed_row::TypedRow;
-use pb_words::ballot_words::no_ballot_words;
 use pb_words::belonging_words::{adopted_words, other_file_words, unread_file_words};
 use pb_words::count_words::{count_words, spent_words};
-use pb_words::export_words::lacking_words;
+use pb_words::export_words::{comma_words, heading_words, lacking_words};
 use pb_words::journal_words::journal_words;
 use pb_words::output_words::{
     beside_output_words, journal_output_words, read_output_words, served_output_words,
 };
 use pb_words::read_words::{list_words, read_words};
 use pb_words::refused_words::{RefusedRow, like_a_place_words, refused_words, roll_words};
-use pb_words::script_words::{Taking, script_words, typed_words};
+use pb_words::script_words::{Taking, script_words};
 use pb_words::serve_words::{
     bad_rows_words, locked_words, lost_words, moved_words, open_desk_words, spelling_words,
     torn_words, unanswered_words, unkept_words, unopened_words,
 };
-use pb_words::tally_words::tally_words;
-use pb_words::unwritten_words::{comma_words, heading_words};
+use pb_words::tally_words::{no_ballot_words, tally_words};
 use pb_words::warning_words::warning_words;
 use pb_words::what_if_words::{no_cost_words, no_project_words, too_many_voters_words};
 use pb_words::{mistaken_words, open_words, write_words};
@@ -55,26 +52,6 @@ const USAGE: &str = "pb_app counts a participatory budgeting election: pb_app co
 Without a command it counts what another program sends to it, and here nothing is sent.
 For more: pb_app --help
 ";
-
-/// How requests are typed.
-const HOW_TO_ASK: &str =
-    "Type one request on each row: CLERK;REQUEST;VOTER;PLACES, for example `0;cast;ann;0,2`, `0;replace;ann;1` or `0;withdraw;ann;`.
-PLACES are the positions of projects in FILE, counted from 0. Ctrl-D on a line of its own ends the run.
-";
-
-/// The same, where rows name projects by their ids.
-const HOW_TO_ASK_BY_ID: &str =
-    "Type one request on each row: CLERK;REQUEST;VOTER;PLACES, for example `0;cast;ann;a,b`, `0;replace;ann;b` or `0;withdraw;ann;`.
-PLACES are the ids of projects, with `,` between them. Ctrl-D on a line of its own ends the run.
-";
-
-/// What is said of a desk that is shut.
-const SHUT_DESK: &str =
-    "The desk is shut: each request gets the answer desk-shut. Ctrl-D on a line of its own ends the run.\n";
-
-/// What is said of a row that goes on.
-const OPEN_ROW: &str =
-    "A quotation mark is open, so the next line belongs to the same row. Type `\"` to close it.\n";
 
 /// Says why a run has no result.
 pub(crate) fn say_refusal<R: Files<File = File> + Eprint + AllocGlobal>(
@@ -108,10 +85,8 @@ pub(crate) fn say_refusal<R: Files<File = File> + Eprint + AllocGlobal>(
             ),
         ) => {}
         Refusal::Words(fault) => {
-            say_words(
-                rt,
-                words_file_words(rt.alloc(), asked.task.roll().unwrap_or("-"), fault),
-            );
+            let path = asked.task.roll().unwrap_or("-");
+            say_words(rt, words_file_words(rt, rt.alloc(), path, fault));
         }
         Refusal::Fault(fault) => say_words(rt, words_of(rt, asked, fault, failure, notes)),
         Refusal::Unanswered => say_words(rt, unanswered_words(rt.alloc(), failure)),
@@ -128,43 +103,39 @@ fn words_of_serve(alloc: Global, task: &Task<'_>, refusal: &Refusal) -> Result<S
     match refusal {
         Refusal::Locked(_) => locked_words(alloc, path),
         Refusal::NoJournal(reason) => unopened_words(alloc, path, reason),
-        Refusal::NoFileBeside(reason) => {
-            let beside = file_path(alloc, path)?;
-            let words = unread_file_words(alloc, beside.as_str(), reason);
-            drop(beside);
-            words
-        }
-        Refusal::FileUnkept(reason) => {
-            let beside = file_path(alloc, path)?;
-            let words = unkept_words(alloc, beside.as_str(), reason);
-            drop(beside);
-            words
-        }
         Refusal::Spelling => spelling_words(alloc, path),
         Refusal::Journal(reason) => unkept_words(alloc, path, reason),
-        Refusal::Beside(reason) => {
-            let torn = format!(in alloc; "{path}.torn")?;
-            let words = unkept_words(alloc, torn.as_str(), reason);
-            drop(torn);
-            words
-        }
-        Refusal::Moved(Ok(number)) => {
-            let kept = kept_path(alloc, path, *number)?;
-            let words = moved_words(alloc, path, kept.as_str());
-            drop(kept);
-            words
-        }
         Refusal::Moved(Err(reason)) => lost_words(alloc, path, reason),
         Refusal::BadRows(rows, first) => {
             let known = first.iter().filter(|row| **row > 0).count().min(5);
             bad_rows_words(alloc, *rows, &first[..known])
         }
-        Refusal::Unanswered
-        | Refusal::Barred
-        | Refusal::Words(_)
-        | Refusal::WhatIf(_)
-        | Refusal::Fault(_) => { Err(AllocError) }
+        refusal => words_of_file_beside(alloc, path, refusal),
     }
+}
+
+/// Words where a file beside the journal with this path can't be read or written, or keeps the journal's text.
+fn words_of_file_beside(
+    alloc: Global,
+    path: &str,
+    refusal: &Refusal,
+) -> Result<String, AllocError> {
+    let beside = match refusal {
+        Refusal::Beside(_) => format!(in alloc; "{path}.torn"),
+        Refusal::Moved(Ok(number)) => kept_path(alloc, path, *number),
+        _ => file_path(alloc, path),
+    }?;
+    let words = match refusal {
+        Refusal::NoFileBeside(reason) => unread_file_words(alloc, beside.as_str(), reason),
+        Refusal::FileUnkept(reason) | Refusal::Beside(reason) => {
+            unkept_words(alloc, beside.as_str(), reason)
+        }
+        Refusal::Moved(Ok(_)) => moved_words(alloc, path, beside.as_str()),
+        // No other reason comes here.
+        _ => Err(AllocError),
+    };
+    drop(beside);
+    words
 }
 
 /// Words where no changed election is counted.
@@ -233,11 +204,9 @@ fn words_of<R: Files + AllocGlobal>(
     let (first, second) = asked.task.paths();
     match fault {
         AppFault::Read(fault) => read_words(rt, alloc, first, fault, &notes.seen.witness),
-        AppFault::Script(fault) if is_serve(&asked.task) => {
-            script_words(rt, alloc, None, Some(*fault), taking_of(&asked.task))
-        }
         AppFault::Script(fault) => {
-            script_words(rt, alloc, second, Some(*fault), taking_of(&asked.task))
+            let script = if is_serve(&asked.task) { None } else { second };
+            script_words(rt, alloc, script, Some(*fault), taking_of(&asked.task))
         }
         AppFault::ClerkCount => script_words(rt, alloc, second, None, taking_of(&asked.task)),
         AppFault::Audit(fault) => {
@@ -249,12 +218,8 @@ fn words_of<R: Files + AllocGlobal>(
             journal_words(rt, alloc, paths, *fault)
         }
         AppFault::Count(fault) => {
-            count_words(
-                alloc,
-                counted_path(&asked.task),
-                *fault,
-                &asked.task.options(),
-            )
+            let options = asked.task.options();
+            count_words(alloc, counted_path(&asked.task), *fault, &options)
         }
         AppFault::Open(1) => open_words(rt, alloc, first.unwrap_or("-")),
         AppFault::Open(3) => open_words(rt, alloc, asked.task.roll().unwrap_or("-")),
@@ -394,30 +359,6 @@ pub(crate) fn is_quiet(asked: &Asked<'_>) -> bool {
     asked.shows == Some(false)
 }
 
-/// Says how requests are typed on this desk.
-pub(crate) fn say_how_to_ask<R: Eprint>(rt: &R, by_id: bool, is_shut: bool) {
-    say(
-        rt,
-        if is_shut {
-            SHUT_DESK
-        } else if by_id {
-            HOW_TO_ASK_BY_ID
-        } else {
-            HOW_TO_ASK
-        },
-    );
-}
-
-/// Says that the row that is being typed goes on.
-pub(crate) fn say_open_row<R: Eprint>(rt: &R) {
-    say(rt, OPEN_ROW);
-}
-
-/// Says why the row that was typed last is none.
-pub(crate) fn say_bad_row<R: Eprint + AllocGlobal>(rt: &R, row: &TypedRow) {
-    say_words(rt, typed_words(rt.alloc(), row));
-}
-
 /// Says how the program is used, where it would wait for what nobody types.
 pub(crate) fn say_usage<R: Eprint>(rt: &R) {
     say(rt, USAGE);
@@ -455,7 +396,7 @@ where
             let options = asked.task.options();
             say_words(
                 rt,
-                spent_words(rt.alloc(), &options, found.deciding, found.budget),
+                spent_words(rt.alloc(), &options, found.deciding, found.step),
             )
         }
         _ => {}
@@ -492,7 +433,8 @@ pub(crate) fn say_like_a_place<R: Eprint + AllocGlobal>(rt: &R, id: &str) {
     say_words(rt, like_a_place_words(rt.alloc(), id));
 }
 
-fn say_words<R: Eprint>(rt: &R, words: Result<String, AllocError>) {
+/// Says these words, or that memory ran out before they were formed.
+pub(crate) fn say_words<R: Eprint>(rt: &R, words: Result<String, AllocError>) {
     match words {
         Ok(words) => {
             say(rt, words.as_str());
@@ -503,6 +445,6 @@ fn say_words<R: Eprint>(rt: &R, words: Result<String, AllocError>) {
 }
 
 /// Writes to standard error; what it can't take is left out.
-fn say<R: Eprint>(rt: &R, text: &str) {
+pub(crate) fn say<R: Eprint>(rt: &R, text: &str) {
     let _ = rt.eprint(text);
 }

@@ -55,7 +55,7 @@ pub(crate) const CLERKS: Argument = Argument {
 pub(crate) const SHUT: Argument = Argument {
     name: "shut",
     takes: Takes::Nothing,
-    help: "Shuts the desk after the last row, in the name of clerk 0; with several clerks use this, and no shut row in SCRIPT",
+    help: "Shuts the desk after the last row, in the name of clerk 0; with several clerks, shut the desk in this way, not by a row of SCRIPT",
 };
 
 /// Whether rows name projects by their ids.
@@ -69,7 +69,7 @@ pub(crate) const BY_ID: Argument = Argument {
 pub(crate) const ROLL: Argument = Argument {
     name: "roll",
     takes: Takes::OptionalFile("ROLL"),
-    help: "Takes requests only for the voters in this file; the first field of each row is a voter's id",
+    help: "Takes requests only for the voters in this file; it has one voter on each row, with the voter's id as the first field",
 };
 
 /// How many projects a ballot has at least.
@@ -111,14 +111,14 @@ pub(crate) const PLAIN: Argument = Argument {
 pub(crate) const COMPLETION: Argument = Argument {
     name: "completion",
     takes: Takes::Completion,
-    help: "none: no raises; add1: raises; utilitarian: no raises, then the money that is left goes to the other projects, those with the most votes first; add1u: raises, then the money that is left goes to the other projects, as with utilitarian [default: add1]",
+    help: "What is done with money that is left. none: nothing; add1: the share is raised; utilitarian: the money goes to the other projects, those with the most votes first; add1u: first add1, then utilitarian [default: add1]",
 };
 
 /// What a project is worth to those who approve it.
 pub(crate) const MEASURE: Argument = Argument {
     name: "measure",
     takes: Takes::Measure,
-    help: "votes: the project with the lowest price wins next (price: the most that one supporter pays); cost: the project whose price, divided by its cost, is lowest wins next [default: votes]",
+    help: "Which project wins next. votes: the one whose price is lowest (price: the most that one supporter pays); cost: the one whose price, divided by its cost, is lowest [default: votes]",
 };
 
 /// The file that gets the result.
@@ -153,21 +153,21 @@ pub(crate) const AGAINST: Argument = Argument {
 pub(crate) const KEEP_VOTERS: Argument = Argument {
     name: "keep-voters",
     takes: Takes::Nothing,
-    help: "Keeps the further columns of VOTES (age, sex, ..), which are left out otherwise; new voters of a journal have them empty",
+    help: "Keeps the further columns of VOTES (age, sex, ..), which are left out otherwise; they are empty for voters who are only in the journal",
 };
 
 /// Whether a warning refuses the file.
 pub(crate) const STRICT: Argument = Argument {
     name: "strict",
     takes: Takes::Nothing,
-    help: "Refuses a file if a warning says that the result may be wrong, for example because rows are missing, or 60.000 is read as 60.00",
+    help: "Refuses a file if a warning says that the result may be wrong, for example because rows are missing, or because 60.000 (perhaps sixty thousand) is read as 60.00",
 };
 
 /// Whether a journal of another file is read all the same.
 pub(crate) const OTHER_FILE: Argument = Argument {
     name: "other-file",
     takes: Takes::Nothing,
-    help: "Accepts a journal that was made with another .pb file; use it only if all old projects are in FILE, in the same order as before",
+    help: "Accepts a journal that was made with another .pb file; use it only if PROJECTS in FILE begins with all projects of that file, in the same order",
 };
 
 /// Whether it is not shown how far the work has come.
@@ -209,14 +209,14 @@ pub(crate) const PROGRESS: Argument = Argument {
 pub(crate) const DIGESTS: Argument = Argument {
     name: "digests",
     takes: Takes::Nothing,
-    help: "Prints the SHA-256 of FILE and of JOURNAL before the report",
+    help: "Prints the SHA-256 of FILE and of JOURNAL before the report; others can compare it with that of their copies",
 };
 
 /// Whether a comparison has a row for each project.
 pub(crate) const BY_PROJECT: Argument = Argument {
     name: "projects",
     takes: Takes::Nothing,
-    help: "Prints one row for each project instead of one for each rule: 1 if the project wins by that rule, 0 if not",
+    help: "Prints a row for each project, with a column for each rule: 1 if the project wins by that rule, 0 if not",
 };
 
 /// What a page is about.
@@ -244,14 +244,14 @@ pub(crate) const WORDS: Argument = Argument {
 pub(crate) const CURRENCY: Argument = Argument {
     name: "currency",
     takes: Takes::Text("TEXT"),
-    help: "The currency that the page shows with each amount, such as EUR [default: none]",
+    help: "The currency that the page shows with each amount, such as EUR [default: the one that META names, or none]",
 };
 
 /// What the page has besides.
 pub(crate) const COMPARE: Argument = Argument {
     name: "compare",
     takes: Takes::Nothing,
-    help: "Adds a table that compares this count with most votes",
+    help: "Adds a table that compares this result with that of another rule, by which the projects with the most votes win",
 };
 
 /// Which project is asked about.

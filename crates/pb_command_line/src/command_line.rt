@@ -8,6 +8,9 @@ use crate::rule::{COMPLETIONS, MEASURES, is_of_count};
 use clap::{Arg, ArgAction, Command};
 use std::alloc::{AllocError, Global};
 
+/// The program's name and its version, which is the same for each build of it.
+pub const PROGRAM: &str = "pb_app 1.0.0";
+
 /// The program's version, and of which commit it is, which `tools/package` fills in.
 const VERSION: &str = "1.0.0 (built from source; which commit is not recorded)";
 

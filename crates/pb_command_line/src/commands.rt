@@ -59,7 +59,7 @@ pub(crate) const COUNTS: &[CommandForm] = &[
     },
     CommandForm {
         name: "whatif",
-        notes: "For each row the changed election was counted completely. Of values without a row the table says nothing: try them with --cost or --voters.\n\nManual pages: man pb_app-election, man 5 pb_app-whatif, man pb_app-proposers.",
+        notes: "Each row is one change: another cost, or further voters. For each row the whole election was counted again. The table says nothing about a cost or a number of voters that has no row: try it with --cost or --voters.\n\nManual pages: man pb_app-election, man 5 pb_app-whatif, man pb_app-proposers.",
         about: "Counts a .pb file again and again, and prints at which cost, or with how many further voters, a project wins",
         arguments: &[
             ELECTION, PROJECT, COST, VOTERS, LEFT_BY, OTHER_FILE, WORKERS, STEP, RAISES, PLAIN,
@@ -103,7 +103,7 @@ pub(crate) const DESKS: &[CommandForm] = &[
     CommandForm {
         name: "check",
         notes: "Manual pages: man pb_app-election, man pb_app-faults.",
-        about: "Lists everything that is wrong in a .pb file, and what is probably a mistake",
+        about: "Lists every fault for which a .pb file is refused, and warns of what is probably a mistake",
         arguments: &[
             ELECTION, AGAINST, WORKERS, STEP, RAISES, PLAIN, COMPLETION, MEASURE, OUTPUT, QUIET,
             PROGRESS,

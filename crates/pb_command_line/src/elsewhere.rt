@@ -2,6 +2,7 @@
 
 use crate::argument::Takes;
 use crate::commands::{COUNTS, CommandForm, DESKS};
+use crate::rule::is_of_count;
 use std::alloc::{AllocError, Global};
 
 /// What `clap` says of what it can't pass as a value either.
@@ -31,11 +32,7 @@ pub(crate) fn elsewhere_words(
         return Ok(None);
     };
     for argument in arguments {
-        let option = argument.as_str().strip_prefix("--").unwrap_or("");
-        let name = match option.split_once('=') {
-            Some((name, _)) => name,
-            None => option,
-        };
+        let name = option_of(argument.as_str());
         if !name.is_empty() && name != "help" {
             let owners = owners_of(alloc, name)?;
             if !is_listed(owners.as_str(), command.as_str()) {
@@ -45,6 +42,35 @@ pub(crate) fn elsewhere_words(
         }
     }
     Ok(None)
+}
+
+/// Words for the first of these arguments that is an option of a count, if they are those of a `check` that does not count.
+pub(crate) fn uncounted_words(
+    alloc: Global,
+    arguments: &[String],
+) -> Result<Option<String>, AllocError> {
+    match arguments.get(1) {
+        Some(command) if command.as_str() == "check" => {}
+        _ => return Ok(None),
+    }
+    for argument in arguments {
+        let name = option_of(argument.as_str());
+        if is_of_count(name) {
+            return Ok(Some(format!(in alloc;
+                "`pb_app check` takes --{name} only with --against, because it does not count otherwise.\nAdd --against, or omit --{name}.\n"
+            )?));
+        }
+    }
+    Ok(None)
+}
+
+/// The name of the option that an argument is; the empty text where it is none.
+fn option_of(argument: &str) -> &str {
+    let option = argument.strip_prefix("--").unwrap_or("");
+    match option.split_once('=') {
+        Some((name, _)) => name,
+        None => option,
+    }
 }
 
 /// Words for which other commands have an option, where some have.

@@ -56,7 +56,7 @@ impl<'a> Flaw<'a> {
                 "error: --recount {address:?} can't be the address of a link. Give one that begins with https:// or http://, or the name of a file beside the page, such as recount.html. It must not have spaces."
             ),
             Flaw::Cost => eprintln!(rt;
-                "error: --cost takes an amount above 0, at most 10000000000000, with up to two decimals, for example 53.66"
+                "error: --cost must be an amount from 0.01 to 10000000000000. Write it with digits only, like 53.66: no currency, nothing between thousands, at most two decimals."
             ),
         };
     }

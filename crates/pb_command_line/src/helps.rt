@@ -5,21 +5,26 @@ pub(crate) const ABOUT: &str =
     "Participatory budgeting by the Method of Equal Shares: counts the ballots of a .pb file, runs a desk for ballots, and checks the desk's journal";
 
 /// What stands below the commands.
-pub(crate) const AFTER_HELP: &str = "Without a command, the program counts standard input.
+pub(crate) const AFTER_HELP: &str =
+    "Without a command, the program counts the .pb file that it gets on standard input, like pb_app count -.
 
 Words:
-  desk     takes requests of clerks, and answers each, until a clerk shuts it
-  request  what a clerk asks of the desk: cast, replace or withdraw a voter's ballot, or shut the desk
-  journal  a file with every request that the desk answered, and its answer, in order
-  script   a file of requests, one on each row
-  share    the money that each voter can spend: at first the budget divided by the number of voters
-  price    the most that one supporter pays for a project
-  raise    adds --step to every voter's share, and counts again, so that less of the budget is left unspent (Add1)
+  desk        takes requests of clerks, and answers each, until a clerk shuts it
+  request     what a clerk asks of the desk: cast, replace or withdraw a voter's ballot, or shut the desk
+  journal     a file with every request that the desk answered, and its answer, in order
+  script      a file of requests, one on each row
+  share       the money that each voter can spend: at first the budget divided by the number of voters
+  price       the most that one supporter pays for a project
+  measure     which project wins next: with --measure votes the one whose price is lowest; with --measure cost the one
+              whose price, divided by its cost, is lowest
+  completion  what is done with money that is left
+  raise       adds 1.00 (or what --step says) to every voter's share; then all is counted again, so that less money is left (Add1)
 
 Which rule your city has:
   If your city uses the Method of Equal Shares, its rule is probably --measure cost --completion add1u.
-  Without these options the program uses --measure votes --completion add1.
-  If your city does not use this method, the projects with the most votes probably win: compare shows both results.
+  Then use these two options with every command that counts. Without them the program uses --measure votes --completion add1.
+  If your city does not use this method, its rule is probably that the projects with the most votes win.
+  The command pb_app compare shows the result of that rule beside the result of Equal Shares.
   A by-law should name the measure, the completion, the step of a raise, and how ties are broken.
 
 Examples:
@@ -35,9 +40,10 @@ Exit status:
   0  the whole result was written
   1  a file, script, journal or count was refused
   2  the arguments were refused
-  3  a device failed, or memory ran out
+  3  a file could not be opened or written, a device failed, or memory ran out
 
-A refusal is one line on standard output, for programs. Standard error explains it in words.
+If a file, script, journal or count is refused, one line on standard output says so, for programs. Standard error explains
+each refusal in words.
 
 Manual pages (they come with the package):
   man pb_app-count     one such page for each command
@@ -49,9 +55,19 @@ Manual pages (they come with the package):
 
 /// What stands below the arguments of `serve`.
 pub(crate) const AFTER_SERVE: &str =
-    "Standard input has one request on each row, in the form CLERK;REQUEST;VOTER;PLACES. PLACES are the positions of the
-projects in FILE, counted from 0, with `,` between them. The answer to a request is its row of the journal, printed
-as soon as that row is on the disk.
+    "Standard input has one request on each row, in the form CLERK;REQUEST;VOTER;PLACES:
+  CLERK    the clerk's number; 0 if there is only one
+  REQUEST  cast, replace, withdraw or shut
+  VOTER    the voter's id; empty for shut
+  PLACES   the positions of the projects in FILE, counted from 0, with `,` between them; empty for withdraw and shut
+
+One request of each kind:
+  0;cast;ann;0,2
+  0;replace;ann;1
+  0;withdraw;ann;
+  0;shut;;
+
+The answer to a request is its row of the journal, printed as soon as that row is on the disk.
 
 A refused row is not recorded. Its answer is fault;script;CODE;NAME;ROW.
 
@@ -62,7 +78,8 @@ Why a row is refused:
   7;TooFew     with --min: the ballot names too few projects
 
 The output begins with entries;N;open or entries;N;shut: the journal has N entries. If the journal ended in an
-incomplete row, that end was cut off and kept in JOURNAL.torn, and a row torn;BYTES comes first.
+incomplete row (after a crash), that end was moved to JOURNAL.torn, and the row torn;BYTES is printed first, above the row
+that begins with entries;. BYTES is how many bytes were moved. The request in an incomplete row was never answered.
 
 JOURNAL.file says to which .pb file the journal belongs: its first line is the SHA-256 of FILE. With another FILE, a
 position may mean another project. So once the journal has entries, serve refuses any other file (fault;other-file).
@@ -85,11 +102,11 @@ Manual pages: man pb_app-script, man pb_app-journal, man pb_app-office.";
 
 /// What stands below the arguments of `ballots`.
 pub(crate) const AFTER_BALLOTS: &str =
-    "Each row is voter_id;entry;project_ids. entry is the number of the journal's entry that gave the ballot, counted from 1;
-if it is empty, the ballot is still the one in FILE. project_ids are the ids of the ballot's projects, with `,` between
-them. You can run this while pb_app serve is using JOURNAL.
+    "Each row is voter_id;entry;project_ids. The second field, `entry`, is the number of the journal's entry that gave the
+ballot, counted from 1. If it is empty, the ballot is still the one in FILE. The third field, `project_ids`, has the ids
+of the ballot's projects, with `,` between them. You can run this command while pb_app serve is using JOURNAL.
 
-The table shows who votes for what. A new file that --output creates is for its owner alone.
+The table shows who votes for what. If --output creates a new file, only you can read that file.
 
 Examples:
   pb_app ballots city.pb city.journal

@@ -15,6 +15,7 @@ pub mod parse;
 mod rule;
 pub mod task;
 
+pub use command_line::PROGRAM;
 pub use parse::Parsed;
 pub use task::{
     Admits, Asked, AuditRun, Ballots, BallotsRun, CheckRun, CompareRun, DeskRun, OneChange,

@@ -2,7 +2,7 @@
 
 use crate::asked::asked_by;
 use crate::command_line::command_line;
-use crate::elsewhere::{elsewhere_words, without_dashes};
+use crate::elsewhere::{elsewhere_words, uncounted_words, without_dashes};
 use crate::flaw::Flaw;
 use crate::numbers::{BadNumber, bad_number};
 use crate::task::Asked;
@@ -90,7 +90,8 @@ fn refused<'a, R: Print + Eprint>(
     }
 }
 
-/// Says why `clap` refuses these arguments, and which commands have an option that the named one has not.
+/// Says why `clap` refuses these arguments, which commands have an option that the named one has not, and what an option of
+/// `check` needs.
 fn say_refused<R: Eprint>(
     rt: &R,
     alloc: Global,
@@ -103,11 +104,14 @@ fn say_refused<R: Eprint>(
     let words = words?;
     let _ = rt.eprint(words.as_str());
     drop(words);
-    if error.kind() == ErrorKind::UnknownArgument {
-        if let Some(words) = elsewhere_words(alloc, arguments)? {
-            let _ = rt.eprint(words.as_str());
-            drop(words);
-        }
+    let more = match error.kind() {
+        ErrorKind::UnknownArgument => elsewhere_words(alloc, arguments)?,
+        ErrorKind::MissingRequiredArgument => uncounted_words(alloc, arguments)?,
+        _ => None,
+    };
+    if let Some(words) = more {
+        let _ = rt.eprint(words.as_str());
+        drop(words);
     }
     Ok(())
 }

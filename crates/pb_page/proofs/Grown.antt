@@ -1,9 +1,9 @@
 -- Pages that grow by pieces.
-use Rattle.std.proofs.Common.{◌≡◌, ◌<◌, ◌+◌, ℕ, List, [], ◌∷◌, ◌++◌, append_assoc, append-nil, length, get_or, take, sym, ◌∙◌, ap, subst}
+use Rattle.std.proofs.Common.{◌≡◌, ◌<◌, ◌+◌, ℕ, List, [], ◌∷◌, ◌++◌, append_assoc, append-nil, length, map, get_or, take, sym, ◌∙◌, ap, subst}
 use Rattle.std.specs.Prelude.{IsErrAnd, OnOk, Result, Ok, Err, flat_map}
 use Rattle.std.specs.List.{range_with_len}
 use Rattle.std.proofs.lemmas.Grind.{flat_map-append}
-use Rattle.std.proofs.lemmas.List.{take_more}
+use Rattle.std.proofs.lemmas.List.{map-append, take_more}
 use Rattle.pb_price.proofs.BuiltLists.{range_with_len_more}
 use Rattle.pb_markup.specs.Filling.{Filling, filled, page_of}
 use Rattle.pb_page.specs.Inner.Grown.{Grows}
@@ -50,6 +50,14 @@ pub place_more : (row : ℕ → List Filling) (n : ℕ) (old middle new : List �
 place_more row n old middle new one two =
     let all : flat_map row (range_with_len 0 (n + 1)) ≡ flat_map row (range_with_len 0 n) ++ row n =
     ap (flat_map row) (range_with_len_more n) ∙ flat_map-append row (range_with_len 0 n) (n ∷ []) ∙ ap (λ (t : List Filling). flat_map row (range_with_len 0 n) ++ t) (append-nil (row n)) in
+    rw all (then _ _ _ _ _ one two)
+
+-- the pieces of those so far, and that of one more
+pub item_more : {X : Type 0} (piece : X → Filling) (xs : List X) (i : ℕ) (x : X) (old middle new : List ℕ) → i < length xs → x ≡ get_or xs i x
+    → Grows old middle (map piece (take i xs)) → Grows middle new (piece x ∷ []) → Grows old new (map piece (take (i + 1) xs))
+item_more {X} piece xs i x old middle new below here one two =
+    let all : map piece (take (i + 1) xs) ≡ map piece (take i xs) ++ piece x ∷ [] =
+    ap (map piece) (take_more xs i x below) ∙ map-append piece (take i xs) (get_or xs i x ∷ []) ∙ ap (λ (y : X). map piece (take i xs) ++ piece y ∷ []) (sym here) in
     rw all (then _ _ _ _ _ one two)
 
 -- the same pieces

@@ -1,5 +1,7 @@
 -- The lemmas that the proofs of this crate share.
 mod Grown
+mod RaisePlaces
 mod Rows
+mod Sums
 mod WinnerPlaces
 mod WholePage

@@ -1,5 +1,5 @@
 -- The page of a result: which number stands where.
-use Rattle.std.specs.Prelude.{◌≡◌, ℕ, Bool, ◌+◌, ◌-◌, ◌*◌, ◌/◌, ◌==◌, List, [], ◌∷◌, ◌++◌, codes, count_by, decimal, flat_map, if◌then◌else◌, length, map, max, min, nat_le, slice_index_or}
+use Rattle.std.specs.Prelude.{◌≡◌, ℕ, Bool, ◌+◌, ◌-◌, ◌*◌, ◌/◌, ◌==◌, List, [], ◌∷◌, ◌++◌, codes, count_by, decimal, filter, flat_map, if◌then◌else◌, length, map, max, min, nat_le, slice_get, slice_index_or, sum_by}
 use Rattle.std.specs.List.{range_with_len}
 use Rattle.std.specs.Option.{option_map_or}
 use Rattle.pb_core.specs.Election.{ElectionView, ProjectView}
@@ -12,12 +12,17 @@ use Rattle.pb_markup.specs.declared.form.Form.{Form}
 use Rattle.pb_price.specs.Supporters.{cost_at, support_of}
 use Rattle.pb_reasons.specs.BesideVotes.{beside_votes}
 use Rattle.pb_reasons.specs.Counted.{CountedView, counted, winners_of}
+use Rattle.pb_reasons.specs.RaiseEnd.{IsRaiseEnd}
 use Rattle.pb_reasons.specs.Reasons.{project_reason, voter_reason}
+use Rattle.pb_reasons.specs.Ties.{ties_of}
 use Rattle.pb_reasons.specs.Totals.{totals_of}
 use Rattle.pb_reasons.specs.declared.comparison.Comparison.{Comparison}
+use Rattle.pb_reasons.specs.declared.raise_end.RaiseEnd.{RaiseEnd}
+use Rattle.pb_reasons.specs.declared.raise_end.RaiseEnd.TheVariants.{Plain, Exhausted, Over}
 use Rattle.pb_reasons.specs.declared.rule_row.RuleRow.{RuleRow}
 use Rattle.pb_reasons.specs.declared.project_reason.Ending.{Ending}
 use Rattle.pb_reasons.specs.declared.project_reason.Ending.TheVariants.{Won, Added, Lost}
+use Rattle.pb_reasons.specs.declared.tie.Tie.{Tie}
 use Rattle.pb_rounds.specs.Counted.{IsCountOf}
 use Rattle.pb_rounds.specs.Outcome.{OutcomeView}
 use Rattle.pb_rounds.specs.declared.measure.Measure.{Measure}
@@ -25,11 +30,12 @@ use Rattle.pb_rounds.specs.declared.measure.Measure.TheVariants as measure
 use Rattle.pb_rounds.specs.declared.options.Completion.{Completion}
 use Rattle.pb_rounds.specs.declared.options.Completion.TheVariants as completion
 use Rattle.pb_rounds.specs.declared.options.CountOptions.{CountOptions}
+use Rattle.pb_page.specs.declared.categories.Categories.{Categories}
 use Rattle.pb_page.specs.declared.facts.Facts.{Facts}
 use Rattle.pb_page.specs.declared.keys.TheConstants as key
 use Rattle.pb_page.specs.declared.language.Language.{Language}
 use Rattle.pb_page.specs.declared.style.TheConstants.{HEAD}
-use Rattle.pb_page.specs.declared.templates.TheConstants.{TEXT, NUMBER, AMOUNT, NAMELESS, LEAD_NEXT, BUDGET_OPENING, BLOCKS_OPENING, BUDGET_PART, BLOCKS_CLOSING, BUDGET_CLOSING, WINNERS_OPENING, WINNER, NONE_WON, ADDED_OPENING, ADDED, OTHERS_OPENING, OTHER, OTHER_CLOSING, NONE_LOST, TABLE_CLOSING, VOTERS_OPENING, VOTERS_TABLE, VOTERS_ROW, VOTERS_ROW_CLOSING, COMPARED_OPENING, COMPARED_ROW, RULE_OPENING, RULE_NEXT, ITEM, CHECK_OPENING, CHECK_FILE, CHECK_JOURNAL, RECOUNT_OPENING, RECOUNT_LINK, RECOUNT_CLOSING, NO_RECOUNT, COUNT, AUDIT, OPTION_COST, OPTION_PLAIN, OPTION_UTILITARIAN, OPTION_ADD1U, CLOSING}
+use Rattle.pb_page.specs.declared.templates.TheConstants.{TEXT, NUMBER, AMOUNT, NAMELESS, LEAD_NEXT, NOTHING, BUDGET_OPENING, BLOCKS_OPENING, BUDGET_PART, BLOCKS_CLOSING, BUDGET_CLOSING, WINNERS_OPENING, WINNER, NONE_WON, ADDED_OPENING, ADDED, OTHERS_OPENING, OTHER, OTHER_CLOSING, NONE_LOST, TABLE_CLOSING, CATEGORIES_OPENING, CATEGORY, VOTERS_OPENING, VOTERS_TABLE, VOTERS_ROW, VOTERS_ROW_CLOSING, COMPARED_OPENING, COMPARED_ROW, RULE_OPENING, RULE_NEXT, ITEM, ITEM_OPENING, ONLY_THEN_OPENING, ONLY_THEN, ONLY_THEN_CLOSING, CALLED, TIES_OPENING, TIE_OPENING, TIE_CLOSING, TIES_CLOSING, CHECK_OPENING, CHECK_FILE, CHECK_JOURNAL, RECOUNT_OPENING, RECOUNT_LINK, RECOUNT_CLOSING, NO_RECOUNT, COUNT, AUDIT, OPTION_COST, OPTION_PLAIN, OPTION_UTILITARIAN, OPTION_ADD1U, COMMAND_CLOSING, MADE_BY_OPENING, CLOSING}
 
 -- one of the program's own pieces of markup, and what stands in its places
 abbrev pub filling : List ℕ → List (List ℕ) → Filling
@@ -88,18 +94,21 @@ called p = if length p.name == 0 then p.id else p.name
 abbrev pub blocks : Form → ElectionView → ℕ → List ℕ → List Filling
 blocks form e before [] = []
 blocks form e before (place ∷ winners) = let p = project_at e place in filling BUDGET_PART.now
-    (decimal (width before e.budget) ∷ decimal (width p.cost e.budget) ∷ called p ∷ shown form p.cost ∷ [])
+    (decimal (width before e.budget) ∷ decimal (width p.cost e.budget) ∷ called p ∷ shown form p.cost ∷ p.id ∷ [])
     ∷ blocks form e (before + cost_at (support_of e) place) winners
 
--- what was voted on, who voted, how many won and what was spent
+-- what was voted on, who voted, how many won and what was spent; or that no project won, with the numbers for programs
 abbrev pub summary : Language → List ℕ → ElectionView → CountedView → List Filling
-summary l title e c = let spent = (totals_of e c).spent in let won = length (winners_of c) in
+summary l title e c = let totals = totals_of e c in let won = length (winners_of c) in
+    let left = amount l.costs (codes "left") (e.budget - totals.spent) in
     filling HEAD.now (at l key.LANG ∷ at l key.DIR ∷ title ∷ []) ∷ (say l key.VOTED
     (number (codes "voters") (length e.voters) ∷ number (codes "projects") (length e.projects)
     ∷ amount l.costs (codes "budget") e.budget ∷ noun_at l key.PEOPLE (length e.voters)
-    ∷ noun_at l key.TOPICS (length e.projects) ∷ []) ++ (filling LEAD_NEXT.now [] ∷ say l key.WON
-    (number (codes "won") won ∷ amount l.costs (codes "spent") spent
-    ∷ amount l.costs (codes "left") (e.budget - spent) ∷ noun_at l key.WINNERS won ∷ [])))
+    ∷ noun_at l key.TOPICS (length e.projects) ∷ []) ++ (filling LEAD_NEXT.now [] ∷ (if won == 0
+    then filling NOTHING.now (decimal won ∷ money_text totals.spent ∷ money_text totals.surplus ∷ [])
+    ∷ say l key.NONE_WON (left ∷ [])
+    else say l key.WON (number (codes "won") won ∷ amount l.costs (codes "spent") totals.spent ∷ left
+    ∷ noun_at l key.WINNERS won ∷ []))))
 
 -- that, and the picture of the budget, with what it says to those who can't see it, and what is said below it
 abbrev pub budget : Language → List ℕ → ElectionView → CountedView → List Filling
@@ -107,18 +116,19 @@ budget l title e c = let totals = totals_of e c in let left = e.budget - totals.
     ++ (between (labels l BUDGET_OPENING.now (key.BUDGET_HEADING ∷ [])) (filling BLOCKS_OPENING.now []) l key.PICTURE
     (text (shown l.costs e.budget) ∷ text (shown l.costs totals.spent) ∷ text (shown l.costs left) ∷ [])
     ++ (blocks l.costs e 0 (winners_of c)
-    ++ between (filling BLOCKS_CLOSING.now []) (filling BUDGET_CLOSING.now []) l key.BUDGET_CAPTION
+    ++ between (filling BLOCKS_CLOSING.now []) (filling BUDGET_CLOSING.now []) l
+    (if length (winners_of c) == 0 then key.BUDGET_NONE else key.BUDGET_CAPTION)
     (amount l.costs (codes "spent") totals.spent ∷ amount l.costs (codes "left") left
     ∷ amount l.amounts (codes "surplus") totals.surplus ∷ [])))
 
 -- the row of a winner, elected or added; what did not win has none
 abbrev pub won_row : Language → (whole : ℕ) → ProjectView → (votes : ℕ) → Ending → List Filling
 won_row l whole p votes (Won w) = filling WINNER.now
-    (p.id ∷ at l key.ROUND ∷ decimal w.round ∷ called p ∷ decimal (width p.cost whole)
+    (p.id ∷ at l key.ROUND ∷ decimal w.round ∷ p.id ∷ p.name ∷ decimal (width p.cost whole)
     ∷ at l key.COST ∷ money_text p.cost ∷ shown l.costs p.cost ∷ at l key.VOTES ∷ decimal votes
     ∷ at l key.PRICE ∷ money_text w.price ∷ shown l.amounts w.price ∷ at l key.IN_FULL ∷ decimal w.in_full ∷ []) ∷ []
 won_row l whole p votes (Added a) = filling ADDED.now
-    (p.id ∷ at l key.NUMBER ∷ decimal a.number ∷ called p ∷ decimal (width p.cost whole)
+    (p.id ∷ at l key.NUMBER ∷ decimal a.number ∷ p.id ∷ p.name ∷ decimal (width p.cost whole)
     ∷ at l key.COST ∷ money_text p.cost ∷ shown l.costs p.cost ∷ at l key.VOTES ∷ decimal votes ∷ []) ∷ []
 won_row l whole p votes (Lost lost) = []
 
@@ -127,7 +137,7 @@ abbrev pub lost_row : Language → ProjectView → (votes : ℕ) → Ending → 
 lost_row l p votes (Won w) = []
 lost_row l p votes (Added a) = []
 lost_row l p votes (Lost lost) = between (filling OTHER.now
-    (p.id ∷ called p ∷ decimal (width lost.left p.cost) ∷ at l key.COST ∷ money_text p.cost ∷ shown l.costs p.cost
+    (p.id ∷ p.name ∷ decimal (width lost.left p.cost) ∷ at l key.COST ∷ money_text p.cost ∷ shown l.costs p.cost
     ∷ at l key.VOTES ∷ decimal votes ∷ at l key.LEFT ∷ money_text lost.left ∷ shown l.amounts lost.left ∷ at l key.MISSING
     ∷ money_text lost.missing ∷ [])) (filling OTHER_CLOSING.now []) l key.SHORT (text (shown l.amounts lost.missing) ∷ [])
 
@@ -154,6 +164,21 @@ others l e c = if length (winners_of c) == length e.projects
     then labels l NONE_LOST.now (key.OTHERS_HEADING ∷ key.NO_OTHERS ∷ []) ∷ [] else labels l OTHERS_OPENING.now
     (key.OTHERS_HEADING ∷ key.OTHERS_CAPTION ∷ key.PROJECT ∷ key.COST ∷ key.VOTES ∷ key.LEFT ∷ key.MISSING ∷ [])
     ∷ (flat_map (row_of (lost_row l) e c) (range_with_len 0 (length e.projects)) ++ filling TABLE_CLOSING.now [] ∷ [])
+
+-- the row of a category, by its number: how many of the winners are of it, and what these cost together
+abbrev pub category_row : Language → ElectionView → List ℕ → Categories → ℕ → Filling
+category_row l e winners g k = let name = option_map_or (λ text. text.now) (slice_get g.names.now k) [] in
+    let those = filter (λ place. slice_index_or g.of_project.now place (length g.names.now) == k) winners in
+    let cost = sum_by (cost_at (support_of e)) those in filling CATEGORY.now
+    ((if length name == 0 then at l key.NO_CATEGORY else name) ∷ decimal (width cost e.budget) ∷ at l key.CATEGORY_WON
+    ∷ decimal (length those) ∷ at l key.CATEGORY_COST ∷ money_text cost ∷ shown l.costs cost ∷ [])
+
+-- a row for each category, where there are categories
+unfoldable pub categories : ElectionView → CountedView → Facts → List Filling
+categories e c facts = let l = facts.language in option_map_or (λ g. labels l CATEGORIES_OPENING.now
+    (key.CATEGORIES_HEADING ∷ key.CATEGORIES_CAPTION ∷ key.CATEGORY ∷ key.CATEGORY_WON ∷ key.CATEGORY_COST ∷ [])
+    ∷ (map (category_row l e (winners_of c) g) (range_with_len 0 (length g.names.now))
+    ++ filling TABLE_CLOSING.now [] ∷ [])) facts.categories []
 
 -- how many of each voter's choices won
 abbrev pub won_by_voter : ElectionView → CountedView → List ℕ
@@ -194,19 +219,49 @@ compared l rules = labels l COMPARED_OPENING.now (key.COMPARED_HEADING ∷ key.C
 unfoldable pub besides : ElectionView → CountedView → Facts → List Filling
 besides e c facts = if facts.compares then compared facts.language (beside_votes e c) else []
 
--- how the share came about, which project is elected first, whether shares were raised, and how the rest was filled up
-abbrev pub rule : Language → CountOptions → (fills_up : Bool) → (share raised : ℕ) → List Filling
-rule l options fills_up share raised = between (labels l RULE_OPENING.now (key.RULE_HEADING ∷ []))
+-- why the raises ended: what would be elected with one more, and which projects only then
+abbrev pub raises_ended : Language → ElectionView → RaiseEnd → List Filling
+raises_ended l e Plain = []
+raises_ended l e Exhausted = labels l ITEM.now (key.EXHAUSTED ∷ []) ∷ []
+raises_ended l e (Over next) = between (filling ITEM_OPENING.now []) (labels l ONLY_THEN_OPENING.now (key.ONLY_THEN ∷ [])) l key.OVER
+    (amount l.amounts (codes "next_share") next.share ∷ amount l.costs (codes "next_cost") next.cost ∷ [])
+    ++ (map (λ place. let p = project_at e place in filling ONLY_THEN.now (p.id ∷ p.name ∷ money_text p.cost ∷ shown l.costs p.cost ∷ []))
+    next.only_then.items ++ filling ONLY_THEN_CLOSING.now [] ∷ [])
+
+-- how the share came about, which project is elected first, whether shares were raised and why that ended, and how the rest
+-- was filled up
+abbrev pub rule : Language → ElectionView → CountOptions → RaiseEnd → (fills_up : Bool) → (share raised : ℕ) → List Filling
+rule l e options end fills_up share raised = (between (labels l RULE_OPENING.now (key.RULE_HEADING ∷ []))
     (labels l RULE_NEXT.now (key.SUPPORTERS ∷ [])) l key.SHARE
     (amount l.amounts (codes "share") share ∷ number (codes "raises") raised
     ∷ filling NAMELESS.now (money_text options.step ∷ shown l.amounts options.step ∷ []) ∷ noun_at l key.TIMES raised ∷ [])
-    ++ (map (λ k. labels l ITEM.now (k ∷ [])) (by_measure options.measure key.BY_VOTES key.BY_COST
+    ++ map (λ k. labels l ITEM.now (k ∷ [])) (by_measure options.measure key.BY_VOTES key.BY_COST
     ∷ by_completion options.completion (if fills_up then key.UNUSED else key.PLAIN)
-    (if raised == 0 then key.UNRAISED else key.RAISED)
-    ∷ by_completion options.completion (if fills_up then key.METHOD_FILLED else key.METHOD_PLAIN) key.METHOD_ADD1 ∷ [])
-    ++ (if fills_up then labels l ITEM.now (key.FILLED_UP ∷ []) ∷ [] else []))
+    (if raised == 0 then key.UNRAISED else key.RAISED) ∷ [])) ++ (raises_ended l e end ++ (labels l ITEM.now
+    (by_completion options.completion (if fills_up then key.METHOD_FILLED else key.METHOD_PLAIN) key.METHOD_ADD1 ∷ [])
+    ∷ (if fills_up then labels l ITEM.now (key.FILLED_UP ∷ []) ∷ [] else [])))
 
--- what was counted, where a page recounts it, and the command that does, with its options
+-- a tie: its round, the project that it elected, and the other
+unfoldable pub tie : Language → Measure → ElectionView → Tie → List Filling
+tie l m e t = between (filling TIE_OPENING.now []) (filling TIE_CLOSING.now []) l (by_measure m key.TIE_BY_VOTES key.TIE_BY_COST)
+    (number (codes "round") t.round ∷ filling CALLED.now (called (project_at e t.winner) ∷ [])
+    ∷ filling CALLED.now (called (project_at e t.other) ∷ []) ∷ [])
+
+-- these ties, behind what heads them; nothing where there are none
+unfoldable pub ties : Language → Measure → ElectionView → List Tie → List Filling
+ties l m e all = if length all == 0 then []
+    else labels l TIES_OPENING.now (key.TIES ∷ []) ∷ (flat_map (tie l m e) all ++ filling TIES_CLOSING.now [] ∷ [])
+
+-- the end of the command that recounts, the options in words, and the program that made the page
+abbrev pub made : Language → Facts → List Filling
+made l facts = let o = facts.options in
+    between (filling COMMAND_CLOSING.now (decimal o.step ∷ decimal o.max_raises ∷ [])) (filling MADE_BY_OPENING.now []) l
+    key.OPTIONS (text (by_measure o.measure (codes "votes") (codes "cost")) ∷ text (by_completion o.completion
+    (if facts.fills_up then codes "utilitarian" else codes "none") (if facts.fills_up then codes "add1u" else codes "add1"))
+    ∷ amount l.amounts (codes "step") o.step ∷ number (codes "limit") o.max_raises ∷ [])
+    ++ (say l key.MADE_BY (text facts.program.now ∷ []) ++ filling CLOSING.now [] ∷ [])
+
+-- what was counted, where a page recounts it, the command that does, with its options, and these again in words
 abbrev pub check : Language → Facts → List Filling
 check l facts = let options = facts.options in
     (labels l CHECK_OPENING.now (key.CHECK_HEADING ∷ key.CHECK_BYTES ∷ [])
@@ -217,17 +272,18 @@ check l facts = let options = facts.options in
     ++ (filling (option_map_or (λ j. AUDIT.now) facts.journal COUNT.now) []
     ∷ (by_measure options.measure [] (filling OPTION_COST.now [] ∷ []) ++ (by_completion options.completion
     (filling (if facts.fills_up then OPTION_UTILITARIAN.now else OPTION_PLAIN.now) [] ∷ [])
-    (if facts.fills_up then filling OPTION_ADD1U.now [] ∷ [] else [])
-    ++ filling CLOSING.now (decimal options.step ∷ decimal options.max_raises ∷ []) ∷ []))))
+    (if facts.fills_up then filling OPTION_ADD1U.now [] ∷ [] else []) ++ made l facts))))
 
 -- the parts of the page, one after the other
-unfoldable pub parts : ElectionView → CountedView → Facts → List Filling
-parts e c facts = let l = facts.language in
-    budget l facts.title.now e c ++ ((winners l e c ++ (added l e c ++ others l e c)) ++ (voters l (won_by_voter e c)
-    ++ (besides e c facts ++ (rule l facts.options c.fills_up c.outcome.share c.outcome.raised ++ check l facts))))
+unfoldable pub parts : ElectionView → CountedView → Facts → RaiseEnd → List Filling
+parts e c facts end = let l = facts.language in
+    budget l facts.title.now e c ++ ((winners l e c ++ (added l e c ++ others l e c)) ++ (categories e c facts
+    ++ (voters l (won_by_voter e c) ++ (besides e c facts
+    ++ (rule l e facts.options end c.fills_up c.outcome.share c.outcome.raised
+    ++ (ties l facts.options.measure e (ties_of facts.options.measure e c.outcome) ++ check l facts))))))
 
 -- the page of a count of this election, by the options of these facts, in their language, and filled up by votes where
--- they say so
+-- they say so; it says why the raises of this count ended
 abbrev pub IsPage : ElectionView → Facts → List ℕ → Type 0
-IsPage e facts page = (o : OutcomeView) × IsCountOf e facts.options o
-    × (page ≡ page_of (parts e (counted e facts.fills_up o) facts))
+IsPage e facts page = (o : OutcomeView) × IsCountOf e facts.options o × (end : RaiseEnd)
+    × IsRaiseEnd e facts.options o end × (page ≡ page_of (parts e (counted e facts.fills_up o) facts end))

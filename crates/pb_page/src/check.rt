@@ -1,19 +1,20 @@
 //! How to check a result.
 
-ghost use Rattle.std.specs.Prelude.{[], ◌∷◌, OnOk};
+ghost use Rattle.std.specs.Prelude.{◌≡◌, [], ◌∷◌, OnOk};
 ghost use Rattle.pb_page.specs.Inner.Grown.{Grows};
-ghost use Rattle.pb_page.specs.Inner.Pieces.{closing, command, completion_option, journal_source, link, measure_option, named, recount, recounting, sources, the_check};
+ghost use Rattle.pb_page.specs.Inner.Pieces.{command, command_closing, completion_name, completion_option, journal_source, link, measure_name, measure_option, named, option_places, options_said, recount, recounting, sources, the_check};
 ghost use Rattle.pb_page.specs.declared.keys.TheConstants as key;
 ghost use Rattle.pb_page.specs.declared.templates.TheConstants.{CHECK_OPENING, RECOUNT_LINK};
-ghost use Rattle.pb_page.specs.Page.{at, filling, say};
+ghost use Rattle.pb_page.specs.Page.{at, filling, made, say, text};
 
 use crate::facts::{Facts, Source};
 use crate::keys;
 use crate::language::Language;
 use crate::put::{put, say};
 use crate::templates::{
-    AUDIT, CHECK_FILE, CHECK_JOURNAL, CHECK_OPENING, CLOSING, COUNT, NO_RECOUNT, OPTION_ADD1U,
-    OPTION_COST, OPTION_PLAIN, OPTION_UTILITARIAN, RECOUNT_CLOSING, RECOUNT_LINK, RECOUNT_OPENING,
+    AMOUNT, AUDIT, CHECK_FILE, CHECK_JOURNAL, CHECK_OPENING, CLOSING, COMMAND_CLOSING, COUNT,
+    MADE_BY_OPENING, NO_RECOUNT, NUMBER, OPTION_ADD1U, OPTION_COST, OPTION_PLAIN,
+    OPTION_UTILITARIAN, RECOUNT_CLOSING, RECOUNT_LINK, RECOUNT_OPENING, TEXT,
 };
 use pb_core::no_memory::NoMemory;
 use pb_markup::{Place, Value};
@@ -32,7 +33,7 @@ pub(crate) fn put_check(
 {
     put_sources(page, alloc, language, facts.file, facts.journal)?;
     put_link(page, alloc, language, facts.recount)?;
-    put_command(page, alloc, facts)
+    put_command(page, alloc, language, facts)
 }
 
 /// What was counted.
@@ -163,12 +164,19 @@ fn put_command_head(
     put(page, alloc, piece, &[Value::Text(language.text(key))])
 }
 
-/// The command that recounts them.
-fn put_command(page: &mut Vec<u8>, alloc: Global, facts: &Facts) -> Result<(), NoMemory>
-    ensures { OnOk result (Grows page.old.items page.new.items (command facts.now)) }
+/// The command that recounts them, and what is said below it.
+fn put_command(
+    page: &mut Vec<u8>,
+    alloc: Global,
+    language: &Language,
+    facts: &Facts,
+) -> Result<(), NoMemory>
+    ensures { OnOk result (Grows page.old.items page.new.items (command language.now facts.now)) }
 {
     put_program(page, alloc, facts.journal)?;
-    put_options(page, alloc, &facts.options, facts.fills_up)
+    put_measure(page, alloc, facts.options.measure)?;
+    put_completion(page, alloc, facts.options.completion, facts.fills_up)?;
+    put_made(page, alloc, language, facts)
 }
 
 /// The command that recounts them, up to its options.
@@ -183,28 +191,6 @@ fn put_program(
         Some(_) => put(page, alloc, AUDIT, &[]),
         None => put(page, alloc, COUNT, &[]),
     }
-}
-
-/// The options of the command, and the end of the page.
-fn put_options(
-    page: &mut Vec<u8>,
-    alloc: Global,
-    options: &CountOptions,
-    fills_up: bool,
-) -> Result<(), NoMemory>
-    ensures { OnOk result (Grows page.old.items page.new.items (closing options.now fills_up)) }
-{
-    put_measure(page, alloc, options.measure)?;
-    put_completion(page, alloc, options.completion, fills_up)?;
-    put(
-        page,
-        alloc,
-        CLOSING,
-        &[
-            Value::Number(options.step.0),
-            Value::Number(u64::from(options.max_raises)),
-        ],
-    )
 }
 
 /// The option for a measure.
@@ -234,4 +220,141 @@ fn put_completion(
         Completion::Add1 if fills_up => put(page, alloc, OPTION_ADD1U, &[]),
         Completion::Add1 => Ok(()),
     }
+}
+
+/// The options in words, the program that made the page, and its end.
+fn put_made(
+    page: &mut Vec<u8>,
+    alloc: Global,
+    language: &Language,
+    facts: &Facts,
+) -> Result<(), NoMemory>
+    ensures { OnOk result (Grows page.old.items page.new.items (made language.now facts.now)) }
+{
+    put_options(page, alloc, language, &facts.options, facts.fills_up)?;
+    say_made_by(page, alloc, language, facts.program)?;
+    put(page, alloc, CLOSING, &[])
+}
+
+/// The end of the command, and the options in words.
+fn put_options(
+    page: &mut Vec<u8>,
+    alloc: Global,
+    language: &Language,
+    options: &CountOptions,
+    fills_up: bool,
+) -> Result<(), NoMemory>
+    ensures { OnOk result (Grows page.old.items page.new.items (options_said language.now options.now fills_up)) }
+{
+    put_command_closing(page, alloc, options)?;
+    say_options(page, alloc, language, options, fills_up)?;
+    put(page, alloc, MADE_BY_OPENING, &[])
+}
+
+/// The end of the command.
+fn put_command_closing(
+    page: &mut Vec<u8>,
+    alloc: Global,
+    options: &CountOptions,
+) -> Result<(), NoMemory>
+    ensures { OnOk result (Grows page.old.items page.new.items (command_closing options.now ∷ [])) }
+{
+    put(
+        page,
+        alloc,
+        COMMAND_CLOSING,
+        &[
+            Value::Number(options.step.0),
+            Value::Number(u64::from(options.max_raises)),
+        ],
+    )
+}
+
+/// The options in words.
+fn say_options(
+    page: &mut Vec<u8>,
+    alloc: Global,
+    language: &Language,
+    options: &CountOptions,
+    fills_up: bool,
+) -> Result<(), NoMemory>
+    ensures { OnOk result (Grows page.old.items page.new.items (say language.now key.OPTIONS (option_places language.now options.now fills_up))) }
+{
+    let values: &[Value] = &[
+        Value::Text(measure_name(options.measure)),
+        Value::Text(completion_name(options.completion, fills_up)),
+        Value::Text("step"),
+        Value::Amount(options.step),
+        Value::Shown(options.step, language.amounts),
+        Value::Text("limit"),
+        Value::Number(u64::from(options.max_raises)),
+    ];
+    say(
+        page,
+        alloc,
+        language,
+        keys::OPTIONS,
+        &[
+            Place {
+                piece: TEXT,
+                values: &values[0..1],
+            },
+            Place {
+                piece: TEXT,
+                values: &values[1..2],
+            },
+            Place {
+                piece: AMOUNT,
+                values: &values[2..5],
+            },
+            Place {
+                piece: NUMBER,
+                values: &values[5..7],
+            },
+        ],
+    )
+}
+
+/// A measure, as the command line names it.
+fn measure_name(measure: Measure) -> &'static str
+    ensures { result.now ≡ measure_name measure }
+{
+    match measure {
+        Measure::Votes => "votes",
+        Measure::Cost => "cost",
+    }
+}
+
+/// A completion, as the command line names it.
+fn completion_name(completion: Completion, fills_up: bool) -> &'static str
+    ensures { result.now ≡ completion_name completion fills_up }
+{
+    match completion {
+        Completion::Plain if fills_up => "utilitarian",
+        Completion::Plain => "none",
+        Completion::Add1 if fills_up => "add1u",
+        Completion::Add1 => "add1",
+    }
+}
+
+/// Which program made the page.
+fn say_made_by<'a>(
+    page: &mut Vec<u8>,
+    alloc: Global,
+    language: &Language<'a>,
+    program: &'a str,
+) -> Result<(), NoMemory>
+    ensures { OnOk result (Grows page.old.items page.new.items (say language.now key.MADE_BY (text program.now ∷ []))) }
+{
+    let program = [Value::Text(program)];
+    say(
+        page,
+        alloc,
+        language,
+        keys::MADE_BY,
+        &[Place {
+            piece: TEXT,
+            values: &program,
+        }],
+    )
 }

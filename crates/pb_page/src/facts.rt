@@ -1,5 +1,6 @@
 //! What a page says beside the outcome.
 
+use crate::categories::Categories;
 use crate::language::Language;
 use pb_rounds::options::CountOptions;
 
@@ -29,6 +30,10 @@ pub struct Facts<'a> {
     pub fills_up: bool,
     /// The page also has the comparison with most votes first.
     pub compares: bool,
+    /// The categories of the projects, if they have any.
+    pub categories: Option<Categories<'a>>,
+    /// The program that makes the page: its name and its version.
+    pub program: &'a str,
     /// What the page says, and how it shows amounts.
     pub language: Language<'a>,
 }

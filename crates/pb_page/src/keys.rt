@@ -139,3 +139,37 @@ pub(crate) const HAVE: u16 = 74;
 pub(crate) const LACK: u16 = 77;
 
 pub(crate) const TIMES: u16 = 80;
+
+// Sentences and heads that only some pages have.
+
+pub(crate) const NONE_WON: u16 = 83;
+
+pub(crate) const BUDGET_NONE: u16 = 84;
+
+pub(crate) const OPTIONS: u16 = 85;
+
+pub(crate) const MADE_BY: u16 = 86;
+
+pub(crate) const EXHAUSTED: u16 = 87;
+
+pub(crate) const OVER: u16 = 88;
+
+pub(crate) const ONLY_THEN: u16 = 89;
+
+pub(crate) const TIES: u16 = 90;
+
+pub(crate) const TIE_BY_VOTES: u16 = 91;
+
+pub(crate) const TIE_BY_COST: u16 = 92;
+
+pub(crate) const CATEGORIES_HEADING: u16 = 93;
+
+pub(crate) const CATEGORIES_CAPTION: u16 = 94;
+
+pub(crate) const NO_CATEGORY: u16 = 95;
+
+pub(crate) const CATEGORY: u16 = 96;
+
+pub(crate) const CATEGORY_WON: u16 = 97;
+
+pub(crate) const CATEGORY_COST: u16 = 98;

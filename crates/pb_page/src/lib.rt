@@ -3,31 +3,37 @@
 #![tactic(auto)]
 
 mod added;
+mod by_category;
+mod categories;
 mod check;
 mod compared;
 mod facts;
 mod figures;
 mod forms;
 mod histogram;
+mod in_category;
 mod keys;
 mod language;
 mod made;
 mod others;
 mod put;
+mod raises_ended;
 mod rule;
 mod sentence;
 mod speech;
 mod style;
 mod table;
 mod templates;
+mod ties;
 mod top;
 mod voters;
 mod winners;
 mod words_fault;
 
+pub use categories::Categories;
 pub use facts::{Facts, Source};
 pub use language::Language;
 pub use made::page_of;
 pub use speech::Speech;
-pub use table::{Entry, TABLE};
-pub use words_fault::{Key, WordsFault};
+pub use table::{Entry, entries, entry_at};
+pub use words_fault::{Key, WordsFault, WordsLine};

@@ -2,13 +2,15 @@
 
 ghost use Rattle.std.specs.Prelude.{◌≡◌, ◌<◌, ◌++◌, All, IfOk, OnOk, length};
 ghost use Rattle.pb_page.specs.Inner.Grown.{Grows};
-ghost use Rattle.pb_page.specs.Inner.Pieces.{the_budget, the_parts, the_projects};
+ghost use Rattle.pb_page.specs.Inner.Pieces.{KnowsPlaces, the_budget, the_parts, the_projects};
 ghost use Rattle.pb_page.specs.Page.{IsPage, added, blocks, others, winners, won_by_voter};
 ghost use Rattle.pb_reasons.specs.Counted as counting;
 ghost use Rattle.pb_reasons.specs.Counted.{IsCounted, winners_of};
+ghost use Rattle.pb_reasons.specs.RaiseEnd.{IsRaiseEnd};
 ghost use Rattle.pb_rounds.specs.Counted.{IsCountOf};
 
 use crate::added::put_added;
+use crate::by_category::put_categories;
 use crate::check::put_check;
 use crate::compared::put_besides;
 use crate::facts::Facts;
@@ -17,17 +19,18 @@ use crate::histogram::won_by_voter;
 use crate::language::Language;
 use crate::others::put_others;
 use crate::rule::put_rule;
+use crate::ties::put_ties;
 use crate::top::{put_blocks, put_caption, put_picture, put_summary};
 use crate::voters::put_voters;
 use crate::winners::put_winners;
 use pb_core::election::Election;
 use pb_core::no_memory::NoMemory;
 use pb_markup::Form;
-use pb_reasons::{Counted, ProjectTeller};
+use pb_reasons::{Counted, ProjectTeller, RaiseEnd};
 use std::alloc::Global;
 
-/// The page of what a count of this election comes to, with the options of these facts: an HTML document that needs no other
-/// file, and runs no script.
+/// The page of what a count of this election comes to, with the options of these facts, whose raises ended so: an HTML
+/// document that needs no other file, and runs no script.
 ///
 /// Each number on it is one of the count's. Nothing in it is markup but the program's own pieces, whatever texts the
 /// election and the facts have.
@@ -36,13 +39,15 @@ pub fn page_of(
     election: &Election,
     counted: &Counted,
     facts: &Facts,
+    end: &RaiseEnd,
 ) -> Result<Vec<u8>, NoMemory>
     requires counted { IsCountOf election.now facts.now.options counted.now.outcome }
     requires filled { counted.now ≡ counting.counted election.now facts.now.fills_up counted.now.outcome }
+    requires ended { IsRaiseEnd election.now facts.now.options counted.now.outcome end.now }
     ensures { IfOk result (λ text. IsPage election.now facts.now text.items) }
 {
     let won = won_by_voter(alloc, election, counted)?;
-    let page = page_with(alloc, election, counted, facts, won.as_slice());
+    let page = page_with(alloc, election, counted, facts, end, won.as_slice());
     drop(won);
     page
 }
@@ -53,15 +58,17 @@ fn page_with(
     election: &Election,
     counted: &Counted,
     facts: &Facts,
+    end: &RaiseEnd,
     won: &[u32],
 ) -> Result<Vec<u8>, NoMemory>
     requires counted { IsCountOf election.now facts.now.options counted.now.outcome }
     requires filled { counted.now ≡ counting.counted election.now facts.now.fills_up counted.now.outcome }
+    requires ended { IsRaiseEnd election.now facts.now.options counted.now.outcome end.now }
     requires won { won.now ≡ won_by_voter election.now counted.now }
     ensures { IfOk result (λ text. IsPage election.now facts.now text.items) }
 {
     let mut page = Vec::new(alloc);
-    put_all(&mut page, alloc, election, counted, facts, won)?;
+    put_all(&mut page, alloc, election, counted, facts, end, won)?;
     Ok(page)
 }
 
@@ -72,18 +79,29 @@ fn put_all(
     election: &Election,
     counted: &Counted,
     facts: &Facts,
+    end: &RaiseEnd,
     won: &[u32],
 ) -> Result<(), NoMemory>
     requires counted { IsCounted election.now counted.now }
+    requires ended { KnowsPlaces election.now end.now }
     requires won { won.now ≡ won_by_voter election.now counted.now }
-    ensures { OnOk result (Grows page.old.items page.new.items (the_parts election.now counted.now facts.now)) }
+    ensures { OnOk result (Grows page.old.items page.new.items (the_parts election.now counted.now facts.now end.now)) }
 {
     let language = &facts.language;
     put_budget(page, alloc, language, election, counted, facts.title)?;
     put_projects(page, alloc, language, election, counted)?;
+    put_categories(page, alloc, election, counted, facts)?;
     put_voters(page, alloc, language, won)?;
     put_besides(page, alloc, election, counted, facts)?;
-    put_rule(page, alloc, language, &facts.options, counted)?;
+    put_rule(page, alloc, election, facts, counted, end)?;
+    put_ties(
+        page,
+        alloc,
+        language,
+        facts.options.measure,
+        election,
+        counted,
+    )?;
     put_check(page, alloc, language, facts)
 }
 

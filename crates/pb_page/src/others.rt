@@ -10,7 +10,7 @@ ghost use Rattle.pb_markup.specs.Amount.{shown};
 ghost use Rattle.pb_reasons.specs.Counted.{winners_of};
 ghost use Rattle.pb_page.specs.Page.{at, filling, lost_row, others, say, text};
 
-use crate::forms::{called, width};
+use crate::forms::width;
 use crate::keys;
 use crate::language::Language;
 use crate::put::{put, say};
@@ -164,7 +164,7 @@ fn put_figures<'a>(
         OTHER,
         &[
             Value::Text(project.id()),
-            Value::Text(called(project)),
+            Value::Text(project.name()),
             Value::Number(width(lost.left.0, project.cost().0)),
             Value::Text(language.text(keys::COST)),
             Value::Amount(project.cost()),

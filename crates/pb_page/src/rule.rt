@@ -1,28 +1,51 @@
-//! How it was counted, in five sentences, and in a sixth where it was filled up.
+//! How it was counted, sentence by sentence.
 
 ghost use Rattle.std.specs.Prelude.{◌≡◌, [], ◌∷◌, OnOk, codes};
 ghost use Rattle.pb_core.specs.MoneyText.{money_text};
 ghost use Rattle.pb_markup.specs.Amount.{shown};
 ghost use Rattle.pb_page.specs.Inner.Grown.{Grows};
-ghost use Rattle.pb_page.specs.Inner.Pieces.{filled_up, item, method, order, raises, share_rule, the_rule};
+ghost use Rattle.pb_page.specs.Inner.Pieces.{KnowsPlaces, filled_up, item, method, method_said, order, raises, rounds_said, share_rule, the_rule};
 ghost use Rattle.pb_page.specs.Page.{amount, at, filling, noun_at, number, say};
 ghost use Rattle.pb_page.specs.declared.keys.TheConstants as key;
 ghost use Rattle.pb_page.specs.declared.templates.TheConstants.{NAMELESS, RULE_NEXT, RULE_OPENING};
 
+use crate::facts::Facts;
 use crate::keys;
 use crate::language::Language;
 use crate::put::{put, say};
+use crate::raises_ended::put_end;
 use crate::templates::{AMOUNT, ITEM, NAMELESS, NUMBER, RULE_NEXT, RULE_OPENING, TEXT};
+use pb_core::election::Election;
 use pb_core::money::Money;
 use pb_core::no_memory::NoMemory;
 use pb_markup::{Place, Value};
-use pb_reasons::Counted;
+use pb_reasons::{Counted, RaiseEnd};
 use pb_rounds::measure::Measure;
 use pb_rounds::options::{Completion, CountOptions};
 use std::alloc::Global;
 
-/// How it was counted, with these options.
+/// How it was counted, with the options of these facts, and why the raises ended.
 pub(crate) fn put_rule(
+    page: &mut Vec<u8>,
+    alloc: Global,
+    election: &Election,
+    facts: &Facts,
+    counted: &Counted,
+    end: &RaiseEnd,
+) -> Result<(), NoMemory>
+    requires { KnowsPlaces election.now end.now }
+    ensures { OnOk result (Grows page.old.items page.new.items
+        (the_rule facts.now.language election.now facts.now.options end.now counted.now.fills_up counted.now.outcome.share counted.now.outcome.raised)) }
+{
+    let language = &facts.language;
+    put_counted(page, alloc, language, &facts.options, counted)?;
+    put_end(page, alloc, language, election, end)?;
+    let fills = fills_up(counted);
+    put_last(page, alloc, language, facts.options.completion, fills)
+}
+
+/// How the rounds were held.
+fn put_counted(
     page: &mut Vec<u8>,
     alloc: Global,
     language: &Language,
@@ -30,12 +53,12 @@ pub(crate) fn put_rule(
     counted: &Counted,
 ) -> Result<(), NoMemory>
     ensures { OnOk result (Grows page.old.items page.new.items
-        (the_rule language.now options.now counted.now.fills_up counted.now.outcome.share counted.now.outcome.raised)) }
+        (rounds_said language.now options.now counted.now.fills_up counted.now.outcome.share counted.now.outcome.raised)) }
 {
     let share = share_of(counted);
     let raised = raised_of(counted);
     let fills = fills_up(counted);
-    put_sentences(page, alloc, language, options, fills, share, raised)
+    put_rounds(page, alloc, language, options, fills, share, raised)
 }
 
 /// The share at which the raises ended.
@@ -59,8 +82,8 @@ fn fills_up(counted: &Counted) -> bool
     counted.fills_up
 }
 
-/// The sentences on a count with this share, after so many raises.
-fn put_sentences(
+/// The sentences on the rounds of a count with this share, after so many raises.
+fn put_rounds(
     page: &mut Vec<u8>,
     alloc: Global,
     language: &Language,
@@ -69,12 +92,23 @@ fn put_sentences(
     share: Money,
     raised: u32,
 ) -> Result<(), NoMemory>
-    ensures { OnOk result (Grows page.old.items page.new.items (the_rule language.now options.now fills_up share raised)) }
+    ensures { OnOk result (Grows page.old.items page.new.items (rounds_said language.now options.now fills_up share raised)) }
 {
-    let completion = options.completion;
     put_share(page, alloc, language, options.step, share, raised)?;
     put_order(page, alloc, language, options.measure)?;
-    put_raises(page, alloc, language, completion, fills_up, raised)?;
+    put_raises(page, alloc, language, options.completion, fills_up, raised)
+}
+
+/// What that is called, and how what was left was filled up.
+fn put_last(
+    page: &mut Vec<u8>,
+    alloc: Global,
+    language: &Language,
+    completion: Completion,
+    fills_up: bool,
+) -> Result<(), NoMemory>
+    ensures { OnOk result (Grows page.old.items page.new.items (method_said language.now completion fills_up)) }
+{
     put_method(page, alloc, language, completion, fills_up)?;
     put_filled_up(page, alloc, language, fills_up)
 }
@@ -171,7 +205,7 @@ fn put_supporters(page: &mut Vec<u8>, alloc: Global, language: &Language) -> Res
 }
 
 /// A sentence of the list.
-fn put_item(
+pub(crate) fn put_item(
     page: &mut Vec<u8>,
     alloc: Global,
     language: &Language,

@@ -1,18 +1,18 @@
 //! A sentence of a file of words, as a page takes it.
 
 use crate::table::Entry;
-use crate::words_fault::WordsFault;
+use crate::words_fault::{WordsFault, WordsLine};
 use std::alloc::Global;
 
 /// The most places that a sentence has.
 const MOST_PLACES: usize = 32;
 
-/// The sentence with a byte in the place of each name in braces: 0 for the first place, 1 for the second, and so on.
+/// The sentence of a line with a byte in the place of each name in braces: 0 for the first place, 1 for the second, and so on.
 pub(crate) fn with_places(
     alloc: Global,
     text: &str,
     entry: &Entry,
-    line: u32,
+    line: WordsLine,
 ) -> Result<String, WordsFault> {
     let mut made = String::new(alloc);
     let mut is_first = true;
@@ -22,7 +22,7 @@ pub(crate) fn with_places(
         } else {
             match part.split_once('}') {
                 Some((name, text)) => (Some(name), text),
-                None => return Err(WordsFault::UnknownPlace(line)),
+                None => return Err(WordsFault::LoneBrace(line)),
             }
         };
         is_first = false;
@@ -30,14 +30,14 @@ pub(crate) fn with_places(
             made.push(place_named(entry, name).ok_or(WordsFault::UnknownPlace(line))?)?;
         }
         if text.contains('}') {
-            return Err(WordsFault::UnknownPlace(line));
+            return Err(WordsFault::LoneBrace(line));
         }
         made.push_str(text)?;
     }
-    if has_all(made.as_str(), entry) {
-        Ok(made)
-    } else {
-        Err(WordsFault::MissingPlace(line))
+    match misplaced(made.as_str(), entry) {
+        None => Ok(made),
+        Some((place, 0)) => Err(WordsFault::MissingPlace(line, place)),
+        Some((place, _)) => Err(WordsFault::RepeatedPlace(line, place)),
     }
 }
 
@@ -58,8 +58,8 @@ fn place_named(entry: &Entry, name: &str) -> Option<char> {
     }
 }
 
-/// Whether each place that a sentence has to have is there once.
-fn has_all(sentence: &str, entry: &Entry) -> bool {
+/// The first place of a number that is not there once, and how many times it is there.
+fn misplaced(sentence: &str, entry: &Entry) -> Option<(u8, usize)> {
     let bytes = sentence.as_bytes();
     for place in 0..entry.numbers.len() {
         let times = bytes
@@ -67,10 +67,10 @@ fn has_all(sentence: &str, entry: &Entry) -> bool {
             .filter(|byte| usize::from(**byte) == place)
             .count();
         if times != 1 {
-            return false;
+            return Some((u8::try_from(place).unwrap_or(u8::MAX), times));
         }
     }
-    true
+    None
 }
 
 /// Whether a text has no character that could be taken for markup, and no control character.

@@ -1,9 +1,11 @@
 //! A language, as a file of words has it.
 
+ghost use Rattle.std.specs.Prelude.{◌≡◌, unwrap_or};
+
 use crate::keys;
 use crate::sentence::{is_plain, with_places};
-use crate::table::TABLE;
-use crate::words_fault::{Key, WordsFault};
+use crate::table::{Entry, entries, entry_at, entry_of};
+use crate::words_fault::{Key, WordsFault, WordsLine};
 use pb_markup::Plural;
 use std::alloc::Global;
 use std::{mem, str};
@@ -42,10 +44,12 @@ impl Speech {
     /// English, the program's own language.
     pub fn english(alloc: Global) -> Result<Speech, WordsFault> {
         let mut speech = Speech::empty(alloc)?;
-        for index in 0..TABLE.len() {
-            let entry = &TABLE[index];
-            let sentence = with_places(alloc, entry.english, entry, 0)?;
-            speech.keep(index, sentence);
+        for index in 0..entries() {
+            if let Some(entry) = entry_at(index) {
+                let line = key_at(index).on(0);
+                let sentence = with_places(alloc, entry.english, &entry, line)?;
+                speech.keep(index, sentence);
+            }
         }
         speech.plural = Some(Plural::English);
         speech.group = Some(",");
@@ -72,7 +76,7 @@ impl Speech {
     /// A language without sentences.
     fn empty(alloc: Global) -> Result<Speech, WordsFault> {
         let mut sentences = Vec::new(alloc);
-        for _ in TABLE {
+        for _ in 0..entries() {
             sentences.push(String::new(alloc))?;
         }
         Ok(Speech {
@@ -95,9 +99,9 @@ impl Speech {
             return Err(WordsFault::BadLine(line));
         }
         match key {
-            "plural" => set(&mut self.plural, PLURALS, value, line),
-            "group" => set(&mut self.group, GROUPS, value, line),
-            "point" => set(&mut self.point, POINTS, value, line),
+            "plural" => set(&mut self.plural, PLURALS, value, Key::Plural.on(line)),
+            "group" => set(&mut self.group, GROUPS, value, Key::Group.on(line)),
+            "point" => set(&mut self.point, POINTS, value, Key::Point.on(line)),
             _ => self.take_sentence(alloc, key, value, line),
         }
     }
@@ -110,10 +114,8 @@ impl Speech {
         text: &str,
         line: u32,
     ) -> Result<(), WordsFault> {
-        let index = TABLE
-            .iter()
-            .position(|entry| entry.key == key)
-            .ok_or(WordsFault::UnknownKey(line))?;
+        let (index, entry) = entry_of(key).ok_or(WordsFault::UnknownKey(line))?;
+        let line = key_at(index).on(line);
         if self.sentence(index) != "" {
             return Err(WordsFault::RepeatedKey(line));
         }
@@ -123,7 +125,7 @@ impl Speech {
         if !is_value(index, text) {
             return Err(WordsFault::BadValue(line));
         }
-        let sentence = with_places(alloc, text, &TABLE[index], line)?;
+        let sentence = with_places(alloc, text, &entry, line)?;
         self.keep(index, sentence);
         Ok(())
     }
@@ -153,16 +155,28 @@ impl Speech {
         if self.point.is_none() {
             return Err(WordsFault::MissingKey(Key::Point));
         }
-        for index in 0..TABLE.len() {
-            let entry = &TABLE[index];
-            let is_there = self.sentence(index) != "";
-            let is_needed = is_needed(entry.key, plural);
-            if is_needed && !is_there {
-                return Err(WordsFault::MissingKey(Key::Sentence(index as u16)));
+        for index in 0..entries() {
+            if let Some(entry) = entry_at(index) {
+                self.judge_sentence(index, &entry, plural)?;
             }
-            if is_there && !is_needed {
-                return Err(WordsFault::UnusedKey(Key::Sentence(index as u16)));
-            }
+        }
+        Ok(())
+    }
+
+    /// Whether the sentence at this index is there if it is needed, and not there if it is of no use.
+    fn judge_sentence(
+        &self,
+        index: usize,
+        entry: &Entry,
+        plural: Plural,
+    ) -> Result<(), WordsFault> {
+        let is_there = self.sentence(index) != "";
+        let is_needed = is_needed(entry.key, plural);
+        if is_needed && !is_there {
+            return Err(WordsFault::MissingKey(key_at(index)));
+        }
+        if is_there && !is_needed {
+            return Err(WordsFault::UnusedKey(key_at(index), plural));
         }
         Ok(())
     }
@@ -182,7 +196,9 @@ impl Speech {
     }
 
     /// The rule for the forms of its nouns.
-    pub fn plural(&self) -> Plural {
+    pub fn plural(&self) -> Plural
+        ensures { result ≡ unwrap_or self.now.plural Plural.English }
+    {
         self.plural.unwrap_or(Plural::English)
     }
 
@@ -231,7 +247,7 @@ fn set<T: Copy>(
     kept: &mut Option<T>,
     known: &[(&str, T)],
     name: &str,
-    line: u32,
+    line: WordsLine,
 ) -> Result<(), WordsFault> {
     if kept.is_some() {
         return Err(WordsFault::RepeatedKey(line));
@@ -263,4 +279,9 @@ fn is_needed(key: &str, plural: Plural) -> bool {
     let has_one = plural != Plural::Same;
     let has_few = plural == Plural::Polish;
     (has_one || !key.ends_with(".one")) && (has_few || !key.ends_with(".few"))
+}
+
+/// The key of the sentence at this index.
+fn key_at(index: usize) -> Key {
+    Key::Sentence(u16::try_from(index).unwrap_or(u16::MAX))
 }

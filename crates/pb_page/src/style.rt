@@ -15,7 +15,7 @@ pub(crate) const HEAD: &str = "<!DOCTYPE html>
 :root {
   color-scheme: light dark;
   --paper: #ffffff; --ink: #1c1e23; --soft: #545a66; --line: #d5d9e0; --track: #e6e9ee;
-  --won: #0a6b4b; --won-too: #2f8f6d; --lost: #8a4a06; --many: #2b559c;
+  --won: #0a6b4b; --won-too: #27805f; --lost: #8a4a06; --many: #2b559c;
 }
 @media (prefers-color-scheme: dark) {
   :root {
@@ -39,9 +39,18 @@ figcaption { margin-top: .4rem; }
 figcaption, caption { color: var(--soft); font-size: .9rem; }
 svg { display: block; width: 100%; }
 [dir='rtl'] svg { transform: scaleX(-1); }
-svg.budget { height: 2.75rem; border: 1px solid var(--soft); border-radius: .35rem; background: var(--track); }
-svg.budget rect { fill: var(--won); stroke: var(--paper); stroke-width: 1; vector-effect: non-scaling-stroke; }
-svg.budget rect:nth-child(even) { fill: var(--won-too); }
+div.budget { position: relative; height: 2.75rem; border: 1px solid var(--soft); border-radius: .35rem; background: var(--track); overflow: hidden; }
+div.budget span {
+  position: absolute; inset-block: 0; inset-inline-start: calc(var(--from) * .01%); width: calc(var(--wide) * .01%);
+  display: flex; flex-wrap: wrap; justify-content: center; overflow: hidden;
+  background: var(--won); color: var(--paper); font-size: .85rem; line-height: 2.75rem; white-space: nowrap;
+}
+div.budget span:nth-child(even) { background: var(--won-too); }
+div.budget span::before { content: ''; height: 100%; }
+div.budget span::after { content: ''; position: absolute; inset-block: 0; inset-inline-end: 0; width: min(1px, 25%); background: var(--paper); }
+div.budget bdi { padding: 0 .25rem; }
+.id { color: var(--soft); font-size: .85em; font-weight: 400; }
+.id:has(+ bdi:empty) { color: inherit; font-size: inherit; font-weight: inherit; }
 .bar { height: .4rem; margin-top: .3rem; background: var(--track); border-radius: .2rem; overflow: hidden; }
 .won .bar rect { fill: var(--won); }
 .lost .bar rect { fill: var(--lost); }
@@ -79,7 +88,7 @@ pre { margin: .5rem 0; padding: .75rem; background: var(--track); border-radius:
 @media print {
   :root {
     --paper: #ffffff; --ink: #000000; --soft: #444444; --line: #bbbbbb; --track: #eeeeee;
-    --won: #0a6b4b; --won-too: #2f8f6d; --lost: #8a4a06; --many: #2b559c;
+    --won: #0a6b4b; --won-too: #27805f; --lost: #8a4a06; --many: #2b559c;
   }
   html { font-size: 10pt; }
   body { padding: 0; max-width: none; }
@@ -87,6 +96,10 @@ pre { margin: .5rem 0; padding: .75rem; background: var(--track); border-radius:
   tbody tr:first-child, pre { break-before: avoid; }
   tr, figure, pre, dl, li { break-inside: avoid; }
   svg { print-color-adjust: exact; -webkit-print-color-adjust: exact; }
+}
+@media print, (forced-colors: active) {
+  div.budget, div.budget span, div.budget span:nth-child(even) { background: none; color: inherit; }
+  div.budget span::after { background: currentcolor; forced-color-adjust: none; print-color-adjust: exact; -webkit-print-color-adjust: exact; }
 }
 </style>
 </head>

@@ -18,8 +18,51 @@ macro_rules! plain {
     };
 }
 
-/// All sentences, in the order of their keys' numbers. A noun has a row for each of its forms.
-pub const TABLE: &[Entry] = &[
+/// How many sentences there are.
+pub fn entries() -> usize {
+    first().len().saturating_add(later().len())
+}
+
+/// The sentence at this index.
+pub fn entry_at(index: usize) -> Option<Entry> {
+    match first().get(index) {
+        Some(entry) => Some(*entry),
+        None => later_at(index.saturating_sub(first().len())),
+    }
+}
+
+/// The sentence at this index of the later ones.
+fn later_at(index: usize) -> Option<Entry> {
+    match later().get(index) {
+        Some(entry) => Some(*entry),
+        None => None,
+    }
+}
+
+/// The sentence with this key, and its index.
+pub(crate) fn entry_of(key: &str) -> Option<(usize, Entry)> {
+    for index in 0..entries() {
+        if let Some(entry) = entry_at(index) {
+            if entry.key == key {
+                return Some((index, entry));
+            }
+        }
+    }
+    None
+}
+
+// The sentences are in two lists, each with a function of its own, since a proof writes out all texts of a constant.
+
+fn first() -> &'static [Entry] {
+    FIRST
+}
+
+fn later() -> &'static [Entry] {
+    LATER
+}
+
+/// The first sentences, in the order of their keys' numbers.
+const FIRST: &[Entry] = &[
     plain!("lang", "en"),
     plain!("dir", "ltr"),
     plain!("title", "Participatory budgeting"),
@@ -46,7 +89,7 @@ pub const TABLE: &[Entry] = &[
         key: "budget.caption",
         numbers: &["spent", "left", "surplus"],
         nouns: &[],
-        english: "Each block is a winning project, as wide as its cost, in order of election. Spent: {spent}. Left: {left}. Paid beyond the costs, by rounding prices up: {surplus}.",
+        english: "Each block is a winning project, as wide as its cost, in the order of the tables below. Spent: {spent}. Left: {left}. Paid beyond the costs, by rounding prices up: {surplus}.",
     },
     plain!("winners.heading", "The winners"),
     plain!(
@@ -67,7 +110,7 @@ pub const TABLE: &[Entry] = &[
     plain!("added.heading", "Added by votes"),
     plain!(
         "added.caption",
-        "What the winners above left of the budget went to the project with the most votes that it still paid for, again and again: of equal votes to the cheaper project, of equal costs to the first in the file. Nobody's share pays for these projects. The bar is the project's part of the budget."
+        "What was left of the budget went to the project with the most votes that it still paid for, again and again: of equal votes to the cheaper project, of equal costs to the first in the file. Nobody's share pays for these projects. The bar is the project's part of the budget."
     ),
     plain!("column.number", "Number"),
     plain!("others.heading", "The other projects"),
@@ -135,12 +178,9 @@ pub const TABLE: &[Entry] = &[
     plain!("rule.unused", "The shares were not raised."),
     plain!(
         "rule.raised",
-        "To spend more of the budget, all rounds were held anew with higher and higher shares, until nothing that was left could be afforded, or the next winners would have cost more than the budget."
+        "To spend more of the budget, all rounds were held anew with higher and higher shares."
     ),
-    plain!(
-        "rule.unraised",
-        "Higher shares were not needed: after these rounds nothing that was left could be afforded, or the next winners would have cost more than the budget."
-    ),
+    plain!("rule.unraised", "The shares were not raised."),
     plain!(
         "rule.filled_up",
         "What was then left of the budget was filled up by votes: as long as it paid for a project that anyone had voted for, the one with the most votes was added, of equal votes the cheaper, of equal costs the first in the file."
@@ -177,6 +217,10 @@ pub const TABLE: &[Entry] = &[
         "check.program",
         "To recount them, and to see their digests:"
     ),
+];
+
+/// The sentences behind them, in the same order. A noun has a row for each of its forms.
+const LATER: &[Entry] = &[
     plain!("compared.heading", "Compared with most votes"),
     plain!(
         "compared.caption",
@@ -221,4 +265,59 @@ pub const TABLE: &[Entry] = &[
     plain!("times.one", "raise"),
     plain!("times.few", "raises"),
     plain!("times.many", "raises"),
+    Entry {
+        key: "lead.none",
+        numbers: &["left"],
+        nouns: &[],
+        english: "No project won. Nothing is spent: {left} is left.",
+    },
+    plain!("budget.none", "The bar is empty, because no project won."),
+    Entry {
+        key: "check.options",
+        numbers: &["measure", "completion", "step", "limit"],
+        nouns: &[],
+        english: "Options of this count: measure {measure}, completion {completion}, step {step}, limit of raises {limit}.",
+    },
+    Entry {
+        key: "check.made_by",
+        numbers: &["program"],
+        nouns: &[],
+        english: "This page was made by {program}.",
+    },
+    plain!(
+        "rule.exhausted",
+        "The shares were not raised further, because no other project that somebody chose fits into what is left of the budget."
+    ),
+    Entry {
+        key: "rule.over",
+        numbers: &["share", "cost"],
+        nouns: &[],
+        english: "The shares were not raised further, because one raise more, to a share of {share}, would elect projects that cost {cost} together: more than the budget.",
+    },
+    plain!(
+        "rule.only_then",
+        "These projects would be elected only with that raise:"
+    ),
+    plain!("rule.ties", "Ties that the order of the file decided:"),
+    Entry {
+        key: "rule.tie_by_votes",
+        numbers: &["round", "winner", "other"],
+        nouns: &[],
+        english: "Round {round}: {winner} was elected. {other} had the same price, but comes later in the file, and was not elected in a later round.",
+    },
+    Entry {
+        key: "rule.tie_by_cost",
+        numbers: &["round", "winner", "other"],
+        nouns: &[],
+        english: "Round {round}: {winner} was elected. {other} had the same price for its cost, but comes later in the file, and was not elected in a later round.",
+    },
+    plain!("categories.heading", "The money by category"),
+    plain!(
+        "categories.caption",
+        "Of each category: how many of its projects won, and what these cost. The bar is their part of the budget."
+    ),
+    plain!("categories.none", "No category"),
+    plain!("column.category", "Category"),
+    plain!("column.category_won", "Winners"),
+    plain!("column.category_cost", "Cost of the winners"),
 ];

@@ -18,6 +18,11 @@ pub(crate) const NAMELESS: &str = "<data value='~'>~</data>";
 pub(crate) const LEAD_NEXT: &str = "</p>
 <p class='lead'>";
 
+/// What programs read of a page on which no project won, before the sentence on that. Values: how many won; what was spent;
+/// what was paid beyond that.
+pub(crate) const NOTHING: &str =
+    "<data class='won' value='~'></data><data class='spent' value='~'></data><data class='surplus' value='~'></data>";
+
 /// The head of the picture of the budget, up to its words for those who can't see it. Value: the heading.
 pub(crate) const BUDGET_OPENING: &str = "</p>
 </header>
@@ -25,18 +30,20 @@ pub(crate) const BUDGET_OPENING: &str = "</p>
 <section aria-labelledby='budget'>
 <h2 id='budget'>~</h2>
 <figure>
-<svg class='budget' viewBox='0 0 10000 10' preserveAspectRatio='none' role='img' aria-label='";
+<div class='budget' role='img' aria-label='";
 
 /// What stands before the winners' parts.
 pub(crate) const BLOCKS_OPENING: &str = "'>
 ";
 
-/// A winner's part of the budget. Values: where it begins and how wide it is, in ten thousandths; its name and cost.
-pub(crate) const BUDGET_PART: &str = "<rect x='~' width='~' height='10'><title>~: ~</title></rect>
+/// A winner's part of the budget. Values: where it begins and how wide it is, in ten thousandths; what it is called, its cost,
+/// and its id.
+pub(crate) const BUDGET_PART: &str =
+    "<span style='--from:~;--wide:~' title='~: ~'><bdi dir='auto'>~</bdi></span>
 ";
 
 /// What stands behind them, before the caption.
-pub(crate) const BLOCKS_CLOSING: &str = "</svg>
+pub(crate) const BLOCKS_CLOSING: &str = "</div>
 <figcaption>";
 
 /// What stands behind the caption.
@@ -54,10 +61,10 @@ pub(crate) const WINNERS_OPENING: &str = "<section class='won' aria-labelledby='
 <tbody role='rowgroup'>
 ";
 
-/// A winner. Values: id, round with its label, name, width of its bar, cost, votes, price, how many paid it in full, each of
+/// A winner. Values: id, round with its label, id again, name, width of its bar, cost, votes, price, how many paid it in full, each of
 /// these with its label before it, and an amount also as it is shown.
 pub(crate) const WINNER: &str =
-    "<tr role='row' data-project='~'><td role='cell' class='n' data-label='~'><data class='round' value='^'>~</data></td><th role='rowheader' scope='row'><bdi dir='auto'>~</bdi><svg class='bar' viewBox='0 0 10000 1' preserveAspectRatio='none' aria-hidden='true'><rect width='~' height='1'/></svg></th><td role='cell' class='n' data-label='~'><data class='cost' value='~'>~</data></td><td role='cell' class='n' data-label='~'><data class='votes' value='^'>~</data></td><td role='cell' class='n' data-label='~'><data class='price' value='~'>~</data></td><td role='cell' class='n' data-label='~'><data class='in_full' value='^'>~</data></td></tr>
+    "<tr role='row' data-project='~'><td role='cell' class='n' data-label='~'><data class='round' value='^'>~</data></td><th role='rowheader' scope='row'><span class='id' dir='auto'>~</span> <bdi dir='auto'>~</bdi><svg class='bar' viewBox='0 0 10000 1' preserveAspectRatio='none' aria-hidden='true'><rect width='~' height='1'/></svg></th><td role='cell' class='n' data-label='~'><data class='cost' value='~'>~</data></td><td role='cell' class='n' data-label='~'><data class='votes' value='^'>~</data></td><td role='cell' class='n' data-label='~'><data class='price' value='~'>~</data></td><td role='cell' class='n' data-label='~'><data class='in_full' value='^'>~</data></td></tr>
 ";
 
 /// The winners where there are none. Values: the heading, and that.
@@ -76,9 +83,9 @@ pub(crate) const ADDED_OPENING: &str = "<section class='won' aria-labelledby='ad
 <tbody role='rowgroup'>
 ";
 
-/// An added project. Values: id, number with its label, name, width of its bar, cost and votes with their labels.
+/// An added project. Values: id, number with its label, id again, name, width of its bar, cost and votes with their labels.
 pub(crate) const ADDED: &str =
-    "<tr role='row' data-project='~'><td role='cell' class='n' data-label='~'><data class='added' value='^'>~</data></td><th role='rowheader' scope='row'><bdi dir='auto'>~</bdi><svg class='bar' viewBox='0 0 10000 1' preserveAspectRatio='none' aria-hidden='true'><rect width='~' height='1'/></svg></th><td role='cell' class='n' data-label='~'><data class='cost' value='~'>~</data></td><td role='cell' class='n' data-label='~'><data class='votes' value='^'>~</data></td></tr>
+    "<tr role='row' data-project='~'><td role='cell' class='n' data-label='~'><data class='added' value='^'>~</data></td><th role='rowheader' scope='row'><span class='id' dir='auto'>~</span> <bdi dir='auto'>~</bdi><svg class='bar' viewBox='0 0 10000 1' preserveAspectRatio='none' aria-hidden='true'><rect width='~' height='1'/></svg></th><td role='cell' class='n' data-label='~'><data class='cost' value='~'>~</data></td><td role='cell' class='n' data-label='~'><data class='votes' value='^'>~</data></td></tr>
 ";
 
 /// The head of the table of the others. Values: its heading and caption, and the heads of its columns.
@@ -93,7 +100,7 @@ pub(crate) const OTHERS_OPENING: &str = "<section class='lost' aria-labelledby='
 /// A project that did not win, up to what is said of what is missing. Values: id, name, width of its bar; cost, votes and what
 /// its supporters have left, with their labels; the label of what is missing, and that for programs.
 pub(crate) const OTHER: &str =
-    "<tr role='row' data-project='~'><th role='rowheader' scope='row'><bdi dir='auto'>~</bdi><svg class='bar' viewBox='0 0 10000 1' preserveAspectRatio='none' aria-hidden='true'><rect width='~' height='1'/></svg></th><td role='cell' class='n' data-label='~'><data class='cost' value='~'>~</data></td><td role='cell' class='n' data-label='~'><data class='votes' value='^'>~</data></td><td role='cell' class='n' data-label='~'><data class='left' value='~'>~</data></td><td role='cell' class='n' data-label='~'><data class='missing' value='~'>";
+    "<tr role='row' data-project='^'><th role='rowheader' scope='row'><span class='id' dir='auto'>~</span> <bdi dir='auto'>~</bdi><svg class='bar' viewBox='0 0 10000 1' preserveAspectRatio='none' aria-hidden='true'><rect width='~' height='1'/></svg></th><td role='cell' class='n' data-label='~'><data class='cost' value='~'>~</data></td><td role='cell' class='n' data-label='~'><data class='votes' value='^'>~</data></td><td role='cell' class='n' data-label='~'><data class='left' value='~'>~</data></td><td role='cell' class='n' data-label='~'><data class='missing' value='~'>";
 
 /// What stands behind that.
 pub(crate) const OTHER_CLOSING: &str = "</data></td></tr>
@@ -110,6 +117,22 @@ pub(crate) const NONE_LOST: &str = "<section aria-labelledby='others'>
 pub(crate) const TABLE_CLOSING: &str = "</tbody>
 </table>
 </section>
+";
+
+/// The head of the table of categories. Values: its heading and caption, and the heads of its columns.
+pub(crate) const CATEGORIES_OPENING: &str =
+    "<section class='won money' aria-labelledby='categories'>
+<h2 id='categories'>~</h2>
+<table class='wide' role='table'>
+<caption role='caption'>~</caption>
+<thead role='rowgroup'><tr role='row'><th role='columnheader' scope='col'>~</th><th role='columnheader' scope='col' class='n'>~</th><th role='columnheader' scope='col' class='n'>~</th></tr></thead>
+<tbody role='rowgroup'>
+";
+
+/// A category. Values: what it is called, width of its bar, how many winners are of it and what these cost, each of these two
+/// with its label before it, and the amount also as it is shown.
+pub(crate) const CATEGORY: &str =
+    "<tr role='row'><th role='rowheader' scope='row'><bdi dir='auto'>~</bdi><svg class='bar' viewBox='0 0 10000 1' preserveAspectRatio='none' aria-hidden='true'><rect width='~' height='1'/></svg></th><td role='cell' class='n' data-label='~'><data class='category_won' value='^'>~</data></td><td role='cell' class='n' data-label='~'><data class='category_cost' value='~'>~</data></td></tr>
 ";
 
 /// The head of what the voters got. Value: the heading.
@@ -164,6 +187,44 @@ pub(crate) const RULE_NEXT: &str = "</li>
 pub(crate) const ITEM: &str = "<li>~</li>
 ";
 
+/// What a project is called, within a sentence. Value: that.
+pub(crate) const CALLED: &str = "<bdi dir='auto'>~</bdi>";
+
+/// The head of the list of ties, itself an item of a list. Value: the heading.
+pub(crate) const TIES_OPENING: &str = "<li>~
+<ul class='ties'>
+";
+
+/// What stands before a tie, and behind it.
+pub(crate) const TIE_OPENING: &str = "<li>";
+
+pub(crate) const TIE_CLOSING: &str = "</li>
+";
+
+/// The end of the list of ties.
+pub(crate) const TIES_CLOSING: &str = "</ul>
+</li>
+";
+
+/// What stands before a sentence of a list that has places.
+pub(crate) const ITEM_OPENING: &str = "<li>";
+
+/// What stands behind such a sentence, before a list of projects. Value: what is said of these.
+pub(crate) const ONLY_THEN_OPENING: &str = "</li>
+<li>~
+<ul>
+";
+
+/// A project of that list. Values: its id and its name, and its cost, for programs and as it is shown.
+pub(crate) const ONLY_THEN: &str =
+    "<li><span class='id' dir='auto'>~</span> <bdi dir='auto'>~</bdi> (<data value='~'>~</data>)</li>
+";
+
+/// The end of that list.
+pub(crate) const ONLY_THEN_CLOSING: &str = "</ul>
+</li>
+";
+
 /// The head of what was counted. Values: the heading, and what is said of the bytes.
 pub(crate) const CHECK_OPENING: &str = "</ol>
 </section>
@@ -215,8 +276,16 @@ pub(crate) const OPTION_UTILITARIAN: &str = " --completion utilitarian";
 
 pub(crate) const OPTION_ADD1U: &str = " --completion add1u";
 
-/// Its other options, and the end of a page. Values: the step in hundredths, the limit of raises.
-pub(crate) const CLOSING: &str = " --step ~ --raises ~</code></pre>
+/// Its other options, and the end of the command. Values: the step in hundredths, the limit of raises.
+pub(crate) const COMMAND_CLOSING: &str = " --step ~ --raises ~</code></pre>
+<p>";
+
+/// What stands between the sentence on the options and that on the program.
+pub(crate) const MADE_BY_OPENING: &str = "</p>
+<p>";
+
+/// The end of a page.
+pub(crate) const CLOSING: &str = "</p>
 </section>
 </main>
 </body>

@@ -1,9 +1,9 @@
 //! The top of a page, and the picture of the budget.
 
-ghost use Rattle.std.specs.Prelude.{[], ◌∷◌, ◌<◌, ◌^◌, All, OnOk, codes, length, sum_by};
+ghost use Rattle.std.specs.Prelude.{◌≡◌, [], ◌∷◌, ◌<◌, ◌^◌, All, OnOk, codes, length, sum_by};
 ghost use Rattle.pb_markup.specs.Amount.{shown};
 ghost use Rattle.pb_page.specs.Inner.Grown.{Grows};
-ghost use Rattle.pb_page.specs.Inner.Pieces.{block, caption, picture, whole_said};
+ghost use Rattle.pb_page.specs.Inner.Pieces.{block, caption, caption_key, none_said, nothing, picture, result_said, whole_said};
 ghost use Rattle.pb_page.specs.Page.{amount, at, blocks, filling, noun_at, number, say, text};
 ghost use Rattle.pb_page.specs.declared.keys.TheConstants as key;
 ghost use Rattle.pb_page.specs.declared.style.TheConstants.{HEAD};
@@ -18,7 +18,7 @@ use crate::put::{put, say};
 use crate::style::HEAD;
 use crate::templates::{
     AMOUNT, BLOCKS_CLOSING, BLOCKS_OPENING, BUDGET_CLOSING, BUDGET_OPENING, BUDGET_PART, LEAD_NEXT,
-    NUMBER, TEXT,
+    NOTHING, NUMBER, TEXT,
 };
 use pb_core::election::Election;
 use pb_core::money::Money;
@@ -40,7 +40,7 @@ pub(crate) fn put_summary(
     put_head(page, alloc, language, title)?;
     put_voted(page, alloc, language, figures)?;
     put(page, alloc, LEAD_NEXT, &[])?;
-    put_won(page, alloc, language, figures)
+    put_result(page, alloc, language, figures)
 }
 
 /// What the page is about.
@@ -115,6 +115,78 @@ fn put_voted(
                 values: &values[8..9],
             },
         ],
+    )
+}
+
+/// How many won, and what was spent; or that no project won.
+fn put_result(
+    page: &mut Vec<u8>,
+    alloc: Global,
+    language: &Language,
+    figures: &Figures,
+) -> Result<(), NoMemory>
+    ensures { OnOk result (Grows page.old.items page.new.items (result_said language.now figures.now)) }
+{
+    if figures.won == 0 {
+        put_none(page, alloc, language, figures)
+    } else {
+        put_won(page, alloc, language, figures)
+    }
+}
+
+/// That no project won.
+fn put_none(
+    page: &mut Vec<u8>,
+    alloc: Global,
+    language: &Language,
+    figures: &Figures,
+) -> Result<(), NoMemory>
+    ensures { OnOk result (Grows page.old.items page.new.items (none_said language.now figures.now)) }
+{
+    put_nothing(page, alloc, figures)?;
+    say_left(page, alloc, language, figures.left)
+}
+
+/// What programs read where no project won.
+fn put_nothing(page: &mut Vec<u8>, alloc: Global, figures: &Figures) -> Result<(), NoMemory>
+    ensures { OnOk result (Grows page.old.items page.new.items (nothing figures.now ∷ [])) }
+{
+    put(
+        page,
+        alloc,
+        NOTHING,
+        &[
+            Value::Number(figures.won),
+            Value::Amount(figures.spent),
+            Value::Amount(figures.surplus),
+        ],
+    )
+}
+
+/// What is left where no project won.
+fn say_left(
+    page: &mut Vec<u8>,
+    alloc: Global,
+    language: &Language,
+    left: Money,
+) -> Result<(), NoMemory>
+    ensures { OnOk result (Grows page.old.items page.new.items (say language.now key.NONE_WON
+        (amount language.now.costs (codes "left") left ∷ []))) }
+{
+    let values: &[Value] = &[
+        Value::Text("left"),
+        Value::Amount(left),
+        Value::Shown(left, language.costs),
+    ];
+    say(
+        page,
+        alloc,
+        language,
+        keys::NONE_WON,
+        &[Place {
+            piece: AMOUNT,
+            values,
+        }],
     )
 }
 
@@ -245,14 +317,14 @@ pub(crate) fn put_caption(
     put(page, alloc, BUDGET_CLOSING, &[])
 }
 
-/// What was spent, left, and paid beyond the costs.
+/// What was spent, left, and paid beyond the costs; or that there is nothing to see.
 fn put_spent(
     page: &mut Vec<u8>,
     alloc: Global,
     language: &Language,
     figures: &Figures,
 ) -> Result<(), NoMemory>
-    ensures { OnOk result (Grows page.old.items page.new.items (say language.now key.BUDGET_CAPTION
+    ensures { OnOk result (Grows page.old.items page.new.items (say language.now (caption_key figures.now)
         (amount language.now.costs (codes "spent") figures.now.spent ∷ amount language.now.costs (codes "left") figures.now.left
         ∷ amount language.now.amounts (codes "surplus") figures.now.surplus ∷ []))) }
 {
@@ -271,7 +343,7 @@ fn put_spent(
         page,
         alloc,
         language,
-        keys::BUDGET_CAPTION,
+        caption_key(figures),
         &[
             Place {
                 piece: AMOUNT,
@@ -287,6 +359,17 @@ fn put_spent(
             },
         ],
     )
+}
+
+/// The key of what is said below the picture.
+fn caption_key(figures: &Figures) -> u16
+    ensures { result ≡ caption_key figures.now }
+{
+    if figures.won == 0 {
+        keys::BUDGET_NONE
+    } else {
+        keys::BUDGET_CAPTION
+    }
 }
 
 /// A block for each of the winners at these places, one beside the other.
@@ -333,6 +416,7 @@ fn put_block<'a>(
             Value::Number(width(project.cost().0, budget.0)),
             Value::Text(called(project)),
             Value::Shown(project.cost(), *costs),
+            Value::Text(project.id()),
         ],
     )
 }

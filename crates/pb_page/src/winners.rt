@@ -7,7 +7,7 @@ ghost use Rattle.pb_page.specs.declared.keys.TheConstants as key;
 ghost use Rattle.pb_page.specs.declared.templates.TheConstants.{NONE_WON};
 ghost use Rattle.pb_page.specs.Page.{at, filling, winners, won_row};
 
-use crate::forms::{called, width};
+use crate::forms::width;
 use crate::keys;
 use crate::language::Language;
 use crate::put::put;
@@ -177,7 +177,8 @@ fn put_won<'a>(
             Value::Text(project.id()),
             Value::Text(language.text(keys::ROUND)),
             Value::Number(u64::from(won.round)),
-            Value::Text(called(project)),
+            Value::Text(project.id()),
+            Value::Text(project.name()),
             Value::Number(width(project.cost().0, budget.0)),
             Value::Text(language.text(keys::COST)),
             Value::Amount(project.cost()),
@@ -213,7 +214,8 @@ fn put_one_added<'a>(
             Value::Text(project.id()),
             Value::Text(language.text(keys::NUMBER)),
             Value::Number(added.number),
-            Value::Text(called(project)),
+            Value::Text(project.id()),
+            Value::Text(project.name()),
             Value::Number(width(project.cost().0, budget.0)),
             Value::Text(language.text(keys::COST)),
             Value::Amount(project.cost()),

@@ -1,7 +1,10 @@
 //! Why a file of words is refused.
 
-use crate::table::TABLE;
+ghost use Rattle.std.specs.Prelude.{◌≡◌};
+
+use crate::table::entry_at;
 use pb_core::no_memory::NoMemory;
+use pb_markup::Plural;
 use std::alloc::{AllocError, AllocFailed};
 
 /// A key of a file of words.
@@ -21,12 +24,25 @@ impl Key {
             Key::Plural => "plural",
             Key::Group => "group",
             Key::Point => "point",
-            Key::Sentence(index) => match TABLE.get(usize::from(index)) {
+            Key::Sentence(index) => match entry_at(usize::from(index)) {
                 Some(entry) => entry.key,
                 None => "",
             },
         }
     }
+
+    /// The line of this number, which has this key.
+    pub(crate) fn on(self, number: u32) -> WordsLine {
+        WordsLine { number, key: self }
+    }
+}
+
+/// A line of a file of words, where its key is known.
+#[derive(Clone, Copy, Debug, PartialEq, Eq)]
+pub struct WordsLine {
+    /// Its number, from 1.
+    pub number: u32,
+    pub key: Key,
 }
 
 /// Why a file of words is refused. Lines have their numbers from 1.
@@ -39,19 +55,23 @@ pub enum WordsFault {
     /// No sentence has the key of this line.
     UnknownKey(u32),
     /// A line before this one has its key.
-    RepeatedKey(u32),
+    RepeatedKey(WordsLine),
     /// This line has a character that could be taken for markup, or a control character.
-    Markup(u32),
-    /// This line names a place that its sentence does not have, or has a brace that belongs to no place.
-    UnknownPlace(u32),
-    /// This line lacks a place of its sentence, or has it twice.
-    MissingPlace(u32),
-    /// The value of this line is none of those that its key takes.
-    BadValue(u32),
+    Markup(WordsLine),
+    /// This line names a place that its sentence does not have.
+    UnknownPlace(WordsLine),
+    /// This line has a brace that belongs to no place.
+    LoneBrace(WordsLine),
+    /// This line lacks the place of the number at this index of the sentence's row in the table.
+    MissingPlace(WordsLine, u8),
+    /// This line has the place of that number more than once.
+    RepeatedPlace(WordsLine, u8),
+    /// The value of this line is not one that its key takes.
+    BadValue(WordsLine),
     /// No line has this key.
     MissingKey(Key),
-    /// A line has this key, which is of no use with the plural of the file.
-    UnusedKey(Key),
+    /// A line has this key, but a file with this plural has no use for it.
+    UnusedKey(Key, Plural),
     /// The file could not be read.
     ReadFailed,
     /// Memory was refused.
@@ -59,19 +79,25 @@ pub enum WordsFault {
 }
 
 impl From<NoMemory> for WordsFault {
-    fn from(_refused: NoMemory) -> WordsFault {
+    fn from(_refused: NoMemory) -> WordsFault
+        ensures { result ≡ WordsFault.NoMemory }
+    {
         WordsFault::NoMemory
     }
 }
 
 impl From<AllocError> for WordsFault {
-    fn from(_refused: AllocError) -> WordsFault {
+    fn from(_refused: AllocError) -> WordsFault
+        ensures { result ≡ WordsFault.NoMemory }
+    {
         WordsFault::NoMemory
     }
 }
 
 impl<T: Drop> From<AllocFailed<T>> for WordsFault {
-    fn from(_refused: AllocFailed<T>) -> WordsFault {
+    fn from(_refused: AllocFailed<T>) -> WordsFault
+        ensures { result ≡ WordsFault.NoMemory }
+    {
         WordsFault::NoMemory
     }
 }

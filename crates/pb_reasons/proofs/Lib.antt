@@ -19,3 +19,5 @@ pub mod PlaceSums
 pub mod AllWinners
 pub mod TiedRounds
 pub mod AllTies
+pub mod TieOrder
+pub mod Rooms

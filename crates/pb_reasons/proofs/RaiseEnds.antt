@@ -1,18 +1,14 @@
 -- Why the raises of a count ended.
-use Rattle.std.proofs.Common.{◌≡◌, ◌≢◌, ℕ, ◌+◌, ◌-◌, ◌*◌, ◌<◌, ◌≤◌, ◌^◌, Bool, true, false, not, List, [], ◌∷◌, ◌++◌, length, map, get_or, take, cond, refl, sym, subst, ◌∙◌, ap, inl, inr, arith}
-use Rattle.std.specs.Prelude.{◌==◌, All, filter}
-use Rattle.std.proofs.lemmas.Bool.{true≢false, not-true, not_from_false, and_parts, and_cases, cases_eq, lt-ltb, ltb-true, leb-false, eq-eqb, eqb-true, ne_eqb}
+use Rattle.std.proofs.Common.{◌≡◌, ℕ, ◌+◌, ◌*◌, ◌<◌, ◌≤◌, ◌^◌, Bool, true, false, not, List, [], ◌∷◌, ◌++◌, length, map, get_or, take, cond, refl, sym, subst, ◌∙◌, ap, inl, inr, arith}
+use Rattle.std.specs.Prelude.{All, filter}
+use Rattle.std.proofs.lemmas.Bool.{true≢false, cases_eq}
 use Rattle.std.proofs.lemmas.List.{append-nil, map-append}
 use Rattle.std.proofs.lemmas.List.Elements.{filter_more}
-use Rattle.std.proofs.lemmas.List.Folds.{list_any_at, list_any_none}
 use Rattle.std.proofs.Math.Nat.{mul-le-mul}
 use Rattle.pb_core.specs.Election.{ElectionView, IsElection}
-use Rattle.pb_greedy.proofs.Computed.{fitting_is_known, fitting_is_paid}
-use Rattle.pb_greedy.proofs.Filled.{IsFilled}
-use Rattle.pb_greedy.specs.MostVotes.{is_taken, votes_at}
-use Rattle.pb_price.proofs.SupporterLists.{support_form}
+use Rattle.pb_greedy.specs.MostVotes.{is_taken}
 use Rattle.pb_price.specs.Price.{largest_share}
-use Rattle.pb_price.specs.Supporters.{SupportView, cost_at, support_of}
+use Rattle.pb_price.specs.Supporters.{SupportView, support_of}
 use Rattle.pb_rounds.proofs.Completing.{opening_of_nobody, opening_within}
 use Rattle.pb_rounds.proofs.Counted.{can_complete}
 use Rattle.pb_rounds.proofs.RunIs.{only_run}
@@ -27,49 +23,10 @@ use Rattle.pb_rounds.specs.declared.measure.Measure.{Measure}
 use Rattle.pb_rounds.specs.declared.options.Completion.TheVariants.{Add1}
 use Rattle.pb_rounds.specs.declared.options.CountOptions.{CountOptions}
 use Rattle.pb_reasons.specs.RaiseEnd.{IsRaiseEnd}
-use Rattle.pb_reasons.specs.Inner.Raises.{TellsExhausted}
 use Rattle.pb_reasons.specs.declared.raise_end.NextRaise.{NextRaise}
 use Rattle.pb_reasons.specs.declared.raise_end.RaiseEnd.TheVariants.{Over}
 use Rattle.pb_reasons.proofs.AllWinners.{elected_are_taken}
 use Rattle.pb_reasons.proofs.ElectedPlaces.{AreProjects, run_elects_projects}
-
-others_are_free : (elected : List ElectedView) (place : ℕ) → All (λ w. w.place ≢ place) elected → is_taken (map (λ w. w.place) elected) place ≡ false
-others_are_free elected place h =
-    sym (elected_are_taken elected place) ∙ list_any_none (λ w. w.place == place) elected (λ k d below. ne_eqb _ _ (h k d below))
-
-free_are_others : (elected : List ElectedView) (place : ℕ) → is_taken (map (λ w. w.place) elected) place ≡ false → All (λ w. w.place ≢ place) elected
-free_are_others elected place e k d below same =
-    true≢false (sym (list_any_at (λ w. w.place == place) elected k d below (eq-eqb _ _ same)) ∙ elected_are_taken elected place ∙ e)
-
--- most votes first adds none where the outcome is exhausted, and some where it is not
-pub added_tell : (e : ElectionView) (o : OutcomeView) → IsElection e → spent_on (support_of e) o.elected ≤ e.budget → (added : List ℕ)
-    → IsFilled (support_of e) (map (λ w. w.place) o.elected) (e.budget - spent_on (support_of e) o.elected) added
-    → (b : Bool) → (length added == 0) ≡ b → TellsExhausted e o b
-added_tell e o h within [] filled false is = absurd (true≢false (sym (eq-eqb 0 0 refl) ∙ is))
-added_tell e o h within [] filled true is = record {
-  within = within;
-  no_room = λ place left supported. elim (and_cases _ _ (filled place)) [
-    | inl none ↦ absurd (true≢false (sym (lt-ltb 0 (votes_at (support_of e) place) supported) ∙ none))
-    | inr other ↦ elim (and_cases _ _ other) [
-      | inl taken ↦ absurd (true≢false (sym (not_from_false _ (others_are_free o.elected place left.1)) ∙ taken))
-      | inr dear ↦
-          let more = leb-false (cost_at (support_of e) place) (e.budget - spent_on (support_of e) o.elected) dear in
-          omega (arith, more, within)
-    ]
-  ];
-}
-added_tell e o h within (p ∷ added) filled true is = (let none = eqb-true _ _ is in absurd (omega (arith, none)))
-added_tell e o h within (p ∷ added) filled false is = λ exhausted.
-    let s = support_of e in
-    let taken = map (λ (w : ElectedView). w.place) o.elected in
-    let left = e.budget - spent_on s o.elected in
-    let fits_now = filled.0.does_fit in
-    let known = fitting_is_known s (support_form s (e, h, refl)) taken left p fits_now in
-    let paid = fitting_is_paid s taken left p fits_now in
-    let parts = and_parts _ _ fits_now in
-    let free = not-true _ (and_parts _ _ parts.1).0 in
-    let room = exhausted.no_room p (known, free_are_others o.elected p free) (ltb-true 0 (votes_at s p) parts.0) in
-    omega (arith, room, paid, within)
 
 -- those of the elected that are not taken, with one more
 pub one_kept : (p : ElectedView → Bool) (elected : List ElectedView) (i : ℕ) (w : ElectedView) → i < length elected → w ≡ get_or elected i w → p w ≡ true

@@ -77,11 +77,7 @@ impl Counted {
 }
 
 /// What most votes first adds to the elected of an outcome.
-pub(crate) fn added_to(
-    alloc: Global,
-    election: &Election,
-    outcome: &Outcome,
-) -> Result<Vec<u32>, NoMemory>
+fn added_to(alloc: Global, election: &Election, outcome: &Outcome) -> Result<Vec<u32>, NoMemory>
     requires { IsOutcome election.now outcome.now }
     ensures { IfOk result (λ added. added.items ≡ added_to election.now outcome.now) }
 {

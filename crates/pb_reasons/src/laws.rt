@@ -1,11 +1,16 @@
-//! A law over what a count comes to, as the contract of a function that does nothing.
+//! Laws over what a count comes to, each as the contract of a function that does nothing.
 
-ghost use Rattle.std.specs.Prelude.{◌≡◌, ◌≢◌, ◌-◌, ◌≤◌, ℕ, AllPairs, false, true};
+ghost use Rattle.std.specs.Prelude.{◌≡◌, ◌≢◌, ◌-◌, ◌<◌, ◌≤◌, ℕ, All, AllPairs, false, true};
 ghost use Rattle.pb_core.specs.Election.{ElectionView, IsElection};
 ghost use Rattle.pb_greedy.specs.MostVotes.{fits, is_taken};
 ghost use Rattle.pb_price.specs.Supporters.{support_of};
 ghost use Rattle.pb_reasons.specs.Counted.{CountedView, IsCounted, is_selected, winners_of};
+ghost use Rattle.pb_reasons.specs.Ties.{ties_of};
 ghost use Rattle.pb_reasons.specs.Totals.{totals_of};
+ghost use Rattle.pb_reasons.specs.declared.tie.Tie.{Tie};
+ghost use Rattle.pb_rounds.specs.Counted.{IsCountOf};
+ghost use Rattle.pb_rounds.specs.Outcome.{OutcomeView};
+ghost use Rattle.pb_rounds.specs.declared.options.CountOptions.{CountOptions};
 
 /// The winners of a count are its elected and its added projects, each once, and together they cost at most the budget. Where
 /// a count is filled up, no other project that has a supporter costs at most what the winners leave of the budget.
@@ -17,4 +22,10 @@ pub fn winners_share_the_budget()
         → (totals_of e c).spent ≤ e.budget }
     ensures none_fits { (e : ElectionView) (c : CountedView) (place : ℕ) → IsElection e → IsCounted e c → c.fills_up ≡ true
         → fits (support_of e) (winners_of c) (e.budget - (totals_of e c).spent) place ≡ false }
+{}
+
+/// Only the order of the file decided the ties of a count: its winner comes before the other project.
+pub fn ties_are_decided_by_place()
+    ensures { (e : ElectionView) (options : CountOptions) (o : OutcomeView) → IsCountOf e options o
+        → All (λ (t : Tie). t.winner < t.other) (ties_of options.measure e o) }
 {}

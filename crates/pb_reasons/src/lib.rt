@@ -17,6 +17,7 @@ mod purse;
 pub mod raise_end;
 mod reasons;
 mod replay;
+mod room;
 mod rounds;
 pub mod rule_row;
 pub mod tie;

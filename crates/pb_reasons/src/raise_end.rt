@@ -12,7 +12,8 @@ ghost use Rattle.pb_reasons.specs.RaiseEnd.{IsRaiseEnd};
 ghost use Rattle.pb_reasons.specs.Inner.OfOutcome.{IsOutcome};
 ghost use Rattle.pb_reasons.specs.Inner.Raises.{TellsExhausted};
 
-use crate::counted::{added_to, places_of};
+use crate::counted::places_of;
+use crate::room::{leave_room_for_any_project, leave_room_for_any_voter};
 use crate::totals::spent_for;
 use crate::winners::Winners;
 use pb_core::election::Election;
@@ -108,16 +109,21 @@ fn next_share(outcome: &Outcome, step: Money) -> Money
     Money(outcome.share.0 + step.0)
 }
 
-/// Whether each other project that has a supporter costs more than what the elected leave of the budget: most votes first then
-/// adds none.
+/// Whether each other project that has a supporter costs more than what the elected leave of the budget.
 fn is_exhausted(alloc: Global, election: &Election, outcome: &Outcome) -> Result<bool, NoMemory>
     requires { IsOutcome election.now outcome.now }
     ensures { IfOk result (TellsExhausted election.now outcome.now) }
 {
-    // What is true of every election bounds what is left.
-    let _budget = election.budget();
-    let added = added_to(alloc, election, outcome)?;
-    Ok(added.as_slice().is_empty())
+    let budget = election.budget();
+    let elected = outcome.elected.as_slice();
+    let left = Money(budget.0 - spent_for(election, elected));
+    let places = places_of(alloc, elected)?;
+    let winners = Winners::of(alloc, election, places.as_slice())?;
+    let projects = election.projects().len() as u32;
+    // Where each other project costs more than what is left, it looks at no ballot.
+    let has_room = leave_room_for_any_project(&winners, projects, left)
+        && leave_room_for_any_voter(&winners, election.voters(), left);
+    Ok(!has_room)
 }
 
 /// What is told of the run after one raise more than those of an outcome.

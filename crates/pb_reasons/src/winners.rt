@@ -4,10 +4,12 @@ ghost use Rattle.std.specs.Prelude.{◌≡◌, ◌^◌, ◌<◌, ◌≤◌, All,
 ghost use Rattle.pb_greedy.specs.MostVotes.{is_taken};
 ghost use Rattle.pb_price.specs.Supporters.{cost_at, support_of};
 ghost use Rattle.pb_reasons.specs.Inner.Comparing.{AreFlags, content_of, row_after};
+ghost use Rattle.pb_reasons.specs.Inner.Raises.{leave_room_for};
 
 use crate::content::Content;
 use crate::rule_row::RuleRow;
 use pb_core::election::Election;
+use pb_core::money::Money;
 use pb_core::no_memory::NoMemory;
 use pb_core::project::Project;
 use std::alloc::Global;
@@ -59,6 +61,15 @@ impl<'a> Winners<'a> {
         ensures { result ≡ is_taken self.now.1 place }
     {
         self.flags[place as usize]
+    }
+
+    /// Whether the project at this place is not among them and costs at most what is left.
+    pub(crate) fn leave_room_for(&self, place: u32, left: Money) -> bool
+        requires { place < length self.now.0.projects }
+        ensures { result ≡ leave_room_for self.now left place }
+    {
+        let project = &self.election.projects()[place as usize];
+        !self.flags[place as usize] && project.cost().0 <= left.0
     }
 
     /// The row of the rule before the first voter.

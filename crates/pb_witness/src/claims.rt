@@ -9,9 +9,9 @@ use pb_core::money::Money;
 #[derive(Clone, Copy)]
 pub struct Claim {
     /// Where its record begins.
-    mark: Mark,
+    pub mark: Mark,
     /// None where the value is no whole number.
-    number: Option<u64>,
+    pub number: Option<u64>,
 }
 
 /// What META says that warnings rest on; of a repeated key the last value counts.
@@ -63,13 +63,13 @@ impl Claims {
     }
 }
 
-/// Where a claim's record begins, where the claim is of other than so many.
-pub fn broken(claim: Option<Claim>, count: u64) -> Option<Mark> {
+/// The claim, where it is of other than so many.
+pub fn broken(claim: Option<Claim>, count: u64) -> Option<Claim> {
     let claim = claim?;
     if claim.number == Some(count) {
         return None;
     }
-    Some(claim.mark)
+    Some(claim)
 }
 
 /// The whole number that a value names, perhaps with zeros as decimals.

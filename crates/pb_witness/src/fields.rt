@@ -24,6 +24,16 @@ pub fn text_at(record: &ByteRecord, place: usize) -> &str {
     raw_text(record, place).trim()
 }
 
+/// Whether a field behind the first has a text.
+pub fn has_more(record: &ByteRecord) -> bool {
+    for place in 1..record.len() {
+        if !text_at(record, place).is_empty() {
+            return true;
+        }
+    }
+    false
+}
+
 /// The first place at which the record has this word, in any case.
 pub fn column_of(record: &ByteRecord, name: &str) -> Option<usize> {
     for place in 0..record.len() {

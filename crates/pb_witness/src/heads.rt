@@ -19,7 +19,12 @@ pub struct OddHead {
     pub section: Section,
     /// Where the row begins.
     pub mark: Mark,
+    /// Whether column names follow in the same row.
+    pub has_names: bool,
 }
+
+/// The columns that a section needs.
+const COLUMNS: [&str; 6] = ["key", "value", "project_id", "cost", "voter_id", "vote"];
 
 /// The sections, in their order.
 const SECTIONS: [Section; 3] = [Section::Meta, Section::Projects, Section::Votes];
@@ -33,6 +38,16 @@ pub fn head_of(section: Section) -> &'static str {
     }
 }
 
+/// Whether a word is a section's head.
+pub(crate) fn is_head(word: &str) -> bool {
+    for section in SECTIONS {
+        if word.eq_ignore_ascii_case(head_of(section)) {
+            return true;
+        }
+    }
+    false
+}
+
 /// The section that is read at a stage.
 pub fn section_of(stage: &Stage) -> Section {
     match stage {
@@ -43,19 +58,38 @@ pub fn section_of(stage: &Stage) -> Section {
     }
 }
 
-/// The head that a record seems to be meant as, where it is none: punctuation stands beside a section's name.
+/// Whether a word is a column that a section needs.
+fn is_column(word: &str) -> bool {
+    for column in COLUMNS {
+        if word.eq_ignore_ascii_case(column) {
+            return true;
+        }
+    }
+    false
+}
+
+/// The head that a record seems to be meant as, where it is none: punctuation stands beside a section's name, or a column's
+/// name behind it.
 pub fn odd_head_of(record: &ByteRecord, mark: Mark) -> Option<OddHead> {
     if joined(record).is_some() {
         return None;
     }
     let field = text_at(record, 0);
-    let name = field.trim_matches(|c: char| c.is_ascii_punctuation() || c.is_whitespace());
+    let (word, has_names) = match field.split_once(' ') {
+        Some((word, rest)) if is_column(rest.trim()) => (word, true),
+        _ => (field, false),
+    };
+    let name = word.trim_matches(|c: char| c.is_ascii_punctuation() || c.is_whitespace());
     if name.len() == field.len() {
         return None;
     }
     for section in SECTIONS {
         if name.eq_ignore_ascii_case(head_of(section)) {
-            return Some(OddHead { section, mark });
+            return Some(OddHead {
+                section,
+                mark,
+                has_names,
+            });
         }
     }
     None

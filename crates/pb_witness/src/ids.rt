@@ -1,8 +1,10 @@
 //! The ids of a file's projects, as far as a witness was shown them.
 
-use crate::fields::text_at;
+use crate::faulty_record::is_hidden;
+use crate::fields::{raw_text, text_at};
 use crate::firsts::Firsts;
 use crate::mark::Mark;
+use crate::swallowed::later_lines;
 use csv::ByteRecord;
 use pb_read::{Part, Stage};
 use std::alloc::{AllocError, Global};
@@ -22,6 +24,10 @@ pub struct Ids {
     pub projects: Firsts,
     /// The projects that were left out.
     pub left_out: Firsts,
+    /// The ids of rows that a quotation mark swallowed, each with where the row begins that has them in a field.
+    pub swallowed: Firsts,
+    /// The pieces of ids that have a comma.
+    pub pieces: Firsts,
     /// The ids of the projects that were not left out.
     project_ids: Vec<String>,
     compared: Cell<u32>,
@@ -34,6 +40,8 @@ impl Ids {
             alloc,
             projects: Firsts::new(alloc),
             left_out: Firsts::new(alloc),
+            swallowed: Firsts::new(alloc),
+            pieces: Firsts::new(alloc),
             project_ids: Vec::new(alloc),
             compared: Cell::new(0),
         }
@@ -42,12 +50,27 @@ impl Ids {
     /// Keeps the id of a project that the reader accepts.
     pub fn take(&mut self, record: &ByteRecord, mark: Mark, part: Part) -> Result<(), AllocError> {
         match part {
-            Part::Project(columns) => self.keep_project(text_at(record, columns.id), mark),
+            Part::Project(columns) => {
+                self.keep_swallowed(record, mark)?;
+                self.keep_project(text_at(record, columns.id), mark)
+            }
             _ => Ok(()),
         }
     }
 
-    /// Keeps the id of a project that is left out.
+    /// Keeps the first fields of rows that stand in a field of this one.
+    fn keep_swallowed(&mut self, record: &ByteRecord, mark: Mark) -> Result<(), AllocError> {
+        for place in 0..record.len() {
+            for line in later_lines(record, place).split('\n') {
+                if let Some((id, _)) = line.split_once(';') {
+                    self.swallowed.keep(self.alloc, id.trim(), mark)?;
+                }
+            }
+        }
+        Ok(())
+    }
+
+    /// Keeps the id of a project that is left out, and those of the rows in it.
     pub fn leave_out(
         &mut self,
         record: &ByteRecord,
@@ -56,6 +79,10 @@ impl Ids {
     ) -> Result<(), AllocError> {
         match stage {
             Stage::InProjects(columns) => {
+                self.keep_swallowed(record, mark)?;
+                if let Some((id, _)) = raw_text(record, 0).split_once(';') {
+                    self.swallowed.keep(self.alloc, id.trim(), mark)?;
+                }
                 self.left_out
                     .keep(self.alloc, text_at(record, columns.id), mark)
             }
@@ -65,9 +92,23 @@ impl Ids {
 
     fn keep_project(&mut self, id: &str, mark: Mark) -> Result<(), AllocError> {
         self.projects.keep(self.alloc, id, mark)?;
+        if id.contains(',') {
+            for piece in id.split(',') {
+                self.pieces.keep(self.alloc, piece.trim(), mark)?;
+            }
+        }
         let id = String::from_str(self.alloc, id)?;
         self.project_ids.push(id)?;
         Ok(())
+    }
+
+    /// The id of a project that this one is without the quotation marks and unseen characters at its ends, if it has some.
+    pub fn bare<'v>(&self, id: &'v str) -> Option<&'v str> {
+        let bare = id.trim_matches(|c: char| c == '"' || is_hidden(u32::from(c)));
+        if bare.len() < id.len() && self.projects.has(bare) {
+            return Some(bare);
+        }
+        None
     }
 
     /// The first id that a vote names and that no project has.

@@ -1,6 +1,7 @@
 //! The rows of META that gave the keys that the count uses.
 
 use crate::mark::Mark;
+use pb_read::ReadKind;
 
 /// The keys of META that the count uses.
 const KEYS: [&str; 3] = ["budget", "vote_type", "max_length"];
@@ -16,6 +17,16 @@ pub struct Given {
 #[derive(Clone, Copy)]
 pub struct Keys {
     given: [Option<Given>; 3],
+}
+
+/// Whether a word is a key that the count uses.
+pub(crate) fn is_key(word: &str) -> bool {
+    for key in KEYS {
+        if word.eq_ignore_ascii_case(key) {
+            return true;
+        }
+    }
+    false
 }
 
 impl Keys {
@@ -41,6 +52,15 @@ impl Keys {
             }
         }
         None
+    }
+
+    /// The key that a fault at the head of PROJECTS is about, and the rows that gave it.
+    pub fn judged(&self, kind: ReadKind) -> (&'static str, Option<Given>) {
+        match kind {
+            ReadKind::VoteType => ("vote_type", self.vote_type()),
+            ReadKind::BadLength => ("max_length", self.max_length()),
+            _ => ("budget", self.budget()),
+        }
     }
 
     /// The rows that gave `budget`.

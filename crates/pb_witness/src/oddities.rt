@@ -55,7 +55,7 @@ pub struct Odd {
     pub value_place: usize,
     /// What it is measured by, as how many rows there are.
     pub number: u64,
-    /// What the number should not pass, where META says so.
+    /// What the number should not pass, or should be, where META says so.
     pub limit: Option<u64>,
     /// Where the key stood before, if it is repeated.
     pub before: Option<Mark>,

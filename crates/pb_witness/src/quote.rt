@@ -33,6 +33,10 @@ pub struct Span {
     opened: u64,
     /// The lines of the first quoted field that runs over several: where it opens and where it closes.
     pub over: Option<(u64, u64)>,
+    /// Whether each of these two lines has one quotation mark.
+    pub is_single: bool,
+    /// How many quotation marks came so far in the line.
+    marks: u64,
 }
 
 impl Span {
@@ -43,6 +47,8 @@ impl Span {
             begins: line,
             opened: line,
             over: None,
+            is_single: true,
+            marks: 0,
         }
     }
 
@@ -61,15 +67,36 @@ impl Span {
                 self.line = self.line.saturating_add(1);
                 self.begins = self.line;
             }
-            (State::Quoted, b'\n') => self.line = self.line.saturating_add(1),
+            (State::Quoted, b'\n') => self.end_line(),
             (State::Before | State::Begins, b'"') => self.opened = self.line,
             (State::Closing, b'"') => {}
             (State::Closing, _) if self.over.is_none() && self.opened < self.line => {
                 self.over = Some((self.opened, self.line));
+                self.is_single &= self.marks == 1;
             }
             _ => {}
         }
+        if byte == b'"' {
+            self.take_mark();
+        }
         self.state = self.state.behind(byte);
+    }
+
+    /// Takes a line end in quotes.
+    fn end_line(&mut self) {
+        if self.over.is_none() && self.opened == self.line {
+            self.is_single = self.marks == 1;
+        }
+        self.line = self.line.saturating_add(1);
+        self.marks = 0;
+    }
+
+    /// Takes a quotation mark. Behind the one that closes the field over several lines there should be no other in its line.
+    fn take_mark(&mut self) {
+        self.marks = self.marks.saturating_add(1);
+        if let Some((_, closes)) = self.over {
+            self.is_single &= closes != self.line;
+        }
     }
 }
 

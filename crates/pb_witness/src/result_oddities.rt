@@ -159,8 +159,11 @@ impl ResultOddities {
 
 /// Takes a claim of META that is of other than so many.
 fn put_broken(oddity: Oddity, claim: Option<Claim>, count: u64, out: &mut Oddities) {
-    if let Some(mark) = broken(claim, count) {
-        out.take(Odd::of_key(oddity, mark, count));
+    if let Some(Claim { mark, number }) = broken(claim, count) {
+        out.take(Odd {
+            limit: number,
+            ..Odd::of_key(oddity, mark, count)
+        });
     }
 }
 

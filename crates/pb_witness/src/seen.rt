@@ -4,6 +4,7 @@ use crate::fields::text_at;
 use crate::heads::{OddHead, odd_head_of, section_of};
 use crate::keys::Keys;
 use crate::mark::Mark;
+use crate::swallowed::swallows_head;
 use csv::ByteRecord;
 use pb_read::{Part, Section, Stage};
 
@@ -14,10 +15,13 @@ pub struct Seen {
     pub keys: Keys,
     /// The first row of META or PROJECTS, whichever is read, that seems to be meant as a head.
     pub odd_head: Option<OddHead>,
+    /// The first row of META or PROJECTS, whichever is read, that has a head or a row of META in a field in quotes.
+    pub swallowing: Option<Mark>,
     /// The last record that is not blank.
     pub last: Mark,
-    /// The last row of column names.
+    /// The last row of column names, and how many it has.
     pub names: Mark,
+    pub columns: usize,
 }
 
 impl Seen {
@@ -26,8 +30,10 @@ impl Seen {
         Seen {
             keys: Keys::none(),
             odd_head: None,
+            swallowing: None,
             last: Mark::start(),
             names: Mark::start(),
+            columns: 0,
         }
     }
 
@@ -35,13 +41,19 @@ impl Seen {
     pub fn take(&mut self, record: &ByteRecord, mark: Mark, part: Part) {
         match part {
             Part::Other => return,
-            Part::Head(_) => self.odd_head = None,
+            Part::Head(_) => {
+                self.odd_head = None;
+                self.swallowing = None;
+            }
             Part::Key => {
                 self.take_head(record, mark);
                 let _ = self.keys.take(text_at(record, 0), mark);
             }
             Part::Project(_) => self.take_head(record, mark),
-            Part::Names => self.names = mark,
+            Part::Names => {
+                self.names = mark;
+                self.columns = record.len();
+            }
             Part::Vote(_) => {}
         }
         self.last = mark;
@@ -56,8 +68,11 @@ impl Seen {
         }
     }
 
-    /// Keeps where the first row stands that seems to be meant as a head.
+    /// Keeps where the first row stands that seems to be meant as a head, and the first that has one in it.
     fn take_head(&mut self, record: &ByteRecord, mark: Mark) {
+        if self.swallowing.is_none() && swallows_head(record) {
+            self.swallowing = Some(mark);
+        }
         if self.odd_head.is_none() {
             self.odd_head = odd_head_of(record, mark);
         }

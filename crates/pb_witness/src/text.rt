@@ -1,12 +1,12 @@
 //! The text that words speak of. Where it is a file it is read again.
 
-use crate::fields::{JoinedBy, joined};
+use crate::fields::{JoinedBy, joined, text_at};
 use crate::mark::Mark;
 use crate::records::Records;
-use std::alloc::Global;
-use std::fs;
+use std::alloc::{AllocError, Global};
 use std::io::{Read, Seek, SeekFrom};
 use std::rt::Files;
+use std::{fs, str};
 
 /// The text that words speak of, with what it takes to read it again.
 #[derive(Drop)]
@@ -15,20 +15,17 @@ pub struct Text<'a, R> {
     pub alloc: Global,
     /// Its path; none is standard input.
     pub path: Option<&'a str>,
-    /// What its records are called: a .pb file's `record`, a script's or a journal's `row`.
-    pub unit: &'static str,
     /// How many records come before the one with number 1.
     pub before: u64,
 }
 
 impl<'a, R> Text<'a, R> {
-    /// The text with this path, whose records are called so; no path is standard input.
-    pub fn new(rt: &'a R, alloc: Global, path: Option<&'a str>, unit: &'static str) -> Text<'a, R> {
+    /// The text with this path; no path is standard input.
+    pub fn new(rt: &'a R, alloc: Global, path: Option<&'a str>) -> Text<'a, R> {
         Text {
             rt,
             alloc,
             path,
-            unit,
             before: 0,
         }
     }
@@ -60,12 +57,45 @@ impl<'a, R: Files> Text<'a, R> {
         Some(count)
     }
 
+    /// The line with this number, from 1; the empty text where it can't be read again.
+    pub fn line_at(&self, number: u32) -> Result<String, AllocError> {
+        let Some(mut file) = self.open_at(0) else {
+            return Ok(String::new(self.alloc));
+        };
+        let mut bytes = Vec::new(self.alloc);
+        let _ = file.read_to_end(&mut bytes);
+        drop(file);
+        let line: Result<_, _> = String::from_str(self.alloc, nth_line(bytes.as_slice(), number));
+        drop(bytes);
+        Ok(line?)
+    }
+
     /// Why the record with this mark is one field that seems to be a whole row, if it is one.
     pub fn joined_at(&self, mark: Mark) -> Option<JoinedBy> {
         let records = self.record_at(mark)?;
         let joined = joined(&records.last);
         drop(records);
         joined
+    }
+
+    /// Whether the record with this mark begins with this word, in any case.
+    pub fn begins_with(&self, mark: Mark, word: &str) -> bool {
+        let Some(records) = self.record_at(mark) else {
+            return false;
+        };
+        let is_it = text_at(&records.last, 0).eq_ignore_ascii_case(word);
+        drop(records);
+        is_it
+    }
+
+    /// Whether the record with this mark is the last one.
+    pub fn is_last(&self, mark: Mark) -> bool {
+        let Some(mut records) = self.record_at(mark) else {
+            return false;
+        };
+        let has_next = records.advance();
+        drop(records);
+        !has_next
     }
 
     /// Its records from this mark on, if it is a file that can be read again.
@@ -98,6 +128,18 @@ pub fn is_file<R: Files>(rt: &R, path: &str) -> bool {
     }
 }
 
+/// The line with this number, from 1; the empty text where it is none.
+fn nth_line(bytes: &[u8], number: u32) -> &str {
+    let mut at: u32 = 0;
+    for line in bytes.split(|byte| *byte == b'\n') {
+        at = at.saturating_add(1);
+        if at == number {
+            return str::from_utf8(line).unwrap_or("");
+        }
+    }
+    ""
+}
+
 /// A file behind so many bytes.
 fn behind<F: Seek + Drop>(mut file: F, byte: u64) -> Option<F> {
     if file.seek(SeekFrom::Start(byte)).is_ok() {
@@ -105,4 +147,16 @@ fn behind<F: Seek + Drop>(mut file: F, byte: u64) -> Option<F> {
     }
     drop(file);
     None
+}
+
+/// Whether a text begins as a web page does: with a `<` behind white space and perhaps a byte order mark.
+pub fn is_web_page(bytes: &[u8]) -> bool {
+    for byte in bytes {
+        match byte {
+            b'<' => return true,
+            b' ' | b'\t' | b'\r' | b'\n' | 0xef | 0xbb | 0xbf => {}
+            _ => return false,
+        }
+    }
+    false
 }

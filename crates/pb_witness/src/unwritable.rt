@@ -1,6 +1,7 @@
 //! Ids that a .pb file can't have, or that no vote of one can name.
 
 use crate::fields::text_at;
+use crate::heads::is_head;
 use crate::mark::Mark;
 use crate::records::Records;
 use crate::text::Text;
@@ -31,11 +32,8 @@ fn next_like_a_heading<F: Read>(records: &mut Records<F>) -> bool {
         if !records.advance() {
             return false;
         }
-        let voter = text_at(&records.last, 3);
-        for heading in ["META", "PROJECTS", "VOTES"] {
-            if heading.eq_ignore_ascii_case(voter) {
-                return true;
-            }
+        if is_head(text_at(&records.last, 3)) {
+            return true;
         }
     }
     false

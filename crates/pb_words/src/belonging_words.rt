@@ -1,8 +1,8 @@
 //! Words for a journal and the file that it belongs to.
 
 use crate::words::Value::{Name, Own};
-use crate::words::Words;
-use std::alloc::{AllocError, Global};
+use crate::words::{Said, Words, said};
+use std::alloc::Global;
 use std::io::Error;
 
 /// Words for a journal that belongs to another file than the one with this path, as the file beside it says, whose text is
@@ -13,7 +13,7 @@ pub fn other_file_words(
     journal: Option<&str>,
     beside: &str,
     text: &[u8],
-) -> Result<String, AllocError> {
+) -> Said {
     let mut out = Words::new(alloc);
     let start = text.iter().take(64);
     if start.filter(|byte| byte.is_ascii_hexdigit()).count() == 64 {
@@ -35,28 +35,18 @@ pub fn other_file_words(
 }
 
 /// Words for a journal with entries beside which nothing stood, and that now belongs to the file with this digest.
-pub fn adopted_words(
-    alloc: Global,
-    journal: &str,
-    beside: &str,
-    digest: &str,
-) -> Result<String, AllocError> {
-    let mut out = Words::new(alloc);
-    out.fill(
+pub fn adopted_words(alloc: Global, journal: &str, beside: &str, digest: &str) -> Said {
+    said(
+        alloc,
         "{} was missing, so the program can't tell to which .pb file {} belongs.\nThe program has now created it. It says that the journal belongs to the .pb file of this command, whose SHA-256 is {}.\nCompare this with the SHA-256 that you noted when the desk was opened. If they differ, stop, and find the right .pb file.\n",
         &[Name(Some(beside)), Name(Some(journal)), Own(digest)],
-    );
-    out.finish()
+    )
 }
 
 /// Words for the file beside a journal, which could not be read, for this reason.
-pub fn unread_file_words(
-    alloc: Global,
-    beside: &str,
-    reason: &Error,
-) -> Result<String, AllocError> {
+pub fn unread_file_words(alloc: Global, beside: &str, reason: &Error) -> Said {
     let mut out = Words::new(alloc);
-    out.put_name(beside);
+    out.fill("{}", &[Name(Some(beside))]);
     out.put_error(reason);
     out.put("This file says to which .pb file the journal belongs. Get permission to read it.\n");
     out.finish()

@@ -1,10 +1,10 @@
 //! Words for a count's options, and for raises that were spent.
 
 use crate::words::Value::{Name, Number, Own};
-use crate::words::Words;
+use crate::words::{Said, Words};
 use pb_rounds::count_fault::CountFault;
-use pb_rounds::options::{CountOptions, LARGEST_STEP};
-use std::alloc::{AllocError, Global};
+use pb_rounds::options::CountOptions;
+use std::alloc::Global;
 
 /// What is known of raises beyond those that were allowed and spent.
 #[derive(Clone, Copy)]
@@ -28,7 +28,7 @@ pub fn count_words(
     path: Option<&str>,
     fault: CountFault,
     options: &CountOptions,
-) -> Result<String, AllocError> {
+) -> Said {
     let mut out = Words::new(alloc);
     match fault {
         CountFault::RaisesSpent => {
@@ -43,23 +43,19 @@ pub fn count_words(
     out.finish()
 }
 
-/// Words for what to do about raises that were spent, of a count by these options: what is known of more raises, and a
-/// step that decides, where the budget in hundredths is known.
+/// Words for what to do about raises that were spent, of a count by these options: what is known of more raises, and a step
+/// that decides, where one is known.
 pub fn spent_words(
     alloc: Global,
     options: &CountOptions,
     deciding: Deciding,
-    budget: Option<u64>,
-) -> Result<String, AllocError> {
+    step: Option<u64>,
+) -> Said {
     let mut out = Words::new(alloc);
     out.put("First see what the rules of your vote say about the step and the number of raises.\n");
     put_raises(&mut out, deciding);
     if options.max_raises > 0 {
-        put_step(
-            &mut out,
-            options.max_raises,
-            sure_step(options.max_raises, budget),
-        );
+        put_step(&mut out, options.max_raises, step);
     }
     out.finish()
 }
@@ -110,19 +106,13 @@ fn put_step(out: &mut Words, raises: u32, step: Option<u64>) {
 
 /// Puts which option a count refuses.
 fn put_option(out: &mut Words, fault: CountFault, options: &CountOptions) {
-    match fault {
-        CountFault::WorkerCount => {
-            put_range(out, "workers", u64::from(options.workers), "1 to 64")
-        }
-        CountFault::StepRange => put_range(out, "step", options.step.0, "1 to 1000000000"),
-        CountFault::RaisesRange => put_range(
-            out,
-            "raises",
-            u64::from(options.max_raises),
-            "0 to 1000000",
-        ),
-        CountFault::RaisesSpent | CountFault::NoMemory => out.put("Memory ran out.\n"),
-    }
+    let (option, value, range) = match fault {
+        CountFault::WorkerCount => ("workers", u64::from(options.workers), "1 to 64"),
+        CountFault::StepRange => ("step", options.step.0, "1 to 1000000000"),
+        CountFault::RaisesRange => ("raises", u64::from(options.max_raises), "0 to 1000000"),
+        CountFault::RaisesSpent | CountFault::NoMemory => return out.put("Memory ran out.\n"),
+    };
+    put_range(out, option, value, range)
 }
 
 /// Puts that an option is out of its range.
@@ -131,21 +121,6 @@ pub(crate) fn put_range<'w>(out: &mut Words, option: &'w str, value: u64, range:
         "option --{}: {} is not allowed. Give a value from {}.\n",
         &[Own(option), Number(value), Own(range)],
     )
-}
-
-/// The least step by which this many raises give each voter the whole budget; none where no raise is
-/// allowed, or the budget is not known. At a share of the whole budget the outcome is over or exhausted:
-/// what is not spent of it pays for any project that fits, by one of its supporters alone.
-fn sure_step(max_raises: u32, budget: Option<u64>) -> Option<u64> {
-    let raises = u64::from(max_raises);
-    if raises == 0 {
-        return None;
-    }
-    let step = budget?.div_ceil(raises).max(1);
-    if step > LARGEST_STEP.0 {
-        return None;
-    }
-    Some(step)
 }
 
 /// Puts an amount of so many hundredths in units.

@@ -1,209 +1,160 @@
-//! A record of a .pb file that has a fault, and what is wrong with it, in words.
+//! What is wrong with a record of a .pb file, in words.
 
 use crate::mark_words::put_subject;
 use crate::read_rules::{put_broken, words_of};
-use crate::section::{Names, names_of, wrong_head};
+use crate::section::{NO_NAMES, Names, names_of, wrong_head};
 use crate::words::Value::{Bytes, Number, Own, Quoted};
-use crate::words::{Words, is_hidden};
-use csv::ByteRecord;
-use pb_read::{ReadKind, Section, Stage};
-use pb_witness::fields::{JoinedBy, bytes_at, column_of, joined, place_of_no_text, text_at};
-use pb_witness::heads::{OddHead, odd_head_of, section_of};
-use pb_witness::mark::Mark;
-use pb_witness::seen::Seen;
+use crate::words::Words;
+use pb_read::{ReadKind, Stage};
+use pb_witness::faulty_record::FaultyRecord;
+use pb_witness::fields::{bytes_at, column_of, place_of_no_text, text_at};
+use pb_witness::heads::{head_of, section_of};
 
 /// What to do about the column names of VOTES among the projects.
 const NO_VOTES: &str =
     "These are the column names of VOTES: write the heading VOTES on a line above them.\n";
 
-/// A record with its fault.
-#[derive(Clone, Copy)]
-pub(crate) struct FaultyRecord<'r> {
-    pub(crate) kind: ReadKind,
-    pub(crate) record: &'r ByteRecord,
-    /// Where the record begins.
-    pub(crate) mark: Mark,
-    /// How far the file was read before it.
-    pub(crate) stage: &'r Stage,
-    /// What the records before it say.
-    pub(crate) seen: &'r Seen,
+/// What to do about a byte order mark in front of META, and about another unseen character.
+const NO_MARK: &str = "Save the file again with the encoding UTF-8, without a byte order mark.\n";
+
+const TYPE_ANEW: &str = "Delete the invisible character before META, or type META anew.\n";
+
+/// What to do about a file that does not begin with META.
+const NO_META: &str =
+    "Check that this is the .pb file: a command names it first. If it is, write META on its first line, or get the whole file again.\n";
+
+/// What to do about a row that can't be seen.
+const INVISIBLE: &str =
+    "The line has only an invisible character, which some programs put at the end of a file: delete the line.\n";
+
+/// What to do about a row of PROJECTS that is one word, or too short.
+const ONE_WORD: &str =
+    "If it is the heading of the votes, write VOTES. If not, complete the row, or delete it.\n";
+
+const TOO_SHORT: &str = "Complete the row, or delete it if it does not belong here.\n";
+
+/// What things are called where a record stands.
+fn names(faulty: &FaultyRecord) -> &'static Names {
+    names_of(section_of(faulty.stage))
 }
 
-impl<'r> FaultyRecord<'r> {
-    /// The places of its id, and of the other value that a row of its section needs.
-    fn places(&self) -> (usize, usize) {
-        match self.stage {
-            Stage::InProjects(columns) => (columns.id, columns.cost),
-            Stage::InVotes(columns) => (columns.voter, columns.vote),
-            _ => (0, 1),
+/// What to do about a record, where more is known than its fault.
+pub(crate) fn remedy_of(faulty: &FaultyRecord) -> Option<&'static str> {
+    let is_one = faulty.record.len() == 1;
+    match (faulty.kind, faulty.stage) {
+        (_, Stage::InProjects(_)) if column_of(faulty.record, "voter_id").is_some() => Some(
+            NO_VOTES,
+        ),
+        (ReadKind::NoSection, _) if faulty.is_behind_mark() => {
+            let is_bom = text_at(faulty.record, 0).starts_with('\u{feff}');
+            Some(if is_bom { NO_MARK } else { TYPE_ANEW })
         }
+        (ReadKind::NoSection, _) => Some(NO_META),
+        (ReadKind::SectionOrder, stage) => Some(wrong_head(stage, text_at(faulty.record, 0)).1),
+        (ReadKind::NoHeader, _) if faulty.is_same_head() => Some("Delete one of the two lines.\n"),
+        (ReadKind::NoHeader, _) => Some(names(faulty).add_header),
+        (ReadKind::MissingColumn, _) => Some(names(faulty).add_column),
+        (ReadKind::MissingField, _) if faulty.is_invisible() => Some(INVISIBLE),
+        (ReadKind::MissingField, Stage::InProjects(_)) if is_one => Some(ONE_WORD),
+        (ReadKind::MissingField, Stage::InProjects(_)) => Some(TOO_SHORT),
+        _ => None,
     }
+}
 
-    /// The row's id; the empty text where it has none.
-    pub(crate) fn id(&self) -> &'r str {
-        text_at(self.record, self.places().0)
-    }
-
-    /// The row's other value; the empty text where it has none.
-    pub(crate) fn value(&self) -> &'r str {
-        text_at(self.record, self.places().1)
-    }
-
-    /// What things are called where it stands.
-    fn names(&self) -> &'static Names {
-        names_of(section_of(self.stage))
-    }
-
-    /// What to do about this record, where more is known than its fault.
-    pub(crate) fn remedy(&self) -> Option<&'static str> {
-        match (self.kind, self.stage) {
-            (_, Stage::InProjects(_)) if column_of(self.record, "voter_id").is_some() => {
-                Some(NO_VOTES)
-            }
-            (ReadKind::NoSection, _) => Some(
-                "Check that this is the .pb file (it comes first in the command). If it is, write META on its first line, or get the whole file again.\n",
-            ),
-            (ReadKind::SectionOrder, stage) => Some(wrong_head(stage, text_at(self.record, 0)).1),
-            (ReadKind::NoHeader, _) => Some(self.names().add_header),
-            (ReadKind::MissingColumn, _) => Some(self.names().add_column),
-            (ReadKind::MissingField, _) if is_invisible(self.record) => Some(
-                "The line has only an invisible character, which some programs put at the end of a file: delete the line.\n",
-            ),
-            (ReadKind::MissingField, Stage::InProjects(_)) if self.record.len() == 1 => {
-                Some(
-                    "If it is the heading of the votes, write VOTES. If not, complete the row, or delete it.\n",
-                )
-            }
-            (ReadKind::MissingField, Stage::InProjects(_)) => Some(
-                "Complete the row, or delete it if it does not belong here.\n",
-            ),
-            _ => None,
+/// Puts what is wrong with a record by itself.
+pub(crate) fn put_what(out: &mut Words, faulty: &FaultyRecord) {
+    let names = names(faulty);
+    let first = text_at(faulty.record, 0);
+    match faulty.kind {
+        ReadKind::NotText => put_no_text(out, faulty),
+        ReadKind::NoSection if faulty.is_behind_mark() => {
+            out.put(": an invisible character is before META.\n")
         }
-    }
-
-    /// The row that seems to be meant as a section's head: one before it in the section, or this one.
-    pub(crate) fn odd_head(&self) -> Option<OddHead> {
-        if self.seen.odd_head.is_some() {
-            return self.seen.odd_head;
+        ReadKind::NoSection => out.fill(
+            ": a .pb file begins with the line META, but this line begins with {}.\n",
+            &[Quoted(first)],
+        ),
+        ReadKind::SectionOrder => out.fill(wrong_head(faulty.stage, first).0, &[Quoted(first)]),
+        ReadKind::NoHeader => {
+            out.fill(": {} begins another section, but ", &[Quoted(first)]);
+            out.fill(NO_NAMES, &[Own(head_of(section_of(faulty.stage)))])
         }
-        match section_of(self.stage) {
-            Section::Votes => None,
-            Section::Meta | Section::Projects => odd_head_of(self.record, self.mark),
+        ReadKind::MissingColumn => put_no_column(out, faulty),
+        ReadKind::MissingField => put_short(out, faulty),
+        ReadKind::EmptyId => put_value(out, faulty, names.id_column, ("", faulty.id())),
+        ReadKind::BadMoney
+        | ReadKind::MoneyTooFine
+        | ReadKind::MoneyTooLarge
+        | ReadKind::ZeroCost => {
+            put_value(
+                out,
+                faulty,
+                names.value_column,
+                (faulty.id(), faulty.value()),
+            )
         }
+        kind => out.fill(": {}.\n", &[Own(words_of(kind).0)]),
     }
+}
 
-    /// Why the row is one field that seems to be a whole row, if it is one.
-    pub(crate) fn joined(&self) -> Option<JoinedBy> {
-        match (self.kind, joined(self.record)) {
-            (ReadKind::NoSection | ReadKind::MissingColumn, joined) => joined,
-            (ReadKind::MissingField, Some(JoinedBy::Quotes)) => Some(JoinedBy::Quotes),
-            _ => None,
-        }
+/// Puts on which line its id is already, where that is known.
+pub(crate) fn put_repeated(out: &mut Words, faulty: &FaultyRecord, first: Option<u64>) {
+    out.fill(
+        ", column {}: the id {}",
+        &[Own(names(faulty).id_column), Quoted(faulty.id())],
+    );
+    match first {
+        Some(line) => out.fill(" is already on line {}.\n", &[Number(line)]),
+        None => out.put(" is already in an earlier row.\n"),
     }
+}
 
-    /// Puts what is wrong with the record by itself.
-    pub(crate) fn put(&self, out: &mut Words) {
-        match self.kind {
-            ReadKind::NotText => self.put_no_text(out),
-            ReadKind::NoSection => out.fill(
-                ": a .pb file begins with the line META, but this line begins with {}.\n",
-                &[Quoted(text_at(self.record, 0))],
-            ),
-            ReadKind::SectionOrder => {
-                let head = text_at(self.record, 0);
-                out.fill(wrong_head(self.stage, head).0, &[Quoted(head)])
-            }
-            ReadKind::NoHeader => out.fill(
-                ": {} begins another section, but {}",
-                &[
-                    Quoted(text_at(self.record, 0)),
-                    Own(self.names().header_due),
-                ],
-            ),
-            ReadKind::MissingColumn => self.put_no_column(out),
-            ReadKind::MissingField => self.put_short(out),
-            ReadKind::EmptyId => self.put_value(out, self.names().id_column, "", self.id()),
-            ReadKind::BadMoney
-            | ReadKind::MoneyTooFine
-            | ReadKind::MoneyTooLarge
-            | ReadKind::ZeroCost => {
-                self.put_value(out, self.names().value_column, self.id(), self.value())
-            }
-            kind => out.fill(": {}.\n", &[Own(words_of(kind).0)]),
-        }
-    }
+fn put_no_text(out: &mut Words, faulty: &FaultyRecord) {
+    let place = place_of_no_text(faulty.record).unwrap_or(0);
+    let number = (place as u64).saturating_add(1);
+    out.fill(
+        ", field {}: {} is not UTF-8 text.\n",
+        &[Number(number), Bytes(bytes_at(faulty.record, place))],
+    )
+}
 
-    /// Puts on which line its id is already, where that is known.
-    pub(crate) fn put_repeated(&self, out: &mut Words, first: Option<u64>) {
-        out.fill(
-            ", column {}: the id {}",
-            &[Own(self.names().id_column), Quoted(self.id())],
+fn put_no_column(out: &mut Words, faulty: &FaultyRecord) {
+    let names = names(faulty);
+    let missing = if column_of(faulty.record, names.id_column).is_some() {
+        names.value_column
+    } else {
+        names.id_column
+    };
+    out.fill(
+        ": the row of column names has no column `{}`; it begins with {}.\n",
+        &[Own(missing), Quoted(text_at(faulty.record, 0))],
+    )
+}
+
+fn put_short(out: &mut Words, faulty: &FaultyRecord) {
+    let names = names(faulty);
+    if faulty.record.len() == 1 && matches!(faulty.stage, Stage::InProjects(_)) {
+        return out.fill(
+            " has only {}, and no field for the column `cost`.\n",
+            &[Quoted(text_at(faulty.record, 0))],
         );
-        match first {
-            Some(line) => out.fill(" is already on line {}.\n", &[Number(line)]),
-            None => out.put(" is already in an earlier row.\n"),
-        }
     }
-
-    fn put_no_text(&self, out: &mut Words) {
-        let place = place_of_no_text(self.record).unwrap_or(0);
-        out.fill(
-            ", field {}: {} is not UTF-8 text.\n",
-            &[
-                Number((place as u64).saturating_add(1)),
-                Bytes(bytes_at(self.record, place)),
-            ],
-        )
-    }
-
-    fn put_no_column(&self, out: &mut Words) {
-        let names = self.names();
-        let missing = if column_of(self.record, names.id_column).is_some() {
-            names.value_column
-        } else {
-            names.id_column
-        };
-        out.fill(
-            ": the row of column names has no column `{}`; it begins with {}.\n",
-            &[Own(missing), Quoted(text_at(self.record, 0))],
-        )
-    }
-
-    fn put_short(&self, out: &mut Words) {
-        let names = self.names();
-        if self.record.len() == 1 && matches!(self.stage, Stage::InProjects(_)) {
-            return out.fill(
-                " has only {}, and no field for the column `cost`.\n",
-                &[Quoted(text_at(self.record, 0))],
-            );
-        }
-        put_subject(out, names.subject, self.id());
-        let missing = if self.places().0 < self.record.len() {
-            names.value_column
-        } else {
-            names.id_column
-        };
-        out.fill(
-            ": the row has no field for the column `{}`.\n",
-            &[Own(missing)],
-        )
-    }
-
-    /// Puts a value of this column, in the row with this id, and the rule that it breaks.
-    fn put_value(&self, out: &mut Words, column: &str, id: &str, value: &str) {
-        out.fill(", column {}", &[Own(column)]);
-        put_subject(out, self.names().subject, id);
-        put_broken(out, self.kind, value)
-    }
+    put_subject(out, names.subject, faulty.id());
+    let missing = if faulty.has_id() {
+        names.value_column
+    } else {
+        names.id_column
+    };
+    out.fill(
+        ": the row has no field for the column `{}`.\n",
+        &[Own(missing)],
+    )
 }
 
-/// Whether a row has only one field, and nothing in it that can be seen.
-fn is_invisible(record: &ByteRecord) -> bool {
-    let text = text_at(record, 0);
-    for c in text.chars() {
-        if !is_hidden(u32::from(c)) {
-            return false;
-        }
-    }
-    record.len() == 1 && !text.is_empty()
+/// Puts a value of this column, in the row with this id, and the rule that it breaks.
+fn put_value(out: &mut Words, faulty: &FaultyRecord, column: &'static str, pair: (&str, &str)) {
+    let (id, value) = pair;
+    out.fill(", column {}", &[Own(column)]);
+    put_subject(out, names(faulty).subject, id);
+    put_broken(out, faulty.kind, value)
 }

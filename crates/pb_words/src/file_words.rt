@@ -2,20 +2,23 @@
 
 use crate::mark_words::put_record_number;
 use crate::words::Value::Name;
-use crate::words::Words;
+use crate::words::{Said, Words, said};
 use pb_witness::failures::{is_folder, opening_failure, reading_failure};
 use pb_witness::text::{Text, is_file};
-use std::alloc::{AllocError, Global};
+use std::alloc::Global;
 use std::io::{Error, ErrorKind};
 use std::rt::Files;
 
 /// What is said of a folder in the place of a file.
 pub(crate) const FOLDER: &str = "{}: this is a folder.\nName a file in it.\n";
 
+/// What is said where memory is refused.
+pub const NO_MEMORY: &str = ": memory ran out.\nRun again on a machine with more memory.\n";
+
 /// Words for a file that could not be opened. It is tried once more, for the system's reason.
-pub fn open_words<R: Files>(rt: &R, alloc: Global, path: &str) -> Result<String, AllocError> {
+pub fn open_words<R: Files>(rt: &R, alloc: Global, path: &str) -> Said {
     let mut out = Words::new(alloc);
-    out.put_name(path);
+    out.fill("{}", &[Name(Some(path))]);
     match opening_failure(rt, path) {
         Some(error) => {
             out.put_error(&error);
@@ -38,23 +41,22 @@ fn open_remedy(kind: ErrorKind) -> &'static str {
 }
 
 /// Words for an output that could not be written, for this reason.
-pub fn write_words(
-    alloc: Global,
-    path: Option<&str>,
-    reason: Option<&Error>,
-) -> Result<String, AllocError> {
-    let mut out = Words::new(alloc);
+pub fn write_words(alloc: Global, path: Option<&str>, reason: Option<&Error>) -> Said {
     match (path, reason) {
         (Some(""), _) => {
-            out.put("--output: the name of the file is empty.\nName a file.\n");
-            return out.finish();
+            return said(
+                alloc,
+                "--output: the name of the file is empty.\nName a file.\n",
+                &[],
+            );
         }
         (Some(path), Some(error)) if error.kind() == ErrorKind::IsADirectory => {
-            out.fill(FOLDER, &[Name(Some(path))]);
-            return out.finish();
+            return said(alloc, FOLDER, &[Name(Some(path))]);
         }
-        _ => out.put_name(path.unwrap_or("standard output")),
+        _ => {}
     }
+    let mut out = Words::new(alloc);
+    out.fill("{}", &[Name(path.or(Some("standard output")))]);
     match reason {
         Some(error) => out.put_error(error),
         None => out.put(": the output could not be written.\n"),
@@ -69,12 +71,8 @@ pub fn write_words(
 
 /// What to do where a file cannot be written for this reason.
 fn write_remedy(reason: Option<&Error>) -> &'static str {
-    let kind = match reason {
-        Some(error) => error.kind(),
-        None => ErrorKind::Other,
-    };
-    match kind {
-        ErrorKind::NotFound => {
+    match reason {
+        Some(error) if error.kind() == ErrorKind::NotFound => {
             "The result was not written. Name a file in a folder that exists.\n"
         }
         _ =>
@@ -83,7 +81,7 @@ fn write_remedy(reason: Option<&Error>) -> &'static str {
 }
 
 /// Puts why a text could not be read to its end, at the record with this number, if it has a path; answers whether it has.
-pub(crate) fn put_reading_failed<R: Files>(out: &mut Words, text: &Text<'_, R>, at: u64) -> bool {
+pub(crate) fn put_reading_failed<R: Files>(out: &mut Words, text: &Text<R>, at: u64) -> bool {
     let Some(path) = text.path else {
         return false;
     };
@@ -92,8 +90,25 @@ pub(crate) fn put_reading_failed<R: Files>(out: &mut Words, text: &Text<'_, R>, 
         return true;
     }
     put_record_number(out, text, at);
-    if is_file(text.rt, path) {
-        match reading_failure(text.rt, path) {
+    put_reason(out, text.rt, path);
+    true
+}
+
+/// Words for a file that could not be read to its end. It is tried once more, for the system's reason.
+pub fn unread_words<R: Files>(rt: &R, alloc: Global, path: &str) -> Said {
+    if is_folder(rt, path) {
+        return said(alloc, FOLDER, &[Name(Some(path))]);
+    }
+    let mut out = Words::new(alloc);
+    out.fill("{}", &[Name(Some(path))]);
+    put_reason(&mut out, rt, path);
+    out.finish()
+}
+
+/// Puts why a file could not be read to its end, and what to do.
+fn put_reason<R: Files>(out: &mut Words, rt: &R, path: &str) {
+    if is_file(rt, path) {
+        match reading_failure(rt, path) {
             Some(error) => out.put_error(&error),
             None => out.put(": reading failed, but a second try read the whole file.\n"),
         }
@@ -101,12 +116,13 @@ pub(crate) fn put_reading_failed<R: Files>(out: &mut Words, text: &Text<'_, R>, 
         out.put(": reading failed.\n");
     }
     out.put("Check the disk or the connection, then run again.\n");
-    true
 }
 
 /// Words for a command line that names a file in place of a command.
-pub fn mistaken_words(alloc: Global, path: &str) -> Result<String, AllocError> {
-    let mut out = Words::new(alloc);
-    out.fill("Did you mean `pb_app count {}`?\n", &[Name(Some(path))]);
-    out.finish()
+pub fn mistaken_words(alloc: Global, path: &str) -> Said {
+    said(
+        alloc,
+        "Did you mean `pb_app count {}`?\n",
+        &[Name(Some(path))],
+    )
 }

@@ -1,10 +1,10 @@
 //! Words for the faults of a journal.
 
-use crate::file_words::put_reading_failed;
+use crate::file_words::{NO_MEMORY, put_reading_failed};
 use crate::mark_words::{put_mark, put_record_number, put_subject, put_unclosed};
 use crate::row_words::{JOURNAL_FIELDS, put_field_count, put_flaw};
 use crate::words::Value::{Bytes, Name, Number, Own};
-use crate::words::Words;
+use crate::words::{Said, Words};
 use csv::ByteRecord;
 use pb_core::answer::Answer;
 use pb_desk::AuditFault;
@@ -15,7 +15,7 @@ use pb_witness::desk_answer::DeskAnswer;
 use pb_witness::fields::{bytes_at, raw_text};
 use pb_witness::mark::Mark;
 use pb_witness::row_flaw::{Condition, flaw_of_journal_row};
-use std::alloc::{AllocError, Global};
+use std::alloc::Global;
 use std::rt::Files;
 
 /// What is said of a row whose number is not the next one.
@@ -24,6 +24,16 @@ const MISPLACED: &str = "A row is missing, repeated or in the wrong order.";
 /// What is said of a row whose answer is wrong.
 const OTHER_ANSWER: &str =
     "Check that {} is the .pb file with which the desk was opened. If it is, this row or a row above it was changed.";
+
+/// What is said of a journal that is perhaps another file, has an incomplete end, or is of another version.
+const OTHER_FILE: &str =
+    "Check that {} is the journal. (The .pb file comes first in the command, then the journal.) If it is the journal, it is not as the desk wrote it.";
+
+const INCOMPLETE: &str =
+    "If the power failed, run `pb_app serve` first: it cuts off the incomplete end. If not, the journal is not as the desk wrote it.";
+
+const NEWER: &str =
+    "If a newer pb_app wrote the journal, use that program. If not, the journal is not as the desk wrote it.";
 
 /// Where to get a journal that is right.
 const GET_IT: &str = " Get the journal from the desk's machine, or last evening's copy.\n";
@@ -38,13 +48,13 @@ pub fn journal_words<R: Files>(
     alloc: Global,
     paths: AuditPaths<'_>,
     fault: AuditFault,
-) -> Result<String, AllocError> {
+) -> Said {
     let mut out = Words::new(alloc);
     put_words(&mut out, &Audited::new(rt, alloc, paths, fault));
     out.finish()
 }
 
-fn put_words<R: Files>(out: &mut Words, audited: &Audited<'_, R>) {
+fn put_words<R: Files>(out: &mut Words, audited: &Audited<R>) {
     let is_put = match audited.fault {
         AuditFault::ReadFailed(_) => put_reading_failed(out, &audited.journal, audited.at),
         _ => put_found(out, audited),
@@ -56,19 +66,19 @@ fn put_words<R: Files>(out: &mut Words, audited: &Audited<'_, R>) {
 }
 
 /// Puts this sentence, and where to get a journal that is right.
-fn put_get<R>(out: &mut Words, audited: &Audited<'_, R>, why: &str) {
+fn put_get<R>(out: &mut Words, audited: &Audited<R>, why: &str) {
     out.put(why);
     out.put(if audited.is_served { GET_COPY } else { GET_IT })
 }
 
 /// Puts what to do about a wrong answer.
-fn put_other_answer<R>(out: &mut Words, audited: &Audited<'_, R>) {
+fn put_other_answer<R>(out: &mut Words, audited: &Audited<R>) {
     out.fill(OTHER_ANSWER, &[Name(audited.file.path)]);
     put_get(out, audited, "")
 }
 
 /// Puts what is wrong and what to do, where no more than the fault is known.
-fn put_fault<R>(out: &mut Words, audited: &Audited<'_, R>) {
+fn put_fault<R>(out: &mut Words, audited: &Audited<R>) {
     match audited.fault {
         AuditFault::ReadFailed(_) => out.put(
             ": the journal could not be read to its end.\nCheck the disk or the connection, then run again.\n",
@@ -89,14 +99,12 @@ fn put_fault<R>(out: &mut Words, audited: &Audited<'_, R>) {
             out.put(": the answer in the journal is wrong; the desk would have given another.\n");
             put_other_answer(out, audited)
         }
-        AuditFault::NoMemory => {
-            out.put(": memory ran out.\nRun again on a machine with more memory.\n")
-        }
+        AuditFault::NoMemory => out.put(NO_MEMORY),
     }
 }
 
 /// Looks at the faulty row again, and puts what is wrong there; answers whether it was found.
-fn put_found<R: Files>(out: &mut Words, audited: &Audited<'_, R>) -> bool {
+fn put_found<R: Files>(out: &mut Words, audited: &Audited<R>) -> bool {
     if let Some(desk) = audited.answer(ROOM) {
         let _ = put_mark(out, &audited.journal, desk.mark);
         put_wrong_answer(out, &desk.row, Some(&desk));
@@ -112,7 +120,7 @@ fn put_found<R: Files>(out: &mut Words, audited: &Audited<'_, R>) -> bool {
     true
 }
 
-fn put_row<R: Files>(out: &mut Words, audited: &Audited<'_, R>, row: &ByteRecord, mark: Mark) {
+fn put_row<R: Files>(out: &mut Words, audited: &Audited<R>, row: &ByteRecord, mark: Mark) {
     let span = put_mark(out, &audited.journal, mark);
     match audited.fault {
         AuditFault::BadRow(0) => {
@@ -120,11 +128,7 @@ fn put_row<R: Files>(out: &mut Words, audited: &Audited<'_, R>, row: &ByteRecord
                 ": this program can't read journals of version {}; the first line should be `journal;2`.\n",
                 &[Bytes(bytes_at(row, 1))],
             );
-            put_get(
-                out,
-                audited,
-                "If a newer pb_app wrote the journal, use that program. If not, the journal is not as the desk wrote it.",
-            )
+            put_get(out, audited, NEWER)
         }
         AuditFault::BadRow(_) => {
             if !put_unclosed(out, span) {
@@ -134,7 +138,7 @@ fn put_row<R: Files>(out: &mut Words, audited: &Audited<'_, R>, row: &ByteRecord
         }
         AuditFault::WrongNumber(at) => {
             out.fill(
-                ", field number: this row has the number {}, but the next number is {}.\n",
+                ", field number: this row has the number {}, but it should have {}.\n",
                 &[Bytes(bytes_at(row, 0)), Number(at)],
             );
             put_get(out, audited, MISPLACED)
@@ -148,19 +152,12 @@ fn put_row<R: Files>(out: &mut Words, audited: &Audited<'_, R>, row: &ByteRecord
 }
 
 /// Puts what to do about a bad row: a text whose first row is one, and that does not begin as journals do, may be another file.
-fn put_bad_remedy<R: Files>(out: &mut Words, audited: &Audited<'_, R>, mark: Mark) {
+fn put_bad_remedy<R: Files>(out: &mut Words, audited: &Audited<R>, mark: Mark) {
     if audited.at == 1 && audited.journal.before == 0 {
-        out.fill(
-            "Check that {} is the journal. (The .pb file comes first in the command, then the journal.) If it is the journal, it is not as the desk wrote it.",
-            &[Name(audited.journal.path)],
-        );
+        out.fill(OTHER_FILE, &[Name(audited.journal.path)]);
         put_get(out, audited, "")
     } else if !audited.is_served && audited.has_gap_before(mark) {
-        put_get(
-            out,
-            audited,
-            "If the power failed, run `pb_app serve` first: it cuts off the incomplete end. If not, the journal is not as the desk wrote it.",
-        )
+        put_get(out, audited, INCOMPLETE)
     } else {
         put_get(out, audited, "The journal is not as the desk wrote it.")
     }
@@ -193,14 +190,7 @@ fn put_wrong_answer(out: &mut Words, row: &ByteRecord, desk: Option<&DeskAnswer>
 /// Puts the answer to this request, and why it is given and not the one that the journal says.
 fn put_answer(out: &mut Words, desk: &DeskAnswer, request: &str, said: &str) {
     match desk.answer {
-        Answer::UnknownPlace(place) => out.fill(
-            ", but the right answer is `unknown-place {}`, because no project has the position {}: the number of projects is {}, and positions count from 0.\n",
-            &[
-                Number(u64::from(place)),
-                Number(u64::from(place)),
-                Number(desk.projects),
-            ],
-        ),
+        Answer::UnknownPlace(place) => put_unknown(out, u64::from(place), desk.projects),
         Answer::TooLong => out.fill(
             ", but the right answer is `too-long`, because `max_length` is {}.\n",
             &[Number(desk.most)],
@@ -214,8 +204,46 @@ fn put_answer(out: &mut Words, desk: &DeskAnswer, request: &str, said: &str) {
             if said == "too-long" && desk.is_unlimited {
                 out.put("a journal of version 1 has no limit on a ballot's length, and ");
             }
-            out.fill("{}.\n", &[Own(why_done(request))])
+            out.put(why_done(request));
+            if said == "too-long" && !desk.is_unlimited {
+                put_short_enough(out, desk);
+            }
+            out.put(".\n")
         }
+    }
+}
+
+/// Puts that no project has this position, and which positions the projects have.
+fn put_unknown(out: &mut Words, place: u64, projects: u64) {
+    out.fill(
+        ", but the right answer is `unknown-place {}`, because no project has the position {}: the file has ",
+        &[Number(place), Number(place)],
+    );
+    match projects {
+        0 => return out.put("no projects.\n"),
+        1 => out.put("1 project, at position "),
+        _ => out.fill("{} projects, at positions ", &[Number(projects)]),
+    }
+    out.put_numbers(projects);
+    out.put(".\n")
+}
+
+/// Puts that the ballot of a row is not too long, and why.
+fn put_short_enough(out: &mut Words, desk: &DeskAnswer) {
+    let count = match raw_text(&desk.row, 4) {
+        "" => 0,
+        places => places.split(',').count() as u64,
+    };
+    let form = if count == 1 {
+        ", and {} project is not too many: "
+    } else {
+        ", and {} projects are not too many: "
+    };
+    out.fill(form, &[Number(count)]);
+    if desk.most == u64::from(u32::MAX) {
+        out.put("the file sets no `max_length`")
+    } else {
+        out.fill("`max_length` is {}", &[Number(desk.most)])
     }
 }
 

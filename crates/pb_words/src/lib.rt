@@ -6,7 +6,6 @@
 //! each call returns is proved of a word.
 #![tactic(auto)]
 
-pub mod ballot_words;
 pub mod belonging_words;
 pub mod count_words;
 pub mod export_words;
@@ -26,11 +25,9 @@ pub mod script_words;
 mod section;
 pub mod serve_words;
 pub mod tally_words;
-mod terminal;
-pub mod unwritten_words;
 pub mod warning_words;
 pub mod what_if_words;
 mod words;
 
-pub use file_words::{mistaken_words, open_words, write_words};
-pub use terminal::for_terminal;
+pub use file_words::{NO_MEMORY, mistaken_words, open_words, unread_words, write_words};
+pub use words::{Value, Words, for_terminal};

@@ -1,6 +1,6 @@
 //! What a file looks like that is none of the program's texts.
 
-use pb_witness::text::Text;
+use pb_witness::text::{Text, is_web_page};
 use std::rt::Files;
 
 /// What files look like that begin with certain bytes, and what to do with them.
@@ -35,7 +35,7 @@ const WEB_PAGE: &str =
     ": the file looks like a web page.\nGet the file itself, and not the page that shows it.\n";
 
 /// What a text that is a file looks like by its first bytes, and what to do; none where they say nothing.
-pub(crate) fn looks_of<R: Files>(text: &Text<'_, R>) -> Option<&'static str> {
+pub(crate) fn looks_of<R: Files>(text: &Text<R>) -> Option<&'static str> {
     let mut buffer = [0u8; 512];
     let count = text.read_start(&mut buffer)?;
     looks_by(&buffer[..count.min(512)])
@@ -55,16 +55,4 @@ fn looks_by(bytes: &[u8]) -> Option<&'static str> {
     } else {
         None
     }
-}
-
-/// Whether a text begins as a web page does: with a `<` behind white space and perhaps a byte order mark.
-fn is_web_page(bytes: &[u8]) -> bool {
-    for byte in bytes {
-        match byte {
-            b'<' => return true,
-            b' ' | b'\t' | b'\r' | b'\n' | 0xef | 0xbb | 0xbf => {}
-            _ => return false,
-        }
-    }
-    false
 }

@@ -17,24 +17,29 @@ pub(crate) const CLOSE_IT: &str =
 
 /// What is said of a field in quotes that runs over several lines.
 const OVER_LINES: &str =
-    "A quotation mark opens on line {} and is closed on line {}, so these lines are read as one field.
-If each line should be a row of its own, delete the quotation mark on line {} and the one on line {}.
-";
+    "{} quotation mark opens on line {} and is closed on line {}, so these lines are read as one field.\n";
 
-/// Puts where a record stands that was not read again: `standard input: record 32`.
-pub(crate) fn put_record_number<R>(out: &mut Words, text: &Text<'_, R>, at: u64) {
-    out.fill("{}: {} {}", &[Name(text.path), Own(text.unit), Number(at)])
+/// What to do about it, where the two lines have no other quotation mark, and where they have.
+const TWO_MARKS: &str =
+    "If each line should be a row of its own, delete the quotation mark on line {} and the one on line {}.\n";
+
+const LOOK_THERE: &str =
+    "If each line should be a row of its own, a quotation mark on line {} is too many, or one is missing there. The quotation marks on line {} may be right.\n";
+
+/// Puts where a record stands that was not read again: `standard input: row 32`.
+pub(crate) fn put_record_number<R>(out: &mut Words, text: &Text<R>, at: u64) {
+    out.fill("{}: row {}", &[Name(text.path), Number(at)])
 }
 
 /// Puts where a record begins: `city.pb: line 39`; answers what its bytes say.
-pub(crate) fn put_mark<R: Files>(out: &mut Words, text: &Text<'_, R>, mark: Mark) -> Span {
+pub(crate) fn put_mark<R: Files>(out: &mut Words, text: &Text<R>, mark: Mark) -> Span {
     let span = span_of(text, mark);
     out.fill("{}: line {}", &[Name(text.path), Number(span.begins)]);
     span
 }
 
 /// The line at which a record begins.
-pub(crate) fn line_of<R: Files>(text: &Text<'_, R>, mark: Mark) -> u64 {
+pub(crate) fn line_of<R: Files>(text: &Text<R>, mark: Mark) -> u64 {
     span_of(text, mark).begins
 }
 
@@ -62,11 +67,30 @@ pub(crate) fn put_quotes(out: &mut Words, span: Span) -> bool {
         out.put(CLOSE_IT);
         return true;
     }
-    if let Some((opens, closes)) = span.over {
-        out.fill(
-            OVER_LINES,
-            &[Number(opens), Number(closes), Number(opens), Number(closes)],
-        );
-    }
+    let _ = put_over(out, "A", span);
     false
+}
+
+/// Puts on which lines a quotation mark opens and closes that makes them one row, if one does; answers whether.
+pub(crate) fn put_over(out: &mut Words, article: &'static str, span: Span) -> bool {
+    let Some((opens, closes)) = span.over else {
+        return false;
+    };
+    let (opens, closes) = (Number(opens), Number(closes));
+    out.fill(OVER_LINES, &[Own(article), opens, closes]);
+    let form = if span.is_single {
+        TWO_MARKS
+    } else {
+        LOOK_THERE
+    };
+    out.fill(form, &[opens, closes]);
+    true
+}
+
+/// Puts the same of an earlier row that swallowed rows which are missed now, if there is one; answers whether it did.
+pub(crate) fn put_swallowing<R: Files>(out: &mut Words, text: &Text<R>, row: Option<Mark>) -> bool {
+    match row {
+        Some(mark) => put_over(out, "A", span_of(text, mark)),
+        None => false,
+    }
 }

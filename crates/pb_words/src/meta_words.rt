@@ -1,6 +1,6 @@
 //! Words for META: its values, which are judged at the head of PROJECTS, and its head.
 
-use crate::mark_words::{line_of, put_mark};
+use crate::mark_words::{line_of, put_mark, put_swallowing};
 use crate::read_rules::{put_broken, words_of};
 use crate::words::Value::{Number, Own, Quoted};
 use crate::words::Words;
@@ -17,9 +17,22 @@ use std::rt::Files;
 const ADD_VOTE_TYPE: &str =
     "If the votes are approval votes, add `vote_type;approval` above this line.\n";
 
+/// What is said of a row of META that stands where its column names should.
+const TAKEN_FOR_NAMES: &str =
+    ": this row, with the key `{}`, was taken for META's row of column names.\nWrite `key;value` on a line of its own above it.\n";
+
 /// What to do where fields are separated by something else than `;`.
-const SAVE_AGAIN: &str =
-    "The fields are separated by {}. Save the file again with `;` between the fields. Keep the commas between the ids of a vote.\n";
+const SAVE_AGAIN: &str = "The fields are separated by {}. {}";
+
+/// What to do about it in a .pb file, in a script, and in a row that was typed.
+pub(crate) const VOTE: &str =
+    "Save the file again with `;` between the fields. Keep the commas between the ids of a vote.\n";
+
+pub(crate) const BALLOT: &str =
+    "Save the file again with `;` between the fields. Keep the commas between the projects of a ballot.\n";
+
+pub(crate) const TYPED: &str =
+    "Type `;` between the fields, and `,` only between the projects of a ballot.\n";
 
 /// What to do about a row that is one field in quotes.
 const NO_QUOTES: &str =
@@ -31,25 +44,16 @@ const NO_QUOTES_AT: &str =
 
 /// What to do about a key that stands more than once.
 const REPEATED_KEY: &str =
-    "The key is on line {} as well. When a key is repeated, the last row counts. Delete the wrong row.\n";
-
-/// The key of META that a fault at the head of PROJECTS is about, and the rows that gave it.
-fn key_of(kind: ReadKind, seen: &Seen) -> (&'static str, Option<Given>) {
-    match kind {
-        ReadKind::VoteType => ("vote_type", seen.keys.vote_type()),
-        ReadKind::BadLength => ("max_length", seen.keys.max_length()),
-        _ => ("budget", seen.keys.budget()),
-    }
-}
+    "The key is on line {} as well. When a key is repeated, the last row counts. If this row is wrong, delete it. If not:\n";
 
 /// Puts what is wrong with a value of META, and what to do; answers whether it was found.
 pub(crate) fn put_value_words<R: Files>(
     out: &mut Words,
-    text: &Text<'_, R>,
+    text: &Text<R>,
     seen: &Seen,
     kind: ReadKind,
 ) -> bool {
-    let (key, given) = key_of(kind, seen);
+    let (key, given) = seen.keys.judged(kind);
     let Some(Given { first, last }) = given else {
         return false;
     };
@@ -79,46 +83,60 @@ fn value_remedy(kind: ReadKind, value: &str) -> &'static str {
 }
 
 /// Puts which key META lacks, and what to do.
-pub(crate) fn put_missing_key<R: Files>(
-    out: &mut Words,
-    text: &Text<'_, R>,
-    seen: &Seen,
-    mark: Mark,
-) {
-    let _ = put_mark(out, text, mark);
-    let remedy = if seen.keys.budget().is_none() {
-        out.put(": META has no row for the key `budget`.\n");
-        "Add it above this line, in the form `budget;AMOUNT`.\n"
+pub(crate) fn put_missing_key<R: Files>(out: &mut Words, text: &Text<R>, seen: &Seen, mark: Mark) {
+    let (key, remedy) = if seen.keys.budget().is_none() {
+        (
+            "budget",
+            "Add it above this line, in the form `budget;AMOUNT`.\n",
+        )
     } else {
-        out.put(": META has no row for the key `vote_type`.\n");
-        ADD_VOTE_TYPE
+        ("vote_type", ADD_VOTE_TYPE)
     };
+    if text.begins_with(seen.names, key) {
+        let _ = put_mark(out, text, seen.names);
+        return out.fill(TAKEN_FOR_NAMES, &[Own(key)]);
+    }
+    let _ = put_mark(out, text, mark);
+    out.fill(": META has no row for the key `{}`.\n", &[Own(key)]);
+    if put_swallowing(out, text, seen.swallowing) {
+        return;
+    }
     match text.joined_at(seen.last) {
         Some(JoinedBy::Quotes) => out.fill(NO_QUOTES_AT, &[Number(line_of(text, seen.last))]),
-        joined => put_joined(out, joined, remedy),
+        joined => put_joined(out, joined, remedy, VOTE),
     }
 }
 
 /// Puts what to do where a whole row is one field, or another remedy where it is not.
-pub(crate) fn put_joined(out: &mut Words, joined: Option<JoinedBy>, remedy: &str) {
+pub(crate) fn put_joined(
+    out: &mut Words,
+    joined: Option<JoinedBy>,
+    remedy: &str,
+    separate: &'static str,
+) {
     match joined {
         Some(JoinedBy::Quotes) => out.put(NO_QUOTES),
-        Some(JoinedBy::Tabs) => out.fill(SAVE_AGAIN, &[Own("tabs")]),
-        Some(JoinedBy::Commas) => out.fill(SAVE_AGAIN, &[Own("commas")]),
+        Some(JoinedBy::Tabs) => out.fill(SAVE_AGAIN, &[Own("tabs"), Own(separate)]),
+        Some(JoinedBy::Commas) => out.fill(SAVE_AGAIN, &[Own("commas"), Own(separate)]),
         None => out.put(remedy),
     }
 }
 
 /// Puts what to do about a row that seems to be meant as a head.
-pub(crate) fn put_odd_head<R: Files>(out: &mut Words, text: &Text<'_, R>, odd: OddHead) {
+pub(crate) fn put_odd_head<R: Files>(out: &mut Words, text: &Text<R>, odd: OddHead) {
+    let form = if odd.has_names {
+        "Line {} is probably meant as a heading. Write only {} on it, and the column names below it.\n"
+    } else {
+        "Line {} is probably meant as a heading. Write only {} on it, without punctuation.\n"
+    };
     out.fill(
-        "Line {} is probably meant as a heading. Write only {} on it, without punctuation.\n",
+        form,
         &[Number(line_of(text, odd.mark)), Own(head_of(odd.section))],
     )
 }
 
 /// Puts what to do where META's head stands behind the record with this mark, and answers whether it does.
-pub(crate) fn put_late_meta<R: Files>(out: &mut Words, text: &Text<'_, R>, first: Mark) -> bool {
+pub(crate) fn put_late_meta<R: Files>(out: &mut Words, text: &Text<R>, first: Mark) -> bool {
     let Some(mark) = late_meta(text, first) else {
         return false;
     };

@@ -1,20 +1,24 @@
 //! Words for the faults of a .pb file.
 
-use crate::faulty_record::FaultyRecord;
 use crate::file_words::put_reading_failed;
 use crate::looks::looks_of;
 use crate::mark_words::put_record_number;
 use crate::read_rules::words_of;
 use crate::record_words::{put_end, put_found};
 use crate::words::Value::{Name, Own};
-use crate::words::Words;
+use crate::words::{Said, Words};
 use pb_read::{ReadFault, ReadKind, Stage};
+use pb_witness::faulty_record::FaultyRecord;
 use pb_witness::ids::Known;
 use pb_witness::text::Text;
 use pb_witness::voters::first_rows;
 use pb_witness::witness::{Refused, Witness};
 use std::alloc::{AllocError, Global};
 use std::rt::Files;
+
+/// How to see more of the rows of a text that can't be read again.
+const ROWS_OF_INPUT: &str =
+    "Empty lines are not counted as rows. To see the line, and what is wrong there, save the text in a file, and name this file in the command.\n";
 
 /// Words for a fault of the .pb file with this path; no path is standard input. If the witness did not look on while the
 /// file was read, the file is read once more.
@@ -24,13 +28,13 @@ pub fn read_words<R: Files>(
     path: Option<&str>,
     fault: &ReadFault,
     witness: &Witness,
-) -> Result<String, AllocError> {
+) -> Said {
     let faults = [*fault];
     if !witness.refused.is_empty() || fault.kind == ReadKind::ReadFailed {
         return list_words(rt, alloc, path, &faults, witness);
     }
     let mut again = Witness::new(alloc);
-    again.look_again(&Text::new(rt, alloc, path, "record"));
+    again.look_again(&Text::new(rt, alloc, path));
     let words = list_words(rt, alloc, path, &faults, &again);
     drop(again);
     words
@@ -44,9 +48,9 @@ pub fn list_words<R: Files>(
     path: Option<&str>,
     faults: &[ReadFault],
     witness: &Witness,
-) -> Result<String, AllocError> {
+) -> Said {
     let mut out = Words::new(alloc);
-    let text = Text::new(rt, alloc, path, "record");
+    let text = Text::new(rt, alloc, path);
     if !witness.is_whole {
         out.fail();
     }
@@ -57,7 +61,7 @@ pub fn list_words<R: Files>(
 /// Puts what is said of these faults.
 fn put_faults<R: Files>(
     out: &mut Words,
-    text: &Text<'_, R>,
+    text: &Text<R>,
     faults: &[ReadFault],
     witness: &Witness,
 ) -> Result<(), AllocError> {
@@ -67,6 +71,7 @@ fn put_faults<R: Files>(
         voters: &voters,
     };
     let can_be_read = text.is_file();
+    let mut names_row = false;
     let mut place = 0usize;
     for fault in faults {
         match witness.refused.get(place) {
@@ -74,7 +79,7 @@ fn put_faults<R: Files>(
                 if can_be_read {
                     put_fault(out, text, &known, refused)
                 } else {
-                    put_from_input(out, text, &known, refused)
+                    names_row |= put_from_input(out, text, &known, refused);
                 }
             }
             _ => put_unread(out, text, *fault),
@@ -82,22 +87,19 @@ fn put_faults<R: Files>(
         place = place.saturating_add(1);
     }
     drop(voters);
+    if names_row {
+        out.put(ROWS_OF_INPUT);
+    }
     Ok(())
 }
 
 /// Puts what is wrong with a record that was refused, or with the end of the file, and what to do.
-fn put_fault<R: Files>(out: &mut Words, text: &Text<'_, R>, known: &Known<'_>, refused: &Refused) {
+fn put_fault<R: Files>(out: &mut Words, text: &Text<R>, known: &Known, refused: &Refused) {
     let kind = refused.fault.kind;
     if put_looks(out, text, kind) {
         return;
     }
-    let faulty = FaultyRecord {
-        kind,
-        record: &refused.record,
-        mark: refused.mark,
-        stage: &refused.stage,
-        seen: &refused.seen,
-    };
+    let faulty = FaultyRecord::of(refused);
     let has_field = refused.record.len() > 0;
     let is_said = match kind {
         ReadKind::ReadFailed => false,
@@ -110,13 +112,14 @@ fn put_fault<R: Files>(out: &mut Words, text: &Text<'_, R>, known: &Known<'_>, r
     }
 }
 
-/// Puts what is said of a fault of a text that can't be read again: little more than the fault says.
+/// Puts what is said of a fault of a text that can't be read again: little more than the fault says. Answers whether that is a
+/// row's.
 fn put_from_input<R: Files>(
     out: &mut Words,
-    text: &Text<'_, R>,
-    known: &Known<'_>,
+    text: &Text<R>,
+    known: &Known,
     refused: &Refused,
-) {
+) -> bool {
     match (refused.fault.kind, &refused.stage) {
         (ReadKind::NoSection, Stage::Start) => {
             let form = if refused.record.len() == 0 {
@@ -124,7 +127,8 @@ fn put_from_input<R: Files>(
             } else {
                 "{}: a .pb file begins with the line META, but this text does not.\nCheck that this is the .pb file. If it is, write META on its first line, or get the whole file again.\n"
             };
-            out.fill(form, &[Name(text.path)])
+            out.fill(form, &[Name(text.path)]);
+            return false;
         }
         (ReadKind::UnknownProject, _) if known.ids.left_out.len() > 0 => {
             put_record_number(out, text, u64::from(refused.fault.at));
@@ -134,10 +138,14 @@ fn put_from_input<R: Files>(
         }
         _ => put_unread(out, text, refused.fault),
     }
+    !matches!(
+        refused.fault.kind,
+        ReadKind::ReadFailed | ReadKind::NoMemory
+    )
 }
 
 /// Puts what is said of a fault by itself.
-fn put_unread<R: Files>(out: &mut Words, text: &Text<'_, R>, fault: ReadFault) {
+fn put_unread<R: Files>(out: &mut Words, text: &Text<R>, fault: ReadFault) {
     let at = u64::from(fault.at);
     if fault.kind == ReadKind::ReadFailed && put_reading_failed(out, text, at) {
         return;
@@ -148,7 +156,7 @@ fn put_unread<R: Files>(out: &mut Words, text: &Text<'_, R>, fault: ReadFault) {
 }
 
 /// Puts what the file looks like that is none, and answers whether it does.
-fn put_looks<R: Files>(out: &mut Words, text: &Text<'_, R>, kind: ReadKind) -> bool {
+fn put_looks<R: Files>(out: &mut Words, text: &Text<R>, kind: ReadKind) -> bool {
     if kind != ReadKind::NotText && kind != ReadKind::NoSection {
         return false;
     }
@@ -164,9 +172,9 @@ fn put_looks<R: Files>(out: &mut Words, text: &Text<'_, R>, kind: ReadKind) -> b
 /// Puts what is wrong with a record that is no text, which is read again as bytes; answers whether it was found.
 fn put_no_text<R: Files>(
     out: &mut Words,
-    text: &Text<'_, R>,
-    known: &Known<'_>,
-    faulty: &FaultyRecord<'_>,
+    text: &Text<R>,
+    known: &Known,
+    faulty: &FaultyRecord,
 ) -> bool {
     let Some(records) = text.record_at(faulty.mark) else {
         return false;

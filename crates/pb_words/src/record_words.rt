@@ -1,16 +1,21 @@
 //! Words for a record of a .pb file that is refused, and for the end of one that is refused there.
 
-use crate::faulty_record::FaultyRecord;
+use crate::faulty_record::{put_repeated, put_what, remedy_of};
 use crate::looks::EMPTY;
-use crate::mark_words::{CLOSE_IT, line_of, put_mark, put_quotes, put_subject, put_unclosed};
+use crate::mark_words::{
+    CLOSE_IT, line_of, put_mark, put_over, put_quotes, put_subject, put_swallowing, put_unclosed,
+};
 use crate::meta_words::{
-    put_joined, put_late_meta, put_missing_key, put_odd_head, put_value_words,
+    VOTE, put_joined, put_late_meta, put_missing_key, put_odd_head, put_value_words,
 };
 use crate::read_rules::words_of;
 use crate::section::{due_at_end, end_remedy};
 use crate::words::Value::{Name, Number, Own, Quoted};
 use crate::words::Words;
 use pb_read::{ReadKind, Stage};
+use pb_witness::faulty_record::FaultyRecord;
+use pb_witness::fields::text_at;
+use pb_witness::heads::{head_of, section_of};
 use pb_witness::ids::{Ids, Known};
 use pb_witness::mark::Mark;
 use pb_witness::quote::span_of;
@@ -20,12 +25,36 @@ use std::rt::Files;
 /// What to do about a vote whose ids blanks separate.
 const NO_BLANKS: &str = "The vote has spaces between the ids: write `,` instead.\n";
 
+/// What is said of a row that is read as a heading, and has further fields.
+const LIKE_A_HEAD: &str = ": this row is read as a heading, because its first field is {}.
+If it is a project or a voter, give it another id. If it is a heading, write only this word on the line. Each heading comes once: META, PROJECTS, VOTES.
+";
+
+/// What is said of a heading with column names behind it.
+const OWN_LINE: &str =
+    ": the heading {} needs a line of its own. Write the column names below it.\n";
+
+/// What is said before the remedy where the file may be cut off.
+const LAST_LINE: &str =
+    "This is the last line of the file. If the file is cut off, get the whole file again. If not:\n";
+
+/// What is said of an id that no project has.
+const NO_PROJECT: &str = ": no project has the id {}.\n";
+
+/// What is said of a project's id that commas cut into pieces.
+const IN_PIECES: &str =
+    "The project on line {} has a comma in its id, but commas separate the ids of a vote. Give this project another id.\n";
+
+/// What is said of a row with more fields than there are column names.
+const SPLIT: &str =
+    "The row has {} fields, but there are {} column names. If a text in it has a `;`, put this text in quotation marks: `\"Park; north\"`.\n";
+
 /// Puts what is wrong with a record, or with the values of META before it, and what to do; answers whether it was found.
 pub(crate) fn put_found<R: Files>(
     out: &mut Words,
-    text: &Text<'_, R>,
-    known: &Known<'_>,
-    faulty: &FaultyRecord<'_>,
+    text: &Text<R>,
+    known: &Known,
+    faulty: &FaultyRecord,
 ) -> bool {
     match (faulty.kind, faulty.stage) {
         (ReadKind::NotText | ReadKind::SectionOrder | ReadKind::TooManyRecords, _) => {
@@ -41,80 +70,137 @@ pub(crate) fn put_found<R: Files>(
 }
 
 /// Puts what is wrong with a record, and what to do.
-fn put_record<R: Files>(
-    out: &mut Words,
-    text: &Text<'_, R>,
-    known: &Known<'_>,
-    faulty: &FaultyRecord<'_>,
-) {
+fn put_record<R: Files>(out: &mut Words, text: &Text<R>, known: &Known, faulty: &FaultyRecord) {
     let ids = known.ids;
+    if let Some(records) = faulty.like_head(text) {
+        let _ = put_mark(out, text, records.mark());
+        out.fill(LIKE_A_HEAD, &[Quoted(text_at(&records.last, 0))]);
+        return drop(records);
+    }
     let span = put_mark(out, text, faulty.mark);
+    if faulty.is_quoted_meta() {
+        return out.put(": a quotation mark is before META. Delete it.\n");
+    }
     if put_unclosed(out, span) {
         return out.put(CLOSE_IT);
     }
+    if let Some(section) = faulty.head_with_names() {
+        return out.fill(OWN_LINE, &[Own(head_of(section))]);
+    }
+    if faulty.id().contains('\n') && put_over(out, ": a", span) {
+        return;
+    }
     let mut remedy = words_of(faulty.kind).1;
     match faulty.kind {
-        ReadKind::UnknownProject => {
-            let unknown = ids.unknown_of(faulty.value());
-            let left_out = line_at(text, ids.left_out.mark(unknown));
-            out.put(", column vote");
-            put_subject(out, "voter", faulty.id());
-            remedy = put_unknown(out, ids, unknown, left_out);
-        }
+        ReadKind::UnknownProject => remedy = put_unknown(out, text, ids, faulty),
+        ReadKind::NoHeader if faulty.is_same_head() => out.fill(
+            ": the heading {} is on line {} already.\n",
+            &[
+                Own(head_of(section_of(faulty.stage))),
+                Number(line_of(text, faulty.seen.last)),
+            ],
+        ),
         ReadKind::RepeatedProject => {
-            faulty.put_repeated(out, line_at(text, ids.projects.mark(faulty.id())))
+            put_repeated(out, faulty, line_at(text, ids.projects.mark(faulty.id())))
         }
         ReadKind::RepeatedVoter => {
-            faulty.put_repeated(out, line_at(text, known.voters.mark(faulty.id())))
+            put_repeated(out, faulty, line_at(text, known.voters.mark(faulty.id())))
         }
-        _ => faulty.put(out),
+        _ => put_what(out, faulty),
     }
     let _ = put_quotes(out, span);
     put_remedy(out, text, faulty, remedy);
 }
 
 /// Puts what to do about a record.
-fn put_remedy<R: Files>(
-    out: &mut Words,
-    text: &Text<'_, R>,
-    faulty: &FaultyRecord<'_>,
-    remedy: &str,
-) {
+fn put_remedy<R: Files>(out: &mut Words, text: &Text<R>, faulty: &FaultyRecord, remedy: &str) {
+    if put_swallowing(out, text, faulty.seen.swallowing) {
+        return;
+    }
     if let Some(odd) = faulty.odd_head() {
         return put_odd_head(out, text, odd);
     }
-    let is_before_meta = faulty.kind == ReadKind::NoSection && matches!(faulty.stage, Stage::Start);
+    let is_before_meta = faulty.kind == ReadKind::NoSection && faulty.is_first();
     if is_before_meta && put_late_meta(out, text, faulty.mark) {
         return;
     }
-    put_joined(out, faulty.joined(), faulty.remedy().unwrap_or(remedy))
+    if faulty.is_split() {
+        return put_split(out, faulty);
+    }
+    if faulty.is_short() && faulty.joined().is_none() && text.is_last(faulty.mark) {
+        out.put(LAST_LINE);
+    }
+    put_joined(
+        out,
+        faulty.joined(),
+        remedy_of(faulty).unwrap_or(remedy),
+        VOTE,
+    )
+}
+
+/// Puts that a row has more fields than there are column names, and what to do.
+fn put_split(out: &mut Words, faulty: &FaultyRecord) {
+    let (fields, names) = (faulty.record.len() as u64, faulty.seen.columns as u64);
+    out.fill(SPLIT, &[Number(fields), Number(names)])
 }
 
 /// The line at which a record begins, if there is one.
-fn line_at<R: Files>(text: &Text<'_, R>, mark: Option<Mark>) -> Option<u64> {
+fn line_at<R: Files>(text: &Text<R>, mark: Option<Mark>) -> Option<u64> {
     Some(line_of(text, mark?))
 }
 
-/// Puts which id no project has, and the nearest one, or on which line that project's row has a fault; answers what to do.
-fn put_unknown(out: &mut Words, ids: &Ids, unknown: &str, left_out: Option<u64>) -> &'static str {
-    match left_out {
-        Some(line) => {
-            out.fill(
-                ": the row of project {} on line {} has a fault, so this vote can't be accepted.\n",
-                &[Quoted(unknown), Number(line)],
-            );
-            "Correct that line first. This vote may be right.\n"
-        }
-        None => put_no_project(out, ids, unknown),
+/// Puts which id of a vote no project has, and why, as far as that is known; answers what to do.
+fn put_unknown<R: Files>(
+    out: &mut Words,
+    text: &Text<R>,
+    ids: &Ids,
+    faulty: &FaultyRecord,
+) -> &'static str {
+    let unknown = ids.unknown_of(faulty.value());
+    out.put(", column vote");
+    put_subject(out, "voter", faulty.id());
+    if let Some(line) = line_at(text, ids.left_out.mark(unknown)) {
+        out.fill(
+            ": the row of project {} on line {} has a fault, so this vote can't be accepted.\n",
+            &[Quoted(unknown), Number(line)],
+        );
+        return "Correct that line first. This vote may be right.\n";
     }
+    if let Some(bare) = ids.bare(unknown) {
+        if unknown.contains('"') {
+            out.put(": quotation marks are around single ids, or beside one.\n");
+            return "Delete all quotation marks in the vote.\n";
+        }
+        let form = ": an invisible character is beside the id {}.\n";
+        out.fill(form, &[Quoted(bare)]);
+        return "Delete it, or type the id anew.\n";
+    }
+    let shifted = faulty.shifted();
+    if !shifted.is_empty() && ids.unknown_of(shifted).is_empty() {
+        out.fill(NO_PROJECT, &[Quoted(unknown)]);
+        put_split(out, faulty);
+        return "";
+    }
+    put_no_project(out, text, ids, unknown)
 }
 
 /// Puts that an id is no project's, and the nearest one; answers what to do. Of an id with a line end the quotation marks
 /// around it say that.
-fn put_no_project(out: &mut Words, ids: &Ids, unknown: &str) -> &'static str {
+fn put_no_project<R: Files>(
+    out: &mut Words,
+    text: &Text<R>,
+    ids: &Ids,
+    unknown: &str,
+) -> &'static str {
+    let whole = line_at(text, ids.pieces.mark(unknown));
+    let swallowing = ids.swallowed.mark(unknown);
     let are_apart = ids.are_apart_by_blanks(unknown);
-    if are_apart || unknown.contains('\n') {
-        out.fill(": no project has the id {}.\n", &[Quoted(unknown)]);
+    if are_apart || whole.is_some() || swallowing.is_some() || unknown.contains('\n') {
+        out.fill(NO_PROJECT, &[Quoted(unknown)]);
+        if let Some(line) = whole {
+            out.fill(IN_PIECES, &[Number(line)]);
+        }
+        let _ = put_swallowing(out, text, swallowing);
         return if are_apart { NO_BLANKS } else { "" };
     }
     match ids.nearest(unknown) {
@@ -122,29 +208,27 @@ fn put_no_project(out: &mut Words, ids: &Ids, unknown: &str) -> &'static str {
             ": no project has the id {}; the most similar id is {}.\n",
             &[Quoted(unknown), Quoted(near)],
         ),
-        Ok(None) => out.fill(": no project has the id {}.\n", &[Quoted(unknown)]),
+        Ok(None) => out.fill(NO_PROJECT, &[Quoted(unknown)]),
         Err(_) => out.fail(),
     }
     words_of(ReadKind::UnknownProject).1
 }
 
 /// Puts what is missing at the end of the file, where it was read so far and its records say this; answers that it did.
-pub(crate) fn put_end<R: Files>(
-    out: &mut Words,
-    text: &Text<'_, R>,
-    end: &FaultyRecord<'_>,
-) -> bool {
-    let (due, last) = (due_at_end(end.stage), end.seen.last);
+pub(crate) fn put_end<R: Files>(out: &mut Words, text: &Text<R>, end: &FaultyRecord) -> bool {
+    let ((due, section), last) = (due_at_end(end.stage), end.seen.last);
     if last.at == 0 {
         out.fill("{}{}", &[Name(text.path), Own(EMPTY)]);
         return true;
     }
     let span = span_of(text, last);
     out.fill(
-        "{}: the file ends after line {}, and {}",
-        &[Name(text.path), Number(span.begins), Own(due)],
+        "{}: the file ends after line {}, and ",
+        &[Name(text.path), Number(span.begins)],
     );
-    if put_quotes(out, span) {
+    out.fill(due, &[Own(head_of(section))]);
+    let is_closed = span.unclosed().is_none();
+    if is_closed && put_swallowing(out, text, end.seen.swallowing) || put_quotes(out, span) {
         return true;
     }
     match end.seen.odd_head {

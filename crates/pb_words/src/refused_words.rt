@@ -1,15 +1,15 @@
 //! Words for rows that a desk refuses by its rules, and for the voters' roll.
 
-use crate::file_words::FOLDER;
+use crate::file_words::{FOLDER, NO_MEMORY};
 use crate::mark_words::{put_mark, put_record_number};
 use crate::words::Value::{Name, Number, Own, Quoted};
-use crate::words::Words;
+use crate::words::{Said, Words, said};
 use pb_script::{RollFault, RowRefusal};
 use pb_witness::failures::is_folder;
 use pb_witness::fields::text_at;
 use pb_witness::mark::Mark;
 use pb_witness::text::Text;
-use std::alloc::{AllocError, Global};
+use std::alloc::Global;
 use std::rt::Files;
 
 /// A row that a desk refuses by its rules.
@@ -32,13 +32,9 @@ pub struct RefusedRow<'a> {
 }
 
 /// Words for a row that a desk refuses by its rules.
-pub fn refused_words<R: Files>(
-    rt: &R,
-    alloc: Global,
-    refused: &RefusedRow<'_>,
-) -> Result<String, AllocError> {
+pub fn refused_words<R: Files>(rt: &R, alloc: Global, refused: &RefusedRow<'_>) -> Said {
     let mut out = Words::new(alloc);
-    let text = Text::new(rt, alloc, refused.path, "row");
+    let text = Text::new(rt, alloc, refused.path);
     match text.records_at(Mark::start(), refused.row) {
         Some(records) => {
             let _ = put_mark(&mut out, &text, records.mark());
@@ -50,7 +46,9 @@ pub fn refused_words<R: Files>(
             put_why(&mut out, refused, None);
         }
     }
+    let has_marks = refused.unknown.contains('"');
     let remedy = match refused.why {
+        RowRefusal::UnknownId if has_marks => "Delete all quotation marks in this field",
         RowRefusal::UnknownId => "Correct the id",
         RowRefusal::TooFew => "Add projects to the ballot",
         RowRefusal::NotOnRoll | RowRefusal::Bad => {
@@ -69,6 +67,9 @@ pub fn refused_words<R: Files>(
 /// Puts why a row of this voter, if it is known, is refused.
 fn put_why(out: &mut Words, refused: &RefusedRow<'_>, voter: Option<&str>) {
     match (refused.why, voter) {
+        (RowRefusal::UnknownId, _) if refused.unknown.contains('"') => {
+            out.put(", field places: quotation marks are around single ids, or beside one.")
+        }
         (RowRefusal::UnknownId, _) => out.fill(
             ", field places: no project has the id {}.",
             &[Quoted(refused.unknown)],
@@ -78,53 +79,44 @@ fn put_why(out: &mut Words, refused: &RefusedRow<'_>, voter: Option<&str>) {
             &[Number(u64::from(refused.least))],
         ),
         (_, Some(voter)) => out.fill(
-            ", field voter: {} is not on the roll {}.",
+            ", field voter: {} is not on the roll in the file {}.",
             &[Quoted(voter), Name(refused.roll)],
         ),
         (_, None) => out.fill(
-            ", field voter: the voter is not on the roll {}.",
+            ", field voter: the voter is not on the roll in the file {}.",
             &[Name(refused.roll)],
         ),
     }
 }
 
 /// Words for an id of a project that reads as a position.
-pub fn like_a_place_words(alloc: Global, id: &str) -> Result<String, AllocError> {
-    let mut out = Words::new(alloc);
-    out.fill(
+pub fn like_a_place_words(alloc: Global, id: &str) -> Said {
+    said(
+        alloc,
         "Careful: a project has the id {}. But in a request the number {} is a position, and positions count from 0.\nTo write ids in requests, run again with `--by-id`.\n",
         &[Quoted(id), Name(Some(id))],
-    );
-    out.finish()
+    )
 }
 
+const ROLL_UNREAD: &str =
+    "the roll could not be read to its end.\nCheck the disk or the connection, then run again.\n";
+
+const ROLL_NOT_TEXT: &str =
+    "the row is not UTF-8 text.\nSave the file again with the encoding UTF-8.\n";
+
+const ROLL_TOO_LONG: &str = "the roll has more than 2,000,000 ids.\nA longer roll can't be used.\n";
+
 /// Words for a fault of the voters' roll with this path.
-pub fn roll_words<R: Files>(
-    rt: &R,
-    alloc: Global,
-    path: &str,
-    fault: RollFault,
-) -> Result<String, AllocError> {
-    let (row, form) = match fault {
-        RollFault::ReadFailed(_) if is_folder(rt, path) => (0, FOLDER),
-        RollFault::ReadFailed(row) => (
-            row,
-            "{}: row {}: the roll could not be read to its end.\nCheck the disk or the connection, then run again.\n",
-        ),
-        RollFault::NotText(row) => (
-            row,
-            "{}: row {}: the row is not UTF-8 text.\nSave the file again with the encoding UTF-8.\n",
-        ),
-        RollFault::TooManyIds(row) => (
-            row,
-            "{}: row {}: the roll has more than 2,000,000 ids.\nA longer roll can't be used.\n",
-        ),
-        RollFault::NoMemory => (
-            0,
-            "{}: memory ran out.\nRun again on a machine with more memory.\n",
-        ),
+pub fn roll_words<R: Files>(rt: &R, alloc: Global, path: &str, fault: RollFault) -> Said {
+    let (row, what) = match fault {
+        RollFault::ReadFailed(_) if is_folder(rt, path) => {
+            return said(alloc, FOLDER, &[Name(Some(path))]);
+        }
+        RollFault::NoMemory => return said(alloc, "{}{}", &[Name(Some(path)), Own(NO_MEMORY)]),
+        RollFault::ReadFailed(row) => (row, ROLL_UNREAD),
+        RollFault::NotText(row) => (row, ROLL_NOT_TEXT),
+        RollFault::TooManyIds(row) => (row, ROLL_TOO_LONG),
     };
-    let mut out = Words::new(alloc);
-    out.fill(form, &[Name(Some(path)), Number(u64::from(row))]);
-    out.finish()
+    let row = Number(u64::from(row));
+    said(alloc, "{}: row {}: {}", &[Name(Some(path)), row, Own(what)])
 }

@@ -1,30 +1,35 @@
 //! Words for the faults of a script.
 
 use crate::count_words::put_range;
-use crate::file_words::put_reading_failed;
+use crate::file_words::{NO_MEMORY, put_reading_failed};
 use crate::mark_words::{CLOSE_IT, put_mark, put_quotes, put_record_number, put_unclosed};
-use crate::meta_words::put_joined;
-use crate::row_words::{SCRIPT_FIELDS, put_field_count, put_flaw, script_remedy};
+use crate::meta_words::{BALLOT, TYPED, put_joined};
+use crate::row_words::{SCRIPT_FIELDS, broken, put_clerk_remedy, put_field_count, put_flaw};
 use crate::words::Value::{Number, Own};
-use crate::words::Words;
+use crate::words::{Said, Words};
 use csv::ByteRecord;
 use pb_desk::desk::MOST_CLERKS;
-use pb_rows::read_number;
 use pb_script::ScriptFault;
 use pb_witness::fields::{joined, raw_text};
 use pb_witness::mark::Mark;
-use pb_witness::row_flaw::{Condition, flaw_of_script_row};
+use pb_witness::row_flaw::{Condition, flaw_of_script_row, is_of_journal};
 use pb_witness::text::Text;
 use pb_witness::typed_row::TypedRow;
-use std::alloc::{AllocError, Global};
+use std::alloc::Global;
 use std::rt::Files;
 
 /// What to do about a row of other than four fields.
-const FOUR_FIELDS: &str = "Write it as CLERK;REQUEST;VOTER;PLACES, with three `;`.\n";
+const FOUR_FIELDS: &str =
+    "Write it as CLERK;REQUEST;VOTER;PLACES, with three `;`, and with `,` between projects. A shut is `0;shut;;`.\n";
 
 /// What is said of a journal's row.
 const JOURNAL_ROW: &str = ": this is a row of a journal, not a request.
 To check a journal, run `pb_app audit FILE JOURNAL`. To continue its desk, run `pb_app serve FILE JOURNAL`.
+";
+
+/// What is said of a .pb file's first row.
+const PB_FILE: &str = " is the heading of a .pb file, not a request.
+In the command, name the .pb file first, and then the script.
 ";
 
 /// The form of requests that name projects by their positions.
@@ -52,19 +57,19 @@ pub fn script_words<R: Files>(
     path: Option<&str>,
     fault: Option<ScriptFault>,
     taking: Taking,
-) -> Result<String, AllocError> {
+) -> Said {
     let mut out = Words::new(alloc);
     match fault {
         Some(ScriptFault::BadRow(_)) | None if taking.clerks == 0 => {
             put_range(&mut out, "clerks", 0, "1 to 64")
         }
-        Some(fault) => put_words(&mut out, &Text::new(rt, alloc, path, "row"), fault, taking),
+        Some(fault) => put_words(&mut out, &Text::new(rt, alloc, path), fault, taking),
         None => put_range(&mut out, "clerks", u64::from(taking.clerks), "1 to 64"),
     }
     out.finish()
 }
 
-fn put_words<R: Files>(out: &mut Words, text: &Text<'_, R>, fault: ScriptFault, taking: Taking) {
+fn put_words<R: Files>(out: &mut Words, text: &Text<R>, fault: ScriptFault, taking: Taking) {
     let at = u64::from(fault.at());
     let is_put = match fault {
         ScriptFault::ReadFailed(_) => put_reading_failed(out, text, at),
@@ -93,7 +98,7 @@ fn what_and_remedy(fault: ScriptFault) -> &'static str {
         ScriptFault::TooManyRows => {
             ": the script has more than 2,000,000 rows.\nA longer script can't be used.\n"
         }
-        ScriptFault::NoMemory => { ": memory ran out.\nRun again on a machine with more memory.\n" }
+        ScriptFault::NoMemory => NO_MEMORY,
         ScriptFault::UnknownId(_) => ": no project has one of the ids.\n",
         ScriptFault::NotOnRoll(_) => ": the voter is not on the roll.\n",
         ScriptFault::TooFew(_) => ": the ballot has too few projects.\n",
@@ -101,7 +106,7 @@ fn what_and_remedy(fault: ScriptFault) -> &'static str {
 }
 
 /// Reads the script again up to a bad row, and puts which condition it breaks; answers whether it was found.
-fn put_row<R: Files>(out: &mut Words, text: &Text<'_, R>, at: u64, clerks: u32) -> bool {
+fn put_row<R: Files>(out: &mut Words, text: &Text<R>, at: u64, clerks: u32) -> bool {
     let Some(records) = text.records_at(Mark::start(), at) else {
         return false;
     };
@@ -109,7 +114,7 @@ fn put_row<R: Files>(out: &mut Words, text: &Text<'_, R>, at: u64, clerks: u32) 
     if put_unclosed(out, span) {
         out.put(CLOSE_IT);
     } else {
-        put_row_words(out, &records.last, clerks);
+        put_row_words(out, &records.last, clerks, BALLOT);
         let _ = put_quotes(out, span);
     }
     drop(records);
@@ -117,38 +122,38 @@ fn put_row<R: Files>(out: &mut Words, text: &Text<'_, R>, at: u64, clerks: u32) 
 }
 
 /// Words for why the row that was typed last is none.
-pub fn typed_words(alloc: Global, row: &TypedRow) -> Result<String, AllocError> {
+pub fn typed_words(alloc: Global, row: &TypedRow) -> Said {
     let mut out = Words::new(alloc);
     out.fill("standard input: row {}", &[Number(row.number())]);
     let mut records = row.records();
     if records.advance() {
-        put_row_words(&mut out, &records.last, MOST_CLERKS);
+        put_row_words(&mut out, &records.last, MOST_CLERKS, TYPED);
     }
     drop(records);
     out.finish()
 }
 
-/// Puts which condition a row breaks, in a run of so many clerks, and what to do.
-fn put_row_words(out: &mut Words, row: &ByteRecord, clerks: u32) {
+/// Puts which condition a row breaks, in a run of so many clerks, and what to do: this, where its fields are not separated.
+fn put_row_words(out: &mut Words, row: &ByteRecord, clerks: u32, separate: &'static str) {
     if is_of_journal(row) {
         return out.put(JOURNAL_ROW);
+    }
+    if raw_text(row, 0).eq_ignore_ascii_case("META") {
+        return out.put(PB_FILE);
     }
     match flaw_of_script_row(row, clerks) {
         Some(flaw) if flaw.condition == Condition::FieldCount => {
             put_field_count(out, row, SCRIPT_FIELDS.len());
-            put_joined(out, joined(row), FOUR_FIELDS)
+            put_joined(out, joined(row), FOUR_FIELDS, separate)
         }
         Some(flaw) => {
             let clerks = clerks.min(MOST_CLERKS);
             put_flaw(out, &flaw, SCRIPT_FIELDS, clerks);
-            out.fill("{}\n", &[Own(script_remedy(flaw.condition, clerks))])
+            if flaw.condition == Condition::KnownClerk {
+                return put_clerk_remedy(out, &flaw, clerks);
+            }
+            out.fill("{}\n", &[Own(broken(flaw.condition).1)])
         }
         None => out.put(": the row is refused.\n"),
     }
-}
-
-/// Whether a row seems to be one of a journal: that of its version, or an entry.
-fn is_of_journal(row: &ByteRecord) -> bool {
-    let is_entry = row.len() == 6 && read_number(raw_text(row, 0)).is_some();
-    is_entry || raw_text(row, 0) == "journal"
 }

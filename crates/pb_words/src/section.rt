@@ -11,11 +11,8 @@ pub(crate) struct Names {
     pub(crate) value_column: &'static str,
     /// What its rows are.
     pub(crate) subject: &'static str,
-    /// What is missing where it has no row of column names.
-    pub(crate) header_due: &'static str,
-    /// What to do about it.
+    /// What to do where it has no row of column names, and where that lacks a column.
     pub(crate) add_header: &'static str,
-    /// What to do where the row of column names lacks a column.
     pub(crate) add_column: &'static str,
 }
 
@@ -23,7 +20,6 @@ const META: &Names = &Names {
     id_column: "key",
     value_column: "value",
     subject: "key",
-    header_due: "META has no row of column names.\n",
     add_header: "Add it below the heading META, for example `key;value`.\n",
     add_column: "",
 };
@@ -32,7 +28,6 @@ const PROJECTS: &Names = &Names {
     id_column: "project_id",
     value_column: "cost",
     subject: "project",
-    header_due: "PROJECTS has no row of column names.\n",
     add_header: "Add it below the heading PROJECTS, for example `project_id;cost`.\n",
     add_column: "PROJECTS needs the columns `project_id` and `cost`. If this row is a project, add the row of column names above it.\n",
 };
@@ -41,10 +36,14 @@ const VOTES: &Names = &Names {
     id_column: "voter_id",
     value_column: "vote",
     subject: "voter",
-    header_due: "VOTES has no row of column names.\n",
     add_header: "Add it below the heading VOTES, for example `voter_id;vote`.\n",
     add_column: "VOTES needs the columns `voter_id` and `vote`. If this row is a vote, add the row of column names above it.\n",
 };
+
+/// What is said of a section that is missing, and of one without a row of column names.
+const NO_SECTION: &str = "there is no section {}.\n";
+
+pub(crate) const NO_NAMES: &str = "{} has no row of column names.\n";
 
 /// What things are called in a section.
 pub(crate) fn names_of(section: Section) -> &'static Names {
@@ -55,15 +54,6 @@ pub(crate) fn names_of(section: Section) -> &'static Names {
     }
 }
 
-/// Whether the section with this head has begun already at a stage where its head is refused.
-fn is_again(stage: &Stage, head: &str) -> bool {
-    match stage {
-        Stage::Start => false,
-        Stage::InMeta(_) => head.eq_ignore_ascii_case("META"),
-        Stage::Header(_) | Stage::InProjects(_) | Stage::InVotes(_) => true,
-    }
-}
-
 /// What is wrong with this head of a section at a stage where it is refused, with the head in place of `{}`, and what to do.
 pub(crate) fn wrong_head(stage: &Stage, head: &str) -> (&'static str, &'static str) {
     match stage {
@@ -71,13 +61,13 @@ pub(crate) fn wrong_head(stage: &Stage, head: &str) -> (&'static str, &'static s
             ": there is no heading META above {}.\n",
             "If the beginning of the file is missing, get the whole file again. If not, put the sections in this order: META, PROJECTS, VOTES.\n",
         ),
-        _ if is_again(stage, head) => (
-            ": {} begins a section that the file has already.\n",
-            "Each section may come only once. If the file has two elections, put each into a file of its own.\n",
-        ),
-        _ => (
+        Stage::InMeta(_) if !head.eq_ignore_ascii_case("META") => (
             ": there is no heading PROJECTS above {}.\n",
             "Write it above the projects, or correct its spelling, or put the sections in this order: META, PROJECTS, VOTES.\n",
+        ),
+        _ => (
+            ": {} begins a section that the file has already.\n",
+            "Each section may come only once. If the file has two elections, put each into a file of its own.\n",
         ),
     }
 }
@@ -95,13 +85,12 @@ pub(crate) fn end_remedy(stage: &Stage) -> &'static str {
     }
 }
 
-/// What is missing where the file ends.
-pub(crate) fn due_at_end(stage: &Stage) -> &'static str {
+/// What is missing where the file ends, of the section that is answered beside it.
+pub(crate) fn due_at_end(stage: &Stage) -> (&'static str, Section) {
     match stage {
-        Stage::Start => "there is no section META.\n",
-        Stage::Header(section) => names_of(*section).header_due,
-        Stage::InMeta(_) => "there is no section PROJECTS.\n",
-        Stage::InProjects(_) => "there is no section VOTES.\n",
-        Stage::InVotes(_) => "a row is missing.\n",
+        Stage::Header(section) => (NO_NAMES, *section),
+        Stage::Start => (NO_SECTION, Section::Meta),
+        Stage::InMeta(_) => (NO_SECTION, Section::Projects),
+        Stage::InProjects(_) | Stage::InVotes(_) => (NO_SECTION, Section::Votes),
     }
 }

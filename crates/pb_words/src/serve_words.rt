@@ -2,40 +2,36 @@
 
 use crate::file_words::FOLDER;
 use crate::words::Value::{Name, Number, Own};
-use crate::words::Words;
-use std::alloc::{AllocError, Global};
+use crate::words::{Said, Words, said};
+use std::alloc::Global;
 use std::io::{Error, ErrorKind};
 
 /// Words for a journal that another run serves.
-pub fn locked_words(alloc: Global, path: &str) -> Result<String, AllocError> {
-    path_words(
+pub fn locked_words(alloc: Global, path: &str) -> Said {
+    said(
         alloc,
-        path,
         "{}: another `pb_app serve` is using this journal.\nWait until it ends, or type your requests where it runs.\n",
+        &[Name(Some(path))],
     )
 }
 
 /// Words for a journal that could not be opened or made, for this reason.
-pub fn unopened_words(alloc: Global, path: &str, reason: &Error) -> Result<String, AllocError> {
-    match reason.kind() {
-        ErrorKind::IsADirectory => return path_words(alloc, path, FOLDER),
-        ErrorKind::Unsupported => return path_words(
+pub fn unopened_words(alloc: Global, path: &str, reason: &Error) -> Said {
+    let form = match reason.kind() {
+        ErrorKind::IsADirectory => FOLDER,
+        ErrorKind::Unsupported => "{}: this is not an ordinary file.\nName another file.\n",
+        _ => return failure_words(
             alloc,
             path,
-            "{}: this is not an ordinary file.\nName another file.\n",
+            Some(reason),
+            "Name an ordinary file. Its folder must exist, and you must be allowed to read and write there.\n",
         ),
-        _ => {}
-    }
-    failure_words(
-        alloc,
-        path,
-        Some(reason),
-        "Name an ordinary file. Its folder must exist, and you must be allowed to read and write there.\n",
-    )
+    };
+    said(alloc, form, &[Name(Some(path))])
 }
 
 /// Words for a journal, or what is kept beside it, that could not be written, synced or cut, for this reason.
-pub fn unkept_words(alloc: Global, path: &str, reason: &Error) -> Result<String, AllocError> {
+pub fn unkept_words(alloc: Global, path: &str, reason: &Error) -> Said {
     failure_words(
         alloc,
         path,
@@ -45,9 +41,9 @@ pub fn unkept_words(alloc: Global, path: &str, reason: &Error) -> Result<String,
 }
 
 /// Words for a journal whose name leads elsewhere, and whose text is kept in this file.
-pub fn moved_words(alloc: Global, path: &str, kept: &str) -> Result<String, AllocError> {
-    let mut out = Words::new(alloc);
-    out.fill(
+pub fn moved_words(alloc: Global, path: &str, kept: &str) -> Said {
+    said(
+        alloc,
         "{} was moved, replaced or deleted while `pb_app serve` was using it.\nThe whole journal is now in {}, with every request that got an answer.\nIf there is a file {} now, compare the two. Give the one that has all rows the name {}. Run `serve` again. Then send each request that got no answer.\n",
         &[
             Name(Some(path)),
@@ -55,12 +51,11 @@ pub fn moved_words(alloc: Global, path: &str, kept: &str) -> Result<String, Allo
             Name(Some(path)),
             Name(Some(path)),
         ],
-    );
-    out.finish()
+    )
 }
 
 /// Words for a journal whose name leads elsewhere, and whose text could not be kept beside it, for this reason.
-pub fn lost_words(alloc: Global, path: &str, reason: &Error) -> Result<String, AllocError> {
+pub fn lost_words(alloc: Global, path: &str, reason: &Error) -> Said {
     failure_words(
         alloc,
         path,
@@ -70,7 +65,7 @@ pub fn lost_words(alloc: Global, path: &str, reason: &Error) -> Result<String, A
 }
 
 /// Words for an answer that could not be written, for this reason.
-pub fn unanswered_words(alloc: Global, reason: Option<&Error>) -> Result<String, AllocError> {
+pub fn unanswered_words(alloc: Global, reason: Option<&Error>) -> Said {
     failure_words(
         alloc,
         "standard output",
@@ -80,40 +75,45 @@ pub fn unanswered_words(alloc: Global, reason: Option<&Error>) -> Result<String,
 }
 
 /// Words for a journal that is legal, and not spelled as a desk spells it.
-pub fn spelling_words(alloc: Global, path: &str) -> Result<String, AllocError> {
-    path_words(
+pub fn spelling_words(alloc: Global, path: &str) -> Said {
+    said(
         alloc,
-        path,
         "{}: the rows are right, but another program saved the file again: it has other line ends, extra quotation marks, or an invisible mark at its start.\n`pb_app serve` did not change the file. Get the journal from last evening's copy. Do not open a journal in a spreadsheet or a text program.\n",
+        &[Name(Some(path))],
     )
 }
 
 /// Words for a journal of a desk that is open and was to be shut.
-pub fn open_desk_words(alloc: Global, journal: Option<&str>) -> Result<String, AllocError> {
-    let mut out = Words::new(alloc);
-    out.fill(
+pub fn open_desk_words(alloc: Global, journal: Option<&str>) -> Said {
+    said(
+        alloc,
         "{}: the desk is still open.\nIf it was shut since, get the journal from the desk's machine. If not, shut the desk first: give `pb_app serve` the request `0;shut;;`.\n",
         &[Name(journal)],
-    );
-    out.finish()
+    )
 }
 
 /// Words for so many bytes behind a journal's text that are kept in this file.
-pub fn torn_words(alloc: Global, path: &str, bytes: usize) -> Result<String, AllocError> {
-    let mut out = Words::new(alloc);
+pub fn torn_words(alloc: Global, path: &str, bytes: usize) -> Said {
     let cut = if bytes == 1 { "byte was" } else { "bytes were" };
-    out.fill(
+    said(
+        alloc,
         "The end of the journal was incomplete: {} {} cut off, and kept in {}.\nSend again each request that got no answer.\n",
         &[Number(bytes as u64), Own(cut), Name(Some(path))],
-    );
-    out.finish()
+    )
 }
 
 /// Words for so many rows that were not of the form; these are the numbers of the first of them.
-pub fn bad_rows_words(alloc: Global, rows: u64, first: &[u64]) -> Result<String, AllocError> {
+pub fn bad_rows_words(alloc: Global, rows: u64, first: &[u64]) -> Said {
     let mut out = Words::new(alloc);
     let more = rows.saturating_sub(first.len() as u64);
-    out.put(if rows == 1 { "Row" } else { "Rows" });
+    match (rows, more) {
+        (1, _) => out.put("Row"),
+        (_, 0) => out.put("Rows"),
+        _ => out.fill(
+            "{} rows are not valid requests, and are not in the journal: rows",
+            &[Number(rows)],
+        ),
+    }
     for i in 0..first.len() {
         let is_last = i + 1 == first.len() && more == 0;
         let before = if is_last { " and " } else { ", " };
@@ -122,33 +122,23 @@ pub fn bad_rows_words(alloc: Global, rows: u64, first: &[u64]) -> Result<String,
             &[Own(if i == 0 { " " } else { before }), Number(first[i])],
         );
     }
-    if more > 0 {
-        out.fill(" and {} more", &[Number(more)]);
-    }
-    out.put(if rows == 1 {
-        " is not a valid request, and is not in the journal.\nCorrect it, and send it again: `pb_app serve --help` shows the form of a request.\n"
-    } else {
-        " are not valid requests, and are not in the journal.\nCorrect them, and send them again: `pb_app serve --help` shows the form of a request.\n"
+    out.put(match (rows, more) {
+        (1, _) => " is not a valid request, and is not in the journal.\nCorrect it, and send it",
+        (_, 0) =>
+            " are not valid requests, and are not in the journal.\nCorrect them, and send them",
+        _ => " and others.\nCorrect them, and send them",
     });
-    out.finish()
-}
-
-/// A text with the path in it.
-fn path_words(alloc: Global, path: &str, form: &str) -> Result<String, AllocError> {
-    let mut out = Words::new(alloc);
-    out.fill(form, &[Name(Some(path))]);
+    out.put(" again: `pb_app serve --help` shows the form of a request.\n");
+    if more > 0 {
+        out.put("Each of these rows has a line `fault;script;2;BadRow;ROW` among the answers.\n");
+    }
     out.finish()
 }
 
 /// The path, why a call on it failed, and what to do.
-fn failure_words(
-    alloc: Global,
-    path: &str,
-    reason: Option<&Error>,
-    remedy: &str,
-) -> Result<String, AllocError> {
+fn failure_words(alloc: Global, path: &str, reason: Option<&Error>, remedy: &str) -> Said {
     let mut out = Words::new(alloc);
-    out.put_name(path);
+    out.fill("{}", &[Name(Some(path))]);
     match reason {
         Some(error) => out.put_error(error),
         None => out.put(": an answer could not be written.\n"),

@@ -3,114 +3,83 @@
 use crate::count_words::put_amount;
 use crate::mark_words::{line_of, put_mark, put_record_number, put_subject};
 use crate::words::Value::{Number, Own, Quoted};
-use crate::words::Words;
+use crate::words::{Said, Words};
 use pb_core::money::Money;
 use pb_read::Oddity;
 use pb_witness::fields::text_at;
 use pb_witness::oddities::{ALL, Odd, Oddities, Subject};
 use pb_witness::text::Text;
-use std::alloc::{AllocError, Global};
+use std::alloc::Global;
 use std::rt::Files;
 
-/// What is said of an oddity.
-#[derive(Clone, Copy)]
-struct Said {
-    /// What is odd, with the value of the row in place of `{}`.
-    what: &'static str,
-    /// The same where the row is not known.
-    alone: &'static str,
-    /// Whether a number ends it.
-    ends_in_number: bool,
-    remedy: &'static str,
-}
+/// What is said of each oddity, in the order of `ALL`, in three lines: what is odd, with the row's value and numbers in
+/// place of `{}`; the same where the row is not known, with the number; and what to do.
+const SAID: [&str; 14] = [
+    "{} is wrong: the number of vote rows is {}
+`num_votes` is wrong: the number of vote rows is {}
+If rows are missing, get the whole file again. Otherwise correct the number.",
+    "{} is wrong: the number of project rows is {}
+`num_projects` is wrong: the number of project rows is {}
+If rows are missing, get the whole file again. Otherwise correct the number.",
+    "only {} is counted. The row has {} fields, but the number of column names is {}
+the row has too many fields: the number of column names is {}
+If `;` is between the ids of the vote, write `,` instead: only the ids before the first `;` are counted.",
+    "the vote {} names {}
+the vote names {}
+This ballot is counted. If your rules do not allow it, delete the row.",
+    "the vote {} names {}
+the vote names {}
+This ballot is counted. If your rules do not allow it, delete the row.",
+    "the ballot is empty
+the ballot is empty
+It is counted, and its voter gets a share of the budget. If your rules do not allow it, delete the row.",
+    "no vote names this project
+no vote names the project
+Check whether votes for it are missing, or have another id by mistake.",
+    "{} is more than the budget, so the project can't win
+the project costs more than the budget, so it can't win
+Check whether the amount has too many digits, or is in another unit (cents, for example).",
+    "the id has a comma, so no vote can name the project
+the project's id has a comma, so no vote can name it
+Give the project another id.",
+    "{}
+the three digits after an amount's point or comma are read as decimals
+If the point or comma separates thousands, delete it. Otherwise write two decimals.",
+    "this value, {}, counts, and the one on line {} does not
+a key is repeated; only the last row of a key counts
+The last row of a key counts. Delete the wrong row.",
+    "its cost, {}, is the sum of all costs above
+the cost in the last row of PROJECTS is the sum of all costs above
+It is counted as a project. If it is a total, delete the row.",
+    "the column `votes` says {}, but the number of vote rows that name the project is {}
+the column `votes` is wrong: the number of vote rows that name the project is {}
+If rows are missing, get the whole file again. Otherwise correct the number.",
+    "the column `selected` says {}, but by this count it is {}
+the column `selected` is wrong: by this count it is {}
+Check whether the published count had other options, and whether ballots or costs were changed since.",
+];
 
-/// Says what the oddity of a row of a section is.
-fn said_of(oddity: Oddity, is_vote: bool) -> &'static Said {
-    match oddity {
-        Oddity::VotesMissing => &Said {
-            what: "{} is wrong: the number of vote rows is ",
-            alone: "`num_votes` is wrong: the number of vote rows is ",
-            ends_in_number: true,
-            remedy: "If rows are missing, get the whole file again. Otherwise correct the number.\n",
-        },
-        Oddity::ProjectsMissing => &Said {
-            what: "{} is wrong: the number of project rows is ",
-            alone: "`num_projects` is wrong: the number of project rows is ",
-            ends_in_number: true,
-            remedy: "If rows are missing, get the whole file again. Otherwise correct the number.\n",
-        },
-        Oddity::SurplusFields => &Said {
-            what: "only {} is counted. The row has {} fields, but the number of column names is ",
-            alone: "the row has too many fields: the number of column names is ",
-            ends_in_number: true,
-            remedy: "If `;` is between the ids of the vote, write `,` instead: only the ids before the first `;` are counted.\n",
-        },
-        Oddity::TooLongBallot | Oddity::TooShortBallot => &Said {
-            what: "the vote {} names ",
-            alone: "the vote names ",
-            ends_in_number: true,
-            remedy: "This ballot is counted. If your rules do not allow it, delete the row.\n",
-        },
-        Oddity::EmptyBallot => &Said {
-            what: "the ballot is empty",
-            alone: "the ballot is empty",
-            ends_in_number: false,
-            remedy: "It is counted, and its voter gets a share of the budget. If your rules do not allow it, delete the row.\n",
-        },
-        Oddity::NoSupporter => &Said {
-            what: "no vote names this project",
-            alone: "no vote names the project",
-            ends_in_number: false,
-            remedy: "Check whether votes for it are missing, or have another id by mistake.\n",
-        },
-        Oddity::OverBudget => &Said {
-            what: "{} is more than the budget, so the project can't win",
-            alone: "the project costs more than the budget, so it can't win",
-            ends_in_number: false,
-            remedy: "Check whether the amount has too many digits, or is in another unit (cents, for example).\n",
-        },
-        Oddity::CommaInId => &Said {
-            what: "the id has a comma, so no vote can name the project",
-            alone: "the project's id has a comma, so no vote can name it",
-            ends_in_number: false,
-            remedy: "Give the project another id.\n",
-        },
-        Oddity::ThousandsMark => &Said {
-            what: "{}",
-            alone: "the three digits after an amount's point or comma are read as decimals",
-            ends_in_number: false,
-            remedy: "If the point or comma separates thousands, delete it. Otherwise write two decimals.\n",
-        },
-        Oddity::RepeatedKey => &Said {
-            what: "the key comes twice, and the last row counts: this one, with {}, replaces the one on line {}",
-            alone: "a key is repeated; only the last row of a key counts",
-            ends_in_number: false,
-            remedy: "Delete the wrong row.\n",
-        },
-        Oddity::FooterRow if is_vote => &Said {
-            what: "this last row is the only one with an empty vote",
-            alone: "the last row is the only one with an empty vote",
-            ends_in_number: false,
-            remedy: "It is counted as a voter. If it is a total or a note, delete the row.\n",
-        },
-        Oddity::FooterRow => &Said {
-            what: "its cost, {}, is the sum of all costs above",
-            alone: "the cost in the last row of PROJECTS is the sum of all costs above",
-            ends_in_number: false,
-            remedy: "It is counted as a project. If it is a total, delete the row.\n",
-        },
-        Oddity::VotesOf => &Said {
-            what: "the column `votes` says {}, but the number of vote rows that name the project is ",
-            alone: "the column `votes` is wrong: the number of vote rows that name the project is ",
-            ends_in_number: true,
-            remedy: "If rows are missing, get the whole file again. Otherwise correct the number.\n",
-        },
-        Oddity::SelectedOf => &Said {
-            what: "the column `selected` says {}, but by this count it is ",
-            alone: "the column `selected` is wrong: by this count it is ",
-            ends_in_number: true,
-            remedy: "Check whether the published count had other options, and whether ballots or costs were changed since.\n",
-        },
+/// The same of a last row of VOTES.
+const LAST_VOTE: &str = "this last row is the only one with an empty vote
+the last row is the only one with an empty vote
+It is counted as a voter. If it is a total or a note, delete the row.";
+
+/// What to do where there are more rows than META says.
+const SURPLUS_ROWS: &str = "Delete the rows that do not belong there, or correct the number.";
+
+/// What is said of a row that is odd: what, the same where the row is not known, and what to do.
+fn said_of(odd: &Odd) -> (&'static str, &'static str, &'static str) {
+    let said = match (odd.oddity, odd.subject) {
+        (Oddity::FooterRow, Subject::Voter) => LAST_VOTE,
+        _ => SAID.get(odd.oddity as usize).copied().unwrap_or(""),
+    };
+    let (what, rest) = said.split_once('\n').unwrap_or((said, ""));
+    let (alone, remedy) = rest.split_once('\n').unwrap_or((rest, ""));
+    match (odd.oddity, odd.limit) {
+        (Oddity::VotesMissing | Oddity::ProjectsMissing, Some(said)) if said < odd.number => {
+            (what, alone, SURPLUS_ROWS)
+        }
+        _ => (what, alone, remedy),
     }
 }
 
@@ -120,16 +89,16 @@ pub fn warning_words<R: Files>(
     alloc: Global,
     path: Option<&str>,
     found: Option<&Oddities>,
-) -> Result<String, AllocError> {
+) -> Said {
     let mut out = Words::new(alloc);
     if let Some(oddities) = found {
-        put_oddities(&mut out, &Text::new(rt, alloc, path, "record"), oddities);
+        put_oddities(&mut out, &Text::new(rt, alloc, path), oddities);
     }
     out.finish()
 }
 
 /// Puts what is said of each warning, by their names.
-fn put_oddities<R: Files>(out: &mut Words, text: &Text<'_, R>, oddities: &Oddities) {
+fn put_oddities<R: Files>(out: &mut Words, text: &Text<R>, oddities: &Oddities) {
     if !oddities.is_whole() {
         return out.fail();
     }
@@ -152,45 +121,37 @@ fn put_oddities<R: Files>(out: &mut Words, text: &Text<'_, R>, oddities: &Odditi
 }
 
 /// Puts what is said of an odd record.
-fn put_odd<R: Files>(out: &mut Words, text: &Text<'_, R>, odd: &Odd) {
-    let said = said_of(odd.oddity, odd.subject == Subject::Voter);
-    if !put_row(out, text, odd, said) {
+fn put_odd<R: Files>(out: &mut Words, text: &Text<R>, odd: &Odd) {
+    let (what, alone, remedy) = said_of(odd);
+    if !put_row(out, text, odd, what) {
         put_record_number(out, text, odd.mark.at);
         out.put(": ");
-        out.put(said.alone);
-    }
-    if said.ends_in_number {
-        out.fill("{}", &[Number(odd.number)]);
+        out.fill(alone, &[Number(odd.number)]);
     }
     put_limit(out, odd);
-    out.fill(" ({}).\n{}", &[Own(odd.oddity.name()), Own(said.remedy)])
+    out.fill(" ({}).\n{}\n", &[Own(odd.oddity.name()), Own(remedy)])
 }
 
-/// Puts where an odd row stands and what it says, where it can be read again; answers whether it can.
-fn put_row<R: Files>(out: &mut Words, text: &Text<'_, R>, odd: &Odd, said: &Said) -> bool {
+/// Puts where an odd row stands and what is odd in it, where it can be read again; answers whether it can.
+fn put_row<R: Files>(out: &mut Words, text: &Text<R>, odd: &Odd, what: &'static str) -> bool {
     let Some(records) = text.record_at(odd.mark) else {
         return false;
     };
     let _ = put_mark(out, text, odd.mark);
-    put_subject(
-        out,
-        odd.subject.word(),
+    let (id, value) = (
         text_at(&records.last, odd.id_place),
+        text_at(&records.last, odd.value_place),
     );
+    put_subject(out, odd.subject.word(), id);
     out.put(": ");
-    let number = match odd.before {
-        Some(before) => line_of(text, before),
-        None => records.last.len() as u64,
+    let number = match (odd.before, odd.oddity) {
+        (Some(before), _) => line_of(text, before),
+        (None, Oddity::SurplusFields) => records.last.len() as u64,
+        _ => odd.number,
     };
-    out.fill(
-        said.what,
-        &[
-            Quoted(text_at(&records.last, odd.value_place)),
-            Number(number),
-        ],
-    );
+    out.fill(what, &[Quoted(value), Number(number), Number(odd.number)]);
     if odd.oddity == Oddity::ThousandsMark {
-        put_as_read(out, text_at(&records.last, odd.value_place));
+        put_as_read(out, value);
     }
     drop(records);
     true
@@ -198,16 +159,14 @@ fn put_row<R: Files>(out: &mut Words, text: &Text<'_, R>, odd: &Odd, said: &Said
 
 /// Puts the limit that a ballot does not keep, after the number of its projects.
 fn put_limit(out: &mut Words, odd: &Odd) {
-    let Some(limit) = odd.limit else {
-        return;
-    };
     let form = match (odd.oddity, odd.number) {
         (Oddity::TooLongBallot, 1) => " project, and `max_length` allows {}",
         (Oddity::TooLongBallot, _) => " projects, and `max_length` allows {}",
-        (_, 1) => " project, and `min_length` asks for {}",
-        _ => " projects, and `min_length` asks for {}",
+        (Oddity::TooShortBallot, 1) => " project, and `min_length` asks for {}",
+        (Oddity::TooShortBallot, _) => " projects, and `min_length` asks for {}",
+        _ => return,
     };
-    out.fill(form, &[Number(limit)])
+    out.fill(form, &[Number(odd.limit.unwrap_or(0))])
 }
 
 /// Puts as which amount a value is read.

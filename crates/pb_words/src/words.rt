@@ -1,6 +1,7 @@
 //! Words that are being written: text from outside is made fit for a terminal.
 
 use itoa::Buffer;
+use pb_witness::faulty_record::{is_hidden, is_plain};
 use std::alloc::{AllocError, Global};
 use std::io::Error;
 use std::str;
@@ -13,7 +14,7 @@ const MOST_OF_NAME: usize = 4096;
 
 /// What stands in words in the place of a `{}`.
 #[derive(Clone, Copy)]
-pub(crate) enum Value<'v> {
+pub enum Value<'v> {
     /// A text that is the program's own.
     Own(&'v str),
     Number(u64),
@@ -25,24 +26,30 @@ pub(crate) enum Value<'v> {
     Name(Option<&'v str>),
 }
 
+/// Words that were written, unless memory was refused.
+pub type Said = Result<String, AllocError>;
+
 /// Words that are being written. Where memory is refused they are void, which their end tells.
 #[derive(Drop)]
-pub(crate) struct Words {
+pub struct Words {
     text: String,
     is_whole: bool,
+    /// Whether line ends, quotation marks and backslashes stay as they are.
+    is_text: bool,
 }
 
 impl Words {
     /// No words yet.
-    pub(crate) fn new(alloc: Global) -> Words {
+    pub fn new(alloc: Global) -> Words {
         Words {
             text: String::new(alloc),
             is_whole: true,
+            is_text: false,
         }
     }
 
     /// The words, where no memory was refused.
-    pub(crate) fn finish(self) -> Result<String, AllocError> {
+    pub fn finish(self) -> Said {
         if self.is_whole {
             Ok(self.text)
         } else {
@@ -56,14 +63,13 @@ impl Words {
     }
 
     /// Puts a text that is the program's own.
-    pub(crate) fn put(&mut self, piece: &str) {
-        if self.text.push_str(piece).is_err() {
-            self.is_whole = false;
-        }
+    pub fn put(&mut self, piece: &str) {
+        let put = self.text.push_str(piece);
+        self.is_whole &= put.is_ok();
     }
 
     /// Puts a text that is the program's own, with the next one of these values in place of each `{}`.
-    pub(crate) fn fill(&mut self, form: &str, values: &[Value<'_>]) {
+    pub fn fill(&mut self, form: &str, values: &[Value<'_>]) {
         let mut place = 0usize;
         for piece in form.split("{}") {
             if place > 0 && place <= values.len() {
@@ -80,8 +86,23 @@ impl Words {
             Value::Number(number) => self.put_number(*number),
             Value::Quoted(text) => self.put_quoted(text.as_bytes()),
             Value::Bytes(bytes) => self.put_quoted(bytes),
-            Value::Name(path) => { self.put_cut(path.unwrap_or("standard input"), MOST_OF_NAME) }
+            Value::Name(path) => {
+                let name = path.unwrap_or("standard input");
+                if !self.put_escaped(name.as_bytes(), MOST_OF_NAME) {
+                    self.put("...");
+                }
+            }
         }
+    }
+
+    /// Puts the numbers of so many things, counted from 0: `0`, `0 and 1`, `0 to 7`.
+    pub(crate) fn put_numbers(&mut self, count: u64) {
+        let form = match count {
+            0 | 1 => "0",
+            2 => "0 and 1",
+            _ => "0 to {}",
+        };
+        self.fill(form, &[Value::Number(count.saturating_sub(1))])
     }
 
     /// Puts a number in decimal.
@@ -96,23 +117,10 @@ impl Words {
         self.put(if is_whole { "\"" } else { "\"..." });
     }
 
-    /// Puts the name of a file as it was given.
-    pub(crate) fn put_name(&mut self, path: &str) {
-        self.put_cut(path, MOST_OF_NAME)
-    }
-
-    /// Puts at most this many characters of a text; three dots say that it goes on.
-    fn put_cut(&mut self, text: &str, most: usize) {
-        if !self.put_escaped(text.as_bytes(), most) {
-            self.put("...");
-        }
-    }
-
     /// Puts the system's reason, and ends the line.
     pub(crate) fn put_error(&mut self, error: &Error) {
-        if write!(&mut self.text, ": {error}.\n").is_err() {
-            self.is_whole = false;
-        }
+        let put = write!(&mut self.text, ": {error}.\n");
+        self.is_whole &= put.is_ok();
     }
 
     /// Puts at most this many characters of a text, those that a terminal would obey as escapes, and answers
@@ -136,14 +144,15 @@ impl Words {
 
     fn put_byte(&mut self, byte: u8) {
         if byte < 0x80 {
-            self.put_char(char::from(byte));
-        } else if write!(&mut self.text, "\\x{byte:02x}").is_err() {
-            self.is_whole = false;
+            return self.put_char(char::from(byte));
         }
+        let put = write!(&mut self.text, "\\x{byte:02x}");
+        self.is_whole &= put.is_ok();
     }
 
     fn put_char(&mut self, c: char) {
         let escape = match c {
+            '\n' | '"' | '\\' if self.is_text => return self.put_plain(c),
             '\n' => "\\n",
             '\r' => "\\r",
             '\t' => "\\t",
@@ -154,49 +163,34 @@ impl Words {
         self.put(escape)
     }
 
-    /// Puts a character as a terminal may get it: a line end and what is seen as they are, others as escapes.
-    pub(crate) fn put_shown(&mut self, c: char) {
-        match c {
-            '\n' | '"' | '\\' => self.put_seen(c),
-            _ => self.put_char(c),
-        }
-    }
-
-    /// Puts a byte of what is no text, as a terminal may get it.
-    pub(crate) fn put_shown_byte(&mut self, byte: u8) {
-        if byte < 0x80 {
-            self.put_shown(char::from(byte));
-        } else {
-            self.put_byte(byte);
-        }
-    }
-
-    fn put_seen(&mut self, c: char) {
-        if self.text.push(c).is_err() {
-            self.is_whole = false;
-        }
-    }
-
     /// Puts a character that has no escape of its own.
     fn put_plain(&mut self, c: char) {
         let code = u32::from(c);
-        let put = if is_hidden(code) {
+        let put = if is_hidden(code) && c != '\n' {
             write!(&mut self.text, "\\u{{{code:x}}}")
         } else {
             self.text.push(c)
         };
-        if put.is_err() {
-            self.is_whole = false;
-        }
+        self.is_whole &= put.is_ok();
     }
 }
 
-/// Whether a character is a control character, or one that is not seen or turns the direction of a line.
-pub(crate) fn is_hidden(code: u32) -> bool {
-    match code {
-        0..=0x1f | 0x7f..=0x9f | 0xad | 0x61c | 0xfeff => true,
-        0x200b..=0x200f | 0x2028..=0x202e | 0x2060..=0x206f => true,
-        0xfff9..=0xfffb | 0xe0000..=0xe007f => true,
-        _ => false,
+/// A text as a terminal may get it: characters that it would obey, and those that are not seen or turn the direction of a
+/// line, are shown as escapes, line ends aside. None where there is no such character.
+pub fn for_terminal(alloc: Global, bytes: &[u8]) -> Result<Option<String>, AllocError> {
+    match str::from_utf8(bytes) {
+        Ok(text) if is_plain(text) => return Ok(None),
+        _ => {}
     }
+    let mut out = Words::new(alloc);
+    out.is_text = true;
+    let _ = out.put_escaped(bytes, usize::MAX);
+    Ok(Some(out.finish()?))
+}
+
+/// A text with these values in it.
+pub(crate) fn said(alloc: Global, form: &str, values: &[Value<'_>]) -> Result<String, AllocError> {
+    let mut out = Words::new(alloc);
+    out.fill(form, values);
+    out.finish()
 }

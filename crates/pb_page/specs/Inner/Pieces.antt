@@ -1,27 +1,34 @@
 -- What each function of the code puts after a page: parts of the public definitions.
-use Rattle.std.specs.Prelude.{ℕ, Bool, ◌-◌, ◌==◌, List, [], ◌∷◌, ◌++◌, Option, codes, decimal, flat_map, if◌then◌else◌, length}
+use Rattle.std.specs.Prelude.{ℕ, Bool, ◌<◌, ◌-◌, ◌==◌, List, [], ◌∷◌, ◌++◌, All, ⊤, Option, codes, decimal, filter, flat_map, if◌then◌else◌, length, map, slice_get, slice_index_or, sum_by}
 use Rattle.std.specs.Borrow.{Bor}
 use Rattle.std.specs.List.{range_with_len}
 use Rattle.std.specs.Option.{option_map_or}
 use Rattle.pb_core.specs.MoneyText.{money_text}
 use Rattle.pb_reasons.specs.declared.project_reason.Lost.{Lost}
+use Rattle.pb_page.specs.declared.categories.Categories.{Categories}
 use Rattle.pb_page.specs.declared.facts.Facts.{Facts}
 use Rattle.pb_page.specs.declared.facts.Source.{Source}
 use Rattle.pb_page.specs.declared.figures.Figures.{Figures}
+use Rattle.pb_page.specs.declared.in_category.InCategory.{InCategory}
+use Rattle.pb_reasons.specs.declared.tie.Tie.{Tie}
 use Rattle.pb_core.specs.Election.{ElectionView, ProjectView}
+use Rattle.pb_price.specs.Supporters.{cost_at, support_of}
 use Rattle.pb_markup.specs.Amount.{shown}
 use Rattle.pb_markup.specs.Filling.{Filling}
 use Rattle.pb_markup.specs.declared.form.Form.{Form}
 use Rattle.pb_reasons.specs.Counted.{CountedView, winners_of}
+use Rattle.pb_reasons.specs.Ties.{ties_of}
 use Rattle.pb_reasons.specs.Totals.{totals_of}
+use Rattle.pb_reasons.specs.declared.raise_end.RaiseEnd.{RaiseEnd}
+use Rattle.pb_reasons.specs.declared.raise_end.RaiseEnd.TheVariants.{Plain, Exhausted, Over}
 use Rattle.pb_rounds.specs.declared.measure.Measure.{Measure}
 use Rattle.pb_rounds.specs.declared.options.Completion.{Completion}
 use Rattle.pb_rounds.specs.declared.options.CountOptions.{CountOptions}
-use Rattle.pb_page.specs.Page.{added, amount, at, at_least, ballots_row, besides, between, budget, by_completion, by_measure, called, check, exactly, filling, labels, lost_row, noun_at, number, others, row_of, rule, say, text, voters, width, winners, won_by_voter, won_row}
+use Rattle.pb_page.specs.Page.{added, amount, at, at_least, ballots_row, besides, between, budget, by_completion, by_measure, called, categories, category_row, check, exactly, filling, labels, lost_row, made, noun_at, number, others, row_of, rule, say, text, tie, ties, voters, width, winners, won_by_voter, won_row}
 use Rattle.pb_page.specs.declared.keys.TheConstants as key
 use Rattle.pb_page.specs.declared.language.Language.{Language}
 use Rattle.pb_page.specs.declared.style.TheConstants.{HEAD}
-use Rattle.pb_page.specs.declared.templates.TheConstants.{LEAD_NEXT, BUDGET_OPENING, BLOCKS_OPENING, BUDGET_PART, BLOCKS_CLOSING, BUDGET_CLOSING, WINNERS_OPENING, ADDED_OPENING, OTHERS_OPENING, OTHER, TABLE_CLOSING, COMPARED_OPENING, VOTERS_OPENING, VOTERS_TABLE, VOTERS_ROW, VOTERS_ROW_CLOSING, RULE_OPENING, RULE_NEXT, ITEM, NAMELESS, CHECK_OPENING, CHECK_FILE, CHECK_JOURNAL, RECOUNT_OPENING, RECOUNT_LINK, RECOUNT_CLOSING, NO_RECOUNT, COUNT, AUDIT, OPTION_COST, OPTION_PLAIN, OPTION_UTILITARIAN, OPTION_ADD1U, CLOSING}
+use Rattle.pb_page.specs.declared.templates.TheConstants.{LEAD_NEXT, NOTHING, BUDGET_OPENING, BLOCKS_OPENING, BUDGET_PART, BLOCKS_CLOSING, BUDGET_CLOSING, WINNERS_OPENING, ADDED_OPENING, OTHERS_OPENING, OTHER, TABLE_CLOSING, CATEGORIES_OPENING, CATEGORY, COMPARED_OPENING, VOTERS_OPENING, VOTERS_TABLE, VOTERS_ROW, VOTERS_ROW_CLOSING, RULE_OPENING, RULE_NEXT, ITEM, ITEM_OPENING, ONLY_THEN_OPENING, ONLY_THEN, NAMELESS, CALLED, TIES_OPENING, TIES_CLOSING, CHECK_OPENING, CHECK_FILE, CHECK_JOURNAL, RECOUNT_OPENING, RECOUNT_LINK, RECOUNT_CLOSING, NO_RECOUNT, COUNT, AUDIT, OPTION_COST, OPTION_PLAIN, OPTION_UTILITARIAN, OPTION_ADD1U, COMMAND_CLOSING, MADE_BY_OPENING}
 
 -- the numbers of the whole
 abbrev pub figures_of : ElectionView → CountedView → Figures
@@ -35,15 +42,27 @@ figures_of e c = let totals = totals_of e c in record {
   surplus = totals.surplus;
 }
 
+-- that no project won, or how many won and what was spent
+abbrev pub nothing : Figures → Filling
+nothing f = filling NOTHING.now (decimal f.won ∷ money_text f.spent ∷ money_text f.surplus ∷ [])
+
+abbrev pub none_said : Language → Figures → List Filling
+none_said l f = nothing f ∷ say l key.NONE_WON (amount l.costs (codes "left") f.left ∷ [])
+
+abbrev pub result_said : Language → Figures → List Filling
+result_said l f =
+    if f.won == 0 then none_said l f
+    else say l key.WON
+    (number (codes "won") f.won ∷ amount l.costs (codes "spent") f.spent
+    ∷ amount l.costs (codes "left") f.left ∷ noun_at l key.WINNERS f.won ∷ [])
+
 -- what was voted on, who voted, how many won and what was spent
 abbrev pub whole_said : Language → List ℕ → Figures → List Filling
 whole_said l title f =
     filling HEAD.now (at l key.LANG ∷ at l key.DIR ∷ title ∷ []) ∷ (say l key.VOTED
     (number (codes "voters") f.voters ∷ number (codes "projects") f.projects
     ∷ amount l.costs (codes "budget") f.budget ∷ noun_at l key.PEOPLE f.voters
-    ∷ noun_at l key.TOPICS f.projects ∷ []) ++ (filling LEAD_NEXT.now [] ∷ say l key.WON
-    (number (codes "won") f.won ∷ amount l.costs (codes "spent") f.spent
-    ∷ amount l.costs (codes "left") f.left ∷ noun_at l key.WINNERS f.won ∷ [])))
+    ∷ noun_at l key.TOPICS f.projects ∷ []) ++ (filling LEAD_NEXT.now [] ∷ result_said l f))
 
 -- the head of the picture of the budget, in words for those who can't see it, and what is said below it
 abbrev pub picture : Language → Figures → List Filling
@@ -51,9 +70,12 @@ picture l f =
     between (labels l BUDGET_OPENING.now (key.BUDGET_HEADING ∷ [])) (filling BLOCKS_OPENING.now []) l key.PICTURE
     (text (shown l.costs f.budget) ∷ text (shown l.costs f.spent) ∷ text (shown l.costs f.left) ∷ [])
 
+abbrev pub caption_key : Figures → ℕ
+caption_key f = if f.won == 0 then key.BUDGET_NONE else key.BUDGET_CAPTION
+
 abbrev pub caption : Language → Figures → List Filling
 caption l f =
-    between (filling BLOCKS_CLOSING.now []) (filling BUDGET_CLOSING.now []) l key.BUDGET_CAPTION
+    between (filling BLOCKS_CLOSING.now []) (filling BUDGET_CLOSING.now []) l (caption_key f)
     (amount l.costs (codes "spent") f.spent ∷ amount l.costs (codes "left") f.left
     ∷ amount l.amounts (codes "surplus") f.surplus ∷ [])
 
@@ -123,7 +145,7 @@ link l recount =
 abbrev pub block : Form → (budget before : ℕ) → ProjectView → Filling
 block form budget before p =
     filling BUDGET_PART.now
-    (decimal (width before budget) ∷ decimal (width p.cost budget) ∷ called p ∷ shown form p.cost ∷ [])
+    (decimal (width before budget) ∷ decimal (width p.cost budget) ∷ called p ∷ shown form p.cost ∷ p.id ∷ [])
 
 abbrev pub winner_table : Language → ElectionView → CountedView → List Filling
 winner_table l e c =
@@ -153,8 +175,43 @@ abbrev pub method : Language → Completion → (fills_up : Bool) → Filling
 method l completion fills_up =
     item l (by_completion completion (if fills_up then key.METHOD_FILLED else key.METHOD_PLAIN) key.METHOD_ADD1)
 
+-- how the share came about, which project is elected first, and whether shares were raised
+unfoldable pub rounds_said : Language → CountOptions → (fills_up : Bool) → (share raised : ℕ) → List Filling
+rounds_said l options fills_up share raised =
+    share_rule l options.step share raised ++ order l options.measure ∷ raises l options.completion fills_up raised ∷ []
+
+-- what one raise more would elect, and a project that is elected only then
+abbrev pub over_said : Language → (share cost : ℕ) → List Filling
+over_said l share cost =
+    between (filling ITEM_OPENING.now []) (labels l ONLY_THEN_OPENING.now (key.ONLY_THEN ∷ [])) l key.OVER
+    (amount l.amounts (codes "next_share") share ∷ amount l.costs (codes "next_cost") cost ∷ [])
+
+abbrev pub only_then : Language → ProjectView → Filling
+only_then l p = filling ONLY_THEN.now (p.id ∷ p.name ∷ money_text p.cost ∷ shown l.costs p.cost ∷ [])
+
+-- the projects that a raise more would elect are the election's
+abbrev pub KnowsPlaces : ElectionView → RaiseEnd → Type 0
+KnowsPlaces e Plain = ⊤
+KnowsPlaces e Exhausted = ⊤
+KnowsPlaces e (Over next) = All (λ place. place < length e.projects) next.only_then.items
+
 abbrev pub filled_up : Language → (fills_up : Bool) → List Filling
 filled_up l fills_up = if fills_up then item l key.FILLED_UP ∷ [] else []
+
+-- a tie between two projects that are called so
+abbrev pub tie_said : Language → Measure → (round : ℕ) → (winner other : List ℕ) → List Filling
+tie_said l m round winner other =
+    say l (by_measure m key.TIE_BY_VOTES key.TIE_BY_COST)
+    (number (codes "round") round ∷ filling CALLED.now (winner ∷ []) ∷ filling CALLED.now (other ∷ []) ∷ [])
+
+-- some ties
+abbrev pub tie_list : Language → Measure → ElectionView → List Tie → List Filling
+tie_list l m e all =
+    labels l TIES_OPENING.now (key.TIES ∷ []) ∷ (flat_map (tie l m e) all ++ filling TIES_CLOSING.now [] ∷ [])
+
+-- how that is called, and how what was left was filled up
+abbrev pub method_said : Language → Completion → (fills_up : Bool) → List Filling
+method_said l completion fills_up = method l completion fills_up ∷ filled_up l fills_up
 
 abbrev pub measure_option : Measure → List Filling
 measure_option measure = by_measure measure [] (filling OPTION_COST.now [] ∷ [])
@@ -165,16 +222,30 @@ completion_option completion fills_up =
     (filling (if fills_up then OPTION_UTILITARIAN.now else OPTION_PLAIN.now) [] ∷ [])
     (if fills_up then filling OPTION_ADD1U.now [] ∷ [] else [])
 
-abbrev pub closing : CountOptions → (fills_up : Bool) → List Filling
-closing options fills_up =
-    measure_option options.measure
-    ++ (completion_option options.completion fills_up
-    ++ filling CLOSING.now (decimal options.step ∷ decimal options.max_raises ∷ []) ∷ [])
+abbrev pub command_closing : CountOptions → Filling
+command_closing options = filling COMMAND_CLOSING.now (decimal options.step ∷ decimal options.max_raises ∷ [])
+
+-- a measure and a completion, as the command line names them
+abbrev pub measure_name : Measure → List ℕ
+measure_name measure = by_measure measure (codes "votes") (codes "cost")
+
+abbrev pub completion_name : Completion → (fills_up : Bool) → List ℕ
+completion_name completion fills_up =
+    by_completion completion (if fills_up then codes "utilitarian" else codes "none") (if fills_up then codes "add1u" else codes "add1")
+
+abbrev pub option_places : Language → CountOptions → (fills_up : Bool) → List Filling
+option_places l options fills_up =
+    text (measure_name options.measure) ∷ text (completion_name options.completion fills_up)
+    ∷ amount l.amounts (codes "step") options.step ∷ number (codes "limit") options.max_raises ∷ []
+
+abbrev pub options_said : Language → CountOptions → (fills_up : Bool) → List Filling
+options_said l options fills_up =
+    between (command_closing options) (filling MADE_BY_OPENING.now []) l key.OPTIONS (option_places l options fills_up)
 
 abbrev pub lost_figures : Language → ProjectView → (votes : ℕ) → Lost → Filling
 lost_figures l p votes lost =
     filling OTHER.now
-    (p.id ∷ called p ∷ decimal (width lost.left p.cost) ∷ at l key.COST ∷ money_text p.cost ∷ shown l.costs p.cost
+    (p.id ∷ p.name ∷ decimal (width lost.left p.cost) ∷ at l key.COST ∷ money_text p.cost ∷ shown l.costs p.cost
     ∷ at l key.VOTES ∷ decimal votes ∷ at l key.LEFT ∷ money_text lost.left ∷ shown l.amounts lost.left
     ∷ at l key.MISSING ∷ money_text lost.missing ∷ [])
 
@@ -205,8 +276,52 @@ abbrev pub shown_row : Language → (k n ballots : ℕ) → List ℕ → List Fi
 shown_row l k n ballots won =
     between (filling VOTERS_ROW.now (decimal n ∷ [])) (row_closing ballots won) l k (text (decimal n) ∷ [])
 
-abbrev pub command : Facts → List Filling
-command facts = recounting facts.journal ++ closing facts.options facts.fills_up
+abbrev pub command : Language → Facts → List Filling
+command l facts =
+    recounting facts.journal
+    ++ (measure_option facts.options.measure ++ (completion_option facts.options.completion facts.fills_up ++ made l facts))
+
+-- the text of a category, and which of these winners are of it
+abbrev pub category_name : Categories → ℕ → List ℕ
+category_name g k = option_map_or (λ text. text.now) (slice_get g.names.now k) []
+
+abbrev pub winners_in : Categories → List ℕ → ℕ → List ℕ
+winners_in g winners k = filter (λ place. slice_index_or g.of_project.now place (length g.names.now) == k) winners
+
+-- what a category has of these winners, and its row, by its text and that
+abbrev pub in_category : ElectionView → Categories → List ℕ → ℕ → InCategory
+in_category e g winners k =
+    let those = winners_in g winners k in
+    record { winners = length those; cost = sum_by (cost_at (support_of e)) those }
+
+abbrev pub category_said : Language → (whole : ℕ) → (name : List ℕ) → InCategory → Filling
+category_said l whole name sum =
+    filling CATEGORY.now
+    ((if length name == 0 then at l key.NO_CATEGORY else name) ∷ decimal (width sum.cost whole) ∷ at l key.CATEGORY_WON
+    ∷ decimal sum.winners ∷ at l key.CATEGORY_COST ∷ money_text sum.cost ∷ shown l.costs sum.cost ∷ [])
+
+-- the head of the table of categories, a row for each of the first ones, and the whole, where they have this of the winners
+abbrev pub categories_head : Language → Filling
+categories_head l =
+    labels l CATEGORIES_OPENING.now
+    (key.CATEGORIES_HEADING ∷ key.CATEGORIES_CAPTION ∷ key.CATEGORY ∷ key.CATEGORY_WON ∷ key.CATEGORY_COST ∷ [])
+
+abbrev pub sum_row : Language → (whole : ℕ) → Categories → List InCategory → ℕ → Filling
+sum_row l whole g sums k =
+    category_said l whole (category_name g k) (slice_index_or sums k (record { winners = 0; cost = 0 }))
+
+abbrev pub sum_rows : Language → (whole : ℕ) → Categories → List InCategory → ℕ → List Filling
+sum_rows l whole g sums n = map (sum_row l whole g sums) (range_with_len 0 n)
+
+abbrev pub sums_table : Language → (whole : ℕ) → Categories → List InCategory → List Filling
+sums_table l whole g sums =
+    categories_head l ∷ (sum_rows l whole g sums (length sums) ++ filling TABLE_CLOSING.now [] ∷ [])
+
+-- the same, of these winners
+abbrev pub category_table : Language → ElectionView → List ℕ → Categories → List Filling
+category_table l e winners g =
+    categories_head l
+    ∷ (map (category_row l e winners g) (range_with_len 0 (length g.names.now)) ++ filling TABLE_CLOSING.now [] ∷ [])
 
 -- the five parts of a page, each as a whole
 unfoldable pub the_budget : Language → List ℕ → ElectionView → CountedView → List Filling
@@ -218,15 +333,17 @@ the_projects l e c = winners l e c ++ (added l e c ++ others l e c)
 unfoldable pub the_voters : Language → List ℕ → List Filling
 the_voters l won = voters l won
 
-unfoldable pub the_rule : Language → CountOptions → (fills_up : Bool) → (share raised : ℕ) → List Filling
-the_rule l options fills_up share raised = rule l options fills_up share raised
+unfoldable pub the_rule : Language → ElectionView → CountOptions → RaiseEnd → (fills_up : Bool) → (share raised : ℕ) → List Filling
+the_rule l e options end fills_up share raised = rule l e options end fills_up share raised
 
 unfoldable pub the_check : Language → Facts → List Filling
 the_check l facts = check l facts
 
 -- and one after the other
-unfoldable pub the_parts : ElectionView → CountedView → Facts → List Filling
-the_parts e c facts =
-    the_budget facts.language facts.title.now e c ++ (the_projects facts.language e c
+unfoldable pub the_parts : ElectionView → CountedView → Facts → RaiseEnd → List Filling
+the_parts e c facts end =
+    the_budget facts.language facts.title.now e c ++ (the_projects facts.language e c ++ (categories e c facts
     ++ (the_voters facts.language (won_by_voter e c) ++ (besides e c facts
-    ++ (the_rule facts.language facts.options c.fills_up c.outcome.share c.outcome.raised ++ the_check facts.language facts))))
+    ++ (the_rule facts.language e facts.options end c.fills_up c.outcome.share c.outcome.raised
+    ++ (ties facts.language facts.options.measure e (ties_of facts.options.measure e c.outcome)
+    ++ the_check facts.language facts))))))

@@ -3,5 +3,5 @@ use Rattle.pb_page.proofs.check.put_options.Goals as goal
 
 pub returns : goal.returns
 returns c =
-    rw (← c.options.view_is, ← c.from.ensures)
-    (then_put _ _ _ _ _ _ c.in_ok-put_measure.ensures (then_put _ _ _ _ _ _ c.in_ok-put_completion.ensures c.put.ensures))
+    then_put _ _ _ _ _ _ c.in_ok-put_command_closing.ensures
+    (then_put _ _ _ _ _ _ c.in_ok-say_options.ensures c.put.ensures)

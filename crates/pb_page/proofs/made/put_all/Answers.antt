@@ -9,12 +9,14 @@ unfolding the_parts
 returns c =
     then_put _ _ _ _ _ _ c.in_ok-put_budget.ensures
     (then_put _ _ _ _ _ _ c.in_ok-put_projects.ensures
+    (then_put _ _ _ _ _ _ c.in_ok-put_categories.ensures
     (then_put _ _ _ _ _ _ (rw c.requires.won at c.in_ok-put_voters.ensures)
     (then_put _ _ _ _ _ _ c.in_ok-put_besides.ensures
-    (then_put _ _ _ _ _ _ c.in_ok-put_rule.ensures c.put_check.ensures))))
+    (then_put _ _ _ _ _ _ c.in_ok-put_rule.ensures
+    (then_put _ _ _ _ _ _ c.in_ok-put_ties.ensures c.put_check.ensures))))))
 
 pub returns-in_err-put_rule : goal.returns-in_err-put_rule
 returns-in_err-put_rule c =
     refused {E = NoMemory} c.from_residual-in_err-put_rule.result _
-    (Grows c.args.page.now.items c.put_rule.new.page.items (the_parts c.args.election.now c.args.counted.now c.args.facts.now))
+    (Grows c.args.page.now.items c.put_rule.new.page.items (the_parts c.args.election.now c.args.counted.now c.args.facts.now c.args.end.now))
     c.from_residual-in_err-put_rule.ensures.1

@@ -1,11 +1,9 @@
-use Rattle.pb_page.specs.Inner.Pieces.{the_rule}
+use Rattle.pb_page.specs.Inner.Pieces.{rounds_said}
 use Rattle.pb_page.proofs.Grown.{then_put}
-use Rattle.pb_page.proofs.rule.put_sentences.Goals as goal
+use Rattle.pb_page.proofs.rule.put_rounds.Goals as goal
 
 pub returns : goal.returns
-unfolding the_rule
+unfolding rounds_said
 returns c =
     then_put _ _ _ _ _ _ c.in_ok-put_share.ensures
-    (then_put _ _ _ _ _ _ c.in_ok-put_order.ensures
-    (then_put _ _ _ _ _ _ c.in_ok-put_raises.ensures
-    (then_put _ _ _ _ _ _ c.in_ok-put_method.ensures c.put_filled_up.ensures)))
+    (then_put _ _ _ _ _ _ c.in_ok-put_order.ensures c.put_raises.ensures)

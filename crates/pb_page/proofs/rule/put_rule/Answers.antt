@@ -1,5 +1,9 @@
+use Rattle.pb_page.specs.Inner.Pieces.{rounds_said, the_rule}
+use Rattle.pb_page.proofs.Grown.{then_put}
 use Rattle.pb_page.proofs.rule.put_rule.Goals as goal
 
 pub returns : goal.returns
+unfolding rounds_said the_rule
 returns c =
-    rw (c.share_of-share.ensures, c.raised_of-raised.ensures, c.fills_up-fills.ensures) at c.put_sentences.ensures
+    then_put _ _ _ _ _ _ c.in_ok-put_counted.ensures
+    (then_put _ _ _ _ _ _ c.in_ok-put_end.ensures (rw c.fills_up-fills.ensures at c.put_last.ensures))

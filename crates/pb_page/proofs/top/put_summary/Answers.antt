@@ -6,4 +6,4 @@ returns c =
     then_put _ _ _ _ _ _ c.in_ok-put_head.ensures
     (then_put _ _ _ _ _ _ c.in_ok-put_voted.ensures
     (then_put _ _ _ _ _ _ c.in_ok-put.ensures
-    (c.put_won.ensures)))
+    (c.put_result.ensures)))

@@ -1,0 +1,17 @@
+META
+key;value
+budget;60
+vote_type;approval
+PROJECTS
+project_id;cost;name
+a;20;Bench
+b;20;
+c;30;Swings
+d;30;<Slide>
+e;40;Well
+VOTES
+voter_id;vote
+v1;a,b,e
+v2;a,b
+v3;c,d,e
+v4;c,d

@@ -1,0 +1,52 @@
+//! Who looks on at the file of a page.
+
+use csv::ByteRecord;
+use pb_read::{Heed, Part, ReadFault, Stage, Warning, Watch};
+use pb_witness::page_notes::PageNotes;
+use std::alloc::Global;
+use std::mem;
+
+/// Looks on at the file of a page, for its warnings and for what the page shows that no count uses.
+#[derive(Drop)]
+pub(crate) struct PageWatch<'w, H> {
+    warnings: &'w mut H,
+    notes: PageNotes,
+}
+
+impl<'w, H> PageWatch<'w, H> {
+    /// Nothing was seen yet.
+    pub(crate) fn new(alloc: Global, warnings: &'w mut H) -> PageWatch<'w, H> {
+        PageWatch {
+            warnings,
+            notes: PageNotes::new(alloc),
+        }
+    }
+
+    /// What was kept; it keeps nothing of that.
+    pub(crate) fn take_notes(&mut self, alloc: Global) -> PageNotes {
+        mem::replace(&mut self.notes, PageNotes::new(alloc))
+    }
+}
+
+impl<H: Heed> Watch for PageWatch<'_, H> {
+    fn see(&mut self, record: &ByteRecord, at: u32, part: Part) {
+        self.warnings.see(record, at, part);
+        self.notes.see(record, at, part);
+    }
+
+    fn refuse(&mut self, record: &ByteRecord, fault: ReadFault, stage: &Stage) {
+        self.warnings.refuse(record, fault, stage);
+    }
+
+    fn end(&mut self) {
+        self.warnings.end();
+    }
+}
+
+impl<H: Heed> Heed for PageWatch<'_, H> {
+    ghost refused_for = { λ watch. H.refused_for watch.warnings.now };
+
+    fn refusal(&self) -> Option<Warning> {
+        self.warnings.refusal()
+    }
+}

@@ -1,0 +1,28 @@
+-- The projects that a raise more would elect are projects of the election.
+use Rattle.std.proofs.Common.{Bool, ℕ, ◌<◌, List, length, not, sym, subst, ap}
+use Rattle.std.specs.Prelude.{All, filter}
+use Rattle.std.proofs.lemmas.List.Elements.{All-filter, All-map}
+use Rattle.pb_core.specs.Election.{ElectionView}
+use Rattle.pb_price.specs.Supporters.{support_of}
+use Rattle.pb_reasons.proofs.ElectedPlaces.{AreProjects, run_elects_projects}
+use Rattle.pb_reasons.specs.RaiseEnd.{IsRaiseEnd}
+use Rattle.pb_reasons.specs.declared.raise_end.RaiseEnd.{RaiseEnd}
+use Rattle.pb_reasons.specs.declared.raise_end.RaiseEnd.TheVariants.{Plain, Exhausted, Over}
+use Rattle.pb_rounds.proofs.RunIs.{only_run}
+use Rattle.pb_rounds.specs.Outcome.{OutcomeView}
+use Rattle.pb_rounds.specs.Run.{ElectedView, RunView, is_elected}
+use Rattle.pb_rounds.specs.declared.options.CountOptions.{CountOptions}
+use Rattle.pb_page.specs.Inner.Pieces.{KnowsPlaces}
+
+pub places_are_known : (e : ElectionView) (options : CountOptions) (o : OutcomeView) (end : RaiseEnd) → IsRaiseEnd e options o end → KnowsPlaces e end
+places_are_known e options o Plain h = tt
+places_are_known e options o Exhausted h = tt
+places_are_known e options o (Over next) (add1, not_yet, share, over, (elected, rests, run, (cost, only_then))) =
+    let computed = ap (λ (r : RunView). r.elected) (only_run options.measure (support_of e) _ (record { elected = elected; rests = rests }) run) in
+    let are : AreProjects e elected = subst (AreProjects e) (sym computed) (run_elects_projects options.measure e _) in
+    let IsKnown : ℕ → Type 0 = λ place. place < length e.projects in
+    let place : ElectedView → ℕ = λ w. w.place in
+    let is_new : ElectedView → Bool = λ w. not (is_elected o.elected w.place) in
+    let Known : List ℕ → Type 0 = λ places. All IsKnown places in
+    subst Known (sym only_then)
+    (All-map IsKnown place (filter is_new elected) (All-filter is_new (λ w. IsKnown w.place) elected are.known))

@@ -1,0 +1,36 @@
+//! The categories of an election's projects.
+
+ghost use Rattle.std.specs.Prelude.{◌≡◌, length, slice_index_or};
+ghost use Rattle.pb_page.specs.Inner.Pieces.{category_name};
+
+/// The categories of an election's projects.
+#[derive(Clone, Copy)]
+pub struct Categories<'a> {
+    /// The texts of the categories; the empty text is that of projects whose category is empty.
+    pub names: &'a [&'a str],
+    /// For each project, in file order, which of these texts is its category, from 0. A project with no such text is in none.
+    pub of_project: &'a [u32],
+}
+
+impl<'a> Categories<'a> {
+    /// The text of the category with this number; where there is none, nothing.
+    pub(crate) fn name(&self, number: usize) -> &'a str
+        ensures { result.now ≡ category_name self.now number }
+    {
+        if number < self.names.len() {
+            self.names[number]
+        } else {
+            ""
+        }
+    }
+
+    /// The number of the category of the project at this place; as many as there are categories where it has none.
+    pub(crate) fn of(&self, place: u32) -> usize
+        ensures { result ≡ slice_index_or self.now.of_project.now place (length self.now.names.now) }
+    {
+        match self.of_project.get(place as usize) {
+            Some(number) => *number as usize,
+            None => self.names.len(),
+        }
+    }
+}

@@ -1,0 +1,96 @@
+-- The file has the winner of a tie before the other project.
+use Rattle.std.proofs.Common.{◌≡◌, ◌≢◌, ℕ, ◌+◌, ◌*◌, ◌<◌, ◌≤◌, Bool, true, false, List, [], ◌∷◌, ◌++◌, length, get_or, take, drop, map, replicate, Option, Some, None, refl, sym, ◌∙◌, ap, inl, inr, arith}
+use Rattle.std.specs.Prelude.{All, ◌==◌, ◌⊎◌, filter, flat_map, not, slice_get}
+use Rattle.std.specs.List.{range_with_len}
+use Rattle.std.specs.Option.{option_map_or}
+use Rattle.std.proofs.lemmas.Bool.{and_parts, eqb-false, eqb-true, false≢true, not-true, or_parts}
+use Rattle.std.proofs.lemmas.List.{drop_more, take-append-drop}
+use Rattle.std.proofs.lemmas.List.Elements.{All-append, All-cons, All-filter, All-map, All-nil, All-take, filter_passes}
+use Rattle.std.proofs.lemmas.Option.{get_or_from_slice_get, slice_get_within}
+use Rattle.pb_core.specs.Election.{ElectionView}
+use Rattle.pb_price.proofs.Payments.{least_from_price}
+use Rattle.pb_price.specs.Price.{price_at}
+use Rattle.pb_price.specs.Supporters.{SupportView, cost_at, supporters_at, support_of}
+use Rattle.pb_rounds.proofs.Listed.{range_rises, RisesWithin-below}
+use Rattle.pb_rounds.specs.Cheapest.{ComesFirst, IsCheaper, IsRun, rests_after}
+use Rattle.pb_rounds.specs.Counted.{IsCountOf}
+use Rattle.pb_rounds.specs.Outcome.{OutcomeView}
+use Rattle.pb_rounds.specs.Run.{ElectedView, is_elected}
+use Rattle.pb_rounds.specs.declared.measure.Measure.{Measure}
+use Rattle.pb_rounds.specs.declared.measure.Measure.TheVariants.{Votes, Cost}
+use Rattle.pb_rounds.specs.declared.options.CountOptions.{CountOptions}
+use Rattle.pb_reasons.specs.Ties.{is_as_good, is_tied, ties_in, ties_of}
+use Rattle.pb_reasons.specs.declared.tie.Tie.{Tie}
+
+others_from : (elected : List ElectedView) (place : ℕ) → is_elected elected place ≡ false → All (λ w. w.place ≢ place) elected
+others_from [] place e = All-nil (λ w. w.place ≢ place)
+others_from (w ∷ elected) place e =
+    let parts = or_parts (w.place == place) (is_elected elected place) e in
+    All-cons (λ w. w.place ≢ place) w elected (eqb-false w.place place parts.0) (others_from elected place parts.1)
+
+-- of equal numbers the earlier comes first
+earlier : (number other place other_place : ℕ) → ComesFirst number other place other_place → number ≡ other → place < other_place
+earlier number other place other_place (inl less) same = absurd (omega (arith, less, same))
+earlier number other place other_place (inr more) same = more.1
+
+as_good_is_later : (m : Measure) (s : SupportView) (w : ElectedView) (place price : ℕ) → IsCheaper m s w.place w.price place price
+    → is_as_good m s w place price ≡ true → w.place < place
+as_good_is_later Votes s w place price cheaper good = earlier w.price price w.place place cheaper (sym (eqb-true price w.price good))
+as_good_is_later Cost s w place price cheaper good =
+    earlier (w.price * cost_at s place) (price * cost_at s w.place) w.place place cheaper (sym (eqb-true (price * cost_at s w.place) (w.price * cost_at s place) good))
+
+module _ (m : Measure) (s : SupportView) (share : ℕ) (elected : List ElectedView) (after : List ℕ) (run : IsRun m s share elected after) where
+  module _ (round : ℕ) (w : ElectedView) (here : slice_get elected round ≡ Some w) where
+    below : round < length elected
+    below = slice_get_within elected round w here
+
+    split : elected ≡ take round elected ++ w ∷ drop (round + 1) elected
+    split =
+        sym (take-append-drop round elected)
+        ∙ ap (λ xs. take round elected ++ xs) (drop_more elected round w below ∙ ap (λ v. v ∷ drop (round + 1) elected) (get_or_from_slice_get elected round w w here))
+
+    get_place : (get_or elected round w).place ≡ w.place
+    get_place = ap (λ (v : ElectedView). v.place) (get_or_from_slice_get elected round w w here)
+
+    later_by : (place : ℕ) → place < length s.costs → is_elected elected place ≡ false → (answer : Option ℕ)
+        → price_at s (rests_after s (replicate s.voters share) (take round elected)) place ≡ answer
+        → option_map_or (is_as_good m s w place) answer false ≡ true → w.place < place
+    later_by place known left None priced good = absurd (false≢true good)
+    later_by place known left (Some price) priced good =
+        let others = others_from elected place left in
+        let apart : place ≢ w.place = λ same. others round w below (get_place ∙ sym same) in
+        as_good_is_later m s w place price
+        ((run.cheapest (take round elected) w (drop (round + 1) elected) split).cheapest place price (known, All-take (λ v. v.place ≢ place) round elected others) apart
+        (least_from_price (supporters_at s place) (rests_after s (replicate s.voters share) (take round elected)) (cost_at s place) price priced)) good
+
+    tied_is_later : (place : ℕ) → place < length s.costs
+        → is_tied m s elected (rests_after s (replicate s.voters share) (take round elected)) w place ≡ true → w.place < place
+    tied_is_later place known tied =
+        let parts = and_parts (not (is_elected elected place)) _ tied in
+        later_by place known (not-true (is_elected elected place) parts.0) (price_at s (rests_after s (replicate s.voters share) (take round elected)) place) refl parts.1
+
+  all_by : (round : ℕ) (o : Option ElectedView) → slice_get elected round ≡ o
+      → All (λ (t : Tie). t.winner < t.other)
+      (option_map_or (λ w. map (λ place. record { round = round + 1; winner = w.place; other = place })
+      (filter (is_tied m s elected (rests_after s (replicate s.voters share) (take round elected)) w) (range_with_len 0 (length s.costs)))) o [])
+  all_by round None here = All-nil (λ (t : Tie). t.winner < t.other)
+  all_by round (Some w) here =
+      let test = is_tied m s elected (rests_after s (replicate s.voters share) (take round elected)) w in
+      let known = All-filter test (λ place. place < length s.costs) (range_with_len 0 (length s.costs)) (RisesWithin-below (range_with_len 0 (length s.costs)) 0 (length s.costs) (range_rises 0 (length s.costs) (length s.costs) (omega arith))) in
+      let passes = filter_passes test (range_with_len 0 (length s.costs)) in
+      All-map (λ (t : Tie). t.winner < t.other) (λ place. record { round = round + 1; winner = w.place; other = place })
+      (filter test (range_with_len 0 (length s.costs)))
+      (λ k d inside. tied_is_later round w here (get_or (filter test (range_with_len 0 (length s.costs))) k d) (known k d inside) (passes k d inside))
+
+  all_rounds : (rounds : List ℕ) → All (λ (t : Tie). t.winner < t.other) (flat_map (ties_in m s share elected) rounds)
+  all_rounds [] = All-nil (λ (t : Tie). t.winner < t.other)
+  all_rounds (round ∷ rounds) =
+      All-append (λ (t : Tie). t.winner < t.other) (ties_in m s share elected round) (flat_map (ties_in m s share elected) rounds)
+      (all_by round (slice_get elected round) refl) (all_rounds rounds)
+
+pub ties_are_later : (e : ElectionView) (options : CountOptions) (o : OutcomeView) → IsCountOf e options o
+    → All (λ (t : Tie). t.winner < t.other) (ties_of options.measure e o)
+unfolding ties_of
+ties_are_later e options o counted =
+    All-take (λ (t : Tie). t.winner < t.other) 100 _
+    (all_rounds options.measure (support_of e) o.share o.elected o.rests counted.run_is (range_with_len 0 (length o.elected)))
