@@ -52,7 +52,7 @@ PINNED = {
     ("pb_read", "Lengths", "max_length_of"): ("pb_read", "max_length_is_what_its_text_names"),
     ("pb_price", "Price", "price_at"): ("pb_price", "price_is_least_payment"),
     ("pb_rounds", "Count", "opening_share"): ("pb_rounds", "opening_share_is_largest"),
-    ("pb_greedy", "MostVotes", "most_votes_first"): ("pb_greedy", "most_votes_first_is_its_rule"),
+    ("pb_rounds", "MostVotes", "most_votes_first"): ("pb_rounds", "most_votes_first_is_its_rule"),
 }
 
 

@@ -83,6 +83,8 @@
     handlers: [...document.querySelectorAll('*')].flatMap(it => [...it.attributes]).filter(it => it.name.startsWith('on') || /^\s*javascript:/i.test(it.value)).length,
     elements: [...new Set([...document.querySelectorAll('body *')].map(it => it.localName))].sort(),
     wide: document.documentElement.scrollWidth > innerWidth,
+    narrow: [...document.querySelectorAll('thead th')].filter(it => getComputedStyle(it.closest('thead')).position !== 'absolute'
+      && it.getBoundingClientRect().width < 48).map(text),
     leaving: shown.filter(it => isSeen(it) && leaves(it)).map(it => it.data.slice(0, 60)),
     faint: shown.filter(it => contrast(it.parentElement) < 4.5).map(it => `${it.data.trim().slice(0, 40)} ${contrast(it.parentElement).toFixed(2)}`),
   };

@@ -16,7 +16,7 @@ const ROLL: u32 = 3;
 
 /// Says on standard error why a row is refused, and counts the rows that the rules refuse.
 #[derive(Drop)]
-pub(crate) struct Told<'a, 'p, R> {
+pub(crate) struct RefusalNotice<'a, 'p, R> {
     rt: &'a R,
     /// The path of the text with the rows; none is standard input.
     path: Option<&'p str>,
@@ -26,46 +26,54 @@ pub(crate) struct Told<'a, 'p, R> {
     least: u32,
     /// Whether a row that is refused refuses the script.
     refuses_script: bool,
-    by_rules: Cell<u64>,
+    by_rule: Cell<[u64; 3]>,
 }
 
-impl<'a, 'p, R> Told<'a, 'p, R> {
+impl<'a, 'p, R> RefusalNotice<'a, 'p, R> {
     /// Says it of rows that are answered one by one.
-    pub(crate) fn rows(rt: &'a R, admits: &Admits<'p>) -> Told<'a, 'p, R> {
-        Told {
+    pub(crate) fn rows(rt: &'a R, admits: &Admits<'p>) -> RefusalNotice<'a, 'p, R> {
+        RefusalNotice {
             rt,
             path: None,
             roll: admits.roll,
             least: admits.least,
             refuses_script: false,
-            by_rules: Cell::new(0),
+            by_rule: Cell::new([0; 3]),
         }
     }
 
     /// Says it of a row that refuses its script.
-    pub(crate) fn script(rt: &'a R, script: &Source<'p>, admits: &Admits<'p>) -> Told<'a, 'p, R> {
-        Told {
+    pub(crate) fn script(
+        rt: &'a R,
+        script: &Source<'p>,
+        admits: &Admits<'p>,
+    ) -> RefusalNotice<'a, 'p, R> {
+        RefusalNotice {
             rt,
             path: script.path(),
             roll: admits.roll,
             least: admits.least,
             refuses_script: true,
-            by_rules: Cell::new(0),
+            by_rule: Cell::new([0; 3]),
         }
     }
 
-    /// How many rows the rules have refused.
-    pub(crate) fn by_rules(&self) -> u64 {
-        self.by_rules.get()
+    /// How many rows each rule has refused: for an unknown id, for a voter who is not on the roll, for too few projects.
+    pub(crate) fn by_rule(&self) -> [u64; 3] {
+        self.by_rule.get()
     }
 }
 
-impl<R: Files + Eprint + AllocGlobal> Notice for Told<'_, '_, R> {
+impl<R: Files + Eprint + AllocGlobal> Notice for RefusalNotice<'_, '_, R> {
     fn refused(&self, row: u64, why: RowRefusal, unknown: &str) {
-        if why == RowRefusal::Bad {
-            return;
+        let mut by_rule = self.by_rule.get();
+        match why {
+            RowRefusal::Bad => return,
+            RowRefusal::UnknownId => by_rule[0] = by_rule[0].saturating_add(1),
+            RowRefusal::NotOnRoll => by_rule[1] = by_rule[1].saturating_add(1),
+            RowRefusal::TooFew => by_rule[2] = by_rule[2].saturating_add(1),
         }
-        self.by_rules.set(self.by_rules.get().saturating_add(1));
+        self.by_rule.set(by_rule);
         let refused = RefusedRow {
             row,
             why,

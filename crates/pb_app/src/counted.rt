@@ -1,18 +1,18 @@
-//! The text of a journal, of which the entries are counted as they go by.
+//! The text of a journal, whose entries are counted as they go by.
 
-use pb_witness::tally::Tally;
+use pb_witness::entry_counts::EntryCounts;
 use std::io::{Read, Result, Write};
 
-/// A reader whose bytes a tally takes. A contract sees what it has left, where it sees that of the reader underneath.
+/// A reader whose bytes are counted as entries. A contract sees what it has left, where it sees that of the reader underneath.
 #[derive(Drop)]
 pub(crate) struct CountedReader<'a, P> {
     reader: P,
-    tally: &'a mut Tally,
+    counts: &'a mut EntryCounts,
 }
 
 impl<'a, P> CountedReader<'a, P> {
-    pub(crate) fn new(reader: P, tally: &'a mut Tally) -> CountedReader<'a, P> {
-        CountedReader { reader, tally }
+    pub(crate) fn new(reader: P, counts: &'a mut EntryCounts) -> CountedReader<'a, P> {
+        CountedReader { reader, counts }
     }
 }
 
@@ -22,22 +22,22 @@ impl<P: Read> Read for CountedReader<'_, P> {
     fn read(&mut self, buf: &mut [u8]) -> Result<usize> {
         let count = self.reader.read(buf)?;
         if count <= buf.len() {
-            self.tally.take(&buf[..count]);
+            self.counts.take(&buf[..count]);
         }
         Ok(count)
     }
 }
 
-/// A writer whose bytes a tally takes. A contract sees what it was given, where it sees that of the writer underneath.
+/// A writer whose bytes are counted as entries. A contract sees what it was given, where it sees that of the writer underneath.
 #[derive(Drop)]
 pub(crate) struct CountedWriter<'a, W> {
     writer: &'a mut W,
-    tally: &'a mut Tally,
+    counts: &'a mut EntryCounts,
 }
 
 impl<'a, W> CountedWriter<'a, W> {
-    pub(crate) fn new(writer: &'a mut W, tally: &'a mut Tally) -> CountedWriter<'a, W> {
-        CountedWriter { writer, tally }
+    pub(crate) fn new(writer: &'a mut W, counts: &'a mut EntryCounts) -> CountedWriter<'a, W> {
+        CountedWriter { writer, counts }
     }
 }
 
@@ -47,7 +47,7 @@ impl<W: Write> Write for CountedWriter<'_, W> {
     fn write(&mut self, buf: &[u8]) -> Result<usize> {
         let count = self.writer.write(buf)?;
         if count <= buf.len() {
-            self.tally.take(&buf[..count]);
+            self.counts.take(&buf[..count]);
         }
         Ok(count)
     }

@@ -1,12 +1,12 @@
 //! The command `export`: the .pb file of a count, with what the file that was read has further.
 
-use crate::journal::open_with_journal;
+use crate::journal::{alone, open_with_journal};
 use crate::kinship::Kinship;
 use crate::perform::Notes;
 use csv::ByteRecord;
 use pb_command_line::Ballots;
-use pb_commands::run_export::{run_closed_export, run_export};
-use pb_commands::{AppFault, Counting};
+use pb_commands::run_export::run_export;
+use pb_commands::{AppFault, Counting, Inputs};
 use pb_export::{Carried, Carry};
 use pb_read::{Heed, Part, ReadFault, Stage, Warning, Watch};
 use pb_streams::{Progress, open_shown};
@@ -53,10 +53,14 @@ where
 {
     let Some(journal) = &ballots.journal else {
         let file = open_shown(counting.gate, &ballots.file)?;
-        return run_export(counting, file, watch, writer);
+        return run_export(counting, alone(file), watch, writer);
     };
     let (file, journal) = open_with_journal(counting, &ballots.file, journal, kinship)?;
-    run_closed_export(counting, file, journal, watch, writer)
+    let inputs = Inputs {
+        file,
+        journal: Some(journal),
+    };
+    run_export(counting, inputs, watch, writer)
 }
 
 /// Which of the keys that Pabulib asks for are lacking.

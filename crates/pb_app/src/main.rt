@@ -10,6 +10,7 @@ mod counted;
 mod export;
 mod journal;
 mod kinship;
+mod output_words;
 mod page;
 mod page_watch;
 mod perform;
@@ -19,6 +20,7 @@ mod spent;
 mod terminal;
 mod typing;
 mod what_if;
+mod what_if_words;
 mod worded;
 mod words;
 
@@ -30,7 +32,7 @@ use pb_commands::{AppFault, BAD_ARGUMENTS};
 use pb_read::ReadFault;
 use pb_serving::ServingFault;
 use pb_streams::{Output, Progress};
-use pb_witness::tally::Tally;
+use pb_witness::entry_counts::EntryCounts;
 use pb_witness::warnings::{ResultWarnings, Warnings};
 use std::fs::File;
 use std::io::{IsTerminal, Write};
@@ -112,8 +114,9 @@ where
 {
     let mut output = Output::new(rt, asked);
     let mut notes = Notes {
-        written: Tally::new(),
-        audited: Tally::new(),
+        written: EntryCounts::new(),
+        by_rule: [0; 3],
+        audited: EntryCounts::new(),
         has_no_ballot: false,
         faults: Vec::new(rt.alloc()),
         checked: Warnings::new(rt.alloc()),
@@ -126,7 +129,7 @@ where
     progress.clear();
     let code = match result {
         Ok(()) => {
-            words::say_tally(rt, asked, &notes.written, &notes.audited);
+            words::say_tally(rt, asked, &notes);
             words::say_no_ballot(rt, asked, notes.has_no_ballot);
             words::say_faults(rt, &asked.task, &notes);
             words::say_warnings(rt, &asked.task, &notes);
@@ -134,8 +137,8 @@ where
             status_of(notes.faults.as_slice())
         }
         Err(refusal) => {
-            if let Refusal::BadRows(..) = refusal {
-                words::say_tally(rt, asked, &notes.written, &notes.audited);
+            if let Refusal::BadRows(_) = refusal {
+                words::say_tally(rt, asked, &notes);
             }
             let took = begun.and_then(|begun| begun.elapsed(rt).ok());
             let status = write_line(rt, &refusal);
@@ -185,7 +188,7 @@ fn write_line<R: Print>(rt: &R, refusal: &Refusal) -> u8 {
         // Words alone say it, as of all arguments that are refused.
         Refusal::Barred | Refusal::WhatIf(_) => BAD_ARGUMENTS,
         // Each of them has its line already.
-        Refusal::BadRows(..) => BAD_ROWS,
+        Refusal::BadRows(_) => BAD_ROWS,
     }
 }
 

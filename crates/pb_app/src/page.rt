@@ -6,18 +6,17 @@ ghost use Rattle.pb_rounds.specs.Counted.{IsCountFault, IsCountOf};
 ghost use Rattle.pb_commands.specs.Ends.{HasWritten};
 ghost use Rattle.pb_page.specs.Page.{IsPage};
 
-use crate::journal::open_with_journal;
+use crate::journal::{alone, open_with_journal};
 use crate::kinship::Kinship;
 use crate::page_watch::PageWatch;
 use crate::perform::Refusal;
 use pb_command_line::{PROGRAM, PageRun, Source as Given};
-use pb_commands::{AppFault, Counting, closed_ballots, counted, own_ballots, write_out};
+use pb_commands::{AppFault, Counting, Inputs, counted, election_of, write_out};
 use pb_core::election::Election;
 use pb_core::gate::Gate;
 use pb_core::money::Money;
 use pb_core::no_memory::NoMemory;
-use pb_markup::{Form, Words};
-use pb_page::{Categories, Facts, Language, Source, Speech, WordsFault, page_of};
+use pb_page::{Categories, Facts, Form, Language, ReadText, Speech, Words, WordsFault, page_of};
 use pb_reasons::{Counted, RaiseEnd};
 use pb_rounds::count_fault::CountFault;
 use pb_streams::{Digested, Hex, Progress, open_file, open_shown};
@@ -111,7 +110,7 @@ fn read_file<P: Read + Drop>(
     seen: &mut ResultWarnings,
 ) -> Result<Contents, AppFault> {
     let mut watch = PageWatch::new(alloc, seen);
-    let read = own_ballots(alloc, file, &mut watch);
+    let read = election_of(alloc, alone(file), &mut watch);
     let notes = watch.take_notes(alloc);
     drop(watch);
     read_with(read, notes, kinship, None)
@@ -128,7 +127,11 @@ fn read_both<P: Read + Drop, J: Read + Drop>(
     let of_journal = Cell::new(None);
     let journal = Digested::new(journal, &of_journal);
     let mut watch = PageWatch::new(alloc, seen);
-    let read = closed_ballots(alloc, file, journal, &mut watch);
+    let inputs = Inputs {
+        file,
+        journal: Some(journal),
+    };
+    let read = election_of(alloc, inputs, &mut watch);
     let notes = watch.take_notes(alloc);
     drop(watch);
     read_with(read, notes, kinship, of_journal.get())
@@ -276,7 +279,7 @@ fn has_no_decimals(amount: Money) -> bool {
 }
 
 /// A text that was read, by its name without its folders.
-fn source_of<'a>(given: &Given<'a>, digest: Option<&'a Hex>) -> Source<'a> {
+fn source_of<'a>(given: &Given<'a>, digest: Option<&'a Hex>) -> ReadText<'a> {
     let name = match given.path() {
         Some(path) => Path::new(path).file_name().unwrap_or(path),
         None => INPUT,
@@ -285,7 +288,7 @@ fn source_of<'a>(given: &Given<'a>, digest: Option<&'a Hex>) -> Source<'a> {
         Some(digest) => digest.text(),
         None => "",
     };
-    Source { name, digest }
+    ReadText { name, digest }
 }
 
 /// The page of an election, counted with the options of these facts: each number on it is one of the count's, and nothing

@@ -1,30 +1,30 @@
 //! What the command line asks for, done on real files.
 
 use crate::Terminals;
-use crate::admitted::{Told, rules_of};
+use crate::admitted::{RefusalNotice, rules_of};
 use crate::audit::audit;
 use crate::ballots::ballots;
 use crate::check::check;
 use crate::counted::CountedWriter;
 use crate::export::export;
-use crate::journal::open_with_journal;
+use crate::journal::{alone, open_with_journal};
 use crate::kinship::Kinship;
 use crate::page::page;
 use crate::serve::serve;
 use crate::terminal::ShownWriter;
-use crate::typing::Typing;
+use crate::typing::{Telling, Typing};
 use crate::what_if::what_if;
 use crate::words::is_quiet;
 use pb_command_line::{Asked, Ballots, CompareRun, DeskRun, Source, Task};
 use pb_commands::run_count::run_count_watched;
 use pb_commands::run_desk::run_admitted_desk;
-use pb_commands::run_table::{run_closed_table, run_table};
-use pb_commands::{AppFault, Counting, Table, WhatIfFault};
+use pb_commands::run_table::run_table;
+use pb_commands::{AppFault, Counting, Inputs, Table, WhatIfFault};
 use pb_core::gate::NoGate;
 use pb_page::WordsFault;
 use pb_read::{ReadFault, read_pb};
 use pb_streams::{Bar, Output, Progress, Shown, Unplaced, open_both, open_shown};
-use pb_witness::tally::Tally;
+use pb_witness::entry_counts::EntryCounts;
 use pb_witness::warnings::{ResultWarnings, Warnings};
 use std::fs::File;
 use std::io::{Error, ErrorKind, Write};
@@ -60,8 +60,8 @@ pub(crate) enum Refusal {
     Unanswered,
     /// The file with the words of a page is refused.
     Words(WordsFault),
-    /// All rows were answered, and some were refused; so many were not of the form, of which these are the first.
-    BadRows(u64, [u64; 5]),
+    /// All rows were answered, and some were refused; so many were not of the form.
+    BadRows(u64),
 }
 
 impl From<AppFault> for Refusal {
@@ -83,9 +83,12 @@ impl From<WordsFault> for Refusal {
 #[derive(Drop)]
 pub(crate) struct Notes {
     /// The entries of a journal that was written.
-    pub(crate) written: Tally,
+    pub(crate) written: EntryCounts,
+    /// How many rows each rule of `serve` has refused: for an unknown id, for a voter who is not on the roll, for too few
+    /// projects.
+    pub(crate) by_rule: [u64; 3],
     /// The entries of a journal that was audited.
-    pub(crate) audited: Tally,
+    pub(crate) audited: EntryCounts,
     /// The voter whose ballot was asked for has none.
     pub(crate) has_no_ballot: bool,
     /// The faults of a file that was checked.
@@ -146,8 +149,12 @@ where
         fills_up: asked.fills_up,
     };
     let kinship = Kinship::new(asked.takes_other);
-    let is_told = terminals.input && !is_quiet(asked);
-    let typing = Typing::new(is_told, names_by_id(&asked.task));
+    let telling = match (is_quiet(asked), terminals.input) {
+        (true, _) => Telling::Nothing,
+        (false, true) => Telling::All,
+        (false, false) => Telling::FirstRows,
+    };
+    let typing = Typing::new(telling, names_by_id(&asked.task));
     let is_shown = terminals.output && asked.output.is_none();
     let mut writer = ShownWriter::new(rt.alloc(), output, is_shown);
     let done = match run(&counting, asked, &mut writer, &kinship, notes, &typing) {
@@ -251,10 +258,14 @@ where
 {
     let Some(journal) = &ballots.journal else {
         let file = open_shown(counting.gate, &ballots.file)?;
-        return run_table(counting, file, seen, writer, table);
+        return run_table(counting, alone(file), seen, writer, table);
     };
     let (file, journal) = open_with_journal(counting, &ballots.file, journal, kinship)?;
-    run_closed_table(counting, file, journal, seen, writer, table)
+    let inputs = Inputs {
+        file,
+        journal: Some(journal),
+    };
+    run_table(counting, inputs, seen, writer, table)
 }
 
 /// The table that a task writes which writes one.
@@ -273,7 +284,7 @@ fn desk<R, W: Write>(
     counting: &Counting<'_, R, Progress<'_, R>>,
     asked: &DeskRun<'_>,
     writer: &mut W,
-    tally: &mut Tally,
+    counts: &mut EntryCounts,
 ) -> Result<(), AppFault>
 where
     R: Files + Input + Eprint + Clock + AllocGlobal + Threads + Sync,
@@ -290,8 +301,8 @@ where
         }
     };
     let (clerks, shuts) = (asked.clerks, asked.shuts);
-    let mut entries = CountedWriter::new(writer, tally);
-    let told = Told::script(rt, &asked.script, &asked.admits);
+    let mut entries = CountedWriter::new(writer, counts);
+    let notice = RefusalNotice::script(rt, &asked.script, &asked.admits);
     run_admitted_desk(
         rt,
         alloc,
@@ -301,7 +312,7 @@ where
         shuts,
         &NoGate,
         rules,
-        &told,
+        &notice,
         &mut entries,
     )
 }

@@ -1,8 +1,8 @@
 //! What is said to whoever types requests at a terminal.
 
 use crate::words::{say, say_words};
-use pb_witness::typed_row::TypedRow;
-use pb_words::script_words::typed_words;
+use pb_witness::last_rows::LastRows;
+use pb_words::script_words::last_row_words;
 
 /// How requests are typed.
 const HOW_TO_ASK: &str =
@@ -43,7 +43,7 @@ pub(crate) fn say_open_row<R: Eprint>(rt: &R) {
     say(rt, OPEN_ROW);
 }
 
-/// Says why the row that was typed last is none.
-pub(crate) fn say_bad_row<R: Eprint + AllocGlobal>(rt: &R, row: &TypedRow) {
-    say_words(rt, typed_words(rt.alloc(), row));
+/// Says why the row with this number is none, if it is among those that were read last.
+pub(crate) fn say_bad_row<R: Eprint + AllocGlobal>(rt: &R, rows: &LastRows, number: u64) {
+    say_words(rt, last_row_words(rt.alloc(), rows, number));
 }

@@ -1,6 +1,6 @@
 //! The command `serve`: a desk that stands on a file.
 
-use crate::admitted::{Told, rules_of};
+use crate::admitted::{RefusalNotice, rules_of};
 use crate::counted::CountedWriter;
 use crate::kinship::{Kinship, standing_of};
 use crate::perform::{Notes, Refusal};
@@ -45,7 +45,7 @@ impl<R: Files<File = File> + Eprint + AllocGlobal> Beside for TornFile<'_, R> {
         let path = format!(in self.rt.alloc(); "{}.torn", self.journal)?;
         let kept = keep_beside(self.rt, self.journal, path.as_str(), bytes);
         if kept.is_ok() {
-            words::say_torn(self.rt, path.as_str(), bytes.len());
+            words::say_torn(self.rt, path.as_str(), bytes);
         }
         drop(path);
         match kept {
@@ -66,7 +66,7 @@ struct Serving<'a, 'p, R> {
     journal: &'p str,
     kinship: &'a Kinship,
     admission: &'a Admission,
-    told: Told<'a, 'p, R>,
+    notice: RefusalNotice<'a, 'p, R>,
     typing: &'a Typing,
 }
 
@@ -89,13 +89,15 @@ where
         journal: asked.journal,
         kinship,
         admission: &admission,
-        told: Told::rows(rt, &asked.admits),
+        notice: RefusalNotice::rows(rt, &asked.admits),
         typing,
     };
     let mut answers = CountedWriter::new(writer, &mut notes.written);
     let served = serve_journal(&serving, election, &mut answers);
+    let by_rule = serving.notice.by_rule();
     drop(serving);
     drop(admission);
+    notes.by_rule = by_rule;
     served
 }
 
@@ -154,12 +156,21 @@ where
     };
     match served {
         Ok(0) => Ok(()),
-        Ok(rows) => Err(Refusal::BadRows(
-            rows.saturating_sub(serving.told.by_rules()),
-            serving.typing.bad_rows(),
-        )),
+        Ok(rows) => {
+            let by_rule = serving.notice.by_rule();
+            Err(Refusal::BadRows(rows.saturating_sub(sum(&by_rule))))
+        }
         Err(fault) => Err(refusal_of(fault, failure.get(), beside.get())),
     }
+}
+
+/// So many together.
+fn sum(counts: &[u64; 3]) -> u64 {
+    let mut all = 0u64;
+    for count in counts.iter() {
+        all = all.saturating_add(*count);
+    }
+    all
 }
 
 /// What the journal on a device says of the .pb file that was read. One without an entry gets to belong to it, before it has
@@ -325,7 +336,7 @@ where
                 torn,
                 pace: &at_hand,
                 admission: serving.admission,
-                notice: &serving.told,
+                notice: &serving.notice,
             };
             let mut answers = HeardWriter::new(writer, typing);
             let served = run_serve(rt.alloc(), &mut desk, &mut rows, &session, &mut answers);

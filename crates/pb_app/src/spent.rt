@@ -1,7 +1,7 @@
 //! Raises that were spent: whether more would decide is looked for, for words alone.
 
 use pb_command_line::{Source, Task};
-use pb_commands::closed_ballots;
+use pb_commands::{Inputs, election_of};
 use pb_core::election::Election;
 use pb_core::gate::Gate;
 use pb_core::money::Money;
@@ -77,7 +77,10 @@ fn ballots_again<R: Files + AllocGlobal>(rt: &R, task: &Task<'_>) -> Option<Elec
     };
     match journal.path() {
         Some(path) => match open_again(rt, path) {
-            Some(journal) => closed_ballots(alloc, file, journal, &mut NoWatch).ok(),
+            Some(journal) => {
+                let journal = Some(journal);
+                election_of(alloc, Inputs { file, journal }, &mut NoWatch).ok()
+            }
             None => {
                 drop(file);
                 None

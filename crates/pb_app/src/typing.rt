@@ -1,7 +1,8 @@
-//! Requests that are typed at a terminal: it is said how to ask, and of a row why it is none or that it goes on.
+//! Requests that come in: at a terminal it is said how to ask, and of a row why it is none or that it goes on; elsewhere it is
+//! said of the first rows that are none why.
 
 use crate::prompts::{say_bad_row, say_how_to_ask, say_open_row};
-use pb_witness::typed_row::TypedRow;
+use pb_witness::last_rows::LastRows;
 use std::cell::Cell;
 use std::io::{Read, Result, Write};
 
@@ -31,29 +32,42 @@ fn number_of(row: &[u8]) -> u64 {
     number
 }
 
-/// What is said to whoever types, and what is heard of the answers.
+/// What is said of the requests that come in.
+#[derive(Clone, Copy, PartialEq, Eq)]
+pub(crate) enum Telling {
+    /// Nothing.
+    Nothing,
+    /// Of the first rows that are not of the form, why.
+    FirstRows,
+    /// To whoever types, how to ask, and of each row that is not of the form, why.
+    All,
+}
+
+/// So many rows that are not of the form are explained where nobody types.
+const MOST_EXPLAINED: u64 = 5;
+
+/// What is said of the requests that come in, and what is heard of the answers.
 #[derive(Drop)]
 pub(crate) struct Typing {
-    /// Whether somebody types who is told.
-    is_told: bool,
+    telling: Telling,
     /// Whether rows name projects by their ids.
     by_id: bool,
     /// Whether the desk was shut before the first row.
     is_shut: Cell<bool>,
-    /// Whether the last row was not of the form.
-    is_bad: Cell<bool>,
-    /// The numbers of the first rows that were not of the form; 0 is none.
-    bad_rows: Cell<[u64; 5]>,
+    /// How many rows were not of the form.
+    bad_rows: Cell<u64>,
+    /// The numbers of those of them that are still to be explained; 0 is none.
+    unexplained: Cell<[u64; 5]>,
 }
 
 impl Typing {
-    pub(crate) fn new(is_told: bool, by_id: bool) -> Typing {
+    pub(crate) fn new(telling: Telling, by_id: bool) -> Typing {
         Typing {
-            is_told,
+            telling,
             by_id,
             is_shut: Cell::new(false),
-            is_bad: Cell::new(false),
-            bad_rows: Cell::new([0; 5]),
+            bad_rows: Cell::new(0),
+            unexplained: Cell::new([0; 5]),
         }
     }
 
@@ -62,39 +76,51 @@ impl Typing {
         self.by_id
     }
 
-    /// The numbers of the first rows that were not of the form; 0 is none.
-    pub(crate) fn bad_rows(&self) -> [u64; 5] {
-        self.bad_rows.get()
+    /// Whether somebody types who is told how.
+    fn is_told(&self) -> bool {
+        self.telling == Telling::All
     }
 
-    /// Hears the line of a fault that was written.
-    fn hear(&self, row: &[u8]) {
-        if row.starts_with(BAD_ROW) {
-            self.is_bad.set(true);
-            self.keep(number_of(row));
+    /// Whether a further row that is not of the form is explained.
+    fn explains(&self) -> bool {
+        match self.telling {
+            Telling::Nothing => false,
+            Telling::FirstRows => self.bad_rows.get() < MOST_EXPLAINED,
+            Telling::All => true,
         }
     }
 
-    /// Keeps the number of a row that was not of the form, unless there are enough of them.
+    /// Hears the line of a fault that was written.
+    fn hear(&self, line: &[u8]) {
+        if !line.starts_with(BAD_ROW) {
+            return;
+        }
+        if self.explains() {
+            self.keep(number_of(line));
+        }
+        self.bad_rows.set(self.bad_rows.get().saturating_add(1));
+    }
+
+    /// Keeps the number of a row that is to be explained.
     fn keep(&self, number: u64) {
-        let mut rows = self.bad_rows.get();
+        let mut rows = self.unexplained.get();
         for i in 0..5usize {
             if rows[i] == 0 {
                 rows[i] = number;
-                self.bad_rows.set(rows);
+                self.unexplained.set(rows);
                 return;
             }
         }
     }
 }
 
-/// A reader of what is typed. Behind the end it asks for nothing more: at a terminal that would wait for a second end.
+/// A reader of requests. Behind the end it asks for nothing more: at a terminal that would wait for a second end.
 #[derive(Drop)]
 pub(crate) struct TypedReader<'a, R: Input> {
     rt: &'a R,
     reader: R::Reader,
     typing: &'a Typing,
-    row: TypedRow,
+    rows: LastRows,
     has_begun: bool,
     has_ended: bool,
 }
@@ -106,37 +132,37 @@ impl<'a, R: Input + Eprint + AllocGlobal> TypedReader<'a, R> {
             rt,
             reader: rt.reader(),
             typing,
-            row: TypedRow::new(rt.alloc()),
+            rows: LastRows::new(rt.alloc()),
             has_begun: false,
             has_ended: false,
         }
     }
 
-    /// Says how to ask before the first row, and then of the last row why it was none.
+    /// Says how to ask before the first row, and then of the rows that were answered why some are none.
     fn say_before(&mut self) {
-        if !self.has_begun {
+        if !self.has_begun && self.typing.is_told() {
             say_how_to_ask(self.rt, self.typing.by_id, self.typing.is_shut.get());
-            self.has_begun = true;
         }
-        if self.typing.is_bad.replace(false) {
-            say_bad_row(self.rt, &self.row);
+        self.has_begun = true;
+        for number in self.typing.unexplained.replace([0; 5]) {
+            if number > 0 {
+                say_bad_row(self.rt, &self.rows, number);
+            }
         }
     }
 }
 
 impl<R: Input + Eprint + AllocGlobal> Read for TypedReader<'_, R> {
     fn read(&mut self, buf: &mut [u8]) -> Result<usize> {
+        self.say_before();
         if self.has_ended {
             return Ok(0);
         }
-        if self.typing.is_told {
-            self.say_before();
-        }
         let count = self.reader.read(buf)?;
         self.has_ended = count == 0 && !buf.is_empty();
-        if self.typing.is_told && 0 < count && count <= buf.len() {
-            self.row.take(&buf[..count]);
-            if self.row.is_open() {
+        if self.typing.explains() && 0 < count && count <= buf.len() {
+            self.rows.take(&buf[..count]);
+            if self.typing.is_told() && self.rows.is_open() {
                 say_open_row(self.rt);
             }
         }

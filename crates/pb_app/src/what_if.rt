@@ -1,15 +1,15 @@
 //! The command `whatif`: what would have made a project win.
 
-use crate::journal::open_with_journal;
+use crate::journal::{alone, open_with_journal};
 use crate::kinship::Kinship;
 use crate::perform::Refusal;
 use pb_command_line::{Ballots, OneChange, WhatIfRun};
 use pb_commands::{
-    AppFault, Changes, Counting, WhatIfFault, closed_ballots, own_ballots, what_if_text, write_out,
+    AppFault, Changes, Counting, Inputs, WhatIfFault, election_of, what_if_text, write_out,
 };
 use pb_core::election::Election;
+use pb_reasons::Change;
 use pb_streams::{Progress, open_shown};
-use pb_whatif::Change;
 use pb_witness::warnings::ResultWarnings;
 use std::fs::File;
 use std::io::Write;
@@ -53,8 +53,12 @@ where
 {
     let Some(journal) = &ballots.journal else {
         let file = open_shown(counting.gate, &ballots.file)?;
-        return own_ballots(counting.alloc, file, seen);
+        return election_of(counting.alloc, alone(file), seen);
     };
     let (file, journal) = open_with_journal(counting, &ballots.file, journal, kinship)?;
-    closed_ballots(counting.alloc, file, journal, seen)
+    let inputs = Inputs {
+        file,
+        journal: Some(journal),
+    };
+    election_of(counting.alloc, inputs, seen)
 }

@@ -1,7 +1,6 @@
 //! What is said where the file with the words of a page is refused.
 
-use pb_markup::Plural;
-use pb_page::{Entry, Key, WordsFault, WordsLine, entry_at};
+use pb_page::{Entry, Key, Plural, WordsFault, WordsLine, entry_at};
 use pb_witness::text::Text;
 use pb_words::Value::{Name, Number, Own, Quoted};
 use pb_words::{NO_MEMORY, Value, Words, unread_words};
@@ -99,7 +98,15 @@ fn put_fault(out: &mut Words, path: &str, fault: &WordsFault, row: &str) {
             out.fill(UNKNOWN_KEY, &[Number(u64::from(line)), key])
         }
         WordsFault::RepeatedKey(line) => put_at(out, line, REPEATED_KEY),
-        WordsFault::Markup(line) => put_at(out, line, MARKUP),
+        WordsFault::Markup(line) => {
+            put_at(out, line, "");
+            let otherwise = if value.is_empty() {
+                "<, >, & or a control character"
+            } else {
+                "a control character"
+            };
+            out.fill(MARKUP, &[shown(markup_in(value), otherwise)])
+        }
         WordsFault::BadValue(line) => {
             put_at(out, line, "");
             let value = shown(value, "this value");
@@ -108,7 +115,7 @@ fn put_fault(out: &mut Words, path: &str, fault: &WordsFault, row: &str) {
         WordsFault::UnknownPlace(line) => {
             put_at(out, line, "");
             let name = unknown_place(value, entry_of(line.key));
-            out.fill(UNKNOWN_PLACE, &[shown(name, "a name in braces")]);
+            out.fill(UNKNOWN_PLACE, &[shown(name, "a name")]);
             put_places(out, entry_of(line.key))
         }
         WordsFault::LoneBrace(line) => {
@@ -120,7 +127,7 @@ fn put_fault(out: &mut Words, path: &str, fault: &WordsFault, row: &str) {
         WordsFault::MissingKey(key) => put_missing(out, key),
         WordsFault::UnusedKey(key, plural) => out.fill(
             UNUSED_KEY,
-            &[Own(plural_text(plural)), Own(key.text()), Own(key.text())],
+            &[Own(plural_text(plural)), Own(key.text())],
         ),
         WordsFault::ReadFailed | WordsFault::NoMemory => out.put(NO_MEMORY),
     }
@@ -137,22 +144,23 @@ const UNKNOWN_KEY: &str =
 const REPEATED_KEY: &str = ": an earlier line has the same key.\nDelete one of the two lines.\n";
 
 const MARKUP: &str =
-    ": the sentence has <, >, & or a control character.\nWrite the sentence without markup.\n";
+    ": the sentence has {}, which is not allowed here.\nWrite the sentence without <, >, & and control characters.\n";
 
 const BAD_VALUE: &str = ": {} is not allowed.\nWrite {}.\n";
 
-const UNKNOWN_PLACE: &str = ": {} is not a place of this sentence.\n";
+const UNKNOWN_PLACE: &str = ": {} in braces is not allowed in this sentence.\n";
 
 const LONE_BRACE: &str = ": a `{` or a `}` has no partner.\n";
 
-const MISSING_PLACE: &str =
-    ": the place {{}} is missing.\nWrite it once: each place of the sentence must be there exactly once.\n";
+const MISSING_PLACE: &str = ": {{}} is missing.\nWrite it where the page should show this value.\n";
 
-const REPEATED_PLACE: &str =
-    ": the place {{}} is there more than once.\nWrite it once: each place of the sentence must be there exactly once.\n";
+const REPEATED_PLACE: &str = ": {{}} is there more than once.\nWrite it only once.\n";
+
+const NO_FEW: &str =
+    "The line `plural = polish` asks for it: nouns then have three forms, as words/pl.words shows. If the language has no such form, correct the line `plural`.\n";
 
 const UNUSED_KEY: &str =
-    ": the file says `plural = {}`, and this rule has no form {}.\nDelete the line of {}, or change the line `plural`.\n";
+    ": the file says `plural = {}`, so nothing uses the key {}.\nDelete its line, or correct the line `plural`.\n";
 
 /// A text of the line without the white space at its ends, or this where the line could not be read again.
 fn shown<'t>(text: &'t str, otherwise: &'t str) -> Value<'t> {
@@ -160,6 +168,16 @@ fn shown<'t>(text: &'t str, otherwise: &'t str) -> Value<'t> {
         "" => Own(otherwise),
         text => Quoted(text),
     }
+}
+
+/// Which markup a sentence has; the empty text where it has none.
+fn markup_in(sentence: &str) -> &'static str {
+    for mark in ["<", ">", "&"] {
+        if sentence.contains(mark) {
+            return mark;
+        }
+    }
+    ""
 }
 
 /// Puts a line and its key, and what is wrong there.
@@ -183,11 +201,9 @@ fn put_number(out: &mut Words, line: WordsLine, what: &'static str, index: u8) {
 /// Puts that no line has this key, and what to do.
 fn put_missing(out: &mut Words, key: Key) {
     let name = key.text();
-    out.fill(": there is no line with the key {}.\n", &[Own(name)]);
+    out.fill(": no line has the key `{}`.\n", &[Own(name)]);
     match values_of(key) {
-        "" if name.ends_with(".few") => {
-            out.put("Add the line, with this form of the noun; words/pl.words shows how.\n")
-        }
+        "" if name.ends_with(".few") => out.put(NO_FEW),
         "" => out.put("Copy its line from words/en.words, and translate it.\n"),
         values => out.fill(
             "Add the line `{} = VALUE`. VALUE is {}.\n",
@@ -273,9 +289,9 @@ fn put_places(out: &mut Words, entry: Option<Entry>) {
     };
     let count = numbers.len().saturating_add(nouns.len());
     if count == 0 {
-        return out.put("This sentence has no places: write it without braces.\n");
+        return out.put("Write this sentence without braces.\n");
     }
-    out.put("Its places are ");
+    out.put("The sentence must have ");
     let mut at = 0usize;
     for places in [numbers, nouns] {
         for place in places {
@@ -290,5 +306,5 @@ fn put_places(out: &mut Words, entry: Option<Entry>) {
             out.fill("{}{{}}", &[Own(before), Own(place)]);
         }
     }
-    out.put(". Write no other braces.\n")
+    out.put(", each of them once, and no other braces.\n")
 }

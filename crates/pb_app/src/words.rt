@@ -1,7 +1,11 @@
 //! What is said on standard error, beside what programs read.
 
+use crate::output_words::{
+    beside_output_words, journal_output_words, read_output_words, served_output_words,
+};
 use crate::perform::{Notes, Refusal};
 use crate::spent::look_further;
+use crate::what_if_words::{no_cost_words, no_project_words, too_many_voters_words};
 use crate::worded::words_file_words;
 use pb_command_line::{Asked, BallotsRun, OneChange, Source, Task, WhatIfRun};
 use pb_commands::{AppFault, WhatIfFault};
@@ -13,14 +17,10 @@ use pb_rounds::count_fault::CountFault;
 use pb_script::ScriptFault;
 use pb_streams::{Bar, Output, Progress};
 use pb_witness::audited::AuditPaths;
-use pb_witness::tally::Tally;
 use pb_words::belonging_words::{adopted_words, other_file_words, unread_file_words};
 use pb_words::count_words::{count_words, spent_words};
 use pb_words::export_words::{comma_words, heading_words, lacking_words};
 use pb_words::journal_words::journal_words;
-use pb_words::output_words::{
-    beside_output_words, journal_output_words, read_output_words, served_output_words,
-};
 use pb_words::read_words::{list_words, read_words};
 use pb_words::refused_words::{RefusedRow, like_a_place_words, refused_words, roll_words};
 use pb_words::script_words::{Taking, script_words};
@@ -28,9 +28,8 @@ use pb_words::serve_words::{
     bad_rows_words, locked_words, lost_words, moved_words, open_desk_words, spelling_words,
     torn_words, unanswered_words, unkept_words, unopened_words,
 };
-use pb_words::tally_words::{no_ballot_words, tally_words};
-use pb_words::warning_words::warning_words;
-use pb_words::what_if_words::{no_cost_words, no_project_words, too_many_voters_words};
+use pb_words::tally_words::{by_rule_words, no_ballot_words, tally_words};
+use pb_words::warning_words::{swallowing_words, warning_words};
 use pb_words::{mistaken_words, open_words, write_words};
 use std::alloc::{AllocError, Global};
 use std::fs;
@@ -84,6 +83,11 @@ pub(crate) fn say_refusal<R: Files<File = File> + Eprint + AllocGlobal>(
                 ScriptFault::UnknownId(_) | ScriptFault::NotOnRoll(_) | ScriptFault::TooFew(_),
             ),
         ) => {}
+        Refusal::Spelling => {
+            let (_, journal) = asked.task.paths();
+            let path = journal.unwrap_or("-");
+            say_words(rt, spelling_words(rt.alloc(), path));
+        }
         Refusal::Words(fault) => {
             let path = asked.task.roll().unwrap_or("-");
             say_words(rt, words_file_words(rt, rt.alloc(), path, fault));
@@ -91,7 +95,7 @@ pub(crate) fn say_refusal<R: Files<File = File> + Eprint + AllocGlobal>(
         Refusal::Fault(fault) => say_words(rt, words_of(rt, asked, fault, failure, notes)),
         Refusal::Unanswered => say_words(rt, unanswered_words(rt.alloc(), failure)),
         // Why each of the others was refused was said when it was read.
-        Refusal::BadRows(0, _) => {}
+        Refusal::BadRows(0) => {}
         _ => say_words(rt, words_of_serve(rt.alloc(), &asked.task, refusal)),
     }
 }
@@ -103,13 +107,9 @@ fn words_of_serve(alloc: Global, task: &Task<'_>, refusal: &Refusal) -> Result<S
     match refusal {
         Refusal::Locked(_) => locked_words(alloc, path),
         Refusal::NoJournal(reason) => unopened_words(alloc, path, reason),
-        Refusal::Spelling => spelling_words(alloc, path),
         Refusal::Journal(reason) => unkept_words(alloc, path, reason),
         Refusal::Moved(Err(reason)) => lost_words(alloc, path, reason),
-        Refusal::BadRows(rows, first) => {
-            let known = first.iter().filter(|row| **row > 0).count().min(5);
-            bad_rows_words(alloc, *rows, &first[..known])
-        }
+        Refusal::BadRows(rows) => bad_rows_words(alloc, *rows),
         refusal => words_of_file_beside(alloc, path, refusal),
     }
 }
@@ -288,15 +288,14 @@ pub(crate) fn say_warnings<R: Files + Eprint + AllocGlobal>(
     notes: &Notes,
 ) {
     let (file, _) = task.paths();
-    match task {
-        Task::Check(_) => {
-            say_words(
-                rt,
-                warning_words(rt, rt.alloc(), file, notes.checked.found()),
-            )
-        }
-        Task::Desk(..) | Task::Serve(..) | Task::Ballots(..) => {}
-        _ => say_words(rt, warning_words(rt, rt.alloc(), file, notes.seen.found())),
+    let (found, witness) = match task {
+        Task::Check(_) => (notes.checked.found(), &notes.checked.witness),
+        Task::Desk(..) | Task::Serve(..) | Task::Ballots(..) => return,
+        _ => (notes.seen.found(), &notes.seen.witness),
+    };
+    say_words(rt, warning_words(rt, rt.alloc(), file, found));
+    if let Some(rows) = witness.swallowing() {
+        say_words(rt, swallowing_words(rt, rt.alloc(), file, rows));
     }
 }
 
@@ -307,12 +306,7 @@ pub(crate) fn say_lacking<R: Eprint + AllocGlobal>(rt: &R, task: &Task<'_>, lack
 }
 
 /// Says how many requests were carried out and answered no, where a journal was written or audited and `--quiet` is not given.
-pub(crate) fn say_tally<R: Eprint + AllocGlobal>(
-    rt: &R,
-    asked: &Asked<'_>,
-    written: &Tally,
-    audited: &Tally,
-) {
+pub(crate) fn say_tally<R: Eprint + AllocGlobal>(rt: &R, asked: &Asked<'_>, notes: &Notes) {
     if is_quiet(asked) {
         return;
     }
@@ -327,9 +321,10 @@ pub(crate) fn say_tally<R: Eprint + AllocGlobal>(
         | Task::Ballots(..)
         | Task::Check(_) => {}
         Task::Desk(..) | Task::Serve(..) => {
-            say_words(rt, tally_words(rt.alloc(), written, "recorded"))
+            say_words(rt, tally_words(rt.alloc(), &notes.written, "recorded"));
+            say_words(rt, by_rule_words(rt.alloc(), &notes.by_rule))
         }
-        Task::Audit(..) => say_words(rt, tally_words(rt.alloc(), audited, "checked")),
+        Task::Audit(..) => say_words(rt, tally_words(rt.alloc(), &notes.audited, "checked")),
     }
 }
 
@@ -403,9 +398,9 @@ where
     }
 }
 
-/// Says that so many bytes behind a journal's text are kept in this file.
-pub(crate) fn say_torn<R: Eprint + AllocGlobal>(rt: &R, path: &str, bytes: usize) {
-    if bytes > 0 {
+/// Says that these bytes from behind a journal's text are kept in this file.
+pub(crate) fn say_torn<R: Eprint + AllocGlobal>(rt: &R, path: &str, bytes: &[u8]) {
+    if !bytes.is_empty() {
         say_words(rt, torn_words(rt.alloc(), path, bytes));
     }
 }

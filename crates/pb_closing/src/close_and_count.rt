@@ -6,9 +6,10 @@ ghost use Rattle.pb_closing.specs.Closed.{ComesTo, IsClosedAs};
 
 use crate::close_fault::CloseFault;
 use crate::closing::{Closing, DeskCount};
+use pb_core::gate::{Gate, NoGate};
 use pb_desk::desk::Desk;
 use pb_desk::into_fault::IntoFault;
-use pb_rounds::count::count;
+use pb_rounds::count::count_watched;
 use pb_rounds::options::CountOptions;
 use pb_shared::clerk::Clerk;
 use pb_shared::shared_desk::SharedDesk;
@@ -51,13 +52,26 @@ pub fn count_desk<T: Threads + Sync>(
 ) -> Result<Closing, CloseFault>
     ensures { ComesTo desk options.now result }
 {
+    count_desk_watched(rt, alloc, desk, options, &NoGate)
+}
+
+/// Counts them as `count_desk` does, and tells the gate of raises before they are tried.
+pub fn count_desk_watched<T: Threads + Sync, G: Gate>(
+    rt: &T,
+    alloc: Global,
+    desk: Desk,
+    options: &CountOptions,
+    gate: &G,
+) -> Result<Closing, CloseFault>
+    ensures { ComesTo desk options.now result }
+{
     let entries = desk.entries();
     let election = match desk.into_election() {
         Ok(election) => election,
         Err(IntoFault::NotShut(desk)) => return Ok(Closing::Open(desk)),
         Err(IntoFault::NoMemory(desk)) => return Err(CloseFault::NoMemory(desk)),
     };
-    match count(rt, alloc, &election, options) {
+    match count_watched(rt, alloc, &election, options, gate) {
         Ok(outcome) => Ok(Closing::Counted(DeskCount {
             entries,
             election,

@@ -34,7 +34,7 @@ pub(crate) const SERVED: Argument = Argument {
 pub(crate) const DURABLE: Argument = Argument {
     name: "JOURNAL",
     takes: Takes::Path,
-    help: "The file of the desk's journal; if it exists, the desk continues it; if not, it is created",
+    help: "The file of the desk's journal: the desk continues it if it exists, and creates it if it does not",
 };
 
 /// The journal whose desk leaves the ballots.
@@ -167,7 +167,7 @@ pub(crate) const STRICT: Argument = Argument {
 pub(crate) const OTHER_FILE: Argument = Argument {
     name: "other-file",
     takes: Takes::Nothing,
-    help: "Accepts a journal that was made with another .pb file; use it only if PROJECTS in FILE begins with all projects of that file, in the same order",
+    help: "Accepts a journal that was made with another .pb file; use it only if all projects of the old file are in FILE in the same order; new ones may only come after them",
 };
 
 /// Whether it is not shown how far the work has come.
@@ -195,7 +195,7 @@ pub(crate) const QUIET_BALLOTS: Argument = Argument {
 pub(crate) const QUIET_SERVE: Argument = Argument {
     name: "quiet",
     takes: Takes::Nothing,
-    help: "Shows no summary and, at a terminal, no instructions and no explanations of refused rows",
+    help: "Shows no summary, does not say why a row is not a valid request, and gives no instructions at a terminal",
 };
 
 /// Whether it is shown.

@@ -103,7 +103,7 @@ pub(crate) const DESKS: &[CommandForm] = &[
     CommandForm {
         name: "check",
         notes: "Manual pages: man pb_app-election, man pb_app-faults.",
-        about: "Lists every fault for which a .pb file is refused, and warns of what is probably a mistake",
+        about: "Lists the faults for which a .pb file is refused, and warns of what is probably a mistake",
         arguments: &[
             ELECTION, AGAINST, WORKERS, STEP, RAISES, PLAIN, COMPLETION, MEASURE, OUTPUT, QUIET,
             PROGRESS,

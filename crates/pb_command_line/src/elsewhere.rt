@@ -57,7 +57,7 @@ pub(crate) fn uncounted_words(
         let name = option_of(argument.as_str());
         if is_of_count(name) {
             return Ok(Some(format!(in alloc;
-                "`pb_app check` takes --{name} only with --against, because it does not count otherwise.\nAdd --against, or omit --{name}.\n"
+                "`pb_app check` takes --{name} only with --against, because it does not count otherwise.\nAdd --against, or omit --{name} and other options of a count.\n"
             )?));
         }
     }

@@ -1,6 +1,6 @@
 //! Arguments that are refused although each has its form.
 
-use crate::address::is_address;
+use crate::address::{is_address, lacks_scheme};
 use crate::task::{OneChange, PageRun, Source, Task, WhatIfRun};
 use pb_core::money::Money;
 
@@ -15,6 +15,8 @@ pub(crate) enum Flaw<'a> {
     Piped(&'static str),
     /// No link of a page may lead to this address.
     Address(&'a str),
+    /// A link would lead to a file with this name, which seems to be meant as the address of a site.
+    NoScheme(&'a str),
     /// No project can have the one cost that is tried.
     Cost,
 }
@@ -31,8 +33,8 @@ impl<'a> Flaw<'a> {
         if let Some(name) = piped(task) {
             return Some(Flaw::Piped(name));
         }
-        if let Some(address) = leads_elsewhere(task) {
-            return Some(Flaw::Address(address));
+        if let Some(flaw) = bad_address(task) {
+            return Some(flaw);
         }
         if has_no_cost(task) {
             return Some(Flaw::Cost);
@@ -55,6 +57,9 @@ impl<'a> Flaw<'a> {
             Flaw::Address(address) => eprintln!(rt;
                 "error: --recount {address:?} can't be the address of a link. Give one that begins with https:// or http://, or the name of a file beside the page, such as recount.html. It must not have spaces."
             ),
+            Flaw::NoScheme(address) => eprintln!(rt;
+                "error: --recount {address:?} lacks https:// at its beginning. Give --recount https://{address}, or --recount ./{address} if it is a file in a folder beside the page."
+            ),
             Flaw::Cost => eprintln!(rt;
                 "error: --cost must be an amount from 0.01 to 10000000000000. Write it with digits only, like 53.66: no currency, nothing between thousands, at most two decimals."
             ),
@@ -76,15 +81,23 @@ fn piped(task: &Task<'_>) -> Option<&'static str> {
     }
 }
 
-/// The address to which a page would lead, and to which no link of it may lead, if there is one.
-fn leads_elsewhere<'a>(task: &Task<'a>) -> Option<&'a str> {
+/// What is wrong with the address to which a page would lead, if something is.
+fn bad_address<'a>(task: &Task<'a>) -> Option<Flaw<'a>> {
     match task {
         Task::Page(
             PageRun {
                 recount: Some(address),
                 ..
             },
-        ) if !is_address(address) => Some(*address),
+        ) => {
+            if !is_address(address) {
+                Some(Flaw::Address(*address))
+            } else if lacks_scheme(address) {
+                Some(Flaw::NoScheme(*address))
+            } else {
+                None
+            }
+        }
         _ => None,
     }
 }

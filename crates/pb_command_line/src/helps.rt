@@ -69,7 +69,8 @@ One request of each kind:
 
 The answer to a request is its row of the journal, printed as soon as that row is on the disk.
 
-A refused row is not recorded. Its answer is fault;script;CODE;NAME;ROW.
+A refused row is not recorded. Its answer is fault;script;CODE;NAME;ROW. Standard error explains it in words. If the
+requests come from a file or from another program, it explains only the first five rows that are not valid requests.
 
 Why a row is refused:
   2;BadRow     the row is not a valid request: see the form above
@@ -77,14 +78,14 @@ Why a row is refused:
   6;NotOnRoll  with --roll: the voter is not on the roll
   7;TooFew     with --min: the ballot names too few projects
 
-The output begins with entries;N;open or entries;N;shut: the journal has N entries. If the journal ended in an
-incomplete row (after a crash), that end was moved to JOURNAL.torn, and the row torn;BYTES is printed first, above the row
-that begins with entries;. BYTES is how many bytes were moved. The request in an incomplete row was never answered.
+The output begins with the row entries;N;open or entries;N;shut: the journal has N entries. If the journal ended in an
+incomplete row (after a crash), serve moves that end to JOURNAL.torn, and prints the row torn;BYTES first. BYTES is how
+many bytes it moved. The request in an incomplete row was never answered.
 
 JOURNAL.file says to which .pb file the journal belongs: its first line is the SHA-256 of FILE. With another FILE, a
 position may mean another project. So once the journal has entries, serve refuses any other file (fault;other-file).
---other-file makes it accept one. Use this only if the old projects keep their order: names and costs may differ, and
-projects may be added at the end.
+--other-file makes it accept one. Use this only if all projects of the old file are in FILE, in the same order. Their names
+and costs may differ. New projects may only come after the old ones.
 
 Examples:
   pb_app serve city.pb city.journal
@@ -96,7 +97,8 @@ Exit status:
   0  all rows were taken
   1  a row, FILE, JOURNAL or ROLL was refused
   2  the arguments were refused
-  3  a device failed, memory ran out, or another serve is using JOURNAL (fault;locked;2)
+  3  a file could not be opened or written, a device failed, memory ran out, or another serve is using JOURNAL
+     (fault;locked;2)
 
 Manual pages: man pb_app-script, man pb_app-journal, man pb_app-office.";
 

@@ -31,7 +31,7 @@ pub fn parse<'a, R: Print + Eprint>(
     alloc: Global,
     arguments: &'a [String],
 ) -> Result<Parsed<'a>, AllocError> {
-    match command_line(alloc)?.try_get_matches_from(arguments) {
+    match command_line(alloc)?.try_get_matches_from(plain_help(arguments)) {
         Ok(matches) => {
             let bad = match matches.subcommand() {
                 Some((_, given)) => bad_number(given),
@@ -53,6 +53,17 @@ pub fn parse<'a, R: Print + Eprint>(
             drop(error);
             end
         }
+    }
+}
+
+/// The arguments; `help --help` asks for no more than `help`.
+fn plain_help(arguments: &[String]) -> &[String] {
+    match (arguments.get(1), arguments.get(2)) {
+        (Some(command), Some(option))
+            if command.as_str() == "help" && matches!(option.as_str(), "--help" | "-h") => {
+            &arguments[..2]
+        }
+        _ => arguments,
     }
 }
 

@@ -1,4 +1,4 @@
--- A file and a journal that have a text get it, unless a device fails or memory is refused; and they have one at most.
+-- A file and a journal are those of one desk at most, which has one text; and what refuses them then comes from outside.
 use Rattle.std.proofs.Common.{◌≡◌, ℕ, ◌++◌, List, [], Option, Some, None, Bool, true, false, refl, sym, ◌∙◌, ap, subst, arith}
 use Rattle.std.specs.Prelude.{IfSome, IsErrAnd, MatchBool, Result}
 use Rattle.pb_core.specs.Election.{ElectionView}
@@ -25,11 +25,11 @@ use Rattle.pb_faults.specs.DeskRow.{entries_row}
 use Rattle.pb_commands.specs.Audited.{AuditWrites, IsDeskOf, IsTextOf}
 use Rattle.pb_commands.specs.Inner.Audited.{IsRefusedDesk}
 use Rattle.pb_commands.specs.Counted.{IsReportOf}
-use Rattle.pb_commands.specs.Ends.{Accepts, IfBothKnown, IsOutsideFault}
+use Rattle.pb_commands.specs.Ends.{IsOutsideFault}
 use Rattle.pb_faults.specs.Fault.{merged}
 use Rattle.pb_faults.specs.declared.fault.AppFault.{AppFault}
 use Rattle.pb_faults.specs.declared.fault.AppFault.TheVariants.{Read, Audit, Count}
-use Rattle.pb_commands.proofs.Accepted.{count_from_outside, given_fault, one_report, read_from_outside}
+use Rattle.pb_commands.proofs.Accepted.{count_from_outside, one_report}
 
 -- these bytes are those of one desk at most
 pub one_desk : (bytes journal : List ℕ) (d other : DeskView) → IsDeskOf bytes journal d → IsDeskOf bytes journal other → d ≡ other
@@ -43,15 +43,6 @@ one_desk bytes journal d other first second =
     let same = journal_rows-injective d.opening.version other.opening.version d.journal other.journal (omega arith) (omega arith) (small_numbers _ first.sound.entries) (small_numbers _ second.sound.entries) (sym first.rows ∙ second.rows) in
     λ i. record { opening = record { election = election i; version = same.0 i }; room = room i; journal = same.1 i }
 
-pub audited_by_reader : (fills_up : Bool) (files journals : Option (List ℕ)) (options : CountOptions) (fault : ReadFault) (r : Result (Unit {0}) AppFault)
-    → IsErrAnd r (λ app. app ≡ merged (Read fault))
-    → IfSome files (λ bytes. (e : ElectionView) → StandsFor (records_of bytes) e → IsFromOutside fault.kind)
-    → IfBothKnown files journals (λ bytes journal. Accepts (AuditWrites bytes journal options fills_up) r)
-audited_by_reader fills_up None journals options fault r is accepts = tt
-audited_by_reader fills_up (Some bytes) None options fault r is accepts = tt
-audited_by_reader fills_up (Some bytes) (Some journal) options fault r is accepts = λ text writes.
-    given_fault IsOutsideFault r (merged (Read fault)) is (read_from_outside fault.kind fault.at (accepts writes.0.opening.election writes.1.stands))
-
 -- the rows of a sound journal have no fault, so that the fault is none of theirs
 pub journal_from_outside : (o : OpeningView) (journal : List EntryView) → IsSound o program_room journal
     → (fault : AuditFault) → IsFaultOfJournal o.election program_room (journal_rows o.version journal) fault → IsOutsideFault (merged (Audit fault))
@@ -62,26 +53,13 @@ journal_from_outside o journal sound (audit.JournalFull row) fails = absurd (no_
 journal_from_outside o journal sound (audit.WrongAnswer row) fails = absurd (no_fault o program_room journal (audit.WrongAnswer row) (omega arith) sound fails (λ is. cc, λ i is. cc))
 journal_from_outside o journal sound audit.NoMemory fails = refl
 
-pub audited_by_journal : (fills_up : Bool) (files journals : Option (List ℕ)) (options : CountOptions) (e : ElectionView) (fault : AuditFault) (r : Result (Unit {0}) AppFault)
-    → IsErrAnd r (λ app. app ≡ merged (Audit fault))
-    → IfSome files (λ bytes. StandsFor (records_of bytes) e) → IfSome journals (λ journal. IsFaultOfJournal e program_room (records_of journal) fault)
-    → IfBothKnown files journals (λ bytes journal. Accepts (AuditWrites bytes journal options fills_up) r)
-audited_by_journal fills_up None journals options e fault r is stands fails = tt
-audited_by_journal fills_up (Some bytes) None options e fault r is stands fails = tt
-audited_by_journal fills_up (Some bytes) (Some journal) options e fault r is stands fails = λ text writes.
-    let d = writes.0 in
-    let election = one_election (records_of bytes) e d.opening.election stands writes.1.stands in
-    let sound = rw writes.1.room at writes.1.sound in
-    let P : ElectionView → Type 0 = λ e. IsFaultOfJournal e program_room (journal_rows d.opening.version d.journal) fault in
-    given_fault IsOutsideFault r (merged (Audit fault)) is (journal_from_outside d.opening d.journal sound fault (subst P election (rw writes.1.rows at fails)))
-
 -- a desk that has a text is refused from outside alone
-desk_from_outside : (fills_up : Bool) (d : DeskView) (options : CountOptions) (text : List ℕ) → IsTextOf d options fills_up text
+pub desk_from_outside : (fills_up : Bool) (d : DeskView) (options : CountOptions) (text : List ℕ) → IsTextOf d options fills_up text
     → (fault : CountFault) → IsRefusedDesk d options fault → IsOutsideFault (merged (Count fault))
 desk_from_outside fills_up d options text written count.NoMemory refused = refl
 desk_from_outside fills_up d options text written fault refused =
     let report = rw refused.0 at written.2 in
-    count_from_outside fills_up (closed_election d) options written.0 report fault refused.1
+    count_from_outside (closed_election d) options report.0 report.1 fault refused.1
 
 -- what is known of a desk that an audit answered
 pub record IsAudited (files journals : Option (List ℕ)) (e : ElectionView) (d : DeskView) : Type 0 where
@@ -98,16 +76,6 @@ desk_of bytes journal e d is = record {
   rows = is.rows;
   sound = rw is.room is.sound;
 }
-
-pub audited_by_desk : (fills_up : Bool) (files journals : Option (List ℕ)) (options : CountOptions) (e : ElectionView) (d : DeskView) (fault : CountFault) (r : Result (Unit {0}) AppFault)
-    → IsErrAnd r (λ app. app ≡ merged (Count fault)) → IsAudited files journals e d → IsRefusedDesk d options fault
-    → IfBothKnown files journals (λ bytes journal. Accepts (AuditWrites bytes journal options fills_up) r)
-audited_by_desk fills_up None journals options e d fault r is audited refused = tt
-audited_by_desk fills_up (Some bytes) None options e d fault r is audited refused = tt
-audited_by_desk fills_up (Some bytes) (Some journal) options e d fault r is audited refused = λ text writes.
-    let same = one_desk bytes journal writes.0 d writes.1 (desk_of bytes journal e d audited) in
-    let written = rw same at writes.2 in
-    given_fault IsOutsideFault r (merged (Count fault)) is (desk_from_outside fills_up d options text written fault refused)
 
 -- a desk has one text
 one_desk_text : (fills_up : Bool) (shut : Bool) (e : ElectionView) (options : CountOptions) (row a b first second : List ℕ)

@@ -1,10 +1,10 @@
 -- The count of a shut desk, as its report.
 use Rattle.std.proofs.Common.{◌≡◌, ◌∙◌, ◌++◌, List, [], ℕ, Bool, false, true, sym, subst, refl, ap, append_assoc}
 use Rattle.std.proofs.lemmas.List.{append-nil}
-use Rattle.std.specs.Prelude.{IfErr, MatchBool, OnOk, Result, Ok, Err}
+use Rattle.std.specs.Prelude.{MatchBool}
 use Rattle.pb_core.specs.Election.{ElectionView}
 use Rattle.pb_desk.specs.Desk.{DeskView, closed_election, standing_of}
-use Rattle.pb_reasons.specs.Counted.{counted}
+use Rattle.pb_reasons.specs.Counted.{CountedView, counted}
 use Rattle.pb_rounds.specs.Counted.{IsCountFault, IsCountOf}
 use Rattle.pb_rounds.specs.Outcome.{OutcomeView}
 use Rattle.pb_rounds.specs.declared.count_fault.CountFault.{CountFault}
@@ -27,16 +27,15 @@ report_of_count fills_up d options o shut is_count =
     (report_of (closed_election d) (counted (closed_election d) fills_up o), refl, when_true (standing_of d).is_shut _ _ shut (o, is_count, refl))
 
 -- the report of a shut desk's ballots goes after the desk's row
-pub report_follows : (fills_up : Bool) (d : DeskView) (options : CountOptions) (e : ElectionView) (before middle after : List ℕ) (r : Result (Unit {0}) CountFault) → (standing_of d).is_shut ≡ true
-    → e ≡ closed_election d → middle ≡ before ++ text_of_row (entries_row d) → OnOk r ((report : List ℕ) × IsReportOf e options fills_up report × (after ≡ middle ++ report))
-    → OnOk r ((text : List ℕ) × IsTextOf d options fills_up text × (after ≡ before ++ text))
-report_follows fills_up d options e before middle after (Err fault) shut is row_is put = tt
-report_follows fills_up d options e before middle after (Ok done) shut is row_is put =
+pub report_follows : (fills_up : Bool) (d : DeskView) (options : CountOptions) (e : ElectionView) (c : CountedView) (o : OutcomeView) (before middle after : List ℕ) → (standing_of d).is_shut ≡ true
+    → e ≡ closed_election d → IsCountOf e options o → c ≡ counted e fills_up o → middle ≡ before ++ text_of_row (entries_row d) → after ≡ middle ++ report_of e c
+    → (text : List ℕ) × IsTextOf d options fills_up text × (after ≡ before ++ text)
+report_follows fills_up d options e c o before middle after shut is count comes_to row_is put =
     let row = text_of_row (entries_row d) in
-    let of_closed = subst (λ (e : ElectionView). IsReportOf e options fills_up put.0) is put.1 in (
-      row ++ put.0,
-      (put.0, refl, when_true (standing_of d).is_shut _ _ shut of_closed),
-      put.2 ∙ ap (λ (t : List ℕ). t ++ put.0) row_is ∙ append_assoc before row put.0,
+    let of_closed = subst (λ (x : ElectionView). IsReportOf x options fills_up (report_of e c)) is (o, count, ap (report_of e) comes_to) in (
+      row ++ report_of e c,
+      (report_of e c, refl, when_true (standing_of d).is_shut _ _ shut of_closed),
+      put ∙ ap (λ (t : List ℕ). t ++ report_of e c) row_is ∙ append_assoc before row (report_of e c),
     )
 
 -- nothing goes after the row of an open desk
@@ -48,15 +47,8 @@ row_alone fills_up d options before after unshut is =
     let P : Bool → Type 0 = λ t. MatchBool t (IsReportOf (closed_election d) options fills_up none) (none ≡ none) in
     (row, (none, sym (append-nil row), subst P (sym unshut) refl), is)
 
--- the report of an election that a desk leaves
-pub report_of_closed : (fills_up : Bool) (d : DeskView) (options : CountOptions) (e : ElectionView) (before after : List ℕ) (r : Result (Unit {0}) CountFault) → e ≡ closed_election d
-    → OnOk r ((report : List ℕ) × IsReportOf e options fills_up report × (after ≡ before ++ report)) → OnOk r ((report : List ℕ) × IsReportOf (closed_election d) options fills_up report × (after ≡ before ++ report))
-report_of_closed fills_up d options e before after (Err fault) is put = tt
-report_of_closed fills_up d options e before after (Ok done) is put = (put.0, subst (λ (e : ElectionView). IsReportOf e options fills_up put.0) is put.1, put.2)
-
--- a count of a shut desk's ballots that is refused
-pub refused_desk : (d : DeskView) (options : CountOptions) (e : ElectionView) (r : Result (Unit {0}) CountFault) → (standing_of d).is_shut ≡ true → e ≡ closed_election d
-    → IfErr r (IsCountFault e options) → IfErr r (IsRefusedDesk d options)
-refused_desk d options e (Ok done) shut is refused = tt
-refused_desk d options e (Err NoMemory) shut is refused = tt
-refused_desk d options e (Err fault) shut is refused = (shut, subst (λ (e : ElectionView). IsCountFault e options fault) is refused)
+-- what a desk comes to that a count of it refuses, or for want of memory
+pub refused_desk : (d : DeskView) (options : CountOptions) (e : ElectionView) (fault : CountFault) → (standing_of d).is_shut ≡ true → e ≡ closed_election d
+    → IsCountFault e options fault → IsRefusedDesk d options fault
+refused_desk d options e NoMemory shut is refused = tt
+refused_desk d options e fault shut is refused = (shut, subst (λ (e : ElectionView). IsCountFault e options fault) is refused)

@@ -5,7 +5,7 @@ use Rattle.std.proofs.lemmas.Result.{on_ok_weaker}
 use Rattle.csv.specs.Writing.{escaped, fields_text, is_blank}
 use Rattle.pb_core.specs.Election.{ElectionView, ProjectView}
 use Rattle.pb_core.specs.MoneyText.{money_text}
-use Rattle.pb_greedy.specs.MostVotes.{is_taken, votes_at}
+use Rattle.pb_rounds.specs.MostVotes.{is_taken, votes_at}
 use Rattle.pb_price.specs.Supporters.{support_of}
 use Rattle.pb_rows.proofs.RowsText.{text_of_rows-cons}
 use Rattle.pb_rows.specs.Reading.{Fields}

@@ -1,12 +1,10 @@
 -- Runs of `desk` whose bytes may be known.
-use Rattle.std.proofs.Common.{◌≡◌, ℕ, Bool, List, [], ◌∷◌, ◌++◌, length, Option, Some, None, Ok, Err, refl, sym, ap, subst, arith, length-append}
+use Rattle.std.proofs.Common.{◌≡◌, ◌≢◌, ℕ, Bool, List, [], ◌∷◌, ◌++◌, length, Option, Some, None, Ok, Err, refl, sym, ◌∙◌, ap, subst, arith, length-append}
+use Rattle.std.proofs.lemmas.Option.{none-some}
 use Rattle.std.specs.List.{AllZip}
-use Rattle.std.specs.Prelude.{IfErr, IfSome, IsErrAnd, OnOk, Result}
+use Rattle.std.specs.Prelude.{IfErr, IfSome, Result}
 use Rattle.pb_core.specs.Election.{ElectionView}
-use Rattle.std.specs.Io.KnownBytes.{Appends}
-use Rattle.pb_read.specs.FirstFault.{IsFromOutside}
 use Rattle.pb_read.specs.StandsFor.{StandsFor}
-use Rattle.pb_read.specs.declared.fault.ReadFault.{ReadFault}
 use Rattle.pb_rows.specs.Reading.{Fields, records_of}
 use Rattle.pb_read.proofs.Uniqueness.{one_election}
 use Rattle.pb_script.proofs.ScriptForms.{not_both}
@@ -21,17 +19,17 @@ use Rattle.pb_script.specs.declared.script_fault.ScriptFault.{ScriptFault}
 use Rattle.pb_script.specs.declared.script_fault.ScriptFault.TheVariants as script
 use Rattle.pb_script.specs.declared.serve_fault.ServeFault.{ServeFault}
 use Rattle.pb_script.specs.declared.serve_fault.ServeFault.TheVariants as serve
+use Rattle.pb_commands.specs.Closed.{Leaves, LeavesNone}
 use Rattle.pb_commands.specs.DeskRun.{DeskRefuses, DeskWrites, admission_on}
 use Rattle.pb_commands.specs.declared.run_desk.Rules.{Rules}
 use Rattle.pb_commands.specs.Inner.DeskRun.{unserved}
-use Rattle.pb_commands.specs.Ends.{Accepts, FailsBy, HasWritten, IfBothKnown, IsOutsideFault, JudgesFile}
+use Rattle.pb_commands.specs.Ends.{Ends, IfBothKnown, IsOutsideFault, Judges}
 use Rattle.pb_faults.specs.Fault.{merged}
 use Rattle.pb_faults.specs.declared.fault.AppFault.{AppFault}
-use Rattle.pb_faults.specs.declared.fault.AppFault.TheVariants.{Read, Script, Write}
-use Rattle.pb_commands.proofs.Accepted.{given_fault, merged_again, read_from_outside}
-
-abbrev DeskFails : Rules → List ℕ → List ℕ → ℕ → Bool → AppFault → Type 0
-DeskFails rules bytes rows clerks shuts fault = FailsBy (DeskRefuses rules rows clerks) (DeskWrites rules bytes rows clerks shuts) bytes fault
+use Rattle.pb_faults.specs.declared.fault.AppFault.TheVariants.{Script, Warned, Write}
+use Rattle.pb_commands.proofs.Accepted.{merged_again}
+use Rattle.pb_commands.proofs.Endings.{Bars, FailsAs, IsLate, given_end, late_end, passed_on}
+use Rattle.pb_commands.proofs.InputEnds.{is_file}
 
 -- a row of a script that comes after others
 row_after : (a : Admission) (clerks : ℕ) (before : List Fields) (row : Fields) (rest : List Fields) (said : List ScriptRowView) → AllZip (Admits a clerks) (before ++ row ∷ rest) said → IsAdmitted a clerks row
@@ -64,74 +62,70 @@ script_from_outside a clerks records said fault is fails = by fault fails.1 fail
     by script.TooManyRows (fields ∷ rest) are next = let few = is.few in absurd (omega (arith, next, ap length are, length-append fails.0 (fields ∷ rest)))
     by script.NoMemory left are next = refl
 
--- the script is not served
-not_served : (rules : Rules) (bytes rows : List ℕ) (clerks : ℕ) (shuts : Bool) (e : ElectionView) (fault : ServeFault) → StandsFor (records_of bytes) e → IsServeFault (admission_on rules e) clerks (records_of rows) fault
-    → DeskFails rules bytes rows clerks shuts (unserved fault)
-not_served rules bytes rows clerks shuts e (serve.Script script.NoMemory) stands fails = tt
-not_served rules bytes rows clerks shuts e (serve.Script fault) stands fails = (e, stands, fails)
-not_served rules bytes rows clerks shuts e serve.ClerkCount stands fails = (e, stands, fails)
+-- what refuses a file alone; no warning does
+own_refuses : (T : Type 0) (rules : Rules) (rows : List ℕ) (clerks : ℕ) (bytes : List ℕ) (e : ElectionView) (files : Option (List ℕ)) (fault : AppFault) → Judges {T = T} files None (Err fault)
+    → LeavesNone bytes None e fault → DeskRefuses rules rows clerks e fault
+own_refuses T rules rows clerks bytes e files (Warned warning) judges refused = absurd (none-some warning judges.0)
+own_refuses T rules rows clerks bytes e files fault judges refused = absurd refused
 
-file_judged : (bytes : List ℕ) (fault : ServeFault) → (e : ElectionView) × StandsFor (records_of bytes) e → JudgesFile bytes (Err (unserved fault))
-file_judged bytes (serve.Script script.NoMemory) is = tt
-file_judged bytes (serve.Script fault) is = is
-file_judged bytes serve.ClerkCount is = is
-
-from_outside : (rules : Rules) (bytes rows : List ℕ) (clerks : ℕ) (shuts : Bool) (fault : ServeFault) (text : List ℕ) (writes : DeskWrites rules bytes rows clerks shuts text)
-    → IsServeFault (admission_on rules writes.0) clerks (records_of rows) fault
-    → IsOutsideFault (unserved fault)
-from_outside rules bytes rows clerks shuts (serve.Script fault) text writes fails =
-    let served = writes.2 in script_from_outside (admission_on rules writes.0) clerks (records_of rows) served.script fault served.is_script fails
-from_outside rules bytes rows clerks shuts serve.ClerkCount text writes fails = let served = writes.2 in absurd (fails.2 served.in_range)
+unserved_late : (fault : ServeFault) → IsLate (unserved fault)
+unserved_late (serve.Script script.NoMemory) = tt
+unserved_late (serve.Script fault) = tt
+unserved_late serve.ClerkCount = tt
 
 unserved_again : (fault : ServeFault) → merged (unserved fault) ≡ unserved fault
 unserved_again (serve.Script fault) = merged_again (Script fault)
 unserved_again serve.ClerkCount = refl
 
-pub accepted_by_reader : (rules : Rules) (clerks : ℕ) (shuts : Bool) (r : Result (Unit {0}) AppFault) (files scripts : Option (List ℕ)) (fault : ReadFault) → IsErrAnd r (λ app. app ≡ merged (Read fault))
-    → IfSome files (λ bytes. (e : ElectionView) → StandsFor (records_of bytes) e → IsFromOutside fault.kind) → IfBothKnown files scripts (λ bytes rows. Accepts (DeskWrites rules bytes rows clerks shuts) r)
-accepted_by_reader rules clerks shuts r None scripts fault is accepts = tt
-accepted_by_reader rules clerks shuts r (Some bytes) None fault is accepts = tt
-accepted_by_reader rules clerks shuts r (Some bytes) (Some rows) fault is accepts = λ text writes.
-    given_fault IsOutsideFault r (merged (Read fault)) is (read_from_outside fault.kind fault.at (accepts writes.0 writes.1))
+-- the bytes of a file and of a script that may be known
+both_known : (P : List ℕ → Type 0) (Q R : List ℕ → List ℕ → Type 0) (files scripts : Option (List ℕ)) → IfSome files P → IfSome scripts (λ rows. Q rows rows)
+    → ((bytes rows : List ℕ) → P bytes → Q rows rows → R bytes rows) → IfBothKnown files scripts R
+both_known P Q R None scripts p q each = tt
+both_known P Q R (Some bytes) None p q each = tt
+both_known P Q R (Some bytes) (Some rows) p q each = each bytes rows p q
 
--- the answer where the script is not served
-module _ (rules : Rules) (clerks : ℕ) (shuts : Bool) (fault : ServeFault) (app : AppFault) (is : app ≡ unserved fault) where
-  pub refused_by_script : (e : ElectionView) (files scripts : Option (List ℕ)) → IfSome files (λ bytes. StandsFor (records_of bytes) e)
-      → IfSome scripts (λ rows. IsServeFault (admission_on rules e) clerks (records_of rows) fault) → IfBothKnown files scripts (λ bytes rows. DeskFails rules bytes rows clerks shuts app)
-  refused_by_script e None scripts stands fails = tt
-  refused_by_script e (Some bytes) None stands fails = tt
-  refused_by_script e (Some bytes) (Some rows) stands fails = subst (DeskFails rules bytes rows clerks shuts) (sym is) (not_served rules bytes rows clerks shuts e fault stands fails)
+module _ (rules : Rules) (clerks : ℕ) (shuts : Bool) (files scripts : Option (List ℕ)) where
+  abbrev Makes : List ℕ → List ℕ → List ℕ → Type 0
+  Makes bytes rows = DeskWrites rules bytes rows clerks shuts
 
-  pub accepted_by_script : (e : ElectionView) (files scripts : Option (List ℕ)) → IfSome files (λ bytes. StandsFor (records_of bytes) e)
-      → IfSome scripts (λ rows. IsServeFault (admission_on rules e) clerks (records_of rows) fault)
-      → IfBothKnown files scripts (λ bytes rows. Accepts (DeskWrites rules bytes rows clerks shuts) (Err app))
-  accepted_by_script e None scripts stands fails = tt
-  accepted_by_script e (Some bytes) None stands fails = tt
-  accepted_by_script e (Some bytes) (Some rows) stands fails = λ text writes.
-      let same : e ≡ writes.0 = one_election (records_of bytes) e writes.0 stands writes.1 in
-      subst IsOutsideFault (sym is) (from_outside rules bytes rows clerks shuts fault text writes (subst (λ (e : ElectionView). IsServeFault (admission_on rules e) clerks (records_of rows) fault) same fails))
+  abbrev Refused : List ℕ → List ℕ → ElectionView → AppFault → Type 0
+  Refused bytes rows = DeskRefuses rules rows clerks
 
-  pub judged_by_script : (e : ElectionView) (files : Option (List ℕ)) → IfSome files (λ bytes. StandsFor (records_of bytes) e) → IfSome files (λ bytes. JudgesFile bytes (Err app))
-  judged_by_script e None stands = tt
-  judged_by_script e (Some bytes) stands = subst (λ app. JudgesFile bytes (Err app)) (sym is) (file_judged bytes fault (e, stands))
+  pub own_passes : {T A : Type 0} (fault : AppFault) → fault ≢ Write → Ends {T = T} Leaves LeavesNone files (Some None) None (Err fault)
+      → Ends {T = A} (λ bytes rows. DeskWrites rules bytes rows clerks shuts) (λ _ rows. DeskRefuses rules rows clerks) files scripts None (Err fault)
+  own_passes {T = T} fault reads ends =
+      passed_on (λ (rows : List ℕ). None) Leaves LeavesNone Makes Refused files (Some None) scripts None fault (λ rows is. refl)
+      (λ bytes rows e refused. own_refuses T rules rows clerks bytes e files fault ends.judges refused) (λ bytes rows text writes. (writes.0, writes.1)) reads ends
 
-  pub script_merged : merged app ≡ app
-  script_merged = subst (λ app. merged app ≡ app) (sym is) (unserved_again fault)
+  module _ (e : ElectionView) (stands : IfSome files (λ bytes. StandsFor (records_of bytes) e)) where
+    not_served : (fault : ServeFault) (bytes rows : List ℕ) → StandsFor (records_of bytes) e → IsServeFault (admission_on rules e) clerks (records_of rows) fault
+        → FailsAs Makes Refused (unserved fault) bytes rows
+    not_served (serve.Script script.NoMemory) bytes rows stands fails = tt
+    not_served (serve.Script fault) bytes rows stands fails = (e, stands, fails)
+    not_served serve.ClerkCount bytes rows stands fails = (e, stands, fails)
 
--- the writer's turn
-module _ (rules : Rules) (clerks : ℕ) (shuts : Bool) (e : ElectionView) where
-  pub desk_written : (r : Result (Unit {0}) AppFault) (files scripts before after : Option (List ℕ)) (text : List ℕ) → OnOk r (Appends before after text)
-      → IfSome files (λ bytes. StandsFor (records_of bytes) e) → IfSome scripts (λ rows. IsServed (admission_on rules e) e clerks shuts (records_of rows) text)
-      → OnOk r (IfBothKnown files scripts (λ bytes rows. HasWritten (DeskWrites rules bytes rows clerks shuts) before after))
-  desk_written (Err fault) files scripts before after text appends stands served = tt
-  desk_written (Ok done) None scripts before after text appends stands served = tt
-  desk_written (Ok done) (Some bytes) None before after text appends stands served = tt
-  desk_written (Ok done) (Some bytes) (Some rows) before after text appends stands served = (text, (e, stands, served), appends)
+    from_outside : (fault : ServeFault) (bytes rows text : List ℕ) (writes : DeskWrites rules bytes rows clerks shuts text) → IsServeFault (admission_on rules writes.0) clerks (records_of rows) fault
+        → IsOutsideFault (unserved fault)
+    from_outside (serve.Script fault) bytes rows text writes fails =
+        let served = writes.2 in script_from_outside (admission_on rules writes.0) clerks (records_of rows) served.script fault served.is_script fails
+    from_outside serve.ClerkCount bytes rows text writes fails = let served = writes.2 in absurd (fails.2 served.in_range)
 
-  pub desk_unwritten : (r : Result (Unit {0}) AppFault) (files scripts : Option (List ℕ)) (text : List ℕ) → IfErr r (λ fault. fault ≡ Write)
-      → IfSome files (λ bytes. StandsFor (records_of bytes) e) → IfSome scripts (λ rows. IsServed (admission_on rules e) e clerks shuts (records_of rows) text)
-      → IfErr r (λ fault. IfBothKnown files scripts (λ bytes rows. DeskFails rules bytes rows clerks shuts fault))
-  desk_unwritten (Ok done) files scripts text is stands served = tt
-  desk_unwritten (Err fault) None scripts text is stands served = tt
-  desk_unwritten (Err fault) (Some bytes) None text is stands served = tt
-  desk_unwritten (Err fault) (Some bytes) (Some rows) text is stands served = subst (DeskFails rules bytes rows clerks shuts) (sym is) (text, (e, stands, served))
+    bars : (fault : ServeFault) (bytes rows : List ℕ) → StandsFor (records_of bytes) e → IsServeFault (admission_on rules e) clerks (records_of rows) fault
+        → (text : List ℕ) → DeskWrites rules bytes rows clerks shuts text → IsOutsideFault (unserved fault)
+    bars fault bytes rows stands fails text writes =
+        let same : e ≡ writes.0 = one_election (records_of bytes) e writes.0 stands writes.1 in
+        from_outside fault bytes rows text writes (subst (λ (e : ElectionView). IsServeFault (admission_on rules e) clerks (records_of rows) fault) same fails)
+
+    pub script_ends : {T : Type 0} (fault : ServeFault) (app : AppFault) → app ≡ unserved fault → IfSome scripts (λ rows. IsServeFault (admission_on rules e) clerks (records_of rows) fault)
+        → Ends {T = T} (λ bytes rows. DeskWrites rules bytes rows clerks shuts) (λ _ rows. DeskRefuses rules rows clerks) files scripts None (Err app)
+    script_ends {T = T} fault app is fails =
+        given_end Makes Refused files scripts None (Err app) (unserved fault) is
+        (late_end Makes Refused files scripts None (unserved fault) (unserved_late fault) (unserved_again fault) (is_file files e stands) refl
+        (both_known (λ bytes. StandsFor (records_of bytes) e) (λ _ rows. IsServeFault (admission_on rules e) clerks (records_of rows) fault) (FailsAs Makes Refused (unserved fault)) files scripts stands fails (not_served fault))
+        (both_known (λ bytes. StandsFor (records_of bytes) e) (λ _ rows. IsServeFault (admission_on rules e) clerks (records_of rows) fault) (Bars Makes Refused (unserved fault)) files scripts stands fails (bars fault)))
+
+    pub desk_known : (text : List ℕ) → IfSome scripts (λ rows. IsServed (admission_on rules e) e clerks shuts (records_of rows) text)
+        → IfBothKnown files scripts (λ bytes rows. DeskWrites rules bytes rows clerks shuts text)
+    desk_known text served =
+        both_known (λ bytes. StandsFor (records_of bytes) e) (λ _ rows. IsServed (admission_on rules e) e clerks shuts (records_of rows) text)
+        (λ bytes rows. DeskWrites rules bytes rows clerks shuts text) files scripts stands served (λ bytes rows stands served. (e, stands, served))

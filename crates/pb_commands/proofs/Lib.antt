@@ -3,15 +3,15 @@ pub mod RowsGrown
 pub mod Selected
 pub mod ReportSums
 pub mod Closings
-pub mod AuditWritten
 pub mod Accepted
+pub mod Endings
+pub mod InputEnds
+pub mod CountEnds
+pub mod RunEnds
 pub mod AuditAccepted
 mod ThreeVoters
 pub mod DeskRuns
 pub mod Recounts
-pub mod TableAccepted
-pub mod ClosedDesks
-pub mod ClosedTables
 pub mod TablesTell
 pub mod TableRows
 pub mod TableHeads

@@ -4,7 +4,7 @@ use Rattle.std.specs.Prelude.{codes, decimal}
 use Rattle.std.proofs.lemmas.List.{get_or-map, map_more}
 use Rattle.pb_core.specs.Election.{ElectionView, ProjectView, project_ids}
 use Rattle.pb_core.specs.MoneyText.{money_text}
-use Rattle.pb_greedy.specs.MostVotes.{votes_at}
+use Rattle.pb_rounds.specs.MostVotes.{votes_at}
 use Rattle.pb_price.specs.Supporters.{support_of}
 use Rattle.pb_reasons.proofs.WinnerSums.{IsWinner, cost_at-known}
 use Rattle.pb_rounds.specs.Run.{ElectedView}

@@ -12,7 +12,7 @@ use Rattle.pb_price.specs.Price.{total_rest}
 use Rattle.pb_price.specs.Supporters.{SupportView, cost_at, support_of, supporters_at}
 use Rattle.pb_reasons.proofs.Due.{round_is}
 use Rattle.pb_reasons.proofs.Told.{elected_has_round}
-use Rattle.pb_greedy.specs.MostVotes.{is_taken}
+use Rattle.pb_rounds.specs.MostVotes.{is_taken}
 use Rattle.pb_reasons.specs.Counted.{counted, is_selected}
 use Rattle.pb_reasons.specs.Reasons.{all_payments, ending_of, paid_for, project_reason, round_of, voter_reason}
 use Rattle.pb_reasons.specs.declared.project_reason.Ending.TheVariants as ending

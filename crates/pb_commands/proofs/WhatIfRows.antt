@@ -11,10 +11,10 @@ use Rattle.pb_rows.specs.Writing.{text_of_row, text_of_rows}
 use Rattle.pb_commands.proofs.RowsGrown.{none_grown, row_grown, rows_grown, two_grown}
 use Rattle.pb_commands.specs.Inner.WhatIf.{change_text, value_text}
 use Rattle.pb_commands.specs.WhatIf.{found_rows, verdict_text, what_if_row}
-use Rattle.pb_whatif.specs.declared.change.Change.{Change}
-use Rattle.pb_whatif.specs.declared.change.Change.TheVariants.{Cost, Voters}
-use Rattle.pb_whatif.specs.declared.change.Row.{Row}
-use Rattle.pb_whatif.specs.declared.found.Found.{Found}
+use Rattle.pb_reasons.specs.declared.changes.change.Change.{Change}
+use Rattle.pb_reasons.specs.declared.changes.change.Change.TheVariants.{Cost, Voters}
+use Rattle.pb_reasons.specs.declared.changes.change.Row.{Row}
+use Rattle.pb_reasons.specs.declared.changes.found.Found.{Found}
 
 -- the id at the place of a project
 pub named_at : (projects : List ProjectView) (place : ℕ) (p : ProjectView) (id : List ℕ) → place < length projects → p ≡ slice_index_or projects place p → p.id ≡ id

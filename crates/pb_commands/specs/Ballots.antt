@@ -1,20 +1,16 @@
--- The ballots that a desk has, as a table, and what a run of `ballots` writes and refuses.
+-- The ballots that a desk has, as a table, and what a run of `ballots` writes.
 use Rattle.std.specs.Prelude.{◌≡◌, ℕ, suc, Bool, true, false, List, [], ◌∷◌, ◌++◌, Option, Some, None, codes, decimal, filter, map, if◌then◌else◌, slice_index_or}
 use Rattle.std.specs.List.{join_with_byte}
 use Rattle.std.specs.Option.{option_map_or}
 use Rattle.std.specs.Str.{bytes_eq}
-use Rattle.pb_core.specs.Election.{ElectionView, project_ids}
+use Rattle.pb_core.specs.Election.{project_ids}
 use Rattle.pb_core.specs.Request.{EntryView, RequestView, Cast, Replace}
 use Rattle.pb_core.specs.declared.answer.Answer.{Answer}
 use Rattle.pb_core.specs.declared.answer.Answer.TheVariants.{Done}
-use Rattle.pb_desk.specs.Audit.{IsFaultOfJournal}
 use Rattle.pb_desk.specs.Desk.{DeskView, standing_of}
-use Rattle.pb_rows.specs.Reading.{Fields, records_of}
+use Rattle.pb_rows.specs.Reading.{Fields}
 use Rattle.pb_rows.specs.Writing.{text_of_rows}
-use Rattle.pb_script.specs.Serving.{program_room}
 use Rattle.pb_commands.specs.Audited.{IsDeskOf}
-use Rattle.pb_faults.specs.declared.fault.AppFault.{AppFault}
-use Rattle.pb_faults.specs.declared.fault.AppFault.TheVariants.{Audit}
 
 -- the voter to whom a request that is answered so gives a ballot: a cast or a replacement that is done does
 abbrev pub given_to : Answer → RequestView → Option (List ℕ)
@@ -49,8 +45,3 @@ ballots_table voter d =
 -- what these bytes make a run of `ballots` write
 abbrev pub BallotsWrites : Option (List ℕ) → List ℕ → List ℕ → List ℕ → Type 0
 BallotsWrites voter bytes journal text = (d : DeskView) × IsDeskOf bytes journal d × (text ≡ ballots_table voter d)
-
--- what refuses an election in a run of `ballots` on these bytes: the journal's first fault
-abbrev pub BallotsRefuses : List ℕ → ElectionView → AppFault → Type 0
-BallotsRefuses rows e (Audit fault) = IsFaultOfJournal e program_room (records_of rows) fault
-BallotsRefuses rows e fault = ⊥

@@ -1,5 +1,5 @@
 -- What a run of `export` writes, and what refuses it.
-use Rattle.std.specs.Prelude.{◌≡◌, ◌==◌, ◌++◌, ℕ, ⊤, Bool, false, true, List, [], codes, decimal, if◌then◌else◌, length, map, string_bytes}
+use Rattle.std.specs.Prelude.{◌≡◌, ◌==◌, ◌++◌, ℕ, Bool, false, true, List, [], Option, codes, decimal, if◌then◌else◌, length, map, string_bytes}
 use Rattle.std.specs.List.{range_with_len}
 use Rattle.pb_core.specs.Election.{ElectionView}
 use Rattle.pb_core.specs.MoneyText.{money_text}
@@ -10,7 +10,7 @@ use Rattle.pb_price.specs.Supporters.{support_of, supporters_at}
 use Rattle.pb_read.specs.StandsFor.{StandsFor}
 use Rattle.pb_reasons.specs.Counted as counting
 use Rattle.pb_reasons.specs.Counted.{CountedView, is_selected}
-use Rattle.pb_rounds.specs.Counted.{IsCountFault, IsCountOf}
+use Rattle.pb_rounds.specs.Counted.{IsCountOf}
 use Rattle.pb_rounds.specs.Outcome.{OutcomeView}
 use Rattle.pb_rounds.specs.declared.measure.Measure.{Measure}
 use Rattle.pb_rounds.specs.declared.measure.Measure.TheVariants as measure
@@ -19,9 +19,9 @@ use Rattle.pb_rounds.specs.declared.options.Completion.{Completion}
 use Rattle.pb_rounds.specs.declared.options.Completion.TheVariants as completion
 use Rattle.pb_rows.specs.Reading.{records_of}
 use Rattle.pb_rows.specs.Writing.{text_of_rows}
-use Rattle.pb_commands.specs.Closed.{ClosedRefuses, Leaves}
+use Rattle.pb_commands.specs.Closed.{CountRefuses, CountsAs}
 use Rattle.pb_faults.specs.declared.fault.AppFault.{AppFault}
-use Rattle.pb_faults.specs.declared.fault.AppFault.TheVariants.{Count, Export, Warned}
+use Rattle.pb_faults.specs.declared.fault.AppFault.TheVariants.{Export}
 
 -- the measure and the completion of a count, in words
 abbrev pub measure_text : Measure → List ℕ
@@ -68,19 +68,8 @@ pub record IsExportOf (options : CountOptions) (fills_up : Bool) (kept : Further
       (votes_of e) (selected_of e (counting.counted e fills_up outcome)) kept)
   pub reads_back : StandsFor (records_of text) e
 
--- the text is such a file of an election that is such
-abbrev pub ExportWrites : CountOptions → (fills_up : Bool) → Further → (ElectionView → Type 0) → List ℕ → Type 0
-ExportWrites options fills_up kept IsSuch text = (e : ElectionView) × IsSuch e × IsExportOf options fills_up kept e text
-
--- what refuses an election: its count; or, once it is counted, that no file would be read back as it
-abbrev pub ExportRefuses : CountOptions → ElectionView → AppFault → Type 0
-ExportRefuses options e (Count fault) = IsCountFault e options fault
-ExportRefuses options e (Export fault) = ((o : OutcomeView) × IsCountOf e options o) × IsExportFault e fault
-ExportRefuses options e (Warned warning) = ⊤
-ExportRefuses options e fault = ⊥
-
--- the same where the ballots are those of a journal
-abbrev pub ClosedExportRefuses : List ℕ → List ℕ → CountOptions → ElectionView → AppFault → Type 0
-ClosedExportRefuses bytes journal options e (Export fault) =
-    (left : ElectionView) × Leaves bytes journal left × ExportRefuses options left (Export fault)
-ClosedExportRefuses bytes journal options e fault = ClosedRefuses bytes journal options e fault
+-- what refuses an export: its count; or, once it is counted, that no file would be read back as the election that is left
+abbrev pub ExportRefuses : CountOptions → List ℕ → Option (List ℕ) → ElectionView → AppFault → Type 0
+ExportRefuses options bytes journal e (Export fault) =
+    (x : ElectionView × OutcomeView) × CountsAs options bytes journal x × IsExportFault x.0 fault
+ExportRefuses options bytes journal e fault = CountRefuses options bytes journal e fault

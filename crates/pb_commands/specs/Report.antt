@@ -3,7 +3,7 @@ use Rattle.std.specs.Prelude.{ℕ, List, [], ◌∷◌, ◌++◌, codes, decimal
 use Rattle.pb_core.specs.Election.{ElectionView, project_ids}
 use Rattle.pb_core.specs.MoneyText.{money_text}
 use Rattle.pb_price.specs.Supporters.{cost_at, support_of}
-use Rattle.pb_greedy.specs.MostVotes.{votes_at}
+use Rattle.pb_rounds.specs.MostVotes.{votes_at}
 use Rattle.pb_reasons.specs.Counted.{CountedView}
 use Rattle.pb_reasons.specs.Totals.{totals_of}
 use Rattle.pb_reasons.specs.declared.totals.Totals.{Totals}

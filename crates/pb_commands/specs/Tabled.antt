@@ -1,4 +1,4 @@
--- What a run that writes a table writes.
+-- A table of a count.
 use Rattle.std.specs.Prelude.{◌≡◌, ℕ, Bool, List}
 use Rattle.pb_core.specs.Election.{ElectionView}
 use Rattle.pb_price.specs.Supporters.{support_of}
@@ -18,8 +18,3 @@ IsTableOf table options fills_up e text =
     (o : OutcomeView) × IsCountOf e options o
     × IsPriceSystem (support_of e) o.share o.elected o.rests (all_payments e o)
     × (text ≡ table_of table e (counted e fills_up o))
-
--- the text is this table of an election that is such
-abbrev pub TableWrites : Table → CountOptions → (fills_up : Bool) → (ElectionView → Type 0) → List ℕ → Type 0
-TableWrites table options fills_up IsSuch text =
-    (e : ElectionView) × IsSuch e × IsTableOf table options fills_up e text

@@ -13,15 +13,15 @@ use Rattle.pb_commands.specs.declared.what_if_rows.Changes.{Changes}
 use Rattle.pb_commands.specs.declared.what_if_rows.Changes.TheVariants.{Searched, One}
 use Rattle.pb_commands.specs.declared.what_if_rows.WhatIfFault.{WhatIfFault}
 use Rattle.pb_commands.specs.declared.what_if_rows.WhatIfFault.TheVariants.{NoProject, OutOfRange, Count}
-use Rattle.pb_whatif.specs.WhatIf.{CanBe, IsTrue, IsWhatIf, seen}
-use Rattle.pb_whatif.specs.declared.change.Change.{Change}
-use Rattle.pb_whatif.specs.declared.change.Change.TheVariants.{Cost, Voters}
-use Rattle.pb_whatif.specs.declared.change.Row.{Row}
-use Rattle.pb_whatif.specs.declared.change.Verdict.{Verdict}
-use Rattle.pb_whatif.specs.declared.change.Verdict.TheVariants.{Lost, Won, Refused}
-use Rattle.pb_whatif.specs.declared.found.Found.{Found}
-use Rattle.pb_whatif.specs.declared.found.WhatIf.{WhatIf}
-use Rattle.pb_whatif.specs.declared.question.Question.{Question}
+use Rattle.pb_reasons.specs.WhatIf.{CanBe, IsTrue, IsWhatIf, seen}
+use Rattle.pb_reasons.specs.declared.changes.change.Change.{Change}
+use Rattle.pb_reasons.specs.declared.changes.change.Change.TheVariants.{Cost, Voters}
+use Rattle.pb_reasons.specs.declared.changes.change.Row.{Row}
+use Rattle.pb_reasons.specs.declared.changes.change.Verdict.{Verdict}
+use Rattle.pb_reasons.specs.declared.changes.change.Verdict.TheVariants.{Lost, Won, Refused}
+use Rattle.pb_reasons.specs.declared.changes.found.Found.{Found}
+use Rattle.pb_reasons.specs.declared.changes.found.WhatIf.{WhatIf}
+use Rattle.pb_reasons.specs.declared.changes.question.Question.{Question}
 
 abbrev pub verdict_text : Verdict → List ℕ
 verdict_text Lost = codes "0"

@@ -4,34 +4,37 @@ ghost use Rattle.std.specs.Prelude.{◌≡◌, ◌++◌, IfErr, IfOk, OnOk, code
 ghost use Rattle.pb_commands.specs.Inner.Exporting.{IsStopped, is_won};
 ghost use Rattle.pb_commands.specs.Exported.{IsExportOf, completion_text, own_comment, rule_text, rule_word, selected_of, votes_of};
 ghost use Rattle.pb_faults.specs.Fault.{merged};
+ghost use Rattle.pb_reasons.specs.Counted as reasons;
+ghost use Rattle.pb_rounds.specs.Counted.{IsCountOf};
+ghost use Rattle.pb_rounds.specs.Outcome.{OutcomeView};
 
-use crate::counting::{Counting, counted};
+use crate::counting::Counting;
 use itoa::Buffer;
 use pb_core::election::Election;
-use pb_core::gate::Gate;
 use pb_core::no_memory::NoMemory;
 use pb_export::write_pb::write_pb;
 use pb_export::{Carried, Told};
 use pb_faults::AppFault;
-use pb_reasons::{Ending, ProjectTeller};
+use pb_reasons::{Counted, Ending, ProjectTeller};
 use pb_rounds::measure::Measure;
 use pb_rounds::options::{Completion, CountOptions};
 use std::alloc::Global;
-use std::thread::Threads;
 
-/// The file of an election that is counted with these options, with what was kept of the file that was read.
-pub(crate) fn export_text<T: Threads + Sync, G: Gate>(
+/// The file of an election that was counted with these options, with what was kept of the file that was read.
+pub(crate) fn export_text<T, G>(
     counting: &Counting<T, G>,
     election: &Election,
+    counted: &Counted,
     carried: &Carried,
 ) -> Result<Vec<u8>, AppFault>
+    requires { (o : OutcomeView) × IsCountOf election.now counting.now.options.now o
+        × (counted.now ≡ reasons.counted election.now counting.now.fills_up o) }
     ensures ok { IfOk result (λ text. IsExportOf counting.now.options.now counting.now.fills_up carried.now.further
         election.now text.items) }
-    ensures fault { IfErr result (IsStopped counting.now.options.now election.now) }
+    ensures fault { IfErr result (IsStopped election.now) }
     ensures merged { IfErr result (λ fault. merged fault ≡ fault) }
 {
     let alloc = counting.alloc;
-    let counted = counted(counting, election)?;
     let further = carried.further()?;
     let comment = comment_text(
         alloc,
@@ -39,7 +42,7 @@ pub(crate) fn export_text<T: Threads + Sync, G: Gate>(
         counting.fills_up,
         further.comment(),
     )?;
-    let teller = ProjectTeller::of(alloc, election, &counted)?;
+    let teller = ProjectTeller::of(alloc, election, counted)?;
     let votes = votes_of(alloc, election, &teller)?;
     let selected = selected_of(alloc, election, &teller)?;
     let told = Told {

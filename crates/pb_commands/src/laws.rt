@@ -23,7 +23,8 @@ ghost use Rattle.pb_script.specs.Serving.{program_room};
 ghost use Rattle.pb_faults.specs.DeskRow.{entries_row};
 ghost use Rattle.pb_commands.specs.Audited.{AuditWrites, IsDeskOf, IsTextOf};
 ghost use Rattle.pb_commands.specs.Ballots.{BallotsWrites, last_given};
-ghost use Rattle.pb_commands.specs.Counted.{CountWrites};
+ghost use Rattle.pb_commands.specs.Closed.{WritesOf};
+ghost use Rattle.pb_commands.specs.Counted.{IsReportOf};
 ghost use Rattle.pb_commands.specs.DeskRun.{DeskWrites, admission_on};
 ghost use Rattle.pb_commands.specs.declared.run_desk.Rules.{Rules};
 ghost use Rattle.pb_commands.specs.Report.{report_of};
@@ -34,7 +35,8 @@ use pb_core::answer::Answer;
 /// most, and a file and a journal have one text and one table of ballots at most.
 pub fn one_report()
     ensures counted { (bytes : List ℕ) (options : CountOptions) (fills_up : Bool) (first second : List ℕ)
-        → CountWrites bytes options fills_up first → CountWrites bytes options fills_up second → first ≡ second }
+        → WritesOf (λ e. IsReportOf e options fills_up) bytes None first
+        → WritesOf (λ e. IsReportOf e options fills_up) bytes None second → first ≡ second }
     ensures audited { (bytes journal : List ℕ) (options : CountOptions) (fills_up : Bool) (first second : List ℕ)
         → AuditWrites bytes journal options fills_up first → AuditWrites bytes journal options fills_up second
         → first ≡ second }

@@ -5,9 +5,10 @@
 #![tactic(auto)]
 
 mod ballots_table;
-mod closed_desk;
+mod counted_election;
 mod counting;
 mod export_text;
+mod inputs;
 pub mod laws;
 mod projects_table;
 mod report;
@@ -25,8 +26,9 @@ pub mod table_laws;
 mod voters_table;
 pub mod what_if_rows;
 
-pub use closed_desk::{closed_ballots, own_ballots};
+pub use counted_election::{CountedElection, count_inputs};
 pub use counting::{Counting, counted};
+pub use inputs::{Inputs, election_of};
 pub use pb_faults::{AppFault, BAD_ARGUMENTS, write_out};
 pub use table::Table;
 pub use what_if_rows::{Changes, WhatIfFault, what_if_text};

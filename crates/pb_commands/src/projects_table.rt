@@ -86,47 +86,47 @@ fn put_each(
     let projects = election.projects();
     for place in 0..projects.len() {
         let reason = teller.tell(place as u32);
-        let told = Told {
+        let ended = EndedProject {
             place: place as u32,
             project: &projects[place],
             reason: &reason,
         };
-        put_told(rows, alloc, fills_up, told)?;
+        put_ended(rows, alloc, fills_up, ended)?;
     }
     Ok(())
 }
 
 /// A project at its place, and why it is elected or added, or is neither.
 #[derive(Clone, Copy)]
-struct Told<'a> {
+struct EndedProject<'a> {
     place: u32,
     project: &'a Project,
     reason: &'a ProjectReason,
 }
 
-/// Writes the row of the project of which this is told.
-fn put_told(
+/// Writes the row of a project that ended so.
+fn put_ended(
     rows: &mut RowsWriter,
     alloc: Global,
     fills_up: bool,
-    told: Told,
+    ended: EndedProject,
 ) -> Result<(), NoMemory>
     ensures { OnOk result (rows.new.text ≡ rows.old.text
-        ++ text_of_row (take (if fills_up then 12 else 11) (decimal told.entry.place ∷ told.entry.project.now.id
-        ∷ told.entry.project.now.name ∷ money_text told.entry.project.now.cost
-        ∷ decimal told.entry.reason.now.votes ∷ ending_fields told.entry.reason.now.ending))) }
+        ++ text_of_row (take (if fills_up then 12 else 11) (decimal ended.entry.place ∷ ended.entry.project.now.id
+        ∷ ended.entry.project.now.name ∷ money_text ended.entry.project.now.cost
+        ∷ decimal ended.entry.reason.now.votes ∷ ending_fields ended.entry.reason.now.ending))) }
 {
     let mut place_digits = Buffer::new();
     let mut vote_digits = Buffer::new();
-    let cost = told.project.cost().text(alloc)?;
+    let cost = ended.project.cost().text(alloc)?;
     let opening = Opening {
-        place: place_digits.format(told.place),
-        id: told.project.id(),
-        name: told.project.name(),
+        place: place_digits.format(ended.place),
+        id: ended.project.id(),
+        name: ended.project.name(),
         cost: cost.as_str(),
-        votes: vote_digits.format(told.reason.votes),
+        votes: vote_digits.format(ended.reason.votes),
     };
-    put_project(rows, alloc, fills_up, opening, &told.reason.ending)
+    put_project(rows, alloc, fills_up, opening, &ended.reason.ending)
 }
 
 /// Writes the row of a project that begins and ended so.

@@ -1,6 +1,6 @@
 //! The report of a count.
 
-ghost use Rattle.std.specs.Prelude.{◌≡◌, ◌<◌, ◌++◌, ◌∷◌, [], All, OnOk, codes, decimal, length, map};
+ghost use Rattle.std.specs.Prelude.{◌≡◌, ◌<◌, ◌++◌, ◌∷◌, [], All, IfOk, OnOk, codes, decimal, length, map};
 ghost use Rattle.pb_core.specs.MoneyText.{money_text};
 ghost use Rattle.pb_price.specs.Supporters.{support_of};
 ghost use Rattle.pb_reasons.specs.Counted.{IsCounted};
@@ -17,6 +17,16 @@ use pb_reasons::{Counted, Totals};
 use pb_rounds::outcome::{Elected, Outcome};
 use pb_rows::RowsWriter;
 use std::alloc::Global;
+
+/// The text of these rows.
+pub(crate) fn whole(rows: RowsWriter) -> Result<Vec<u8>, NoMemory>
+    ensures { IfOk result (λ text. text.items ≡ rows.text) }
+{
+    match rows.finish() {
+        Ok(text) => Ok(text),
+        Err(_) => Err(NoMemory),
+    }
+}
 
 /// Writes the report of a count of this election after the rows that stand there.
 ///

@@ -14,6 +14,7 @@ ghost use Rattle.pb_commands.specs.Inner.Checked.{warning_row};
 ghost use Rattle.pb_commands.specs.Ends.{HasWritten, IsOutsideFault};
 
 use crate::counting::{Counting, counted};
+use crate::report::whole;
 use itoa::Buffer;
 use pb_core::election::Election;
 use pb_core::gate::Gate;
@@ -197,16 +198,6 @@ fn check_text(
             drop(rows);
             Err(refused)
         }
-    }
-}
-
-/// The text of these rows.
-fn whole(rows: RowsWriter) -> Result<Vec<u8>, NoMemory>
-    ensures { IfOk result (λ text. text.items ≡ rows.text) }
-{
-    match rows.finish() {
-        Ok(text) => Ok(text),
-        Err(_) => Err(NoMemory),
     }
 }
 

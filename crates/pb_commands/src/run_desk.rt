@@ -1,17 +1,17 @@
 //! The command `desk`: a script's requests, served by the clerks of one desk.
 
-ghost use Rattle.std.specs.Prelude.{◌≡◌, ◌≢◌, false, IfErr, IfOk, IfSome, OnOk};
+ghost use Rattle.std.specs.Prelude.{◌≡◌, false, IfOk, None};
 ghost use Rattle.pb_script.specs.Admission.{open_to_all};
 ghost use Rattle.pb_commands.specs.DeskRun.{DeskRefuses, DeskWrites, admission_on};
 ghost use Rattle.pb_commands.specs.Inner.DeskRun.{unserved};
-ghost use Rattle.pb_commands.specs.Ends.{Accepts, FailsBy, HasWritten, IfBothKnown, JudgesFile};
-ghost use Rattle.pb_faults.specs.Fault.{merged};
+ghost use Rattle.pb_commands.specs.Ends.{Runs};
 
+use crate::inputs::own_election;
 use pb_core::election::Election;
 use pb_core::gate::Gate;
 use pb_core::no_memory::NoMemory;
 use pb_faults::{AppFault, write_out};
-use pb_read::{ProjectIds, read_pb};
+use pb_read::{NoWatch, ProjectIds};
 use pb_script::serve_script::serve_admitted;
 use pb_script::{Admission, NoNotice, Notice, ServeFault};
 use std::alloc::Global;
@@ -38,7 +38,7 @@ pub struct Rules {
 ///
 /// The file is refused before the script, and the script before the number of clerks, 1 to 64. Nothing is
 /// written but the whole journal. Where the fault is `Write` some of it may have gone out; on any other fault the
-/// writer is as it was.
+/// writer is as it was. No warning refuses the file.
 pub fn run_desk<T: Threads + Sync, P: Read + Drop, S: Read + Drop, G: Gate, W: Write>(
     rt: &T,
     alloc: Global,
@@ -49,28 +49,9 @@ pub fn run_desk<T: Threads + Sync, P: Read + Drop, S: Read + Drop, G: Gate, W: W
     gate: &G,
     writer: &mut W,
 ) -> Result<(), AppFault>
-    // Where the bytes of both readers are known, what is written is a journal that they and the number of
-    // clerks allow,
-    ensures ok { OnOk result (IfBothKnown (P.remaining file) (S.remaining script)
-        (λ bytes rows.
-        HasWritten (DeskWrites (record { by_id = false; admission = open_to_all }) bytes rows clerks shuts) (W.contents writer.old) (W.contents writer.new))) }
-
-    // and they decide which fault comes.
-    ensures fault { IfErr result (λ fault. IfBothKnown (P.remaining file) (S.remaining script)
-        (λ bytes rows. FailsBy (DeskRefuses (record { by_id = false; admission = open_to_all }) rows clerks) (DeskWrites (record { by_id = false; admission = open_to_all }) bytes rows clerks shuts) bytes fault)) }
-
-    // A file and a script that have a journal get one, unless a device fails or memory is refused.
-    ensures accepts { IfBothKnown (P.remaining file) (S.remaining script)
-        (λ bytes rows. Accepts (DeskWrites (record { by_id = false; admission = open_to_all }) bytes rows clerks shuts) result) }
-
-    // The file is judged first, whatever is known of the script.
-    ensures file { IfSome (P.remaining file) (λ bytes. JudgesFile bytes result) }
-
-    // A fault writes nothing, unless it is the writer's.
-    ensures unchanged { IfErr result (λ fault. fault ≢ AppFault.Write → writer.new ≡ writer.old) }
-
-    // Out of memory is one fault.
-    ensures merged { IfErr result (λ fault. merged fault ≡ fault) }
+    ensures { Runs (λ bytes rows. DeskWrites (record { by_id = false; admission = open_to_all }) bytes rows clerks shuts)
+        (λ _ rows. DeskRefuses (record { by_id = false; admission = open_to_all }) rows clerks)
+        (P.remaining file) (S.remaining script) None W.contents writer.old writer.new result }
 {
     let open = Rules {
         by_id: false,
@@ -81,7 +62,8 @@ pub fn run_desk<T: Threads + Sync, P: Read + Drop, S: Read + Drop, G: Gate, W: W
     )
 }
 
-/// The same, of the requests that these rules admit. A row that they refuse refuses the script, and is told to `notice`.
+/// Serves as `run_desk` does, the requests that these rules admit. A row that they refuse refuses the script, and is told
+/// to `notice`.
 pub fn run_admitted_desk<
     T: Threads + Sync,
     P: Read + Drop,
@@ -101,30 +83,13 @@ pub fn run_admitted_desk<
     notice: &N,
     writer: &mut W,
 ) -> Result<(), AppFault>
-    // Where the bytes of both readers are known, what is written is a journal that they and the number of
-    // clerks allow,
-    ensures ok { OnOk result (IfBothKnown (P.remaining file) (S.remaining script)
-        (λ bytes rows.
-        HasWritten (DeskWrites rules bytes rows clerks shuts) (W.contents writer.old) (W.contents writer.new))) }
-
-    // and they decide which fault comes.
-    ensures fault { IfErr result (λ fault. IfBothKnown (P.remaining file) (S.remaining script)
-        (λ bytes rows. FailsBy (DeskRefuses rules rows clerks) (DeskWrites rules bytes rows clerks shuts) bytes fault)) }
-
-    // A file and a script that have a journal get one, unless a device fails or memory is refused.
-    ensures accepts { IfBothKnown (P.remaining file) (S.remaining script)
-        (λ bytes rows. Accepts (DeskWrites rules bytes rows clerks shuts) result) }
-
-    // The file is judged first, whatever is known of the script.
-    ensures file { IfSome (P.remaining file) (λ bytes. JudgesFile bytes result) }
-
-    // A fault writes nothing, unless it is the writer's.
-    ensures unchanged { IfErr result (λ fault. fault ≢ AppFault.Write → writer.new ≡ writer.old) }
-
-    // Out of memory is one fault.
-    ensures merged { IfErr result (λ fault. merged fault ≡ fault) }
+    ensures { Runs (λ bytes rows. DeskWrites rules bytes rows clerks shuts) (λ _ rows. DeskRefuses rules rows clerks)
+        (P.remaining file) (S.remaining script) None W.contents writer.old writer.new result }
 {
-    let election = read_pb(alloc, file)?;
+    let election = match own_election(alloc, file, &mut NoWatch) {
+        Ok(election) => election,
+        Err(fault) => return Err(fault),
+    };
     let admission = admission_of(alloc, rules, &election)?;
     let served = serve_admitted(
         rt, alloc, election, script, clerks, shuts, gate, &admission, notice,

@@ -9,8 +9,8 @@ ghost use Rattle.pb_rows.specs.Writing.{text_of_row, text_of_rows};
 ghost use Rattle.pb_commands.specs.WhatIf.{IsWhatIfText, WhatIfRefuses, found_rows, verdict_text, what_if_row, what_if_text};
 ghost use Rattle.pb_commands.specs.Inner.WhatIf.{change_text, most_of, value_text, what_if_columns};
 ghost use Rattle.pb_commands.specs.declared.what_if_rows.Changes.TheVariants.{Searched, One};
-ghost use Rattle.pb_whatif.specs.WhatIf.{CanBe, seen};
-ghost use Rattle.pb_whatif.specs.declared.change.Change.TheVariants.{Cost, Voters};
+ghost use Rattle.pb_reasons.specs.WhatIf.{CanBe, seen};
+ghost use Rattle.pb_reasons.specs.declared.changes.change.Change.TheVariants.{Cost, Voters};
 
 use crate::counting::Counting;
 use itoa::Buffer;
@@ -18,9 +18,9 @@ use pb_core::election::{Election, MOST_VOTERS};
 use pb_core::gate::Gate;
 use pb_core::money::Money;
 use pb_core::no_memory::NoMemory;
+use pb_reasons::{Change, Found, Question, Recount, Row, Verdict, WhatIf, one_change, what_if};
 use pb_rounds::count_fault::CountFault;
 use pb_rows::RowsWriter;
-use pb_whatif::{Change, Found, Question, Recount, Row, Verdict, WhatIf, one_change, what_if};
 use std::alloc::Global;
 use std::thread::Threads;
 

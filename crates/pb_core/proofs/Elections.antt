@@ -19,7 +19,7 @@ length-push xs x = length-append xs (x ∷ [])
 -- a project with a new id may join, as long as nobody voted
 pub IsElection-push_project : (e : ElectionView) (p : ProjectView) → IsElection e → IsProject p → e.voters ≡ [] →
     length e.projects < most_projects → ¬ Contains (project_ids e) p.id →
-    IsElection (record { budget = e.budget; max_length = e.max_length; projects = e.projects ++ p ∷ []; voters = e.voters })
+    IsElection (record e { projects = e.projects ++ p ∷ [] })
 IsElection-push_project e p is is_project no_voter room new =
     record {
       budget_bounded = is.budget_bounded;
@@ -34,7 +34,7 @@ IsElection-push_project e p is is_project no_voter room new =
 -- a voter with a new id who approves known projects may join
 pub IsElection-push_voter : (e : ElectionView) (v : VoterView) → IsElection e → IsVoter (length e.projects) v →
     length e.voters < most_voters → ¬ Contains (voter_ids e) v.id →
-    IsElection (record { budget = e.budget; max_length = e.max_length; projects = e.projects; voters = e.voters ++ v ∷ [] })
+    IsElection (record e { voters = e.voters ++ v ∷ [] })
 IsElection-push_voter e v is is_voter room new =
     record {
       budget_bounded = is.budget_bounded;

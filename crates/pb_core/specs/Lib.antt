@@ -2,7 +2,6 @@
 pub mod Ballot
 pub mod Election
 pub mod Money
-pub mod MoneyFault
 pub mod MoneyText
 pub mod Numbered
 pub mod Request

@@ -1,9 +1,8 @@
 -- The numbers and names of faults.
-use Prim.Native.String.{String}
 use denote.Enum.Declared.{Declared, tag_of}
-use Rattle.std.specs.Prelude.{ℕ, suc, List, [], codes, map}
-use Rattle.std.specs.List.{slice_index_or}
+use Rattle.std.specs.Prelude.{ℕ, ◌+◌, List, [], map, slice_index_or}
 
--- a fault's number, from 1, in the order in which its enum declares them, and its name in the list of all names
-abbrev pub numbered : (faults : Declared) → List String → faults.D → ℕ × List ℕ
-numbered faults names fault = (suc (tag_of faults fault), slice_index_or (map codes names) (tag_of faults fault) [])
+-- a fault's number, from 1, in the order in which its enum declares them, and its name in the table of all names
+abbrev pub numbered : (faults : Declared) → List (record { now : List ℕ }) → faults.D → ℕ × List ℕ
+numbered faults names fault =
+    (tag_of faults fault + 1, slice_index_or (map (λ name. name.now) names) (tag_of faults fault) [])

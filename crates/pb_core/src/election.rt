@@ -1,4 +1,4 @@
-//! An election: its budget, its projects, and its voters with their ballots.
+//! An election: its terms, its projects, and its voters with their ballots.
 
 ghost use Rattle.std.specs.Prelude.{◌≡◌, ◌≢◌, ◌<◌, ◌≤◌, ◌↔◌, ◌++◌, ◌∷◌, [], length, map, All, IsTrue, Contains};
 ghost use Rattle.std.specs.Prelude.{OnOk, OnErr, None};
@@ -8,6 +8,7 @@ use crate::ballot::Ballot;
 use crate::money::Money;
 use crate::no_memory::NoMemory;
 use crate::project::Project;
+use crate::terms::Terms;
 use crate::voter::Voter;
 use crate::voter_id::VoterId;
 use std::alloc::{Allocator, Global};
@@ -20,13 +21,12 @@ pub const MOST_PROJECTS: usize = 10_000;
 /// The most voters that an election has.
 pub const MOST_VOTERS: usize = 1_000_000;
 
-/// A budget, the projects in file order, and the voters in file order with their ballots; perhaps with
-/// a limit on how many projects a ballot may approve, which the desk keeps for clerks' requests. The
-/// ballots here may be longer.
+/// The terms, the projects in file order, and the voters in file order with their ballots. Where the terms
+/// limit how many projects a ballot may approve, the desk keeps to it at clerks' requests; the ballots here
+/// may be longer.
 #[derive(Drop)]
 pub struct Election<A: Allocator = Global> {
-    budget: Money,
-    max_length: Option<u32>,
+    terms: Terms,
     projects: Vec<Project<A>, A>,
     voters: Vec<Voter<A>, A>,
 }
@@ -37,15 +37,15 @@ impl<A: Allocator> Model for Election<A> {
     ghost Value = { ElectionView };
 
     ghost view = { λ e. record {
-      budget = e.budget;
-      max_length = e.max_length;
+      budget = e.terms.budget;
+      max_length = e.terms.max_length;
       projects = e.projects.items;
       voters = e.voters.items;
     } };
 
     ghost invariant = { λ e. IsElection (record {
-      budget = e.budget;
-      max_length = e.max_length;
+      budget = e.terms.budget;
+      max_length = e.terms.max_length;
       projects = e.projects.items;
       voters = e.voters.items;
     }) };
@@ -53,7 +53,8 @@ impl<A: Allocator> Model for Election<A> {
 
 impl<A: Allocator> Election<A> {
     ghost use Rattle.std.specs.List.{AllPairs};
-    ghost use Rattle.pb_core.specs.Election.{IsElection, IsVoter, project_ids, voter_ids, most_projects, most_voters};
+    ghost use Rattle.pb_core.specs.Election.{IsElection, IsVoter, opening, project_ids, terms_of, voter_ids};
+    ghost use Rattle.pb_core.specs.Election.{most_projects, most_voters};
 
     /// An election with this budget, without a limit, and with neither projects nor voters yet.
     pub fn start(alloc: A, budget: Money) -> Election<A>
@@ -62,12 +63,29 @@ impl<A: Allocator> Election<A> {
         requires { budget ≤ largest_money }
         ensures { result ≡ record { budget = budget; max_length = None; projects = []; voters = [] } }
     {
+        Election::start_with(alloc, Terms::of_budget(budget))
+    }
+
+    /// An election of these terms, with neither projects nor voters yet.
+    pub fn start_with(alloc: A, terms: Terms) -> Election<A>
+    where
+        A: Copy,
+        requires { terms.budget ≤ largest_money }
+        ensures { result ≡ opening terms }
+    {
         Election {
-            budget,
-            max_length: None,
+            terms,
             projects: Vec::new(alloc),
             voters: Vec::new(alloc),
         }
+    }
+
+    /// The terms: what META sets for the desk and the count.
+    pub fn terms(&self) -> Terms
+        ensures terms { result ≡ terms_of self.now }
+        ensures is_election { IsElection self.now }
+    {
+        self.terms
     }
 
     /// The budget, in hundredths.
@@ -75,14 +93,14 @@ impl<A: Allocator> Election<A> {
         ensures budget { result ≡ self.now.budget }
         ensures is_election { IsElection self.now }
     {
-        self.budget
+        self.terms.budget
     }
 
     /// The most projects that a ballot may approve where a clerk asks for it; none where there is no limit.
     pub fn max_length(&self) -> Option<u32>
         ensures { result ≡ self.now.max_length }
     {
-        self.max_length
+        self.terms.max_length
     }
 
     /// Sets the limit on how many projects a ballot may approve, or takes it away. All else stays as it
@@ -90,7 +108,7 @@ impl<A: Allocator> Election<A> {
     pub fn set_max_length(&mut self, max_length: Option<u32>)
         ensures { self.new ≡ record self.old { max_length = max_length } }
     {
-        self.max_length = max_length;
+        self.terms.max_length = max_length;
     }
 
     /// The projects, in file order: a project's place is its index here, from 0.

@@ -1,9 +1,14 @@
 //! Why a text names no amount of money.
 
 ghost use Rattle.std.specs.Prelude.{◌≡◌};
-ghost use Rattle.pb_core.specs.MoneyFault.{numbered_name};
+ghost use Rattle.pb_core.specs.Numbered.{numbered};
+ghost use Rattle.pb_core.specs.contracts.money_fault.MoneyFault.{the_type};
 
+use crate::names::name_at;
 use thiserror::Error;
+
+/// The names of the faults, in the order of `MoneyFault`.
+pub(crate) const NAMES: [&str; 3] = ["BadMoney", "MoneyTooFine", "MoneyTooLarge"];
 
 /// Why a text is no amount of money. The first of these that applies is answered.
 #[derive(Clone, Copy, Debug, PartialEq, Eq, Error)]
@@ -22,23 +27,15 @@ pub enum MoneyFault {
 impl MoneyFault {
     /// The fault's number, from 1.
     pub fn number(&self) -> u32
-        ensures { result ≡ (numbered_name self.now).0 }
+        ensures { result ≡ (numbered the_type NAMES self.now).0 }
     {
-        match self {
-            MoneyFault::BadMoney => 1,
-            MoneyFault::MoneyTooFine => 2,
-            MoneyFault::MoneyTooLarge => 3,
-        }
+        *self as u32 + 1
     }
 
     /// The fault's name.
     pub fn name(&self) -> &'static str
-        ensures { result.now ≡ (numbered_name self.now).1 }
+        ensures { result.now ≡ (numbered the_type NAMES self.now).1 }
     {
-        match self {
-            MoneyFault::BadMoney => "BadMoney",
-            MoneyFault::MoneyTooFine => "MoneyTooFine",
-            MoneyFault::MoneyTooLarge => "MoneyTooLarge",
-        }
+        name_at(&NAMES, *self as usize)
     }
 }

@@ -3,8 +3,8 @@
 use crate::checks::same;
 use crate::elections::read;
 use pb_core::money::Money;
-use pb_greedy::most_votes_first;
 use pb_price::Supporters;
+use pb_rounds::most_votes_first;
 use std::alloc::Global;
 use std::process::Abort;
 

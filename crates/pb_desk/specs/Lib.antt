@@ -1,12 +1,10 @@
 -- The words that public contracts reach, a notion a file.
 pub mod Desk
-pub mod DeskFault
 pub mod Replay
 pub mod Rows
 pub mod Standing
 pub mod StartFault
 pub mod Step
-pub mod WriteFault
 pub mod Audit
 pub mod AuditFault
 pub mod IntoFault

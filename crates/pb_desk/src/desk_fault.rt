@@ -1,12 +1,17 @@
 //! Why the desk did not serve a request.
 
 ghost use Rattle.std.specs.Prelude.{◌≡◌};
-ghost use Rattle.pb_desk.specs.DeskFault.{numbered_name};
+ghost use Rattle.pb_core.specs.Numbered.{numbered};
+ghost use Rattle.pb_desk.specs.contracts.desk_fault.DeskFault.{the_type};
 ghost use Rattle.pb_desk.specs.declared.desk_fault.DeskFault.TheVariants as fault;
 
+use pb_core::names::name_at;
 use pb_core::no_memory::NoMemory;
 use std::alloc::AllocError;
 use thiserror::Error;
+
+/// The names of `DeskFault`, in the order of its variants.
+pub(crate) const NAMES: [&str; 2] = ["JournalFull", "NoMemory"];
 
 /// Why the desk did not serve a request. Nothing was appended, and nothing changed.
 #[derive(Clone, Copy, Debug, PartialEq, Eq, Error)]
@@ -38,21 +43,15 @@ impl From<AllocError> for DeskFault {
 impl DeskFault {
     /// The fault's number, from 1.
     pub fn number(&self) -> u32
-        ensures { result ≡ (numbered_name self.now).0 }
+        ensures { result ≡ (numbered the_type NAMES self.now).0 }
     {
-        match self {
-            DeskFault::JournalFull => 1,
-            DeskFault::NoMemory => 2,
-        }
+        *self as u32 + 1
     }
 
     /// The fault's name.
     pub fn name(&self) -> &'static str
-        ensures { result.now ≡ (numbered_name self.now).1 }
+        ensures { result.now ≡ (numbered the_type NAMES self.now).1 }
     {
-        match self {
-            DeskFault::JournalFull => "JournalFull",
-            DeskFault::NoMemory => "NoMemory",
-        }
+        name_at(&NAMES, *self as usize)
     }
 }

@@ -7,6 +7,12 @@ use std::alloc::{Allocator, Global};
 use std::fmt;
 use thiserror::Error;
 
+/// The name of `NotShut`.
+pub(crate) const NOT_SHUT: &str = "NotShut";
+
+/// The name of `NoMemory`.
+pub(crate) const NO_MEMORY: &str = "NoMemory";
+
 /// Why a desk was not made into an election. It carries the desk back, unchanged.
 #[derive(Drop, Error)]
 pub enum IntoFault<A: Allocator = Global> {
@@ -42,8 +48,8 @@ impl<A: Allocator> IntoFault<A> {
         ensures { result.now ≡ (numbered_name self.now).1 }
     {
         match self {
-            IntoFault::NotShut(_) => "NotShut",
-            IntoFault::NoMemory(_) => "NoMemory",
+            IntoFault::NotShut(_) => NOT_SHUT,
+            IntoFault::NoMemory(_) => NO_MEMORY,
         }
     }
 }

@@ -7,6 +7,9 @@ use std::alloc::{Allocator, Global};
 use std::fmt;
 use thiserror::Error;
 
+/// The name of `NoMemory`.
+pub(crate) const NO_MEMORY: &str = "NoMemory";
+
 /// Why a desk was not started. It carries the election back.
 #[derive(Drop, Error)]
 pub enum StartFault<A: Allocator = Global> {
@@ -38,7 +41,7 @@ impl<A: Allocator> StartFault<A> {
         ensures { result.now ≡ (numbered_name self.now).1 }
     {
         match self {
-            StartFault::NoMemory(_) => "NoMemory",
+            StartFault::NoMemory(_) => NO_MEMORY,
         }
     }
 }

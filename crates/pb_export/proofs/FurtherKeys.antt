@@ -1,5 +1,5 @@
 -- Further keys of META, read back.
-use Rattle.std.proofs.Common.{◌≡◌, ◌≤◌, ◌<◌, ◌+◌, ◌++◌, ℕ, suc, Bool, true, false, cond, not, List, [], ◌∷◌, append-nil, append_assoc, codes, get_or, length, map, filter, take, Option, Some, None, refl, ap, sym, ◌∙◌, arith}
+use Rattle.std.proofs.Common.{◌≡◌, ◌≤◌, ◌<◌, ◌+◌, ◌++◌, ℕ, suc, Bool, true, false, cond, not, List, [], ◌∷◌, append-nil, append_assoc, get_or, length, map, filter, take, Option, Some, None, refl, ap, sym, ◌∙◌, arith}
 use Rattle.std.specs.Prelude.{is_some}
 use Rattle.std.specs.List.{AllByRecursion}
 use Rattle.std.specs.Str.{trim}
@@ -9,9 +9,10 @@ use Rattle.std.proofs.lemmas.List.Elements.{filter_more}
 use Rattle.pb_rows.specs.Reading.{Fields}
 use Rattle.pb_read.proofs.MachineLaws.{meta_of-push}
 use Rattle.pb_read.specs.Inner.Fields.{trimmed}
-use Rattle.pb_read.specs.Inner.Machine.{with_row}
+use Rattle.pb_read.specs.Inner.Machine.{with_row, with_value}
+use Rattle.pb_read.specs.MetaKeys.{key_of}
 use Rattle.pb_read.specs.MetaRows.{meta_of}
-use Rattle.pb_read.specs.Rows.{field, head_of, is_blank, is_word, rows_of}
+use Rattle.pb_read.specs.Rows.{field, head_of, is_blank, rows_of}
 use Rattle.pb_read.specs.declared.meta.Meta.{Meta}
 use Rattle.pb_export.specs.FileRows.{is_own_key, key_rows, may_follow}
 use Rattle.pb_export.specs.Further.{KeyView}
@@ -26,31 +27,25 @@ follows key = may_follow (trim key.name)
 -- a row of META that says nothing of an election, and is no section's head
 pub record IsAside (row : Fields) : Type 0 where
   pub head : head_of row ≡ None
-  pub budget : is_word (codes "budget") (field row 0) ≡ false
-  pub vote_type : is_word (codes "vote_type") (field row 0) ≡ false
-  pub max_length : is_word (codes "max_length") (field row 0) ≡ false
+  pub key : key_of (field row 0) ≡ None
 
 no_true : (b : Bool) → not b ≡ true → b ≡ false
 no_true true is = absurd (false≢true is)
 no_true false is = refl
 
-no_section : {A : Type 0} (found : Option A) → is_some found ≡ false → found ≡ None
-no_section None none = refl
-no_section (Some name) none = cc none
+none_found : {A : Type 0} (found : Option A) → is_some found ≡ false → found ≡ None
+none_found None none = refl
+none_found (Some name) none = cc none
 
 aside : (k : KeyView) → follows k ≡ true → IsAside (trimmed (key_fields k))
 unfolding head_of
 aside k is =
     let name = trim k.name in
     let parts = and_parts (not (is_own_key name)) (not (is_some (head_of (name ∷ [])))) is in
-    let first = or_parts (is_word (codes "budget") name) _ (no_true _ parts.0) in
-    let second = or_parts (is_word (codes "vote_type") name) _ first.1 in
-    let third = or_parts (is_word (codes "max_length") name) _ second.1 in
+    let own = or_parts (is_some (key_of name)) _ (no_true _ parts.0) in
     record {
-      head = no_section (head_of (trimmed (key_fields k))) (no_true _ parts.1);
-      budget = first.0;
-      vote_type = second.0;
-      max_length = third.0;
+      head = none_found (head_of (trimmed (key_fields k))) (no_true _ parts.1);
+      key = none_found (key_of name) own.0;
     }
 
 shown : (row : Fields) (rest : List Fields) (blank : Bool) → IsAside row → AllByRecursion IsAside rest → AllByRecursion IsAside (cond (not blank) (row ∷ rest) rest)
@@ -74,16 +69,7 @@ heads_of [] are = tt
 heads_of (row ∷ rows) are = (are.0.head, heads_of rows are.1)
 
 with_aside : (meta : Meta) (row : Fields) → IsAside row → with_row meta row ≡ meta
-with_aside meta row is = λ i. record { budget = budget i; approval = approval i; max_length = max_length i }
-  where
-    budget : (with_row meta row).budget ≡ meta.budget
-    budget = rw is.budget refl
-
-    approval : (with_row meta row).approval ≡ meta.approval
-    approval = rw is.vote_type refl
-
-    max_length : (with_row meta row).max_length ≡ meta.max_length
-    max_length = rw is.max_length refl
+with_aside meta row is = ap (λ said. with_value meta said (field row 1)) is.key
 
 -- what META says is the same with such rows behind it
 pub meta_behind : (own more : List Fields) → AllByRecursion IsAside more → meta_of (own ++ more) ≡ meta_of own

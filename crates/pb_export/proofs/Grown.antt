@@ -1,6 +1,7 @@
 -- Rows written one after the other.
 use Rattle.std.proofs.Common.{◌≡◌, ◌<◌, ◌+◌, ℕ, zero, suc, Bool, false, length, get_or, take, List, [], ◌∷◌, ◌++◌, append_assoc, append-nil, sym, ◌∙◌, ap, arith}
 use Rattle.std.specs.Prelude.{slice_index, slice_index_or}
+use Rattle.std.specs.Str.{IsUtf8}
 use Rattle.csv.specs.Records.{AllText}
 use Rattle.pb_core.specs.Election.{ProjectView}
 use Rattle.pb_rows.specs.Reading.{Fields}
@@ -10,6 +11,15 @@ use Rattle.pb_read.proofs.ListFacts.{AllByRecursion-append}
 use Rattle.pb_export.specs.Inner.Growing.{Grows}
 use Rattle.pb_export.specs.FileRows.{project_row}
 use Rattle.pb_export.specs.Inner.Parts.{projects_from}
+
+-- rows of one text, and of two
+pub one_text : (field : List ℕ) → IsUtf8 field → AllText (field ∷ [])
+unfolding AllText
+one_text field text = (text, tt)
+
+pub two_text : (key value : List ℕ) → IsUtf8 key → IsUtf8 value → AllText (key ∷ value ∷ [])
+unfolding AllText
+two_text key value first second = (first, (second, tt))
 
 -- a text to which no row was added
 pub none_grown : (old : List ℕ) → Grows [] old old

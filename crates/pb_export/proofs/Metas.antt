@@ -13,7 +13,7 @@ use Rattle.pb_core.proofs.MoneyNamed.{amount_read}
 use Rattle.pb_core.proofs.MoneyParts.{read_parts}
 use Rattle.pb_read.specs.Lengths.{max_length_of}
 use Rattle.pb_read.specs.Rows.{head_of, is_empty, rows_of}
-use Rattle.pb_read.specs.StandsFor.{IsMeta, terms_of}
+use Rattle.pb_read.specs.StandsFor.{IsMeta, meta_for}
 use Rattle.pb_rows.specs.Reading.{Fields}
 use Rattle.pb_read.specs.MetaRows.{meta_of}
 use Rattle.pb_export.specs.FileRows.{amount_text, key_rows, meta_rows}
@@ -63,7 +63,7 @@ limit_back most small =
     ∙ rw (is_some_text (decimal most) (decimal_nonempty most fits)) (rw parts.form (rw parts.decimals_is (rw parts.whole_is (rw numeral.1 (rw (small_enough most small) refl)))))
 
 pub gives_terms : ((h : ℕ) → h ≤ largest_money → money_of (money_text h) ≡ Ok h) → (e : ElectionView) (rule comment : List ℕ) (keys : List KeyView) → e.budget ≤ largest_money → ((most : ℕ) → e.max_length ≡ Some most → most ≤ most_projects)
-    → IsMeta (terms_of e) (rows_of (meta_rows e rule comment keys))
+    → IsMeta (meta_for e) (rows_of (meta_rows e rule comment keys))
 unfolding head_of trim_start trim_end chars encode
 gives_terms reads_back e rule comment keys small limited = go e.max_length limited
   where
@@ -73,13 +73,13 @@ gives_terms reads_back e rule comment keys small limited = go e.max_length limit
     heads : AllByRecursion (λ row. head_of row ≡ None) (rows_of (key_rows keys))
     heads = heads_of (rows_of (key_rows keys)) (asides keys)
 
-    go : (limit : Option ℕ) → ((most : ℕ) → limit ≡ Some most → most ≤ most_projects) → IsMeta (terms_of (record e { max_length = limit })) (rows_of (meta_rows (record e { max_length = limit }) rule comment keys))
+    go : (limit : Option ℕ) → ((most : ℕ) → limit ≡ Some most → most ≤ most_projects) → IsMeta (meta_for (record e { max_length = limit })) (rows_of (meta_rows (record e { max_length = limit }) rule comment keys))
     go None limited =
         let own : List Fields = drop 2 (rows_of (meta_rows (record e { max_length = None }) rule comment [])) in
-        let is : terms_of (record e { max_length = None }) ≡ meta_of own = λ i. record { budget = Some (budget i); approval = Some true; max_length = Ok None } in
+        let is : meta_for (record e { max_length = None }) ≡ meta_of own = λ i. record { budget = Some (budget i); approval = Some true; max_length = Ok None } in
         (_, own ++ rows_of (key_rows keys), ([], _, refl, refl, refl, (refl, (refl, (refl, (refl, (refl, (refl, (refl, heads)))))))), is ∙ sym (meta_behind own (rows_of (key_rows keys)) (asides keys)))
     go (Some most) limited =
         let back = sym (limit_back most (limited most refl)) in
         let own : List Fields = drop 2 (rows_of (meta_rows (record e { max_length = Some most }) rule comment [])) in
-        let is : terms_of (record e { max_length = Some most }) ≡ meta_of own = λ i. record { budget = Some (budget i); approval = Some true; max_length = back i } in
+        let is : meta_for (record e { max_length = Some most }) ≡ meta_of own = λ i. record { budget = Some (budget i); approval = Some true; max_length = back i } in
         (_, own ++ rows_of (key_rows keys), ([], _, refl, refl, refl, (refl, (refl, (refl, (refl, (refl, (refl, (refl, (refl, heads))))))))), is ∙ sym (meta_behind own (rows_of (key_rows keys)) (asides keys)))

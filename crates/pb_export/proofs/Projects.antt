@@ -11,7 +11,7 @@ use Rattle.pb_core.specs.MoneyText.{money_text}
 use Rattle.pb_rows.specs.Reading.{Fields}
 use Rattle.pb_read.specs.Inner.Fields.{trimmed}
 use Rattle.pb_read.specs.Rows.{head_of, is_blank, rows_of}
-use Rattle.pb_read.specs.StandsFor.{GivesAllButVoters, GivesProject, IsMeta, terms_of}
+use Rattle.pb_read.specs.StandsFor.{GivesAllButVoters, GivesProject, IsMeta, meta_for}
 use Rattle.pb_export.specs.FileRows.{amount_text, project_row, projects_rows}
 use Rattle.pb_export.specs.declared.further.Further.{Further}
 use Rattle.pb_export.specs.Inner.Parts.{is_section_word, projects_from}
@@ -74,7 +74,7 @@ module _ (reads_back : (h : ℕ) → h ≤ largest_money → money_of (money_tex
       ((plain_row p.id others are.0.tidy_id are.0.no_head, rest.0), (gives_project p count elected more are.0, rest.1))
 
   -- after META
-  pub gives_projects : (e : ElectionView) (front : List Fields) → IsMeta (terms_of e) front → AllByRecursion IsWritable e.projects →
+  pub gives_projects : (e : ElectionView) (front : List Fields) → IsMeta (meta_for e) front → AllByRecursion IsWritable e.projects →
       GivesFront e (front ++ rows_of (projects_rows votes selected further e.projects))
   unfolding head_of trim_start trim_end chars encode
   gives_projects e front before are =

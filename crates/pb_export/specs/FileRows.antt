@@ -1,11 +1,14 @@
 -- The rows of an exported file.
-use Rattle.std.specs.Prelude.{ℕ, ◌/◌, ◌%◌, ◌==◌, ◌&&◌, Bool, false, not, if◌then◌else◌, List, [], ◌∷◌, ◌++◌, codes, decimal, filter, is_some, length, map, slice_index, slice_index_or}
+use Rattle.std.specs.Prelude.{ℕ, ◌/◌, ◌%◌, ◌==◌, ◌&&◌, ◌||◌, Bool, false, not, if◌then◌else◌, List, [], ◌∷◌, ◌++◌, codes, decimal, filter, is_some, length, map, slice_index, slice_index_or}
 use Rattle.std.specs.List.{enumerate_from, join_with_byte, list_any}
 use Rattle.std.specs.Option.{option_to_list}
 use Rattle.std.specs.Str.{trim}
-use Rattle.pb_core.specs.Election.{ElectionView, ProjectView, VoterView, project_ids}
+use Rattle.pb_core.specs.Election.{ElectionView, ProjectView, VoterView, project_ids, terms_of}
 use Rattle.pb_core.specs.MoneyText.{money_text}
+use Rattle.pb_core.specs.declared.terms.Terms.{Terms}
+use Rattle.pb_read.specs.MetaKeys.{key_of, key_text}
 use Rattle.pb_read.specs.Rows.{head_of, is_word}
+use Rattle.pb_read.specs.declared.meta_key.MetaKey.TheVariants.{Budget, VoteType, MaxLength}
 use Rattle.pb_rows.specs.Reading.{Fields}
 use Rattle.pb_export.specs.Further.{KeyView}
 use Rattle.pb_export.specs.OfVoter.{of_voter}
@@ -15,12 +18,12 @@ use Rattle.pb_export.specs.declared.further.Further.{Further}
 abbrev pub amount_text : ℕ → List ℕ
 amount_text h = if h % 100 == 0 then decimal (h / 100) else money_text h
 
--- a key that the file has of its own
+-- a key that the file has of its own: one that readers take, or one of these
 abbrev pub is_own_key : List ℕ → Bool
 is_own_key name =
-    list_any (λ word. is_word word name)
-    (codes "budget" ∷ codes "vote_type" ∷ codes "max_length" ∷ codes "num_projects" ∷ codes "num_votes" ∷ codes "rule"
-    ∷ codes "comment" ∷ [])
+    is_some (key_of name)
+    || list_any (λ word. is_word word name)
+    (codes "num_projects" ∷ codes "num_votes" ∷ codes "rule" ∷ codes "comment" ∷ [])
 
 -- a further key with this name may follow in META: it is none of these, and no section's head
 abbrev pub may_follow : List ℕ → Bool
@@ -30,12 +33,16 @@ may_follow name = not (is_own_key name) && not (is_some (head_of (name ∷ [])))
 abbrev pub key_rows : List KeyView → List Fields
 key_rows keys = map (λ key. key.name ∷ key.value ∷ []) (filter (λ key. may_follow (trim key.name)) keys)
 
--- META: the rule by its word, and in words as a comment; a row says how long a ballot may be, where there is a limit
+-- the rows of the keys that readers take; one says how long a ballot may be, where there is a limit
+abbrev pub terms_rows : Terms → List Fields
+terms_rows terms =
+    (key_text Budget ∷ amount_text terms.budget ∷ []) ∷ (key_text VoteType ∷ codes "approval" ∷ [])
+    ∷ map (λ most. key_text MaxLength ∷ decimal most ∷ []) (option_to_list terms.max_length)
+
+-- META: these, and the rule by its word, and in words as a comment
 abbrev pub meta_rows : ElectionView → (rule comment : List ℕ) → List KeyView → List Fields
 meta_rows e rule comment keys =
-    ((codes "META" ∷ []) ∷ (codes "key" ∷ codes "value" ∷ []) ∷ (codes "budget" ∷ amount_text e.budget ∷ [])
-    ∷ (codes "vote_type" ∷ codes "approval" ∷ [])
-    ∷ map (λ most. codes "max_length" ∷ decimal most ∷ []) (option_to_list e.max_length))
+    ((codes "META" ∷ []) ∷ (codes "key" ∷ codes "value" ∷ []) ∷ terms_rows (terms_of e))
     ++ (codes "num_projects" ∷ decimal (length e.projects) ∷ [])
     ∷ (codes "num_votes" ∷ decimal (length e.voters) ∷ []) ∷ (codes "rule" ∷ rule ∷ [])
     ∷ (codes "comment" ∷ comment ∷ []) ∷ key_rows keys

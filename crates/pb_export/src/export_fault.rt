@@ -1,6 +1,10 @@
 //! Why an election is not exported.
 
+use pb_core::names::name_at;
 use thiserror::Error;
+
+/// The names of `ExportFault`, in the order of its variants.
+pub(crate) const NAMES: [&str; 4] = ["SectionWord", "CommaInId", "OfNoFile", "NoMemory"];
 
 /// Why an election is not exported: no `.pb` file would be read back as it.
 #[derive(Clone, Copy, Debug, PartialEq, Eq, Error)]
@@ -28,23 +32,13 @@ impl ExportFault {
     pub fn number(&self) -> u32
         ensures { result ≡ (numbered_name self.now).0 }
     {
-        match self {
-            ExportFault::SectionWord => 1,
-            ExportFault::CommaInId => 2,
-            ExportFault::OfNoFile => 3,
-            ExportFault::NoMemory => 4,
-        }
+        *self as u32 + 1
     }
 
     /// The fault's name.
     pub fn name(&self) -> &'static str
         ensures { result.now ≡ (numbered_name self.now).1 }
     {
-        match self {
-            ExportFault::SectionWord => "SectionWord",
-            ExportFault::CommaInId => "CommaInId",
-            ExportFault::OfNoFile => "OfNoFile",
-            ExportFault::NoMemory => "NoMemory",
-        }
+        name_at(&NAMES, *self as usize)
     }
 }

@@ -4,12 +4,14 @@ ghost use Rattle.std.specs.Prelude.{◌≡◌, ◌<◌, ◌&&◌, [], ◌∷◌,
 ghost use Rattle.std.specs.List.{list_all, list_any};
 ghost use Rattle.pb_export.specs.Export.{has_comma, has_comma_in_vote, has_section_word, is_of_file};
 ghost use Rattle.pb_export.specs.FileRows.{is_own_key, may_follow};
-ghost use Rattle.pb_export.specs.Inner.Parts.{is_section_word, is_small, is_tidy};
+ghost use Rattle.pb_export.specs.Inner.Parts.{can_be_named, is_section_word, is_small, is_tidy};
 ghost use Rattle.pb_read.specs.Rows.{is_word};
 
 use pb_core::election::{Election, MOST_PROJECTS};
 use pb_core::project::Project;
+use pb_core::terms::Terms;
 use pb_core::voter::Voter;
+use pb_read::MetaKey;
 
 #[tactic(auto, unfolding(pb_read::specs::Rows::head_of))]
 /// Whether an id would be read as a section's head.
@@ -32,22 +34,7 @@ pub(crate) fn may_follow(name: &str) -> bool
 fn is_own_key(name: &str) -> bool
     ensures { result ≡ is_own_key name.now }
 {
-    is_key_of_terms(name) || is_other_key(name)
-}
-
-/// Whether this is the key of the budget or of the kind of votes.
-fn is_key_of_terms(name: &str) -> bool
-    ensures { result ≡ list_any (λ word. is_word word name.now) (codes "budget" ∷ codes "vote_type" ∷ []) }
-{
-    "budget".eq_ignore_ascii_case(name) || "vote_type".eq_ignore_ascii_case(name)
-}
-
-/// Whether this is one of the other keys that an exported file has of its own.
-fn is_other_key(name: &str) -> bool
-    ensures { result ≡ list_any (λ word. is_word word name.now)
-        (codes "max_length" ∷ codes "num_projects" ∷ codes "num_votes" ∷ codes "rule" ∷ codes "comment" ∷ []) }
-{
-    "max_length".eq_ignore_ascii_case(name) || is_key_beside(name)
+    MetaKey::of(name).is_some() || is_key_beside(name)
 }
 
 /// Whether this is a key that readers pass over, and that an exported file has of its own.
@@ -96,7 +83,7 @@ fn has_voter_word(voters: &[Voter]) -> bool
 pub(crate) fn is_of_file(election: &Election) -> bool
     ensures { result ≡ is_of_file election.now }
 {
-    are_tidy(election.projects()) && is_small(election.max_length())
+    are_tidy(election.projects()) && can_be_named(election.terms())
 }
 
 /// Whether no id or name of these projects has white space at its ends.
@@ -116,6 +103,13 @@ fn is_tidy(text: &str) -> bool
     ensures { result ≡ is_tidy text.now }
 {
     text.trim() == text
+}
+
+/// Whether a file can name these terms.
+fn can_be_named(terms: Terms) -> bool
+    ensures { result ≡ can_be_named terms }
+{
+    is_small(terms.max_length)
 }
 
 /// Whether a file can name this limit on a ballot's length.

@@ -9,7 +9,7 @@ ghost use Rattle.pb_rows.specs.Writing.{text_of_row, text_of_rows};
 ghost use Rattle.pb_export.specs.Export.{CanBeWritten, IsExportFault};
 ghost use Rattle.pb_export.specs.Inner.Growing.{Grows};
 ghost use Rattle.pb_export.specs.Inner.Parts.{key_row, limit_rows, vote_text};
-ghost use Rattle.pb_export.specs.FileRows.{file_rows, key_rows, meta_rows, project_row, projects_rows, votes_rows};
+ghost use Rattle.pb_export.specs.FileRows.{file_rows, key_rows, meta_rows, project_row, projects_rows, terms_rows, votes_rows};
 
 use crate::amount::amount_text;
 use crate::export_fault::ExportFault;
@@ -22,6 +22,8 @@ use pb_core::election::Election;
 use pb_core::laws::money_reads_back;
 use pb_core::no_memory::NoMemory;
 use pb_core::project::Project;
+use pb_core::terms::Terms;
+use pb_read::MetaKey;
 use pb_rows::{RowsWriter, rows_come_back};
 use std::alloc::Global;
 
@@ -99,16 +101,13 @@ fn put_meta(
 ) -> Result<(), NoMemory>
     ensures { OnOk result (Grows (meta_rows election.now rule.now comment.now []) rows.old.text rows.new.text) }
 {
-    let budget = amount_text(alloc, election.budget())?;
     let mut project_digits = Buffer::new();
     let mut voter_digits = Buffer::new();
     let projects = project_digits.format(election.projects().len() as u32);
     let voters = voter_digits.format(election.voters().len() as u32);
     rows.put_row(&["META"])?;
     rows.put_row(&["key", "value"])?;
-    rows.put_row(&["budget", budget.as_str()])?;
-    rows.put_row(&["vote_type", "approval"])?;
-    put_limit(rows, election.max_length())?;
+    put_terms(rows, alloc, election.terms())?;
     rows.put_row(&["num_projects", projects])?;
     rows.put_row(&["num_votes", voters])?;
     rows.put_row(&["rule", rule])?;
@@ -136,13 +135,24 @@ fn put_key(rows: &mut RowsWriter, key: &Key) -> Result<(), NoMemory>
     Ok(())
 }
 
+/// Writes the rows of META that readers take.
+fn put_terms(rows: &mut RowsWriter, alloc: Global, terms: Terms) -> Result<(), NoMemory>
+    ensures { OnOk result (Grows (terms_rows terms) rows.old.text rows.new.text) }
+{
+    let budget = amount_text(alloc, terms.budget)?;
+    rows.put_row(&[MetaKey::Budget.text(), budget.as_str()])?;
+    rows.put_row(&[MetaKey::VoteType.text(), "approval"])?;
+    put_limit(rows, terms.max_length)?;
+    Ok(())
+}
+
 /// Writes the row of META on how long a ballot may be, where there is a limit.
 fn put_limit(rows: &mut RowsWriter, max_length: Option<u32>) -> Result<(), NoMemory>
     ensures { OnOk result (Grows (limit_rows max_length) rows.old.text rows.new.text) }
 {
     if let Some(most) = max_length {
         let mut digits = Buffer::new();
-        rows.put_row(&["max_length", digits.format(most)])?;
+        rows.put_row(&[MetaKey::MaxLength.text(), digits.format(most)])?;
     }
     Ok(())
 }

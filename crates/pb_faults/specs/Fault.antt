@@ -1,6 +1,6 @@
 -- What the program says of a fault: one line, and the status that it then ends with.
 use Rattle.std.specs.Prelude.{ℕ, List, [], ◌∷◌, ◌++◌, ◌==◌, codes, decimal, flat_map, if◌then◌else◌, unwrap_or}
-use Rattle.pb_desk.specs.AuditFault.{numbered_name as of_audit}
+use Rattle.pb_desk.specs.AuditFault.{numbered_name as of_audit, at_row as audited_row}
 use Rattle.pb_desk.specs.declared.audit_fault.AuditFault.TheVariants as audit
 use Rattle.pb_export.specs.ExportFault.{numbered_name as of_export}
 use Rattle.pb_export.specs.declared.export_fault.ExportFault.TheVariants as export
@@ -11,7 +11,7 @@ use Rattle.pb_read.specs.declared.fault.ReadKind.TheVariants as read
 use Rattle.pb_rounds.specs.CountFault.{numbered_name as of_count}
 use Rattle.pb_rounds.specs.declared.count_fault.CountFault.TheVariants as count
 use Rattle.pb_script.specs.declared.roll.RollFault.TheVariants as roll
-use Rattle.pb_script.specs.ScriptFault.{numbered_name as of_script}
+use Rattle.pb_script.specs.ScriptFault.{numbered_name as of_script, at_row as script_row}
 use Rattle.pb_script.specs.declared.script_fault.ScriptFault.TheVariants as script
 use Rattle.pb_faults.specs.declared.fault.AppFault.{AppFault}
 use Rattle.pb_faults.specs.declared.fault.AppFault.TheVariants.{Read, Script, ClerkCount, Audit, OtherFile, OpenDesk, Count, Export, Open, Write, Memory, Warned, Roll}
@@ -40,10 +40,10 @@ told_at what number name at = (if number == 1 then 3 else 1, what ∷ decimal nu
 -- among them; 1 where what was read is, or its count. Options in range can still be too few raises for a file.
 abbrev pub told : AppFault → ℕ × List (List ℕ)
 told (Read fault) = told_at (codes "read") (of_read fault.kind).0 (of_read fault.kind).1 fault.at
-told (Script fault) = told_at (codes "script") (of_script fault).0 (of_script fault).1 (of_script fault).2
+told (Script fault) = told_at (codes "script") (of_script fault).0 (of_script fault).1 (script_row fault)
 told ClerkCount = (2, codes "clerks" ∷ codes "1" ∷ codes "ClerkCount" ∷ [])
 told (Audit fault) =
-    told_at (codes "audit") (of_audit fault).0 (of_audit fault).1 (unwrap_or (of_audit fault).2 0)
+    told_at (codes "audit") (of_audit fault).0 (of_audit fault).1 (unwrap_or (audited_row fault) 0)
 told OtherFile = (1, codes "other-file" ∷ [])
 told OpenDesk = (1, codes "open-desk" ∷ [])
 told (Count count.RaisesSpent) = (1, codes "count" ∷ codes "4" ∷ codes "RaisesSpent" ∷ [])

@@ -5,3 +5,7 @@ mod Rows
 mod Sums
 mod WinnerPlaces
 mod WholePage
+mod Characters
+mod Texts
+mod Delimiters
+mod Ends

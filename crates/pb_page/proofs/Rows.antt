@@ -1,14 +1,12 @@
 -- The rows of a page, as they are put.
-use Rattle.std.proofs.Common.{◌≡◌, ◌<◌, ◌+◌, ℕ, List, [], ◌∷◌, ◌++◌, get_or, length, map, sym, take, ◌∙◌, ap, arith}
+use Rattle.std.proofs.Common.{◌≡◌, ◌<◌, ◌+◌, ℕ, List, [], ◌∷◌, ◌++◌, get_or, length, sym, take, ◌∙◌, ap, arith}
 use Rattle.std.specs.Prelude.{sum_by}
-use Rattle.std.specs.List.{range_with_len}
 use Rattle.std.proofs.lemmas.List.{get_or_default, take_more}
 use Rattle.std.proofs.lemmas.List.Sums.{sum_by-cons}
-use Rattle.std.proofs.lemmas.List.FromFn.{map-range_with_len_more}
 use Rattle.pb_core.specs.Election.{ElectionView, ProjectView}
-use Rattle.pb_markup.specs.Filling.{Filling}
-use Rattle.pb_markup.specs.declared.form.Form.{Form}
-use Rattle.pb_page.specs.declared.language.Language.{Language}
+use Rattle.pb_page.specs.Filling.{Filling}
+use Rattle.pb_page.specs.declared.markup.form.Form.{Form}
+use Rattle.pb_page.specs.declared.facts.Facts.{Facts}
 use Rattle.pb_price.specs.Supporters.{cost_at, support_of}
 use Rattle.pb_reasons.specs.Counted.{CountedView}
 use Rattle.pb_reasons.specs.Reasons.{project_reason}
@@ -23,24 +21,18 @@ pub the_project : (e : ElectionView) (place : ℕ) (p : ProjectView) → place <
 the_project e place p known is = is ∙ get_or_default e.projects place p (record { id = []; name = []; cost = 0 }) known
 
 -- the row of a project that did not win, as it is told
-pub lost_told : (l : Language) (e : ElectionView) (c : CountedView) (place : ℕ) (p : ProjectView) → place < length e.projects → p ≡ get_or e.projects place p
-    → (reason : ProjectReason) → reason ≡ project_reason e c place → lost_row l p reason.votes reason.ending ≡ lost_rows l e c place
-lost_told l e c place p known is reason told =
-    ap (λ (r : ProjectReason). lost_row l p r.votes r.ending) told
-    ∙ ap (λ (q : ProjectView). lost_row l q (project_reason e c place).votes (project_reason e c place).ending) (the_project e place p known is)
+pub lost_told : (facts : Facts) (e : ElectionView) (c : CountedView) (place : ℕ) (p : ProjectView) → place < length e.projects → p ≡ get_or e.projects place p
+    → (reason : ProjectReason) → reason ≡ project_reason e c place → lost_row facts place p reason.votes reason.ending ≡ lost_rows facts e c place
+lost_told facts e c place p known is reason told =
+    ap (λ (r : ProjectReason). lost_row facts place p r.votes r.ending) told
+    ∙ ap (λ (q : ProjectView). lost_row facts place q (project_reason e c place).votes (project_reason e c place).ending) (the_project e place p known is)
 
 -- the row of a winner, as it is told
-pub won_told : (l : Language) (e : ElectionView) (c : CountedView) (place : ℕ) (p : ProjectView) → place < length e.projects → p ≡ get_or e.projects place p
-    → (reason : ProjectReason) → reason ≡ project_reason e c place → won_row l e.budget p reason.votes reason.ending ≡ won_rows l e c place
-won_told l e c place p known is reason told =
-    ap (λ (r : ProjectReason). won_row l e.budget p r.votes r.ending) told
-    ∙ ap (λ (q : ProjectView). won_row l e.budget q (project_reason e c place).votes (project_reason e c place).ending) (the_project e place p known is)
-
--- one number more
-pub one_told : (f : ℕ → ℕ) (n : ℕ) (before after : List ℕ) (x : ℕ) → before ≡ map f (range_with_len 0 n) → after ≡ before ++ x ∷ [] → x ≡ f n
-    → after ≡ map f (range_with_len 0 (n + 1))
-one_told f n before after x so_far put is =
-    put ∙ ap (λ (t : List ℕ). t ++ x ∷ []) so_far ∙ ap (λ (y : ℕ). map f (range_with_len 0 n) ++ y ∷ []) is ∙ sym (map-range_with_len_more f 0 n n (omega arith))
+pub won_told : (facts : Facts) (e : ElectionView) (c : CountedView) (place : ℕ) (p : ProjectView) → place < length e.projects → p ≡ get_or e.projects place p
+    → (reason : ProjectReason) → reason ≡ project_reason e c place → won_row facts e.budget place p reason.votes reason.ending ≡ won_rows facts e c place
+won_told facts e c place p known is reason told =
+    ap (λ (r : ProjectReason). won_row facts e.budget place p r.votes r.ending) told
+    ∙ ap (λ (q : ProjectView). won_row facts e.budget place q (project_reason e c place).votes (project_reason e c place).ending) (the_project e place p known is)
 
 -- the parts of the winners with one more
 blocks_more : (form : Form) (e : ElectionView) (before total : ℕ) (xs : List ℕ) (place : ℕ) → total ≡ before + sum_by (cost_at (support_of e)) xs

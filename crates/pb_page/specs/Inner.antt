@@ -1,3 +1,4 @@
 -- Words that only private contracts speak of: nobody has to believe them.
 pub mod Grown
 pub mod Pieces
+pub mod Digits

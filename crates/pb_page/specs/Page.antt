@@ -4,11 +4,11 @@ use Rattle.std.specs.List.{range_with_len}
 use Rattle.std.specs.Option.{option_map_or}
 use Rattle.pb_core.specs.Election.{ElectionView, ProjectView}
 use Rattle.pb_core.specs.MoneyText.{money_text}
-use Rattle.pb_markup.specs.Amount.{shown}
-use Rattle.pb_markup.specs.Filling.{Filling, page_of}
-use Rattle.pb_markup.specs.Sentence.{said}
-use Rattle.pb_markup.specs.Words.{noun, sentence}
-use Rattle.pb_markup.specs.declared.form.Form.{Form}
+use Rattle.pb_page.specs.Amount.{shown}
+use Rattle.pb_page.specs.Filling.{Filling, page_of}
+use Rattle.pb_page.specs.Sentence.{said}
+use Rattle.pb_page.specs.Words.{noun, sentence}
+use Rattle.pb_page.specs.declared.markup.form.Form.{Form}
 use Rattle.pb_price.specs.Supporters.{cost_at, support_of}
 use Rattle.pb_reasons.specs.BesideVotes.{beside_votes}
 use Rattle.pb_reasons.specs.Counted.{CountedView, counted, winners_of}
@@ -35,7 +35,7 @@ use Rattle.pb_page.specs.declared.facts.Facts.{Facts}
 use Rattle.pb_page.specs.declared.keys.TheConstants as key
 use Rattle.pb_page.specs.declared.language.Language.{Language}
 use Rattle.pb_page.specs.declared.style.TheConstants.{HEAD}
-use Rattle.pb_page.specs.declared.templates.TheConstants.{TEXT, NUMBER, AMOUNT, NAMELESS, LEAD_NEXT, NOTHING, BUDGET_OPENING, BLOCKS_OPENING, BUDGET_PART, BLOCKS_CLOSING, BUDGET_CLOSING, WINNERS_OPENING, WINNER, NONE_WON, ADDED_OPENING, ADDED, OTHERS_OPENING, OTHER, OTHER_CLOSING, NONE_LOST, TABLE_CLOSING, CATEGORIES_OPENING, CATEGORY, VOTERS_OPENING, VOTERS_TABLE, VOTERS_ROW, VOTERS_ROW_CLOSING, COMPARED_OPENING, COMPARED_ROW, RULE_OPENING, RULE_NEXT, ITEM, ITEM_OPENING, ONLY_THEN_OPENING, ONLY_THEN, ONLY_THEN_CLOSING, CALLED, TIES_OPENING, TIE_OPENING, TIE_CLOSING, TIES_CLOSING, CHECK_OPENING, CHECK_FILE, CHECK_JOURNAL, RECOUNT_OPENING, RECOUNT_LINK, RECOUNT_CLOSING, NO_RECOUNT, COUNT, AUDIT, OPTION_COST, OPTION_PLAIN, OPTION_UTILITARIAN, OPTION_ADD1U, COMMAND_CLOSING, MADE_BY_OPENING, CLOSING}
+use Rattle.pb_page.specs.declared.templates.TheConstants.{TEXT, NUMBER, AMOUNT, NAMELESS, LEAD_NEXT, NOTHING, BUDGET_OPENING, BLOCKS_OPENING, BUDGET_PART, BLOCKS_CLOSING, BUDGET_CLOSING, HEAD_CATEGORY, HEAD_CLOSING, ROW_CATEGORY, ROW_CLOSING, WINNERS_OPENING, WINNER, NONE_WON, ADDED_OPENING, ADDED, OTHERS_OPENING, OTHER, OTHER_CLOSING, NONE_LOST, TABLE_CLOSING, CATEGORIES_OPENING, CATEGORY, VOTERS_OPENING, VOTERS_TABLE, VOTERS_ROW, VOTERS_ROW_CLOSING, COMPARED_OPENING, COMPARED_ROW, RULE_OPENING, RULE_NEXT, ITEM, ITEM_OPENING, ONLY_THEN_OPENING, ONLY_THEN, LIST_CLOSING, CALLED, TIES_OPENING, ITEM_CLOSING, CHECK_OPENING, CHECK_FILE, CHECK_JOURNAL, RECOUNT_OPENING, RECOUNT_LINK, RECOUNT_CLOSING, NO_RECOUNT, COUNT, AUDIT, OPTION_COST, OPTION_PLAIN, OPTION_UTILITARIAN, OPTION_ADD1U, COMMAND_CLOSING, MADE_BY_OPENING, CLOSING}
 
 -- one of the program's own pieces of markup, and what stands in its places
 abbrev pub filling : List ℕ → List (List ℕ) → Filling
@@ -121,54 +121,73 @@ budget l title e c = let totals = totals_of e c in let left = e.budget - totals.
     (amount l.costs (codes "spent") totals.spent ∷ amount l.costs (codes "left") left
     ∷ amount l.amounts (codes "surplus") totals.surplus ∷ [])))
 
+-- the number of a project's category, as many as there are where it is in none; and the text of a category
+abbrev pub category_of : Categories → (place : ℕ) → ℕ
+category_of g place = slice_index_or g.of_project.now place (length g.names.now)
+
+abbrev pub category_name : Categories → ℕ → List ℕ
+category_name g k = option_map_or (λ text. text.now) (slice_get g.names.now k) []
+
+-- the ends of a project's row and of the head of its table: where there are categories, a column for them
+abbrev pub row_end : Facts → (place : ℕ) → List Filling
+row_end facts place = option_map_or (λ g. filling ROW_CATEGORY.now (at facts.language key.CATEGORY
+    ∷ category_name g (category_of g place) ∷ []) ∷ []) facts.categories [] ++ filling ROW_CLOSING.now [] ∷ []
+
+abbrev pub head_end : Facts → List Filling
+head_end facts = option_map_or (λ g. labels facts.language HEAD_CATEGORY.now (key.CATEGORY ∷ []) ∷ []) facts.categories []
+    ++ filling HEAD_CLOSING.now [] ∷ []
+
 -- the row of a winner, elected or added; what did not win has none
-abbrev pub won_row : Language → (whole : ℕ) → ProjectView → (votes : ℕ) → Ending → List Filling
-won_row l whole p votes (Won w) = filling WINNER.now
+abbrev pub won_row : Facts → (whole place : ℕ) → ProjectView → (votes : ℕ) → Ending → List Filling
+won_row facts whole place p votes (Won w) = let l = facts.language in filling WINNER.now
     (p.id ∷ at l key.ROUND ∷ decimal w.round ∷ p.id ∷ p.name ∷ decimal (width p.cost whole)
     ∷ at l key.COST ∷ money_text p.cost ∷ shown l.costs p.cost ∷ at l key.VOTES ∷ decimal votes
-    ∷ at l key.PRICE ∷ money_text w.price ∷ shown l.amounts w.price ∷ at l key.IN_FULL ∷ decimal w.in_full ∷ []) ∷ []
-won_row l whole p votes (Added a) = filling ADDED.now
+    ∷ at l key.PRICE ∷ money_text w.price ∷ shown l.amounts w.price ∷ at l key.IN_FULL ∷ decimal w.in_full ∷ []) ∷ row_end facts place
+won_row facts whole place p votes (Added a) = let l = facts.language in filling ADDED.now
     (p.id ∷ at l key.NUMBER ∷ decimal a.number ∷ p.id ∷ p.name ∷ decimal (width p.cost whole)
-    ∷ at l key.COST ∷ money_text p.cost ∷ shown l.costs p.cost ∷ at l key.VOTES ∷ decimal votes ∷ []) ∷ []
-won_row l whole p votes (Lost lost) = []
+    ∷ at l key.COST ∷ money_text p.cost ∷ shown l.costs p.cost ∷ at l key.VOTES ∷ decimal votes ∷ []) ∷ row_end facts place
+won_row facts whole place p votes (Lost lost) = []
 
 -- the row of a project that did not win; what won has none
-abbrev pub lost_row : Language → ProjectView → (votes : ℕ) → Ending → List Filling
-lost_row l p votes (Won w) = []
-lost_row l p votes (Added a) = []
-lost_row l p votes (Lost lost) = between (filling OTHER.now
+abbrev pub lost_row : Facts → (place : ℕ) → ProjectView → (votes : ℕ) → Ending → List Filling
+lost_row facts place p votes (Won w) = []
+lost_row facts place p votes (Added a) = []
+lost_row facts place p votes (Lost lost) = let l = facts.language in between (filling OTHER.now
     (p.id ∷ p.name ∷ decimal (width lost.left p.cost) ∷ at l key.COST ∷ money_text p.cost ∷ shown l.costs p.cost
     ∷ at l key.VOTES ∷ decimal votes ∷ at l key.LEFT ∷ money_text lost.left ∷ shown l.amounts lost.left ∷ at l key.MISSING
     ∷ money_text lost.missing ∷ [])) (filling OTHER_CLOSING.now []) l key.SHORT (text (shown l.amounts lost.missing) ∷ [])
+    ++ row_end facts place
 
 -- one of these rows, of the project at this place
-abbrev pub row_of : (ProjectView → ℕ → Ending → List Filling) → ElectionView → CountedView → ℕ → List Filling
-row_of row e c place = let r = project_reason e c place in row (project_at e place) r.votes r.ending
+abbrev pub row_of : (ℕ → ProjectView → ℕ → Ending → List Filling) → ElectionView → CountedView → ℕ → List Filling
+row_of row e c place = let r = project_reason e c place in row place (project_at e place) r.votes r.ending
 
 -- the elected, in order of election; the added, in their order; and the other projects, in the order of the file: each
 -- behind a heading, a caption and the heads of the columns
-abbrev pub winners : Language → ElectionView → CountedView → List Filling
-winners l e c = if length c.outcome.elected == 0
+abbrev pub winners : Facts → ElectionView → CountedView → List Filling
+winners facts e c = let l = facts.language in if length c.outcome.elected == 0
     then labels l NONE_WON.now (key.WINNERS_HEADING ∷ (if c.fills_up then key.NO_ELECTED else key.NO_WINNERS) ∷ []) ∷ []
     else labels l WINNERS_OPENING.now (key.WINNERS_HEADING ∷ key.WINNERS_CAPTION
     ∷ key.ROUND ∷ key.PROJECT ∷ key.COST ∷ key.VOTES ∷ key.PRICE ∷ key.IN_FULL ∷ [])
-    ∷ (flat_map (λ w. row_of (won_row l e.budget) e c w.place) c.outcome.elected ++ filling TABLE_CLOSING.now [] ∷ [])
+    ∷ (head_end facts ++ (flat_map (λ w. row_of (won_row facts e.budget) e c w.place) c.outcome.elected
+    ++ filling TABLE_CLOSING.now [] ∷ []))
 
-abbrev pub added : Language → ElectionView → CountedView → List Filling
-added l e c = if length c.added == 0 then [] else labels l ADDED_OPENING.now (key.ADDED_HEADING ∷ key.ADDED_CAPTION
+abbrev pub added : Facts → ElectionView → CountedView → List Filling
+added facts e c = let l = facts.language in if length c.added == 0 then [] else labels l ADDED_OPENING.now (key.ADDED_HEADING ∷ key.ADDED_CAPTION
     ∷ key.NUMBER ∷ key.PROJECT ∷ key.COST ∷ key.VOTES ∷ [])
-    ∷ (flat_map (row_of (won_row l e.budget) e c) c.added ++ filling TABLE_CLOSING.now [] ∷ [])
+    ∷ (head_end facts ++ (flat_map (row_of (won_row facts e.budget) e c) c.added ++ filling TABLE_CLOSING.now [] ∷ []))
 
-abbrev pub others : Language → ElectionView → CountedView → List Filling
-others l e c = if length (winners_of c) == length e.projects
+abbrev pub others : Facts → ElectionView → CountedView → List Filling
+others facts e c = let l = facts.language in if length (winners_of c) == length e.projects
     then labels l NONE_LOST.now (key.OTHERS_HEADING ∷ key.NO_OTHERS ∷ []) ∷ [] else labels l OTHERS_OPENING.now
     (key.OTHERS_HEADING ∷ key.OTHERS_CAPTION ∷ key.PROJECT ∷ key.COST ∷ key.VOTES ∷ key.LEFT ∷ key.MISSING ∷ [])
-    ∷ (flat_map (row_of (lost_row l) e c) (range_with_len 0 (length e.projects)) ++ filling TABLE_CLOSING.now [] ∷ [])
+    ∷ (head_end facts ++ (flat_map (row_of (lost_row facts) e c) (range_with_len 0 (length e.projects))
+    ++ filling TABLE_CLOSING.now [] ∷ []))
 
 -- the row of a category, by its number: how many of the winners are of it, and what these cost together
 abbrev pub category_row : Language → ElectionView → List ℕ → Categories → ℕ → Filling
-category_row l e winners g k = let name = option_map_or (λ text. text.now) (slice_get g.names.now k) [] in
-    let those = filter (λ place. slice_index_or g.of_project.now place (length g.names.now) == k) winners in
+category_row l e winners g k = let name = category_name g k in
+    let those = filter (λ place. category_of g place == k) winners in
     let cost = sum_by (cost_at (support_of e)) those in filling CATEGORY.now
     ((if length name == 0 then at l key.NO_CATEGORY else name) ∷ decimal (width cost e.budget) ∷ at l key.CATEGORY_WON
     ∷ decimal (length those) ∷ at l key.CATEGORY_COST ∷ money_text cost ∷ shown l.costs cost ∷ [])
@@ -226,7 +245,7 @@ raises_ended l e Exhausted = labels l ITEM.now (key.EXHAUSTED ∷ []) ∷ []
 raises_ended l e (Over next) = between (filling ITEM_OPENING.now []) (labels l ONLY_THEN_OPENING.now (key.ONLY_THEN ∷ [])) l key.OVER
     (amount l.amounts (codes "next_share") next.share ∷ amount l.costs (codes "next_cost") next.cost ∷ [])
     ++ (map (λ place. let p = project_at e place in filling ONLY_THEN.now (p.id ∷ p.name ∷ money_text p.cost ∷ shown l.costs p.cost ∷ []))
-    next.only_then.items ++ filling ONLY_THEN_CLOSING.now [] ∷ [])
+    next.only_then.items ++ filling LIST_CLOSING.now [] ∷ [])
 
 -- how the share came about, which project is elected first, whether shares were raised and why that ended, and how the rest
 -- was filled up
@@ -243,14 +262,14 @@ rule l e options end fills_up share raised = (between (labels l RULE_OPENING.now
 
 -- a tie: its round, the project that it elected, and the other
 unfoldable pub tie : Language → Measure → ElectionView → Tie → List Filling
-tie l m e t = between (filling TIE_OPENING.now []) (filling TIE_CLOSING.now []) l (by_measure m key.TIE_BY_VOTES key.TIE_BY_COST)
+tie l m e t = between (filling ITEM_OPENING.now []) (filling ITEM_CLOSING.now []) l (by_measure m key.TIE_BY_VOTES key.TIE_BY_COST)
     (number (codes "round") t.round ∷ filling CALLED.now (called (project_at e t.winner) ∷ [])
     ∷ filling CALLED.now (called (project_at e t.other) ∷ []) ∷ [])
 
 -- these ties, behind what heads them; nothing where there are none
 unfoldable pub ties : Language → Measure → ElectionView → List Tie → List Filling
 ties l m e all = if length all == 0 then []
-    else labels l TIES_OPENING.now (key.TIES ∷ []) ∷ (flat_map (tie l m e) all ++ filling TIES_CLOSING.now [] ∷ [])
+    else labels l TIES_OPENING.now (key.TIES ∷ []) ∷ (flat_map (tie l m e) all ++ filling LIST_CLOSING.now [] ∷ [])
 
 -- the end of the command that recounts, the options in words, and the program that made the page
 abbrev pub made : Language → Facts → List Filling
@@ -277,7 +296,7 @@ check l facts = let options = facts.options in
 -- the parts of the page, one after the other
 unfoldable pub parts : ElectionView → CountedView → Facts → RaiseEnd → List Filling
 parts e c facts end = let l = facts.language in
-    budget l facts.title.now e c ++ ((winners l e c ++ (added l e c ++ others l e c)) ++ (categories e c facts
+    budget l facts.title.now e c ++ ((winners facts e c ++ (added facts e c ++ others facts e c)) ++ (categories e c facts
     ++ (voters l (won_by_voter e c) ++ (besides e c facts
     ++ (rule l e facts.options end c.fills_up c.outcome.share c.outcome.raised
     ++ (ties l facts.options.measure e (ties_of facts.options.measure e c.outcome) ++ check l facts))))))

@@ -5,14 +5,16 @@ ghost use Rattle.pb_page.specs.Inner.Grown.{Grows};
 ghost use Rattle.pb_page.specs.Inner.Pieces.{added_head, added_table, won_rows};
 ghost use Rattle.pb_page.specs.Page.{added};
 
+use crate::facts::Facts;
 use crate::keys;
 use crate::language::Language;
+use crate::markup::Value;
+use crate::own_category::put_head_end;
 use crate::put::put;
 use crate::templates::{ADDED_OPENING, TABLE_CLOSING};
 use crate::winners::put_row;
 use pb_core::election::Election;
 use pb_core::no_memory::NoMemory;
-use pb_markup::Value;
 use pb_reasons::{Counted, ProjectTeller};
 use std::alloc::Global;
 
@@ -21,20 +23,20 @@ use std::alloc::Global;
 pub(crate) fn put_added(
     page: &mut Vec<u8>,
     alloc: Global,
-    language: &Language,
+    facts: &Facts,
     election: &Election,
     teller: &ProjectTeller,
     counted: &Counted,
 ) -> Result<(), NoMemory>
     requires own { teller.now ≡ (election.now, counted.now) }
     requires known { All (λ place. place < length election.now.projects) counted.now.added }
-    ensures { OnOk result (Grows page.old.items page.new.items (added language.now election.now counted.now)) }
+    ensures { OnOk result (Grows page.old.items page.new.items (added facts.now election.now counted.now)) }
 {
     let places = counted.added.as_slice();
     if places.is_empty() {
         return Ok(());
     }
-    put_table(page, alloc, language, election, teller, places)
+    put_table(page, alloc, facts, election, teller, places)
 }
 
 /// The head of their table.
@@ -60,7 +62,7 @@ fn put_table_head(page: &mut Vec<u8>, alloc: Global, language: &Language) -> Res
 fn put_table(
     page: &mut Vec<u8>,
     alloc: Global,
-    language: &Language,
+    facts: &Facts,
     election: &Election,
     teller: &ProjectTeller,
     places: &[u32],
@@ -68,10 +70,11 @@ fn put_table(
     requires own { teller.now.0 ≡ election.now }
     requires added { teller.now.1.added ≡ places.now }
     requires known { All (λ place. place < length election.now.projects) places.now }
-    ensures { OnOk result (Grows page.old.items page.new.items (added_table language.now election.now teller.now.1)) }
+    ensures { OnOk result (Grows page.old.items page.new.items (added_table facts.now election.now teller.now.1)) }
 {
-    put_table_head(page, alloc, language)?;
-    put_rows(page, alloc, language, election, teller, places)?;
+    put_table_head(page, alloc, &facts.language)?;
+    put_head_end(page, alloc, facts)?;
+    put_rows(page, alloc, facts, election, teller, places)?;
     put(page, alloc, TABLE_CLOSING, &[])
 }
 
@@ -79,20 +82,28 @@ fn put_table(
 fn put_rows(
     page: &mut Vec<u8>,
     alloc: Global,
-    language: &Language,
+    facts: &Facts,
     election: &Election,
     teller: &ProjectTeller,
     places: &[u32],
 ) -> Result<(), NoMemory>
     requires own { teller.now.0 ≡ election.now }
     requires known { All (λ place. place < length election.now.projects) places.now }
-    ensures { OnOk result (Grows page.old.items page.new.items (flat_map (won_rows language.now election.now teller.now.1) places.now)) }
+    ensures { OnOk result (Grows page.old.items page.new.items (flat_map (won_rows facts.now election.now teller.now.1) places.now)) }
 {
     let projects = election.projects();
     for place in places {
         let reason = teller.tell(*place);
         let project = &projects[*place as usize];
-        put_row(page, alloc, language, project, &reason, election.budget())?;
+        put_row(
+            page,
+            alloc,
+            facts,
+            *place,
+            project,
+            &reason,
+            election.budget(),
+        )?;
     }
     Ok(())
 }

@@ -14,12 +14,12 @@ use crate::forms::width;
 use crate::in_category::InCategory;
 use crate::keys;
 use crate::language::Language;
+use crate::markup::Value;
 use crate::put::put;
 use crate::templates::{CATEGORIES_OPENING, CATEGORY, TABLE_CLOSING};
 use pb_core::election::Election;
 use pb_core::money::Money;
 use pb_core::no_memory::NoMemory;
-use pb_markup::Value;
 use pb_reasons::Counted;
 use std::alloc::Global;
 

@@ -1,7 +1,7 @@
 //! The categories of an election's projects.
 
-ghost use Rattle.std.specs.Prelude.{◌≡◌, length, slice_index_or};
-ghost use Rattle.pb_page.specs.Inner.Pieces.{category_name};
+ghost use Rattle.std.specs.Prelude.{◌≡◌};
+ghost use Rattle.pb_page.specs.Page.{category_name, category_of};
 
 /// The categories of an election's projects.
 #[derive(Clone, Copy)]
@@ -26,7 +26,7 @@ impl<'a> Categories<'a> {
 
     /// The number of the category of the project at this place; as many as there are categories where it has none.
     pub(crate) fn of(&self, place: u32) -> usize
-        ensures { result ≡ slice_index_or self.now.of_project.now place (length self.now.names.now) }
+        ensures { result ≡ category_of self.now place }
     {
         match self.of_project.get(place as usize) {
             Some(number) => *number as usize,

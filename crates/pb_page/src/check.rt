@@ -7,9 +7,10 @@ ghost use Rattle.pb_page.specs.declared.keys.TheConstants as key;
 ghost use Rattle.pb_page.specs.declared.templates.TheConstants.{CHECK_OPENING, RECOUNT_LINK};
 ghost use Rattle.pb_page.specs.Page.{at, filling, made, say, text};
 
-use crate::facts::{Facts, Source};
+use crate::facts::{Facts, ReadText};
 use crate::keys;
 use crate::language::Language;
+use crate::markup::{Place, Value};
 use crate::put::{put, say};
 use crate::templates::{
     AMOUNT, AUDIT, CHECK_FILE, CHECK_JOURNAL, CHECK_OPENING, CLOSING, COMMAND_CLOSING, COUNT,
@@ -17,7 +18,6 @@ use crate::templates::{
     OPTION_UTILITARIAN, RECOUNT_CLOSING, RECOUNT_LINK, RECOUNT_OPENING, TEXT,
 };
 use pb_core::no_memory::NoMemory;
-use pb_markup::{Place, Value};
 use pb_rounds::measure::Measure;
 use pb_rounds::options::{Completion, CountOptions};
 use std::alloc::Global;
@@ -41,8 +41,8 @@ fn put_sources(
     page: &mut Vec<u8>,
     alloc: Global,
     language: &Language,
-    file: Source<'_>,
-    journal: Option<Source<'_>>,
+    file: ReadText<'_>,
+    journal: Option<ReadText<'_>>,
 ) -> Result<(), NoMemory>
     ensures { OnOk result (Grows page.old.items page.new.items (sources language.now file.entry journal.entry)) }
 {
@@ -72,7 +72,7 @@ fn put_heading(page: &mut Vec<u8>, alloc: Global, language: &Language) -> Result
 fn put_journal(
     page: &mut Vec<u8>,
     alloc: Global,
-    journal: Option<Source<'_>>,
+    journal: Option<ReadText<'_>>,
 ) -> Result<(), NoMemory>
     ensures { OnOk result (Grows page.old.items page.new.items (journal_source journal.entry)) }
 {
@@ -87,7 +87,7 @@ fn put_source(
     page: &mut Vec<u8>,
     alloc: Global,
     piece: &'static str,
-    source: Source<'_>,
+    source: ReadText<'_>,
 ) -> Result<(), NoMemory>
     ensures { OnOk result (Grows page.old.items page.new.items (named piece.now source.entry ∷ [])) }
 {
@@ -183,7 +183,7 @@ fn put_command(
 fn put_program(
     page: &mut Vec<u8>,
     alloc: Global,
-    journal: Option<Source<'_>>,
+    journal: Option<ReadText<'_>>,
 ) -> Result<(), NoMemory>
     ensures { OnOk result (Grows page.old.items page.new.items (recounting journal.entry)) }
 {

@@ -8,11 +8,11 @@ ghost use Rattle.pb_page.specs.Page.{besides, compared, compared_row};
 use crate::facts::Facts;
 use crate::keys;
 use crate::language::Language;
+use crate::markup::Value;
 use crate::put::put;
 use crate::templates::{COMPARED_OPENING, COMPARED_ROW, TABLE_CLOSING};
 use pb_core::election::Election;
 use pb_core::no_memory::NoMemory;
-use pb_markup::Value;
 use pb_reasons::{Comparison, Counted, RuleRow, compare_with_votes};
 use std::alloc::Global;
 

@@ -6,7 +6,7 @@ use pb_rounds::options::CountOptions;
 
 /// A text that was read.
 #[derive(Clone, Copy)]
-pub struct Source<'a> {
+pub struct ReadText<'a> {
     /// The name of its file.
     pub name: &'a str,
     /// The SHA-256 of its bytes, in hexadecimal.
@@ -19,9 +19,9 @@ pub struct Facts<'a> {
     /// What was voted on.
     pub title: &'a str,
     /// The file that was counted.
-    pub file: Source<'a>,
+    pub file: ReadText<'a>,
     /// The journal that left the ballots, if there is one.
-    pub journal: Option<Source<'a>>,
+    pub journal: Option<ReadText<'a>>,
     /// Where a page lies that recounts in a browser, if one does.
     pub recount: Option<&'a str>,
     /// How it was counted.

@@ -1,12 +1,15 @@
 //! How many of each voter's choices won.
 
-ghost use Rattle.std.specs.Prelude.{◌≡◌, ◌<◌, ◌^◌, IfOk, length};
+ghost use Rattle.std.specs.Prelude.{◌≡◌, ◌<◌, ◌^◌, IfOk, length, map};
+ghost use Rattle.std.specs.List.{range_with_len};
 ghost use Rattle.pb_page.specs.Page.{at_least, exactly, won_by_voter};
+ghost use Rattle.pb_price.specs.Supporters.{ballot_at};
+ghost use Rattle.pb_reasons.specs.Comparison.{choices_of};
 ghost use Rattle.pb_reasons.specs.Counted.{IsCounted};
 
 use pb_core::election::Election;
 use pb_core::no_memory::NoMemory;
-use pb_reasons::{Counted, VoterTeller};
+use pb_reasons::{Counted, Winners};
 use std::alloc::Global;
 
 /// How many of each voter's choices won, voters in the order of the file.
@@ -18,28 +21,23 @@ pub(crate) fn won_by_voter(
     requires { IsCounted election.now counted.now }
     ensures { IfOk result (λ won. won.items ≡ won_by_voter election.now counted.now) }
 {
-    let mut teller = VoterTeller::of(alloc, election, counted)?;
-    let won = won_told(alloc, election, &mut teller);
-    drop(teller);
+    // What is true of every election is true of its winners.
+    let _budget = election.budget();
+    let places = counted.winners(alloc)?;
+    let won = choices_among(alloc, election, places.as_slice());
+    drop(places);
     won
 }
 
-/// The same, as it is told.
-fn won_told(
-    alloc: Global,
-    election: &Election,
-    teller: &mut VoterTeller,
-) -> Result<Vec<u32>, NoMemory>
-    requires { teller.old.0 ≡ election.now }
-    ensures { IfOk result (λ won. won.items ≡ won_by_voter election.now teller.old.1) }
+/// How many of each voter's choices are among these places, voters in the order of the file.
+fn choices_among(alloc: Global, election: &Election, places: &[u32]) -> Result<Vec<u32>, NoMemory>
+    ensures { IfOk result (λ won. won.items ≡ map (λ voter. choices_of places.now (ballot_at election.now voter))
+        (range_with_len 0 (length election.now.voters))) }
 {
-    let mut payments = Vec::new(alloc);
-    let mut won = Vec::new(alloc);
-    for voter in 0..election.voters().len() {
-        let reason = teller.tell(voter as u32, &mut payments)?;
-        won.push(reason.elected)?;
-    }
-    Ok(won)
+    let winners = Winners::of(alloc, election, places)?;
+    let won = winners.choices_by_voter(alloc);
+    drop(winners);
+    won
 }
 
 /// On how many ballots so many choices won.

@@ -1,10 +1,10 @@
 //! The language of a page.
 
 ghost use Rattle.std.specs.Prelude.{◌≡◌};
-ghost use Rattle.pb_markup.specs.Words.{noun};
+ghost use Rattle.pb_page.specs.Words.{noun};
 ghost use Rattle.pb_page.specs.Page.{at};
 
-use pb_markup::{Form, Words};
+use crate::markup::{Form, Words};
 
 /// What a page says, and how it shows amounts.
 #[derive(Clone, Copy)]

@@ -3,7 +3,7 @@
 ghost use Rattle.std.specs.Prelude.{◌≡◌, ◌<◌, ◌++◌, All, IfOk, OnOk, length};
 ghost use Rattle.pb_page.specs.Inner.Grown.{Grows};
 ghost use Rattle.pb_page.specs.Inner.Pieces.{KnowsPlaces, the_budget, the_parts, the_projects};
-ghost use Rattle.pb_page.specs.Page.{IsPage, added, blocks, others, winners, won_by_voter};
+ghost use Rattle.pb_page.specs.Page.{IsPage, added, blocks, others, winners};
 ghost use Rattle.pb_reasons.specs.Counted as counting;
 ghost use Rattle.pb_reasons.specs.Counted.{IsCounted, winners_of};
 ghost use Rattle.pb_reasons.specs.RaiseEnd.{IsRaiseEnd};
@@ -15,8 +15,8 @@ use crate::check::put_check;
 use crate::compared::put_besides;
 use crate::facts::Facts;
 use crate::figures::Figures;
-use crate::histogram::won_by_voter;
 use crate::language::Language;
+use crate::markup::Form;
 use crate::others::put_others;
 use crate::rule::put_rule;
 use crate::ties::put_ties;
@@ -25,7 +25,6 @@ use crate::voters::put_voters;
 use crate::winners::put_winners;
 use pb_core::election::Election;
 use pb_core::no_memory::NoMemory;
-use pb_markup::Form;
 use pb_reasons::{Counted, ProjectTeller, RaiseEnd};
 use std::alloc::Global;
 
@@ -46,33 +45,33 @@ pub fn page_of(
     requires ended { IsRaiseEnd election.now facts.now.options counted.now.outcome end.now }
     ensures { IfOk result (λ text. IsPage election.now facts.now text.items) }
 {
-    let won = won_by_voter(alloc, election, counted)?;
-    let page = page_with(alloc, election, counted, facts, end, won.as_slice());
-    drop(won);
+    let teller = ProjectTeller::of(alloc, election, counted)?;
+    let page = page_with(alloc, election, counted, facts, end, &teller);
+    drop(teller);
     page
 }
 
-/// The same, where so many choices of each voter won.
+/// The same, by what tells of the projects. It also lends their supporters to whatever needs them.
 fn page_with(
     alloc: Global,
     election: &Election,
     counted: &Counted,
     facts: &Facts,
     end: &RaiseEnd,
-    won: &[u32],
+    teller: &ProjectTeller,
 ) -> Result<Vec<u8>, NoMemory>
     requires counted { IsCountOf election.now facts.now.options counted.now.outcome }
     requires filled { counted.now ≡ counting.counted election.now facts.now.fills_up counted.now.outcome }
     requires ended { IsRaiseEnd election.now facts.now.options counted.now.outcome end.now }
-    requires won { won.now ≡ won_by_voter election.now counted.now }
+    requires own { teller.now ≡ (election.now, counted.now) }
     ensures { IfOk result (λ text. IsPage election.now facts.now text.items) }
 {
     let mut page = Vec::new(alloc);
-    put_all(&mut page, alloc, election, counted, facts, end, won)?;
+    put_all(&mut page, alloc, election, counted, facts, end, teller)?;
     Ok(page)
 }
 
-/// All pieces of a page; so many choices of each voter won.
+/// All pieces of a page.
 fn put_all(
     page: &mut Vec<u8>,
     alloc: Global,
@@ -80,18 +79,18 @@ fn put_all(
     counted: &Counted,
     facts: &Facts,
     end: &RaiseEnd,
-    won: &[u32],
+    teller: &ProjectTeller,
 ) -> Result<(), NoMemory>
     requires counted { IsCounted election.now counted.now }
     requires ended { KnowsPlaces election.now end.now }
-    requires won { won.now ≡ won_by_voter election.now counted.now }
+    requires own { teller.now ≡ (election.now, counted.now) }
     ensures { OnOk result (Grows page.old.items page.new.items (the_parts election.now counted.now facts.now end.now)) }
 {
     let language = &facts.language;
     put_budget(page, alloc, language, election, counted, facts.title)?;
-    put_projects(page, alloc, language, election, counted)?;
+    put_projects(page, alloc, facts, election, teller, counted)?;
     put_categories(page, alloc, election, counted, facts)?;
-    put_voters(page, alloc, language, won)?;
+    put_voters(page, alloc, language, election, counted)?;
     put_besides(page, alloc, election, counted, facts)?;
     put_rule(page, alloc, election, facts, counted, end)?;
     put_ties(
@@ -100,6 +99,7 @@ fn put_all(
         language,
         facts.options.measure,
         election,
+        teller.supporters(),
         counted,
     )?;
     put_check(page, alloc, language, facts)
@@ -130,27 +130,26 @@ fn put_budget(
 fn put_projects(
     page: &mut Vec<u8>,
     alloc: Global,
-    language: &Language,
+    facts: &Facts,
     election: &Election,
+    teller: &ProjectTeller,
     counted: &Counted,
 ) -> Result<(), NoMemory>
-    requires { IsCounted election.now counted.now }
+    requires counted { IsCounted election.now counted.now }
+    requires own { teller.now ≡ (election.now, counted.now) }
     ensures { OnOk result (Grows page.old.items page.new.items
-        (the_projects language.now election.now counted.now)) }
+        (the_projects facts.now election.now counted.now)) }
 {
     // What is true of every election is true of the places of its elected projects.
     let _budget = election.budget();
-    let teller = ProjectTeller::of(alloc, election, counted)?;
-    let put = put_told(page, alloc, language, election, &teller, counted);
-    drop(teller);
-    put
+    put_told(page, alloc, facts, election, teller, counted)
 }
 
-/// The same, as it is told.
+/// The same, where the places of the elected and of the added are known.
 fn put_told(
     page: &mut Vec<u8>,
     alloc: Global,
-    language: &Language,
+    facts: &Facts,
     election: &Election,
     teller: &ProjectTeller,
     counted: &Counted,
@@ -159,13 +158,13 @@ fn put_told(
     requires elected { All (λ w. w.place < length election.now.projects) counted.now.outcome.elected }
     requires added { All (λ place. place < length election.now.projects) counted.now.added }
     ensures { OnOk result (Grows page.old.items page.new.items
-        (winners language.now election.now counted.now
-        ++ (added language.now election.now counted.now ++ others language.now election.now counted.now))) }
+        (winners facts.now election.now counted.now
+        ++ (added facts.now election.now counted.now ++ others facts.now election.now counted.now))) }
 {
-    put_winners(page, alloc, language, election, teller, counted)?;
-    put_added(page, alloc, language, election, teller, counted)?;
+    put_winners(page, alloc, facts, election, teller, counted)?;
+    put_added(page, alloc, facts, election, teller, counted)?;
     let won = counted.outcome.elected.len() + counted.added.len();
-    put_others(page, alloc, language, election, teller, won)
+    put_others(page, alloc, facts, election, teller, won)
 }
 
 /// The blocks of the winners.

@@ -3,23 +3,25 @@
 ghost use Rattle.std.specs.Prelude.{◌≡◌, [], ◌∷◌, OnOk, flat_map, length};
 ghost use Rattle.std.specs.List.{range_with_len};
 ghost use Rattle.pb_page.specs.Inner.Grown.{Grows};
-ghost use Rattle.pb_page.specs.Inner.Pieces.{lost_figures, lost_rows, other_table, others_head};
+ghost use Rattle.pb_page.specs.Inner.Pieces.{lost_cells, lost_figures, lost_rows, other_table, others_head};
 ghost use Rattle.pb_page.specs.declared.keys.TheConstants as key;
 ghost use Rattle.pb_page.specs.declared.templates.TheConstants.{NONE_LOST};
-ghost use Rattle.pb_markup.specs.Amount.{shown};
+ghost use Rattle.pb_page.specs.Amount.{shown};
 ghost use Rattle.pb_reasons.specs.Counted.{winners_of};
 ghost use Rattle.pb_page.specs.Page.{at, filling, lost_row, others, say, text};
 
+use crate::facts::Facts;
 use crate::forms::width;
 use crate::keys;
 use crate::language::Language;
+use crate::markup::{Place, Value};
+use crate::own_category::{put_head_end, put_row_end};
 use crate::put::{put, say};
 use crate::templates::{NONE_LOST, OTHER, OTHER_CLOSING, OTHERS_OPENING, TABLE_CLOSING, TEXT};
 use pb_core::election::Election;
 use pb_core::money::Money;
 use pb_core::no_memory::NoMemory;
 use pb_core::project::Project;
-use pb_markup::{Place, Value};
 use pb_reasons::{Ending, Lost, ProjectReason, ProjectTeller};
 use std::alloc::Global;
 
@@ -27,19 +29,19 @@ use std::alloc::Global;
 pub(crate) fn put_others(
     page: &mut Vec<u8>,
     alloc: Global,
-    language: &Language,
+    facts: &Facts,
     election: &Election,
     teller: &ProjectTeller,
     won: usize,
 ) -> Result<(), NoMemory>
     requires own { teller.now.0 ≡ election.now }
     requires won { won ≡ length (winners_of teller.now.1) }
-    ensures { OnOk result (Grows page.old.items page.new.items (others language.now election.now teller.now.1)) }
+    ensures { OnOk result (Grows page.old.items page.new.items (others facts.now election.now teller.now.1)) }
 {
     if won == election.projects().len() {
-        return put_none(page, alloc, language);
+        return put_none(page, alloc, &facts.language);
     }
-    put_table(page, alloc, language, election, teller)
+    put_table(page, alloc, facts, election, teller)
 }
 
 /// That there are none.
@@ -82,15 +84,16 @@ fn put_table_head(page: &mut Vec<u8>, alloc: Global, language: &Language) -> Res
 fn put_table(
     page: &mut Vec<u8>,
     alloc: Global,
-    language: &Language,
+    facts: &Facts,
     election: &Election,
     teller: &ProjectTeller,
 ) -> Result<(), NoMemory>
     requires { teller.now.0 ≡ election.now }
-    ensures { OnOk result (Grows page.old.items page.new.items (other_table language.now election.now teller.now.1)) }
+    ensures { OnOk result (Grows page.old.items page.new.items (other_table facts.now election.now teller.now.1)) }
 {
-    put_table_head(page, alloc, language)?;
-    put_rows(page, alloc, language, election, teller)?;
+    put_table_head(page, alloc, &facts.language)?;
+    put_head_end(page, alloc, facts)?;
+    put_rows(page, alloc, facts, election, teller)?;
     put(page, alloc, TABLE_CLOSING, &[])
 }
 
@@ -98,18 +101,18 @@ fn put_table(
 fn put_rows(
     page: &mut Vec<u8>,
     alloc: Global,
-    language: &Language,
+    facts: &Facts,
     election: &Election,
     teller: &ProjectTeller,
 ) -> Result<(), NoMemory>
     requires { teller.now.0 ≡ election.now }
     ensures { OnOk result (Grows page.old.items page.new.items
-        (flat_map (lost_rows language.now election.now teller.now.1) (range_with_len 0 (length election.now.projects)))) }
+        (flat_map (lost_rows facts.now election.now teller.now.1) (range_with_len 0 (length election.now.projects)))) }
 {
     let projects = election.projects();
     for place in 0..projects.len() {
         let reason = teller.tell(place as u32);
-        put_row(page, alloc, language, &projects[place], &reason)?;
+        put_row(page, alloc, facts, place as u32, &projects[place], &reason)?;
     }
     Ok(())
 }
@@ -119,15 +122,16 @@ fn put_rows(
 fn put_row(
     page: &mut Vec<u8>,
     alloc: Global,
-    language: &Language,
+    facts: &Facts,
+    place: u32,
     project: &Project,
     reason: &ProjectReason,
 ) -> Result<(), NoMemory>
-    ensures { OnOk result (Grows page.old.items page.new.items (lost_row language.now project.now reason.now.votes reason.now.ending)) }
+    ensures { OnOk result (Grows page.old.items page.new.items (lost_row facts.now place project.now reason.now.votes reason.now.ending)) }
 {
     match &reason.ending {
         Ending::Won(_) | Ending::Added(_) => Ok(()),
-        Ending::Lost(lost) => put_lost(page, alloc, language, project, reason.votes, lost),
+        Ending::Lost(lost) => put_lost(page, alloc, facts, place, project, reason.votes, lost),
     }
 }
 
@@ -135,12 +139,28 @@ fn put_row(
 fn put_lost(
     page: &mut Vec<u8>,
     alloc: Global,
+    facts: &Facts,
+    place: u32,
+    project: &Project,
+    votes: u32,
+    lost: &Lost,
+) -> Result<(), NoMemory>
+    ensures { OnOk result (Grows page.old.items page.new.items (lost_row facts.now place project.now votes (Ending.Lost lost.now))) }
+{
+    put_lost_cells(page, alloc, &facts.language, project, votes, lost)?;
+    put_row_end(page, alloc, facts, place)
+}
+
+/// The row up to its end.
+fn put_lost_cells(
+    page: &mut Vec<u8>,
+    alloc: Global,
     language: &Language,
     project: &Project,
     votes: u32,
     lost: &Lost,
 ) -> Result<(), NoMemory>
-    ensures { OnOk result (Grows page.old.items page.new.items (lost_row language.now project.now votes (Ending.Lost lost.now))) }
+    ensures { OnOk result (Grows page.old.items page.new.items (lost_cells language.now project.now votes lost.now)) }
 {
     put_figures(page, alloc, language, project, votes, lost)?;
     put_missing(page, alloc, language, lost.missing)?;

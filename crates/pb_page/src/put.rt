@@ -1,14 +1,14 @@
 //! A page that grows by pieces.
 
 ghost use Rattle.std.specs.Prelude.{[], ◌∷◌, OnOk, map};
-ghost use Rattle.pb_markup.specs.Filling.{text_of};
-ghost use Rattle.pb_markup.specs.Sentence.{at_place};
+ghost use Rattle.pb_page.specs.Filling.{text_of};
+ghost use Rattle.pb_page.specs.Sentence.{at_place};
 ghost use Rattle.pb_page.specs.Inner.Grown.{Grows};
 ghost use Rattle.pb_page.specs.Page.{filling, say};
 
 use crate::language::Language;
+use crate::markup::{Place, Value, fill};
 use pb_core::no_memory::NoMemory;
-use pb_markup::{Place, Value, fill};
 use std::alloc::Global;
 
 /// Puts a piece after a page, filled with these values.
@@ -34,6 +34,6 @@ pub(crate) fn say(
 ) -> Result<(), NoMemory>
     ensures { OnOk result (Grows page.old.items page.new.items (say language.now key (map at_place places.now))) }
 {
-    pb_markup::say(page, alloc, language.text(key), places)?;
+    crate::markup::say(page, alloc, language.text(key), places)?;
     Ok(())
 }

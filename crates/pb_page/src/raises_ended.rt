@@ -9,14 +9,14 @@ ghost use Rattle.pb_page.specs.declared.templates.TheConstants.{ONLY_THEN_OPENIN
 
 use crate::keys;
 use crate::language::Language;
+use crate::markup::{Place, Value};
 use crate::put::{put, say};
 use crate::rule::put_item;
-use crate::templates::{AMOUNT, ITEM_OPENING, ONLY_THEN, ONLY_THEN_CLOSING, ONLY_THEN_OPENING};
+use crate::templates::{AMOUNT, ITEM_OPENING, LIST_CLOSING, ONLY_THEN, ONLY_THEN_OPENING};
 use pb_core::election::Election;
 use pb_core::money::Money;
 use pb_core::no_memory::NoMemory;
 use pb_core::project::Project;
-use pb_markup::{Place, Value};
 use pb_reasons::{NextRaise, RaiseEnd};
 use std::alloc::Global;
 
@@ -52,7 +52,7 @@ fn put_over(
 {
     put_sentence(page, alloc, language, next.share, next.cost)?;
     put_projects(page, alloc, language, election, next.only_then.as_slice())?;
-    put(page, alloc, ONLY_THEN_CLOSING, &[])
+    put(page, alloc, LIST_CLOSING, &[])
 }
 
 /// That it would cost more than the budget, and the head of the list of projects.

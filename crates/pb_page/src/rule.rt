@@ -2,7 +2,7 @@
 
 ghost use Rattle.std.specs.Prelude.{◌≡◌, [], ◌∷◌, OnOk, codes};
 ghost use Rattle.pb_core.specs.MoneyText.{money_text};
-ghost use Rattle.pb_markup.specs.Amount.{shown};
+ghost use Rattle.pb_page.specs.Amount.{shown};
 ghost use Rattle.pb_page.specs.Inner.Grown.{Grows};
 ghost use Rattle.pb_page.specs.Inner.Pieces.{KnowsPlaces, filled_up, item, method, method_said, order, raises, rounds_said, share_rule, the_rule};
 ghost use Rattle.pb_page.specs.Page.{amount, at, filling, noun_at, number, say};
@@ -12,13 +12,13 @@ ghost use Rattle.pb_page.specs.declared.templates.TheConstants.{NAMELESS, RULE_N
 use crate::facts::Facts;
 use crate::keys;
 use crate::language::Language;
+use crate::markup::{Place, Value};
 use crate::put::{put, say};
 use crate::raises_ended::put_end;
 use crate::templates::{AMOUNT, ITEM, NAMELESS, NUMBER, RULE_NEXT, RULE_OPENING, TEXT};
 use pb_core::election::Election;
 use pb_core::money::Money;
 use pb_core::no_memory::NoMemory;
-use pb_markup::{Place, Value};
 use pb_reasons::{Counted, RaiseEnd};
 use pb_rounds::measure::Measure;
 use pb_rounds::options::{Completion, CountOptions};

@@ -3,10 +3,10 @@
 ghost use Rattle.std.specs.Prelude.{◌≡◌, unwrap_or};
 
 use crate::keys;
+use crate::markup::Plural;
 use crate::sentence::{is_plain, with_places};
 use crate::table::{Entry, entries, entry_at, entry_of};
 use crate::words_fault::{Key, WordsFault, WordsLine};
-use pb_markup::Plural;
 use std::alloc::Global;
 use std::{mem, str};
 

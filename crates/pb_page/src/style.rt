@@ -73,7 +73,11 @@ code { font: .9rem/1.5 ui-monospace, 'DejaVu Sans Mono', Consolas, monospace; }
 pre { margin: .5rem 0; padding: .75rem; background: var(--track); border-radius: .35rem; white-space: pre-wrap; }
 @media (min-width: 44rem) {
   .wide thead .n { width: 7.5rem; }
-  .wide thead .round { width: 5rem; }
+  .wide thead .round { width: 6rem; }
+  .wide thead .category { width: 16%; }
+}
+@media (min-width: 44rem) and (max-width: 55.99rem) {
+  .wide thead:has(.category) .n:not(.round) { width: 6rem; }
 }
 @media (max-width: 43.99rem) {
   .wide, .wide caption, .wide tbody { display: block; }
@@ -83,7 +87,7 @@ pre { margin: .5rem 0; padding: .75rem; background: var(--track); border-radius:
   .wide tbody th { grid-column: 1 / -1; grid-row: 1; padding-bottom: .35rem; }
   .wide td { grid-column: 1 / -1; display: flex; justify-content: space-between; gap: 1rem; }
   .wide td::before { content: attr(data-label); content: attr(data-label) / ''; color: var(--soft); font-size: .9rem; text-align: start; white-space: normal; overflow-wrap: anywhere; hyphens: auto; }
-  .wide td data { flex: none; max-width: 70%; }
+  .wide td data, .wide td bdi { flex: none; max-width: 70%; }
 }
 @media print {
   :root {

@@ -52,20 +52,34 @@ pub(crate) const BUDGET_CLOSING: &str = "</figcaption>
 </section>
 ";
 
-/// The head of the table of winners. Values: its heading and caption, and the heads of its columns.
+/// The head of the column of categories in a table of projects. Value: the head.
+pub(crate) const HEAD_CATEGORY: &str =
+    "<th role='columnheader' scope='col' class='category'>~</th>";
+
+/// What stands behind the heads of the columns of such a table.
+pub(crate) const HEAD_CLOSING: &str = "</tr></thead>
+<tbody role='rowgroup'>
+";
+
+/// The category of a project, in its row. Values: the label, and the category.
+pub(crate) const ROW_CATEGORY: &str = "<td role='cell' data-label='~'><bdi dir='auto'>~</bdi></td>";
+
+/// The end of a project's row.
+pub(crate) const ROW_CLOSING: &str = "</tr>
+";
+
+/// The head of the table of winners, up to its last column. Values: its heading and caption, and the heads of its
+/// columns.
 pub(crate) const WINNERS_OPENING: &str = "<section class='won' aria-labelledby='winners'>
 <h2 id='winners'>~</h2>
 <table class='wide' role='table'>
 <caption role='caption'>~</caption>
-<thead role='rowgroup'><tr role='row'><th role='columnheader' scope='col' class='n round'>~</th><th role='columnheader' scope='col'>~</th><th role='columnheader' scope='col' class='n'>~</th><th role='columnheader' scope='col' class='n'>~</th><th role='columnheader' scope='col' class='n'>~</th><th role='columnheader' scope='col' class='n'>~</th></tr></thead>
-<tbody role='rowgroup'>
-";
+<thead role='rowgroup'><tr role='row'><th role='columnheader' scope='col' class='n round'>~</th><th role='columnheader' scope='col'>~</th><th role='columnheader' scope='col' class='n'>~</th><th role='columnheader' scope='col' class='n'>~</th><th role='columnheader' scope='col' class='n'>~</th><th role='columnheader' scope='col' class='n'>~</th>";
 
-/// A winner. Values: id, round with its label, id again, name, width of its bar, cost, votes, price, how many paid it in full, each of
-/// these with its label before it, and an amount also as it is shown.
+/// A winner, up to the end of the row. Values: id, round with its label, id again, name, width of its bar, cost, votes,
+/// price, how many paid it in full, each of these with its label before it, and an amount also as it is shown.
 pub(crate) const WINNER: &str =
-    "<tr role='row' data-project='~'><td role='cell' class='n' data-label='~'><data class='round' value='^'>~</data></td><th role='rowheader' scope='row'><span class='id' dir='auto'>~</span> <bdi dir='auto'>~</bdi><svg class='bar' viewBox='0 0 10000 1' preserveAspectRatio='none' aria-hidden='true'><rect width='~' height='1'/></svg></th><td role='cell' class='n' data-label='~'><data class='cost' value='~'>~</data></td><td role='cell' class='n' data-label='~'><data class='votes' value='^'>~</data></td><td role='cell' class='n' data-label='~'><data class='price' value='~'>~</data></td><td role='cell' class='n' data-label='~'><data class='in_full' value='^'>~</data></td></tr>
-";
+    "<tr role='row' data-project='~'><td role='cell' class='n' data-label='~'><data class='round' value='^'>~</data></td><th role='rowheader' scope='row'><span class='id' dir='auto'>~</span> <bdi dir='auto'>~</bdi><svg class='bar' viewBox='0 0 10000 1' preserveAspectRatio='none' aria-hidden='true'><rect width='~' height='1'/></svg></th><td role='cell' class='n' data-label='~'><data class='cost' value='~'>~</data></td><td role='cell' class='n' data-label='~'><data class='votes' value='^'>~</data></td><td role='cell' class='n' data-label='~'><data class='price' value='~'>~</data></td><td role='cell' class='n' data-label='~'><data class='in_full' value='^'>~</data></td>";
 
 /// The winners where there are none. Values: the heading, and that.
 pub(crate) const NONE_WON: &str = "<section aria-labelledby='winners'>
@@ -74,28 +88,26 @@ pub(crate) const NONE_WON: &str = "<section aria-labelledby='winners'>
 </section>
 ";
 
-/// The head of the table of the added. Values: its heading and caption, and the heads of its columns.
+/// The head of the table of the added, up to its last column. Values: its heading and caption, and the heads of its
+/// columns.
 pub(crate) const ADDED_OPENING: &str = "<section class='won' aria-labelledby='added'>
 <h2 id='added'>~</h2>
 <table class='wide' role='table'>
 <caption role='caption'>~</caption>
-<thead role='rowgroup'><tr role='row'><th role='columnheader' scope='col' class='n round'>~</th><th role='columnheader' scope='col'>~</th><th role='columnheader' scope='col' class='n'>~</th><th role='columnheader' scope='col' class='n'>~</th></tr></thead>
-<tbody role='rowgroup'>
-";
+<thead role='rowgroup'><tr role='row'><th role='columnheader' scope='col' class='n round'>~</th><th role='columnheader' scope='col'>~</th><th role='columnheader' scope='col' class='n'>~</th><th role='columnheader' scope='col' class='n'>~</th>";
 
-/// An added project. Values: id, number with its label, id again, name, width of its bar, cost and votes with their labels.
+/// An added project, up to the end of the row. Values: id, number with its label, id again, name, width of its bar, cost
+/// and votes with their labels.
 pub(crate) const ADDED: &str =
-    "<tr role='row' data-project='~'><td role='cell' class='n' data-label='~'><data class='added' value='^'>~</data></td><th role='rowheader' scope='row'><span class='id' dir='auto'>~</span> <bdi dir='auto'>~</bdi><svg class='bar' viewBox='0 0 10000 1' preserveAspectRatio='none' aria-hidden='true'><rect width='~' height='1'/></svg></th><td role='cell' class='n' data-label='~'><data class='cost' value='~'>~</data></td><td role='cell' class='n' data-label='~'><data class='votes' value='^'>~</data></td></tr>
-";
+    "<tr role='row' data-project='~'><td role='cell' class='n' data-label='~'><data class='added' value='^'>~</data></td><th role='rowheader' scope='row'><span class='id' dir='auto'>~</span> <bdi dir='auto'>~</bdi><svg class='bar' viewBox='0 0 10000 1' preserveAspectRatio='none' aria-hidden='true'><rect width='~' height='1'/></svg></th><td role='cell' class='n' data-label='~'><data class='cost' value='~'>~</data></td><td role='cell' class='n' data-label='~'><data class='votes' value='^'>~</data></td>";
 
-/// The head of the table of the others. Values: its heading and caption, and the heads of its columns.
+/// The head of the table of the others, up to its last column. Values: its heading and caption, and the heads of its
+/// columns.
 pub(crate) const OTHERS_OPENING: &str = "<section class='lost' aria-labelledby='others'>
 <h2 id='others'>~</h2>
 <table class='wide' role='table'>
 <caption role='caption'>~</caption>
-<thead role='rowgroup'><tr role='row'><th role='columnheader' scope='col'>~</th><th role='columnheader' scope='col' class='n'>~</th><th role='columnheader' scope='col' class='n'>~</th><th role='columnheader' scope='col' class='n'>~</th><th role='columnheader' scope='col' class='n'>~</th></tr></thead>
-<tbody role='rowgroup'>
-";
+<thead role='rowgroup'><tr role='row'><th role='columnheader' scope='col'>~</th><th role='columnheader' scope='col' class='n'>~</th><th role='columnheader' scope='col' class='n'>~</th><th role='columnheader' scope='col' class='n'>~</th><th role='columnheader' scope='col' class='n'>~</th>";
 
 /// A project that did not win, up to what is said of what is missing. Values: id, name, width of its bar; cost, votes and what
 /// its supporters have left, with their labels; the label of what is missing, and that for programs.
@@ -103,8 +115,7 @@ pub(crate) const OTHER: &str =
     "<tr role='row' data-project='^'><th role='rowheader' scope='row'><span class='id' dir='auto'>~</span> <bdi dir='auto'>~</bdi><svg class='bar' viewBox='0 0 10000 1' preserveAspectRatio='none' aria-hidden='true'><rect width='~' height='1'/></svg></th><td role='cell' class='n' data-label='~'><data class='cost' value='~'>~</data></td><td role='cell' class='n' data-label='~'><data class='votes' value='^'>~</data></td><td role='cell' class='n' data-label='~'><data class='left' value='~'>~</data></td><td role='cell' class='n' data-label='~'><data class='missing' value='~'>";
 
 /// What stands behind that.
-pub(crate) const OTHER_CLOSING: &str = "</data></td></tr>
-";
+pub(crate) const OTHER_CLOSING: &str = "</data></td>";
 
 /// The other projects where there are none. Values: the heading, and that.
 pub(crate) const NONE_LOST: &str = "<section aria-labelledby='others'>
@@ -195,19 +206,16 @@ pub(crate) const TIES_OPENING: &str = "<li>~
 <ul class='ties'>
 ";
 
-/// What stands before a tie, and behind it.
-pub(crate) const TIE_OPENING: &str = "<li>";
+/// What stands before a sentence of a list that has places, and behind it where nothing else does.
+pub(crate) const ITEM_OPENING: &str = "<li>";
 
-pub(crate) const TIE_CLOSING: &str = "</li>
+pub(crate) const ITEM_CLOSING: &str = "</li>
 ";
 
-/// The end of the list of ties.
-pub(crate) const TIES_CLOSING: &str = "</ul>
+/// The end of a list that is itself an item of a list.
+pub(crate) const LIST_CLOSING: &str = "</ul>
 </li>
 ";
-
-/// What stands before a sentence of a list that has places.
-pub(crate) const ITEM_OPENING: &str = "<li>";
 
 /// What stands behind such a sentence, before a list of projects. Value: what is said of these.
 pub(crate) const ONLY_THEN_OPENING: &str = "</li>
@@ -218,11 +226,6 @@ pub(crate) const ONLY_THEN_OPENING: &str = "</li>
 /// A project of that list. Values: its id and its name, and its cost, for programs and as it is shown.
 pub(crate) const ONLY_THEN: &str =
     "<li><span class='id' dir='auto'>~</span> <bdi dir='auto'>~</bdi> (<data value='~'>~</data>)</li>
-";
-
-/// The end of that list.
-pub(crate) const ONLY_THEN_CLOSING: &str = "</ul>
-</li>
 ";
 
 /// The head of what was counted. Values: the heading, and what is said of the bytes.

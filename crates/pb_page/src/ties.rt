@@ -6,35 +6,39 @@ ghost use Rattle.pb_page.specs.Inner.Pieces.{tie_list, tie_said};
 ghost use Rattle.pb_page.specs.Page.{at, by_measure, called, filling, project_at, tie, ties};
 ghost use Rattle.pb_page.specs.declared.keys.TheConstants as key;
 ghost use Rattle.pb_page.specs.declared.templates.TheConstants.{TIES_OPENING};
+ghost use Rattle.pb_price.specs.Supporters.{support_of};
 ghost use Rattle.pb_reasons.specs.Counted.{IsCounted};
 ghost use Rattle.pb_reasons.specs.Ties.{ties_of};
 
 use crate::forms::called;
 use crate::keys;
 use crate::language::Language;
+use crate::markup::{Place, Value};
 use crate::put::{put, say};
-use crate::templates::{CALLED, NUMBER, TIE_CLOSING, TIE_OPENING, TIES_CLOSING, TIES_OPENING};
+use crate::templates::{CALLED, ITEM_CLOSING, ITEM_OPENING, LIST_CLOSING, NUMBER, TIES_OPENING};
 use pb_core::election::Election;
 use pb_core::no_memory::NoMemory;
-use pb_markup::{Place, Value};
+use pb_price::supporters::Supporters;
 use pb_reasons::{Counted, Tie, ties_of};
 use pb_rounds::measure::Measure;
 use std::alloc::Global;
 
-/// The ties of a count by this measure; nothing where there are none.
+/// The ties of a count by this measure, with these supporters of its projects; nothing where there are none.
 pub(crate) fn put_ties(
     page: &mut Vec<u8>,
     alloc: Global,
     language: &Language,
     measure: Measure,
     election: &Election,
+    supporters: &Supporters,
     counted: &Counted,
 ) -> Result<(), NoMemory>
-    requires { IsCounted election.now counted.now }
+    requires counted { IsCounted election.now counted.now }
+    requires supporters { supporters.now ≡ support_of election.now }
     ensures { OnOk result (Grows page.old.items page.new.items
         (ties language.now measure election.now (ties_of measure election.now counted.now.outcome))) }
 {
-    let told = ties_of(alloc, election, measure, &counted.outcome)?;
+    let told = ties_of(alloc, election, supporters, measure, &counted.outcome)?;
     let put = put_list(page, alloc, language, measure, election, told.as_slice());
     drop(told);
     put
@@ -71,7 +75,7 @@ fn put_some(
 {
     put_heading(page, alloc, language)?;
     put_each(page, alloc, language, measure, election, told)?;
-    put(page, alloc, TIES_CLOSING, &[])
+    put(page, alloc, LIST_CLOSING, &[])
 }
 
 /// What heads them.
@@ -117,7 +121,7 @@ fn put_tie(
 {
     let winner = called_at(election, told.winner);
     let other = called_at(election, told.other);
-    put(page, alloc, TIE_OPENING, &[])?;
+    put(page, alloc, ITEM_OPENING, &[])?;
     say_tie(
         page,
         alloc,
@@ -127,7 +131,7 @@ fn put_tie(
         winner,
         other,
     )?;
-    put(page, alloc, TIE_CLOSING, &[])
+    put(page, alloc, ITEM_CLOSING, &[])
 }
 
 /// What is said of a tie between projects that are called so.

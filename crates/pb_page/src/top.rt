@@ -1,7 +1,7 @@
 //! The top of a page, and the picture of the budget.
 
 ghost use Rattle.std.specs.Prelude.{◌≡◌, [], ◌∷◌, ◌<◌, ◌^◌, All, OnOk, codes, length, sum_by};
-ghost use Rattle.pb_markup.specs.Amount.{shown};
+ghost use Rattle.pb_page.specs.Amount.{shown};
 ghost use Rattle.pb_page.specs.Inner.Grown.{Grows};
 ghost use Rattle.pb_page.specs.Inner.Pieces.{block, caption, caption_key, none_said, nothing, picture, result_said, whole_said};
 ghost use Rattle.pb_page.specs.Page.{amount, at, blocks, filling, noun_at, number, say, text};
@@ -14,6 +14,7 @@ use crate::figures::Figures;
 use crate::forms::{called, width};
 use crate::keys;
 use crate::language::Language;
+use crate::markup::{Form, Place, Value};
 use crate::put::{put, say};
 use crate::style::HEAD;
 use crate::templates::{
@@ -24,7 +25,6 @@ use pb_core::election::Election;
 use pb_core::money::Money;
 use pb_core::no_memory::NoMemory;
 use pb_core::project::Project;
-use pb_markup::{Form, Place, Value};
 use std::alloc::Global;
 
 /// What the page is about, who voted, what was spent, how many won.

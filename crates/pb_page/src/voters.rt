@@ -4,20 +4,23 @@ ghost use Rattle.std.specs.Prelude.{[], ◌∷◌, ◌<◌, ◌^◌, OnOk, decim
 ghost use Rattle.std.specs.List.{range_with_len};
 ghost use Rattle.pb_page.specs.Inner.Grown.{Grows};
 ghost use Rattle.pb_page.specs.Inner.Pieces.{exact_row, got, got_said, row_closing, shown_row, the_voters, voters_table};
-ghost use Rattle.pb_page.specs.Page.{at, ballots_row, filling, say, text};
+ghost use Rattle.pb_page.specs.Page.{at, ballots_row, filling, say, text, won_by_voter};
 ghost use Rattle.pb_page.specs.declared.keys.TheConstants as key;
 ghost use Rattle.pb_page.specs.declared.templates.TheConstants.{VOTERS_OPENING};
+ghost use Rattle.pb_reasons.specs.Counted.{IsCounted};
 
 use crate::forms::width;
-use crate::histogram::{at_least, exactly};
+use crate::histogram::{at_least, exactly, won_by_voter};
 use crate::keys;
 use crate::language::Language;
+use crate::markup::{Place, Value};
 use crate::put::{put, say};
 use crate::templates::{
     NUMBER, TABLE_CLOSING, TEXT, VOTERS_OPENING, VOTERS_ROW, VOTERS_ROW_CLOSING, VOTERS_TABLE,
 };
+use pb_core::election::Election;
 use pb_core::no_memory::NoMemory;
-use pb_markup::{Place, Value};
+use pb_reasons::Counted;
 use std::alloc::Global;
 
 /// So many winners or more are one row.
@@ -25,6 +28,24 @@ const MOST: u32 = 9;
 
 /// How many voters have a winner among their choices, and the histogram of winners a voter.
 pub(crate) fn put_voters(
+    page: &mut Vec<u8>,
+    alloc: Global,
+    language: &Language,
+    election: &Election,
+    counted: &Counted,
+) -> Result<(), NoMemory>
+    requires { IsCounted election.now counted.now }
+    ensures { OnOk result (Grows page.old.items page.new.items
+        (the_voters language.now (won_by_voter election.now counted.now))) }
+{
+    let won = won_by_voter(alloc, election, counted)?;
+    let put = put_won(page, alloc, language, won.as_slice());
+    drop(won);
+    put
+}
+
+/// The same, where so many choices of each voter won.
+fn put_won(
     page: &mut Vec<u8>,
     alloc: Global,
     language: &Language,

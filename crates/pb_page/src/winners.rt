@@ -2,21 +2,23 @@
 
 ghost use Rattle.std.specs.Prelude.{◌≡◌, ◌<◌, [], ◌∷◌, All, OnOk, flat_map, if◌then◌else◌, length};
 ghost use Rattle.pb_page.specs.Inner.Grown.{Grows};
-ghost use Rattle.pb_page.specs.Inner.Pieces.{winner_table, winners_head, won_rows};
+ghost use Rattle.pb_page.specs.Inner.Pieces.{added_cells, winner_cells, winner_table, winners_head, won_rows};
 ghost use Rattle.pb_page.specs.declared.keys.TheConstants as key;
 ghost use Rattle.pb_page.specs.declared.templates.TheConstants.{NONE_WON};
 ghost use Rattle.pb_page.specs.Page.{at, filling, winners, won_row};
 
+use crate::facts::Facts;
 use crate::forms::width;
 use crate::keys;
 use crate::language::Language;
+use crate::markup::Value;
+use crate::own_category::{put_head_end, put_row_end};
 use crate::put::put;
 use crate::templates::{ADDED, NONE_WON, TABLE_CLOSING, WINNER, WINNERS_OPENING};
 use pb_core::election::Election;
 use pb_core::money::Money;
 use pb_core::no_memory::NoMemory;
 use pb_core::project::Project;
-use pb_markup::Value;
 use pb_reasons::{Added, Counted, Ending, ProjectReason, ProjectTeller, Won};
 use pb_rounds::outcome::Elected;
 use std::alloc::Global;
@@ -25,20 +27,20 @@ use std::alloc::Global;
 pub(crate) fn put_winners(
     page: &mut Vec<u8>,
     alloc: Global,
-    language: &Language,
+    facts: &Facts,
     election: &Election,
     teller: &ProjectTeller,
     counted: &Counted,
 ) -> Result<(), NoMemory>
     requires own { teller.now ≡ (election.now, counted.now) }
     requires known { All (λ w. w.place < length election.now.projects) counted.now.outcome.elected }
-    ensures { OnOk result (Grows page.old.items page.new.items (winners language.now election.now counted.now)) }
+    ensures { OnOk result (Grows page.old.items page.new.items (winners facts.now election.now counted.now)) }
 {
     let elected = counted.outcome.elected.as_slice();
     if elected.is_empty() {
-        return put_none(page, alloc, language, counted.fills_up);
+        return put_none(page, alloc, &facts.language, counted.fills_up);
     }
-    put_table(page, alloc, language, election, teller, elected)
+    put_table(page, alloc, facts, election, teller, elected)
 }
 
 /// That there are none.
@@ -92,7 +94,7 @@ fn put_table_head(page: &mut Vec<u8>, alloc: Global, language: &Language) -> Res
 fn put_table(
     page: &mut Vec<u8>,
     alloc: Global,
-    language: &Language,
+    facts: &Facts,
     election: &Election,
     teller: &ProjectTeller,
     elected: &[Elected],
@@ -100,10 +102,11 @@ fn put_table(
     requires own { teller.now.0 ≡ election.now }
     requires elected { teller.now.1.outcome.elected ≡ elected.now }
     requires known { All (λ w. w.place < length election.now.projects) elected.now }
-    ensures { OnOk result (Grows page.old.items page.new.items (winner_table language.now election.now teller.now.1)) }
+    ensures { OnOk result (Grows page.old.items page.new.items (winner_table facts.now election.now teller.now.1)) }
 {
-    put_table_head(page, alloc, language)?;
-    put_rows(page, alloc, language, election, teller, elected)?;
+    put_table_head(page, alloc, &facts.language)?;
+    put_head_end(page, alloc, facts)?;
+    put_rows(page, alloc, facts, election, teller, elected)?;
     put(page, alloc, TABLE_CLOSING, &[])
 }
 
@@ -111,7 +114,7 @@ fn put_table(
 fn put_rows(
     page: &mut Vec<u8>,
     alloc: Global,
-    language: &Language,
+    facts: &Facts,
     election: &Election,
     teller: &ProjectTeller,
     elected: &[Elected],
@@ -119,13 +122,21 @@ fn put_rows(
     requires own { teller.now.0 ≡ election.now }
     requires known { All (λ w. w.place < length election.now.projects) elected.now }
     ensures { OnOk result (Grows page.old.items page.new.items
-        (flat_map (λ w. won_rows language.now election.now teller.now.1 w.place) elected.now)) }
+        (flat_map (λ w. won_rows facts.now election.now teller.now.1 w.place) elected.now)) }
 {
     let projects = election.projects();
     for winner in elected {
         let reason = teller.tell(winner.place);
         let project = &projects[winner.place as usize];
-        put_row(page, alloc, language, project, &reason, election.budget())?;
+        put_row(
+            page,
+            alloc,
+            facts,
+            winner.place,
+            project,
+            &reason,
+            election.budget(),
+        )?;
     }
     Ok(())
 }
@@ -135,19 +146,30 @@ fn put_rows(
 pub(crate) fn put_row(
     page: &mut Vec<u8>,
     alloc: Global,
-    language: &Language,
+    facts: &Facts,
+    place: u32,
     project: &Project,
     reason: &ProjectReason,
     budget: Money,
 ) -> Result<(), NoMemory>
-    ensures { OnOk result (Grows page.old.items page.new.items (won_row language.now budget project.now reason.now.votes reason.now.ending)) }
+    ensures { OnOk result (Grows page.old.items page.new.items (won_row facts.now budget place project.now reason.now.votes reason.now.ending)) }
 {
     match &reason.ending {
-        Ending::Won(won) => put_won(page, alloc, language, project, reason.votes, won, budget),
+        Ending::Won(won) => put_won(
+            page,
+            alloc,
+            facts,
+            place,
+            project,
+            reason.votes,
+            won,
+            budget,
+        ),
         Ending::Added(added) => put_one_added(
             page,
             alloc,
-            language,
+            facts,
+            place,
             project,
             reason.votes,
             added,
@@ -161,13 +183,31 @@ pub(crate) fn put_row(
 fn put_won<'a>(
     page: &mut Vec<u8>,
     alloc: Global,
+    facts: &Facts<'a>,
+    place: u32,
+    project: &'a Project,
+    votes: u32,
+    won: &Won,
+    budget: Money,
+) -> Result<(), NoMemory>
+    ensures { OnOk result (Grows page.old.items page.new.items
+        (won_row facts.now budget place project.now votes (Ending.Won won.now))) }
+{
+    put_won_cells(page, alloc, &facts.language, project, votes, won, budget)?;
+    put_row_end(page, alloc, facts, place)
+}
+
+/// The row up to its end.
+fn put_won_cells<'a>(
+    page: &mut Vec<u8>,
+    alloc: Global,
     language: &Language<'a>,
     project: &'a Project,
     votes: u32,
     won: &Won,
     budget: Money,
 ) -> Result<(), NoMemory>
-    ensures { OnOk result (Grows page.old.items page.new.items (won_row language.now budget project.now votes (Ending.Won won.now))) }
+    ensures { OnOk result (Grows page.old.items page.new.items (winner_cells language.now budget project.now votes won.now ∷ [])) }
 {
     put(
         page,
@@ -198,13 +238,31 @@ fn put_won<'a>(
 fn put_one_added<'a>(
     page: &mut Vec<u8>,
     alloc: Global,
+    facts: &Facts<'a>,
+    place: u32,
+    project: &'a Project,
+    votes: u32,
+    added: &Added,
+    budget: Money,
+) -> Result<(), NoMemory>
+    ensures { OnOk result (Grows page.old.items page.new.items
+        (won_row facts.now budget place project.now votes (Ending.Added added.now))) }
+{
+    put_one_added_cells(page, alloc, &facts.language, project, votes, added, budget)?;
+    put_row_end(page, alloc, facts, place)
+}
+
+/// The row up to its end.
+fn put_one_added_cells<'a>(
+    page: &mut Vec<u8>,
+    alloc: Global,
     language: &Language<'a>,
     project: &'a Project,
     votes: u32,
     added: &Added,
     budget: Money,
 ) -> Result<(), NoMemory>
-    ensures { OnOk result (Grows page.old.items page.new.items (won_row language.now budget project.now votes (Ending.Added added.now))) }
+    ensures { OnOk result (Grows page.old.items page.new.items (added_cells language.now budget project.now votes added.now ∷ [])) }
 {
     put(
         page,

@@ -2,9 +2,9 @@
 
 ghost use Rattle.std.specs.Prelude.{◌≡◌};
 
+use crate::markup::Plural;
 use crate::table::entry_at;
 use pb_core::no_memory::NoMemory;
-use pb_markup::Plural;
 use std::alloc::{AllocError, AllocFailed};
 
 /// A key of a file of words.

@@ -1,12 +1,17 @@
 //! Why a list of projects gets no prices.
 
 ghost use Rattle.std.specs.Prelude.{◌≡◌};
-ghost use Rattle.pb_price.specs.PriceFault.{numbered_name};
+ghost use Rattle.pb_core.specs.Numbered.{numbered};
+ghost use Rattle.pb_price.specs.contracts.price_fault.PriceFault.{the_type};
 ghost use Rattle.pb_price.specs.declared.price_fault.PriceFault.TheVariants as fault;
 
+use pb_core::names::name_at;
 use pb_core::no_memory::NoMemory;
 use std::alloc::{AllocError, AllocFailed};
 use thiserror::Error;
+
+/// The names of `PriceFault`, in the order of its variants.
+pub(crate) const NAMES: [&str; 2] = ["WorkerCount", "NoMemory"];
 
 /// Why `price_all` gives no prices. The first of these faults that applies is the one that is given.
 #[derive(Clone, Copy, Debug, PartialEq, Eq, Error)]
@@ -22,22 +27,16 @@ pub enum PriceFault {
 impl PriceFault {
     /// The fault's number, from 1.
     pub fn number(&self) -> u32
-        ensures { result ≡ (numbered_name self.now).0 }
+        ensures { result ≡ (numbered the_type NAMES self.now).0 }
     {
-        match self {
-            PriceFault::WorkerCount => 1,
-            PriceFault::NoMemory => 2,
-        }
+        *self as u32 + 1
     }
 
     /// The fault's name.
     pub fn name(&self) -> &'static str
-        ensures { result.now ≡ (numbered_name self.now).1 }
+        ensures { result.now ≡ (numbered the_type NAMES self.now).1 }
     {
-        match self {
-            PriceFault::WorkerCount => "WorkerCount",
-            PriceFault::NoMemory => "NoMemory",
-        }
+        name_at(&NAMES, *self as usize)
     }
 }
 

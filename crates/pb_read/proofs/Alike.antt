@@ -14,7 +14,7 @@ use Rattle.pb_read.specs.Inner.Positions.{IsJustAt}
 use Rattle.pb_read.specs.MetaRows.{meta_of}
 use Rattle.pb_read.specs.Rows.{field, head_of, is_empty}
 use Rattle.pb_read.specs.Stages.{IsAt, Next, the_end, blank, head, plain}
-use Rattle.pb_read.specs.StandsFor.{EndsIn, GivesAllButVoters, GivesProject, GivesVoter, IsMeta, terms_of}
+use Rattle.pb_read.specs.StandsFor.{EndsIn, GivesAllButVoters, GivesProject, GivesVoter, IsMeta, meta_for}
 use Rattle.pb_read.specs.Voting.{is_among, names_only}
 use Rattle.pb_read.specs.declared.columns.ProjectColumns.{ProjectColumns}
 use Rattle.pb_read.specs.declared.columns.VoteColumns.{VoteColumns}
@@ -152,7 +152,7 @@ stands_at rows (InProjects columns, e) at =
     inr (record {
       name = section.Projects;
       body = at.0 ∷ at.1;
-      ends = at_any (IsMeta (terms_of e)) section.Projects (at.0 ∷ at.1) rows at.2;
+      ends = at_any (IsMeta (meta_for e)) section.Projects (at.0 ∷ at.1) rows at.2;
       stands = (columns, at.3, refl, projects_are columns at.1 e.projects at.4);
     })
 stands_at rows (InVotes columns, e) at =
@@ -166,7 +166,7 @@ stands_at rows (InVotes columns, e) at =
 -- the same rows give the same projects
 same_projects : (front : List Fields) (c d : ProjectColumns) (e f : ElectionView) → GivesAllButVoters c e front → GivesAllButVoters d f front → e.projects ≡ f.projects
 same_projects front c d e f a b =
-    let ends = same_end (IsMeta (terms_of e)) (IsMeta (terms_of f)) section.Projects section.Projects (a.0 ∷ a.1) (b.0 ∷ b.1) front a.2 b.2 in
+    let ends = same_end (IsMeta (meta_for e)) (IsMeta (meta_for f)) section.Projects section.Projects (a.0 ∷ a.1) (b.0 ∷ b.1) front a.2 b.2 in
     let whole : a.0 ∷ a.1 ≡ b.0 ∷ b.1 = ends.2 in
     let headers : a.0 ≡ b.0 = cc in
     let bodies : a.1 ≡ b.1 = cc in
@@ -212,7 +212,7 @@ pub at_just : (rows : List Fields) (p : Position) → IsJustAt rows p → IsAt r
 at_just rows (Start, e) at = at.0
 at_just rows (Header section.Meta, e) at = at_any (λ front. front ≡ []) section.Meta [] rows at.0
 at_just rows (InMeta meta, e) at = at.0
-at_just rows (Header section.Projects, e) at = at_any (IsMeta (terms_of e)) section.Projects [] rows at.0
+at_just rows (Header section.Projects, e) at = at_any (IsMeta (meta_for e)) section.Projects [] rows at.0
 at_just rows (InProjects columns, e) at = at.0
 at_just rows (Header section.Votes, e) at = at_any (GivesAllButVoters at.0.0 e) section.Votes [] rows at.0.1
 at_just rows (InVotes columns, e) at = at

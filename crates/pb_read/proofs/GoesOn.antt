@@ -21,6 +21,7 @@ use Rattle.pb_read.specs.Stages.{the_end, blank, next_row}
 use Rattle.pb_read.specs.declared.progress.Stage.TheVariants.{Start, Header, InMeta, InProjects, InVotes}
 use Rattle.pb_read.specs.declared.section.Section.TheVariants as section
 use Rattle.pb_read.specs.FirstFault.{HasNoFault, IsFirstFault}
+use Rattle.pb_read.specs.Inner.Opening.{no_terms}
 use Rattle.pb_read.specs.Inner.Positions.{IsJustAt}
 use Rattle.pb_read.specs.Inner.Machine.{Position, start, advance, bind, run, step, row_fault, lowest_kind}
 use Rattle.pb_read.specs.Inner.Tracking.{Reached}
@@ -172,7 +173,7 @@ advance-blank (Header section.Votes, e) = refl
 advance-blank (InVotes columns, e) = refl
 
 pub reached_start : Reached [] start
-reached_start = record { text = tt; at = (refl, refl); sound = opening_is_election 0 None (omega arith) }
+reached_start = record { text = tt; at = (refl, refl); sound = opening_is_election no_terms (omega arith) }
 
 pub next_row-blank : (row : Fields) → is_blank row ≡ true → next_row row ≡ blank
 next_row-blank row none = rw none refl

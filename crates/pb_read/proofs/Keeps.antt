@@ -12,11 +12,12 @@ use Rattle.std.proofs.lemmas.List.Elements.{All-filter}
 use Rattle.std.proofs.lemmas.List.FromFn.{length-range_with_len, get_or-range_with_len}
 use Rattle.std.proofs.lemmas.List.Kept.{IsStrictlyIncreasing-filter}
 use Rattle.csv.specs.Records.{AllText}
-use Rattle.pb_core.specs.Election.{ElectionView, ProjectView, IsElection, project_ids}
+use Rattle.pb_core.specs.Election.{ElectionView, ProjectView, IsElection, opening, project_ids}
 use Rattle.pb_core.specs.Money.{money_of, largest_money}
 use Rattle.pb_core.specs.MoneyText.{hundredths, has_money_form, is_in_hundredths}
 use Rattle.pb_core.specs.declared.money_fault.MoneyFault.{MoneyFault}
 use Rattle.pb_core.specs.declared.money_fault.MoneyFault.TheVariants as money
+use Rattle.pb_core.specs.declared.terms.Terms.{Terms}
 use Rattle.pb_read.specs.declared.fault.ReadKind.TheVariants as kind
 use Rattle.pb_core.proofs.Elections.{IsElection-push_project, IsElection-push_voter}
 use Rattle.pb_core.proofs.Trim.{trim-trim}
@@ -27,12 +28,11 @@ use Rattle.pb_read.specs.Columns.{project_columns, vote_columns}
 use Rattle.pb_read.specs.Stages.{Next, the_end, blank, head, plain, next_row}
 use Rattle.pb_read.specs.declared.progress.Stage.TheVariants.{Start, Header, InMeta, InProjects, InVotes}
 use Rattle.pb_read.specs.Inner.Positions.{IsJustAt}
-use Rattle.pb_read.specs.Inner.Machine.{Position, advance, budget_of, limit_of, amount_of, project_of, voter_of, with_project, with_voter, with_row, row_fault}
+use Rattle.pb_read.specs.Inner.Machine.{Position, advance, budget_of, limit_of, amount_of, project_of, terms_said, voter_of, with_project, with_voter, with_row, row_fault}
 use Rattle.pb_read.specs.MetaRows.{meta_of, value_of}
 use Rattle.pb_read.specs.Inner.Fields.{trimmed}
 use Rattle.pb_read.specs.Rows.{field, head_of, is_blank, is_empty}
-use Rattle.pb_read.specs.Inner.Opening.{opening}
-use Rattle.pb_read.specs.StandsFor.{EndsIn, GivesAllButVoters, GivesProject, GivesVoter, IsMeta, terms_of}
+use Rattle.pb_read.specs.StandsFor.{EndsIn, GivesAllButVoters, GivesProject, GivesVoter, IsMeta, meta_for}
 use Rattle.pb_read.specs.Voting.{ballot_of, is_among}
 use Rattle.pb_read.specs.declared.columns.ProjectColumns.{ProjectColumns}
 use Rattle.pb_read.specs.declared.columns.VoteColumns.{VoteColumns}
@@ -83,8 +83,8 @@ le_of true true read amount e = go (nat_le read largest_money) refl e
 pub money_of-le : (text : List ℕ) (amount : ℕ) → money_of text ≡ Ok amount → amount ≤ largest_money
 money_of-le text amount e = le_of (has_money_form text) (is_in_hundredths text) (hundredths text) amount e
 
-pub opening_is_election : (budget : ℕ) (max_length : Option ℕ) → budget ≤ largest_money → IsElection (opening budget max_length)
-opening_is_election budget max_length few = record {
+pub opening_is_election : (terms : Terms) → terms.budget ≤ largest_money → IsElection (opening terms)
+opening_is_election terms few = record {
   budget_bounded = few;
   few_projects = omega arith;
   few_voters = omega arith;
@@ -184,7 +184,7 @@ kept (Header section.Projects, e) (plain header) rows row follows tidy none at s
     let no_voter : e.voters ≡ [] = ap (λ (x : ElectionView). x.voters) at.1 in
     let names : project_columns row ≡ Some found.0 = ap project_columns (sym follows.0) ∙ found.1 in
     let gives : AllZip (GivesProject found.0) [] e.projects = subst (λ ps. AllZip (GivesProject found.0) [] ps) (sym no_project) tt in
-    rw found.1 (((row, [], ends_push (IsMeta (terms_of e)) section.Projects [] rows row at.0 follows.1, names, gives), no_voter), sound)
+    rw found.1 (((row, [], ends_push (IsMeta (meta_for e)) section.Projects [] rows row at.0 follows.1, names, gives), no_voter), sound)
 kept (Header section.Votes, e) (plain header) rows row follows tidy none at sound =
     let found = vote_columns_found e header none in
     let names : vote_columns row ≡ Some found.0 = ap vote_columns (sym follows.0) ∙ found.1 in
@@ -199,8 +199,8 @@ kept (InMeta meta, e) (head section.Projects) rows row follows tidy none at soun
     let says : meta ≡ record { budget = Some (Ok (budget_of meta.budget)); approval = Some true; max_length = Ok (limit_of meta.max_length) } =
     (λ i. record { budget = passed.budget_is i; approval = passed.approval i; max_length = passed.limit i })
     ∙ (λ i. record { budget = Some (Ok (budget i)); approval = Some true; max_length = Ok (limit i) }) in (
-      (ends_head (IsMeta (terms_of (opening (budget_of meta.budget) (limit_of meta.max_length)))) section.Projects rows row (subst (λ m. IsMeta m rows) says at.0) follows, refl),
-      opening_is_election (budget_of meta.budget) (limit_of meta.max_length) (subst (λ b. b ≤ largest_money) budget few),
+      (ends_head (IsMeta (meta_for (opening (terms_said meta)))) section.Projects rows row (subst (λ m. IsMeta m rows) says at.0) follows, refl),
+      opening_is_election (terms_said meta) (subst (λ b. b ≤ largest_money) budget few),
     )
 kept (InMeta meta, e) (head section.Votes) rows row follows tidy none at sound = absurd (some≢none none)
 kept (InMeta meta, e) (plain r) rows row follows tidy none at sound =
@@ -220,7 +220,7 @@ kept (InProjects columns, e) (plain r) rows row follows tidy none at sound =
     } in
     let zip : AllZip (GivesProject columns) (at.0.1 ++ row ∷ []) (e.projects ++ project_of columns row ∷ []) = AllZip-push (GivesProject columns) at.0.1 e.projects row (project_of columns row) at.0.4 gives in
     rw follows.0 (
-      ((at.0.0, at.0.1 ++ row ∷ [], ends_push (IsMeta (terms_of e)) section.Projects (at.0.0 ∷ at.0.1) rows row at.0.2 follows.1, at.0.3, zip), at.1),
+      ((at.0.0, at.0.1 ++ row ∷ [], ends_push (IsMeta (meta_for e)) section.Projects (at.0.0 ∷ at.0.1) rows row at.0.2 follows.1, at.0.3, zip), at.1),
       with_project_is_election columns row e sound at.1 passed,
     )
 kept (InVotes columns, e) (head name) rows row follows tidy none at sound = absurd (some≢none none)

@@ -2,6 +2,7 @@
 pub mod ListFacts
 pub mod MachineLaws
 pub mod Keeps
+pub mod KeyFacts
 pub mod Alike
 pub mod Runs
 pub mod LowestKind

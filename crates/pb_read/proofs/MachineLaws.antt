@@ -10,6 +10,7 @@ use Rattle.pb_core.specs.Money.{money_of}
 use Rattle.pb_core.specs.declared.money_fault.MoneyFault.{MoneyFault}
 use Rattle.pb_core.specs.declared.money_fault.MoneyFault.TheVariants as money
 use Rattle.pb_rows.specs.Reading.{Fields}
+use Rattle.pb_read.proofs.KeyFacts.{with_each, with_each-same}
 use Rattle.pb_read.proofs.ListFacts.{cond_none, some≢none}
 use Rattle.pb_read.specs.Columns.{has_fields}
 use Rattle.pb_read.specs.Faults.{fails_by}
@@ -55,15 +56,15 @@ value_of-push key rows row =
 
 -- META's rows with one more
 pub meta_of-push : (rows : List Fields) (row : Fields) → meta_of (rows ++ row ∷ []) ≡ with_row (meta_of rows) row
-meta_of-push rows row = λ i. record { budget = budget i; approval = approval i; max_length = max_length i }
+meta_of-push rows row = (λ i. record { budget = budget i; approval = approval i; max_length = max_length i }) ∙ with_each-same (meta_of rows) row
   where
-    budget : option_map money_of (value_of (codes "budget") (rows ++ row ∷ [])) ≡ (with_row (meta_of rows) row).budget
+    budget : option_map money_of (value_of (codes "budget") (rows ++ row ∷ [])) ≡ (with_each (meta_of rows) row).budget
     budget = ap (option_map money_of) (value_of-push (codes "budget") rows row) ∙ option_map_cond money_of (is_word (codes "budget") (field row 0)) (field row 1) (value_of (codes "budget") rows)
 
-    approval : option_map (is_word (codes "approval")) (value_of (codes "vote_type") (rows ++ row ∷ [])) ≡ (with_row (meta_of rows) row).approval
+    approval : option_map (is_word (codes "approval")) (value_of (codes "vote_type") (rows ++ row ∷ [])) ≡ (with_each (meta_of rows) row).approval
     approval = ap (option_map (is_word (codes "approval"))) (value_of-push (codes "vote_type") rows row) ∙ option_map_cond (is_word (codes "approval")) (is_word (codes "vote_type") (field row 0)) (field row 1) (value_of (codes "vote_type") rows)
 
-    max_length : option_map_or max_length_of (value_of (codes "max_length") (rows ++ row ∷ [])) (Ok None) ≡ (with_row (meta_of rows) row).max_length
+    max_length : option_map_or max_length_of (value_of (codes "max_length") (rows ++ row ∷ [])) (Ok None) ≡ (with_each (meta_of rows) row).max_length
     max_length =
         ap (λ o. option_map_or max_length_of o (Ok None)) (value_of-push (codes "max_length") rows row)
         ∙ option_map_or_cond max_length_of (is_word (codes "max_length") (field row 0)) (field row 1) (value_of (codes "max_length") rows) (Ok None)

@@ -1,10 +1,11 @@
 -- What the reading of one row comes to, from what its parts ensure.
-use Rattle.std.proofs.Common.{◌≡◌, ◌≤◌, ℕ, Bool, true, false, cond, Option, Some, None, Result, Ok, ap, sym, ◌∙◌, subst}
-use Rattle.std.specs.Prelude.{codes, OnOk, IfErr}
+use Rattle.std.proofs.Common.{◌≡◌, ◌≤◌, ℕ, true, Option, Some, None, Result, Ok, Err, refl, ap, sym, ◌∙◌, subst, arith}
+use Rattle.std.specs.Prelude.{OnOk, IfErr}
 use Rattle.std.proofs.lemmas.Option.{same_Some}
 use Rattle.std.proofs.lemmas.Result.{on_ok_weaker, IfErr-weaker}
-use Rattle.pb_core.specs.Election.{ElectionView}
-use Rattle.pb_core.specs.Money.{largest_money, money_of}
+use Rattle.pb_core.specs.Election.{ElectionView, opening}
+use Rattle.pb_core.specs.Money.{largest_money}
+use Rattle.pb_core.specs.declared.money_fault.MoneyFault.{MoneyFault}
 use Rattle.pb_rows.specs.Reading.{Fields}
 use Rattle.pb_read.proofs.GoesOn.{advance-blank, blank_passes, next_row-blank}
 use Rattle.pb_read.proofs.Keeps.{money_of-le}
@@ -12,15 +13,17 @@ use Rattle.pb_read.proofs.MachineLaws.{project_fault, vote_fault}
 use Rattle.pb_read.proofs.Runs.{meta_row_passes}
 use Rattle.pb_read.specs.Inner.Drafts.{IsTied}
 use Rattle.pb_read.specs.Stages.{Next, next_row, plain}
-use Rattle.pb_read.specs.Inner.Machine.{Position, Explains, advance, budget_of, limit_of, project_row_checks, vote_row_checks, with_project, with_row, with_voter, row_fault}
+use Rattle.pb_read.specs.Inner.Machine.{Position, Explains, advance, budget_of, project_row_checks, terms_said, vote_row_checks, with_project, with_row, with_value, with_voter, row_fault}
 use Rattle.pb_read.specs.Inner.Progresses.{IsKept, IsRead, IsReady, place_of}
-use Rattle.pb_read.specs.Rows.{field, is_blank, is_word}
-use Rattle.pb_read.specs.Inner.Opening.{opening}
+use Rattle.pb_read.specs.Rows.{field, is_blank}
+use Rattle.pb_read.specs.MetaKeys.{key_of}
 use Rattle.pb_read.specs.declared.columns.ProjectColumns.{ProjectColumns}
 use Rattle.pb_read.specs.declared.columns.VoteColumns.{VoteColumns}
 use Rattle.pb_read.specs.declared.draft.Draft.{Draft}
 use Rattle.pb_read.specs.declared.fault.ReadKind.{ReadKind}
 use Rattle.pb_read.specs.declared.meta.Meta.{Meta}
+use Rattle.pb_read.specs.declared.meta_key.MetaKey.{MetaKey}
+use Rattle.pb_read.specs.declared.meta_key.MetaKey.TheVariants as key
 use Rattle.pb_read.specs.declared.progress.Progress.{Progress}
 use Rattle.pb_read.specs.declared.progress.Stage.{Stage}
 use Rattle.pb_read.specs.declared.progress.Stage.TheVariants.{Header, InMeta, InProjects, InVotes}
@@ -31,12 +34,18 @@ abbrev pub IsStep : Stage → ElectionView → Next → Progress → Type 0
 IsStep stage e n new = (row_fault (stage, e) n ≡ None) × (place_of new ≡ advance (stage, e) n) × IsReady new
 
 -- a new draft at PROJECTS' head has the terms of META
-pub projects_opened : (meta : Meta) (budget : ℕ) (limit : Option ℕ) (draft : Draft) → meta.budget ≡ Some (Ok budget) → meta.max_length ≡ Ok limit → draft.election ≡ opening budget limit → IsTied draft →
-    (place_of (record { stage = Header Projects; draft = draft }) ≡ (Header Projects, opening (budget_of meta.budget) (limit_of meta.max_length))) × IsReady (record { stage = Header Projects; draft = draft })
-projects_opened meta budget limit draft b m is tied = (
-  ap (λ e. (Header Projects, e)) (is ∙ sym (λ i. opening (ap budget_of b i) (ap limit_of m i))),
-  record { tied = tied; kept = ap (λ (e : ElectionView). e.voters) is },
-)
+pub projects_opened : (meta : Meta) (draft : Draft) → draft.election ≡ opening (terms_said meta) → IsTied draft →
+    (place_of (record { stage = Header Projects; draft = draft }) ≡ (Header Projects, opening (terms_said meta))) × IsReady (record { stage = Header Projects; draft = draft })
+projects_opened meta draft is tied = (ap (λ e. (Header Projects, e)) is, record { tied = tied; kept = ap (λ (e : ElectionView). e.voters) is })
+
+-- its budget is in range
+pub said_in_range : (meta : Meta) → IsRead meta → (terms_said meta).budget ≤ largest_money
+said_in_range meta read = go meta.budget refl
+  where
+    go : (budget : Option (Result ℕ MoneyFault)) → meta.budget ≡ budget → budget_of budget ≤ largest_money
+    go None is = omega arith
+    go (Some (Ok amount)) is = read amount is
+    go (Some (Err fault)) is = omega arith
 
 project_row_fault : (columns : ProjectColumns) (row : Fields) (e : ElectionView) → project_row_checks columns row e ≡ row_fault (InProjects columns, e) (plain row)
 unfolding project_row_checks
@@ -75,11 +84,13 @@ vote_err stage columns row e r is err =
     IfErr-weaker r _ _ (λ kind said. subst (Explains kind) (vote_row_fault columns row e ∙ ap (λ s. row_fault (s, e) (plain row)) (sym is)) said) err
 
 IsRead-with_row : (meta : Meta) (row : Fields) → IsRead meta → IsRead (with_row meta row)
-IsRead-with_row meta row read budget e = go (is_word (codes "budget") (field row 0)) e
+IsRead-with_row meta row read budget e = go (key_of (field row 0)) e
   where
-    go : (t : Bool) → cond t (Some (money_of (field row 1))) meta.budget ≡ Some (Ok budget) → budget ≤ largest_money
-    go true same = money_of-le (field row 1) budget (same_Some _ _ same)
-    go false same = read budget same
+    go : (said : Option MetaKey) → (with_value meta said (field row 1)).budget ≡ Some (Ok budget) → budget ≤ largest_money
+    go None same = read budget same
+    go (Some key.Budget) same = money_of-le (field row 1) budget (same_Some _ _ same)
+    go (Some key.VoteType) same = read budget same
+    go (Some key.MaxLength) same = read budget same
 
 pub meta_ok : (stage : Stage) (meta new : Meta) (row : Fields) (draft : Draft) → stage ≡ InMeta meta → new ≡ with_row meta row → IsReady (record { stage = stage; draft = draft }) →
     IsStep stage draft.election (plain row) (record { stage = InMeta new; draft = draft })

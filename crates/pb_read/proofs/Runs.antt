@@ -8,7 +8,7 @@ use Rattle.std.proofs.lemmas.List.{append-nil, map-append, get_or_append_left}
 use Rattle.std.proofs.lemmas.List.Elements.{All-contains, Contains-append_right}
 use Rattle.std.proofs.Math.Seq.{get_or-append_seam}
 use Rattle.pb_core.specs.Inner.Ids.{AreDistinct}
-use Rattle.pb_core.specs.Election.{ElectionView, ProjectView, VoterView, IsElection, IsProject, IsVoter, project_ids}
+use Rattle.pb_core.specs.Election.{ElectionView, ProjectView, VoterView, IsElection, IsProject, IsVoter, opening, project_ids, terms_of}
 use Rattle.pb_rows.specs.Reading.{Fields}
 use Rattle.pb_read.proofs.ListFacts.{IsPlain, Contains-is_among, AllByRecursion-left, AllByRecursion-right}
 use Rattle.pb_read.proofs.MachineLaws.{run-append, meta_of-push, head_passes, project_passes, vote_passes, PassesProject, PassesVote}
@@ -19,8 +19,8 @@ use Rattle.pb_read.specs.Inner.Positions.{IsJustAt}
 use Rattle.pb_read.specs.Inner.Machine.{Position, start, advance, amount_of, project_of, voter_of, run, bind, step, step_or, row_fault}
 use Rattle.pb_read.specs.MetaRows.{meta_of}
 use Rattle.pb_read.specs.Rows.{field, head_of, is_blank, is_empty}
-use Rattle.pb_read.specs.Inner.Opening.{opening}
-use Rattle.pb_read.specs.StandsFor.{EndsIn, GivesAll, GivesAllButVoters, GivesProject, GivesVoter, IsMeta, terms_of}
+use Rattle.pb_read.specs.Inner.Opening.{empty}
+use Rattle.pb_read.specs.StandsFor.{EndsIn, GivesAll, GivesAllButVoters, GivesProject, GivesVoter, IsMeta, meta_for}
 use Rattle.pb_read.specs.Voting.{is_among}
 use Rattle.pb_read.specs.declared.columns.ProjectColumns.{ProjectColumns}
 use Rattle.pb_read.specs.declared.columns.VoteColumns.{VoteColumns}
@@ -89,16 +89,16 @@ run_meta_body e done (row ∷ body) plain_rows full =
     ∙ run_meta_body e (done ++ row ∷ []) body plain_rows.1 full.1
     ∙ ap (λ rows. Ok (InMeta (meta_of rows), e)) (append_assoc done (row ∷ []) body)
 
-run_meta : (rows : List Fields) (meta : Meta) → AreFull rows → IsMeta meta rows → Runs start rows (InMeta meta, opening 0 None)
+run_meta : (rows : List Fields) (meta : Meta) → AreFull rows → IsMeta meta rows → Runs start rows (InMeta meta, empty)
 run_meta rows meta full at =
     let ends = at.2 in
     let cut : rows ≡ ends.1 ∷ at.0 ∷ at.1 = ends.2 ∙ ap (λ front. front ++ ends.1 ∷ at.0 ∷ at.1) ends.3 in
     let whole : AreFull (ends.1 ∷ at.0 ∷ at.1) = subst AreFull cut full in
     ap (run start) cut
     ∙ run_row start ends.1 (at.0 ∷ at.1) (head section.Meta) (next_head ends.1 section.Meta whole.0 ends.4) meta_opens
-    ∙ run_row (Header section.Meta, opening 0 None) at.0 at.1 (plain at.0) (next_plain at.0 whole.1.0 ends.5.0) (header_passes (opening 0 None) at.0)
-    ∙ run_meta_body (opening 0 None) [] at.1 ends.5.1 whole.1.1
-    ∙ ap (λ m. Ok (InMeta m, opening 0 None)) (sym at.3)
+    ∙ run_row (Header section.Meta, empty) at.0 at.1 (plain at.0) (next_plain at.0 whole.1.0 ends.5.0) (header_passes (empty) at.0)
+    ∙ run_meta_body (empty) [] at.1 ends.5.1 whole.1.1
+    ∙ ap (λ m. Ok (InMeta m, empty)) (sym at.3)
 
 -- rows that end in a section, where those before it run to a position
 run_ends : (Before : List Fields → Type 0) (name : Section) (body rows : List Fields) (p : Position) → (at : EndsIn Before name body rows) → Runs start at.0 p → run start rows ≡ run p (at.1 ∷ body)
@@ -111,16 +111,16 @@ full_back : (Before : List Fields → Type 0) (name : Section) (body rows : List
 full_back Before name body rows at full = AllByRecursion-right _ at.0 (at.1 ∷ body) (subst AreFull at.2 full)
 
 run_terms : (of e : ElectionView) (row : Fields) (rest : List Fields) → is_blank row ≡ false → head_of row ≡ Some section.Projects →
-    run (InMeta (terms_of of), e) (row ∷ rest) ≡ run (Header section.Projects, opening of.budget of.max_length) rest
+    run (InMeta (meta_for of), e) (row ∷ rest) ≡ run (Header section.Projects, opening (terms_of of)) rest
 run_terms of e row rest full opens =
-    run_row (InMeta (terms_of of), e) row rest (head section.Projects) (next_head row section.Projects full opens) (head_passes (terms_of of) e of.budget of.max_length refl refl refl)
+    run_row (InMeta (meta_for of), e) row rest (head section.Projects) (next_head row section.Projects full opens) (head_passes (meta_for of) e of.budget of.max_length refl refl refl)
 
 -- rows that end with PROJECTS' head or in PROJECTS, up to behind its head
-run_to_projects : (rows body : List Fields) (e : ElectionView) → AreFull rows → EndsIn (IsMeta (terms_of e)) section.Projects body rows → run start rows ≡ run (Header section.Projects, opening e.budget e.max_length) body
+run_to_projects : (rows body : List Fields) (e : ElectionView) → AreFull rows → EndsIn (IsMeta (meta_for e)) section.Projects body rows → run start rows ≡ run (Header section.Projects, opening (terms_of e)) body
 run_to_projects rows body e full at =
-    run_ends (IsMeta (terms_of e)) section.Projects body rows (InMeta (terms_of e), opening 0 None) at
-    (run_meta at.0 (terms_of e) (full_front (IsMeta (terms_of e)) section.Projects body rows at full) at.3)
-    ∙ run_terms e (opening 0 None) at.1 body (full_back (IsMeta (terms_of e)) section.Projects body rows at full).0 at.4
+    run_ends (IsMeta (meta_for e)) section.Projects body rows (InMeta (meta_for e), empty) at
+    (run_meta at.0 (meta_for e) (full_front (IsMeta (meta_for e)) section.Projects body rows at full) at.3)
+    ∙ run_terms e (empty) at.1 body (full_back (IsMeta (meta_for e)) section.Projects body rows at full).0 at.4
 
 -- what is true of an element in the middle
 middle : {X : Type 0} (P : X → Type 0) (xs : List X) (y : X) (ys : List X) → All P (xs ++ y ∷ ys) → P y
@@ -176,10 +176,10 @@ run_projects_body columns e qs (p ∷ ps) (row ∷ body) zip plain_rows full is 
 run_projects : (rows : List Fields) (columns : ProjectColumns) (e : ElectionView) → AreFull rows → GivesAllButVoters columns e rows → e.voters ≡ [] → IsElection e → Runs start rows (InProjects columns, e)
 run_projects rows columns e full at no_voter is =
     let ends = at.2 in
-    let back : AreFull (ends.1 ∷ at.0 ∷ at.1) = full_back (IsMeta (terms_of e)) section.Projects (at.0 ∷ at.1) rows ends full in
+    let back : AreFull (ends.1 ∷ at.0 ∷ at.1) = full_back (IsMeta (meta_for e)) section.Projects (at.0 ∷ at.1) rows ends full in
     run_to_projects rows (at.0 ∷ at.1) e full ends
-    ∙ run_row (Header section.Projects, opening e.budget e.max_length) at.0 at.1 (plain at.0) (next_plain at.0 back.1.0 ends.5.0) (project_header_passes (opening e.budget e.max_length) at.0 columns at.3)
-    ∙ ap (λ o. run (option_map_or (λ c. (InProjects c, opening e.budget e.max_length)) o (Start, opening e.budget e.max_length)) at.1) at.3
+    ∙ run_row (Header section.Projects, opening (terms_of e)) at.0 at.1 (plain at.0) (next_plain at.0 back.1.0 ends.5.0) (project_header_passes (opening (terms_of e)) at.0 columns at.3)
+    ∙ ap (λ o. run (option_map_or (λ c. (InProjects c, opening (terms_of e))) o (Start, opening (terms_of e))) at.1) at.3
     ∙ run_projects_body columns e [] e.projects at.1 at.4 ends.5.1 back.1.1 (subst (λ vs. IsElection (record e { voters = vs })) no_voter is)
     ∙ ap (λ vs. Ok (InProjects columns, record e { voters = vs })) (sym no_voter)
 

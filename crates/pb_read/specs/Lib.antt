@@ -5,6 +5,7 @@ pub mod FirstFault
 pub mod Kinds
 pub mod Lengths
 pub mod Listed
+pub mod MetaKeys
 pub mod MetaRows
 pub mod Oddities
 pub mod Stages

@@ -5,7 +5,7 @@ ghost use Rattle.pb_rows.specs.Reading.{records_of};
 ghost use Rattle.pb_read.specs.Inner.Checking.{GoesOn, IsGoing, IsRefusal, Judges, JudgesEnd, JudgesRow};
 ghost use Rattle.pb_read.specs.Listed.{AreListed, IsHandedOut, is_of_row};
 ghost use Rattle.pb_read.specs.Inner.Progresses.{IsReady, place_of};
-ghost use Rattle.pb_read.specs.Inner.Opening.{opening};
+ghost use Rattle.pb_read.specs.Inner.Opening.{empty};
 ghost use Rattle.pb_read.specs.declared.progress.Stage.TheVariants.{Start};
 
 use crate::fault::{ReadFault, ReadKind};
@@ -129,7 +129,7 @@ pub(crate) struct Check {
 impl Check {
     /// Nothing was read yet.
     fn new(alloc: Global) -> Check
-        ensures start { place_of result.progress ≡ (Start, opening 0 None) }
+        ensures start { place_of result.progress ≡ (Start, empty) }
         ensures ready { IsReady result.progress }
     {
         Check {
@@ -147,7 +147,7 @@ impl Check {
         watch: &mut W,
         faults: &mut Vec<ReadFault>,
     ) -> Result<Option<Election>, NoMemory>
-        requires at_start { place_of self.old.progress ≡ (Start, opening 0 None) }
+        requires at_start { place_of self.old.progress ≡ (Start, empty) }
         requires ready { IsReady self.old.progress }
         requires none { faults.old.items ≡ [] }
         ensures faults { OnOk result (IfSome records.old.left (λ all. AreListed 0 all faults.new.items)) }

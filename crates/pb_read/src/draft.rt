@@ -1,13 +1,12 @@
 //! The election as far as its rows were read.
 
 ghost use Rattle.std.specs.Prelude.{◌≡◌, ◌≢◌, ◌≤◌, [], ◌∷◌, ◌++◌, IfErr, IfOk, OnOk, None};
-ghost use Rattle.pb_core.specs.Election.{project_ids, voter_ids};
+ghost use Rattle.pb_core.specs.Election.{opening, project_ids, voter_ids};
 ghost use Rattle.pb_core.specs.Money.{largest_money};
 ghost use Rattle.pb_read.specs.Inner.Drafts.{HasVoter, IsAsBefore, IsTied};
 ghost use Rattle.pb_read.specs.Inner.Ids.{Finds};
 ghost use Rattle.pb_read.specs.Inner.Machine.{Explains, project_row_checks, vote_row_checks, with_project, with_voter};
 ghost use Rattle.pb_read.specs.Rows.{field};
-ghost use Rattle.pb_read.specs.Inner.Opening.{opening};
 ghost use Rattle.pb_read.specs.Voting.{ballot_of};
 
 use crate::columns::{ProjectColumns, VoteColumns};
@@ -18,6 +17,7 @@ use pb_core::ballot::Ballot;
 use pb_core::election::{Election, MOST_PROJECTS, MOST_VOTERS};
 use pb_core::money::Money;
 use pb_core::project::Project;
+use pb_core::terms::Terms;
 use pb_core::voter::Voter;
 use pb_core::voter_id::VoterId;
 use pb_ids::IdTable;
@@ -36,16 +36,14 @@ pub(crate) struct Draft {
 }
 
 impl Draft {
-    /// An election of this budget and this limit on a ballot's length, without projects and voters yet.
-    pub(crate) fn new(alloc: Global, budget: Money, max_length: Option<u32>) -> Draft
-        requires { budget ≤ largest_money }
-        ensures election { result.election ≡ opening budget max_length }
+    /// An election of these terms, without projects and voters yet.
+    pub(crate) fn new(alloc: Global, terms: Terms) -> Draft
+        requires { terms.budget ≤ largest_money }
+        ensures election { result.election ≡ opening terms }
         ensures tied { IsTied result }
     {
-        let mut election = Election::start(alloc, budget);
-        election.set_max_length(max_length);
         Draft {
-            election,
+            election: Election::start_with(alloc, terms),
             project_ids: IdTable::new(alloc),
             voter_ids: IdTable::new(alloc),
             places: Vec::new(alloc),

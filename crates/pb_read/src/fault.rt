@@ -4,9 +4,36 @@ ghost use Rattle.std.specs.Prelude.{◌≡◌};
 ghost use Rattle.pb_read.specs.Kinds.{number_of, numbered_name};
 
 use pb_core::money_fault::MoneyFault;
+use pb_core::names::name_at;
 use pb_core::no_memory::NoMemory;
 use std::alloc::AllocError;
 use thiserror::Error;
+
+/// The names of `ReadKind`, in the order of its variants.
+pub(crate) const NAMES: [&str; 22] = [
+    "ReadFailed",
+    "NotText",
+    "TooManyRecords",
+    "NoSection",
+    "SectionOrder",
+    "NoHeader",
+    "MissingColumn",
+    "MissingField",
+    "MissingKey",
+    "VoteType",
+    "BadMoney",
+    "MoneyTooFine",
+    "MoneyTooLarge",
+    "ZeroCost",
+    "EmptyId",
+    "RepeatedProject",
+    "RepeatedVoter",
+    "UnknownProject",
+    "TooManyProjects",
+    "TooManyVoters",
+    "NoMemory",
+    "BadLength",
+];
 
 /// Why a file is refused. Within one record the checks run in rising number.
 #[derive(Clone, Copy, PartialEq, Eq, Debug, Error)]
@@ -98,60 +125,14 @@ impl ReadKind {
     pub fn number(&self) -> u32
         ensures { result ≡ number_of self.now }
     {
-        match self {
-            ReadKind::ReadFailed => 1,
-            ReadKind::NotText => 2,
-            ReadKind::TooManyRecords => 3,
-            ReadKind::NoSection => 4,
-            ReadKind::SectionOrder => 5,
-            ReadKind::NoHeader => 6,
-            ReadKind::MissingColumn => 7,
-            ReadKind::MissingField => 8,
-            ReadKind::MissingKey => 9,
-            ReadKind::VoteType => 10,
-            ReadKind::BadMoney => 11,
-            ReadKind::MoneyTooFine => 12,
-            ReadKind::MoneyTooLarge => 13,
-            ReadKind::ZeroCost => 14,
-            ReadKind::EmptyId => 15,
-            ReadKind::RepeatedProject => 16,
-            ReadKind::RepeatedVoter => 17,
-            ReadKind::UnknownProject => 18,
-            ReadKind::TooManyProjects => 19,
-            ReadKind::TooManyVoters => 20,
-            ReadKind::NoMemory => 21,
-            ReadKind::BadLength => 22,
-        }
+        *self as u32 + 1
     }
 
     /// The kind's name, as fault lines print it.
     pub fn name(&self) -> &'static str
         ensures { result.now ≡ (numbered_name self.now).1 }
     {
-        match self {
-            ReadKind::ReadFailed => "ReadFailed",
-            ReadKind::NotText => "NotText",
-            ReadKind::TooManyRecords => "TooManyRecords",
-            ReadKind::NoSection => "NoSection",
-            ReadKind::SectionOrder => "SectionOrder",
-            ReadKind::NoHeader => "NoHeader",
-            ReadKind::MissingColumn => "MissingColumn",
-            ReadKind::MissingField => "MissingField",
-            ReadKind::MissingKey => "MissingKey",
-            ReadKind::VoteType => "VoteType",
-            ReadKind::BadMoney => "BadMoney",
-            ReadKind::MoneyTooFine => "MoneyTooFine",
-            ReadKind::MoneyTooLarge => "MoneyTooLarge",
-            ReadKind::ZeroCost => "ZeroCost",
-            ReadKind::EmptyId => "EmptyId",
-            ReadKind::RepeatedProject => "RepeatedProject",
-            ReadKind::RepeatedVoter => "RepeatedVoter",
-            ReadKind::UnknownProject => "UnknownProject",
-            ReadKind::TooManyProjects => "TooManyProjects",
-            ReadKind::TooManyVoters => "TooManyVoters",
-            ReadKind::NoMemory => "NoMemory",
-            ReadKind::BadLength => "BadLength",
-        }
+        name_at(&NAMES, *self as usize)
     }
 }
 

@@ -2,9 +2,11 @@
 
 use crate::fault::ReadKind;
 use crate::length::read_max_length;
+use crate::meta_key::MetaKey;
 use crate::row::{Row, is_word};
 use pb_core::money::Money;
 use pb_core::money_fault::MoneyFault;
+use pb_core::terms::Terms;
 
 /// What the rows of META say so far; of a repeated key the last row counts.
 #[derive(Clone, Copy)]
@@ -18,8 +20,8 @@ pub struct Meta {
 }
 
 impl Meta {
-    ghost use Rattle.std.specs.Prelude.{◌≡◌, [], Some, Ok, None, MatchResult};
-    ghost use Rattle.pb_read.specs.Inner.Machine.{head_checks, with_row};
+    ghost use Rattle.std.specs.Prelude.{◌≡◌, [], Some, None, MatchResult};
+    ghost use Rattle.pb_read.specs.Inner.Machine.{meta_checks, terms_said, with_row};
     ghost use Rattle.pb_read.specs.MetaRows.{meta_of};
 
     /// META without rows.
@@ -37,25 +39,20 @@ impl Meta {
     pub(crate) fn note(&mut self, row: &Row)
         ensures { self.new ≡ with_row self.old row.now }
     {
-        let key = row.field(0);
         let value = row.field(1);
-        if is_word("budget", key) {
-            self.budget = Some(Money::read(value));
-        }
-        if is_word("vote_type", key) {
-            self.approval = Some(is_word("approval", value));
-        }
-        if is_word("max_length", key) {
-            self.max_length = read_max_length(value);
+        match MetaKey::of(row.field(0)) {
+            Some(MetaKey::Budget) => self.budget = Some(Money::read(value)),
+            Some(MetaKey::VoteType) => self.approval = Some(is_word("approval", value)),
+            Some(MetaKey::MaxLength) => self.max_length = read_max_length(value),
+            None => {}
         }
     }
 
-    /// The budget and the limit on a ballot's length, where the values are as they must be.
-    pub(crate) fn terms(&self) -> Result<(Money, Option<u32>), ReadKind>
+    /// The terms that META sets, where its values are as they must be.
+    pub(crate) fn terms(&self) -> Result<Terms, ReadKind>
         ensures { MatchResult result
-            (λ terms. (head_checks self.now.budget self.now.approval self.now.max_length ≡ None)
-            × (self.now.budget ≡ Some (Ok terms.0)) × (self.now.max_length ≡ Ok terms.1))
-            (λ kind. head_checks self.now.budget self.now.approval self.now.max_length ≡ Some kind) }
+            (λ terms. (meta_checks self.now ≡ None) × (terms ≡ terms_said self.now))
+            (λ kind. meta_checks self.now ≡ Some kind) }
     {
         let (Some(budget), Some(approval)) = (self.budget, self.approval) else {
             return Err(ReadKind::MissingKey);
@@ -68,7 +65,7 @@ impl Meta {
             Err(fault) => return Err(ReadKind::of_money(fault)),
         };
         match self.max_length {
-            Ok(max_length) => Ok((budget, max_length)),
+            Ok(max_length) => Ok(Terms { budget, max_length }),
             Err(_) => Err(ReadKind::BadLength),
         }
     }

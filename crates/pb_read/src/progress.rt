@@ -3,9 +3,10 @@
 ghost use Rattle.std.specs.Prelude.{◌≡◌, ◌≢◌, None, false, Some, IfErr, OnOk, MatchResult};
 ghost use Rattle.pb_read.specs.Listed.{is_in_rows, leaves_out};
 ghost use Rattle.pb_read.specs.Stages.{head, next_row, plain, the_end};
-ghost use Rattle.pb_read.specs.Inner.Machine.{budget_of, head_checks, limit_of};
+ghost use Rattle.pb_core.specs.Election.{opening};
+ghost use Rattle.pb_read.specs.Inner.Machine.{meta_checks, terms_said};
 ghost use Rattle.pb_read.specs.Inner.Progresses.{Advances, EndsWith, IsRead, IsReady, Refuses, Stays, place_of};
-ghost use Rattle.pb_read.specs.Inner.Opening.{opening};
+ghost use Rattle.pb_read.specs.Inner.Opening.{empty};
 ghost use Rattle.pb_read.specs.declared.progress.Stage.TheVariants.{Start, Header};
 ghost use Rattle.pb_read.specs.declared.section.Section.TheVariants.{Projects};
 
@@ -18,6 +19,7 @@ use crate::section::Section;
 use crate::watch::Part;
 use pb_core::election::Election;
 use pb_core::money::Money;
+use pb_core::terms::Terms;
 use std::alloc::Global;
 use std::mem;
 
@@ -59,12 +61,12 @@ pub(crate) struct Progress {
 impl Progress {
     /// Nothing was read yet.
     pub(crate) fn new(alloc: Global) -> Progress
-        ensures start { place_of result ≡ (Start, opening 0 None) }
+        ensures start { place_of result ≡ (Start, empty) }
         ensures ready { IsReady result }
     {
         Progress {
             stage: Stage::Start,
-            draft: Draft::new(alloc, Money(0), None),
+            draft: Draft::new(alloc, Terms::of_budget(Money(0))),
         }
     }
 
@@ -106,18 +108,16 @@ impl Progress {
     /// Reads PROJECTS' head after META.
     fn open_projects(&mut self, meta: Meta) -> Result<(), ReadKind>
         requires { IsRead meta }
-        ensures ok { OnOk result ((head_checks meta.budget meta.approval meta.max_length ≡ None)
-            × (place_of self.new
-            ≡ (Header Projects, opening (budget_of meta.budget) (limit_of meta.max_length)))
-            × IsReady self.new) }
+        ensures ok { OnOk result ((meta_checks meta ≡ None)
+            × (place_of self.new ≡ (Header Projects, opening (terms_said meta))) × IsReady self.new) }
         ensures err { IfErr result (λ kind.
-            (head_checks meta.budget meta.approval meta.max_length ≡ Some kind) × (self.new ≡ self.old)) }
+            (meta_checks meta ≡ Some kind) × (self.new ≡ self.old)) }
     {
-        let (budget, max_length) = match meta.terms() {
+        let terms = match meta.terms() {
             Ok(terms) => terms,
             Err(kind) => return Err(kind),
         };
-        let draft = Draft::new(self.draft.alloc, budget, max_length);
+        let draft = Draft::new(self.draft.alloc, terms);
         drop(mem::replace(&mut self.draft, draft));
         self.stage = Stage::Header(Section::Projects);
         Ok(())

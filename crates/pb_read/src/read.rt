@@ -7,7 +7,7 @@ ghost use Rattle.pb_rows.specs.Inner.Reading.{HasReadAtMost};
 ghost use Rattle.pb_read.specs.Stages.{next_row, the_end};
 ghost use Rattle.pb_read.specs.FirstFault.{IsFaultAt, IsFromOutside};
 ghost use Rattle.pb_read.specs.Inner.Progresses.{Advances, BlamesReader, EndsWith, IsReady, Refuses, StopsReading, place_of};
-ghost use Rattle.pb_read.specs.Inner.Opening.{opening};
+ghost use Rattle.pb_read.specs.Inner.Opening.{empty};
 ghost use Rattle.pb_read.specs.StandsFor.{StandsFor};
 ghost use Rattle.pb_read.specs.Inner.Tracking.{HasEnded, IsNextRow};
 ghost use Rattle.pb_read.specs.declared.progress.Stage.TheVariants.{Start};
@@ -96,7 +96,7 @@ fn read_election<R: Read, W: Watch>(
     progress: &mut Progress,
     watch: &mut W,
 ) -> Result<Election, ReadFault>
-    requires at_start { place_of progress.old ≡ (Start, opening 0 None) }
+    requires at_start { place_of progress.old ≡ (Start, empty) }
     requires ready { IsReady progress.old }
     ensures ok { IfSome records.old.left (λ all. IfOk result (λ e. StandsFor all e)) }
     ensures fault { IfSome records.old.left (λ all.
@@ -120,7 +120,7 @@ fn read_rows<R: Read, W: Watch>(
     progress: &mut Progress,
     watch: &mut W,
 ) -> Result<u32, ReadFault>
-    requires at_start { place_of progress.old ≡ (Start, opening 0 None) }
+    requires at_start { place_of progress.old ≡ (Start, empty) }
     requires ready { IsReady progress.old }
     ensures ok { IfOk result (λ end. HasEnded records.old.left end (place_of progress.new)) }
     ensures fault { IfSome records.old.left (λ all.

@@ -3,6 +3,26 @@
 ghost use Rattle.std.specs.Prelude.{◌≡◌};
 ghost use Rattle.pb_read.specs.Oddities.{name_of};
 
+use pb_core::names::name_at;
+
+/// The names of `Oddity`, in the order of its variants.
+pub(crate) const NAMES: [&str; 14] = [
+    "VotesMissing",
+    "ProjectsMissing",
+    "SurplusFields",
+    "TooLongBallot",
+    "TooShortBallot",
+    "EmptyBallot",
+    "NoSupporter",
+    "OverBudget",
+    "CommaInId",
+    "ThousandsMark",
+    "RepeatedKey",
+    "FooterRow",
+    "VotesOf",
+    "SelectedOf",
+];
+
 /// What is accepted in a file, and probably not meant, in the order in which warnings are written.
 #[derive(Clone, Copy, PartialEq, Eq, Debug)]
 pub enum Oddity {
@@ -41,22 +61,7 @@ impl Oddity {
     pub fn name(&self) -> &'static str
         ensures { result.now ≡ name_of self.now }
     {
-        match self {
-            Oddity::VotesMissing => "VotesMissing",
-            Oddity::ProjectsMissing => "ProjectsMissing",
-            Oddity::SurplusFields => "SurplusFields",
-            Oddity::TooLongBallot => "TooLongBallot",
-            Oddity::TooShortBallot => "TooShortBallot",
-            Oddity::EmptyBallot => "EmptyBallot",
-            Oddity::NoSupporter => "NoSupporter",
-            Oddity::OverBudget => "OverBudget",
-            Oddity::CommaInId => "CommaInId",
-            Oddity::ThousandsMark => "ThousandsMark",
-            Oddity::RepeatedKey => "RepeatedKey",
-            Oddity::FooterRow => "FooterRow",
-            Oddity::VotesOf => "VotesOf",
-            Oddity::SelectedOf => "SelectedOf",
-        }
+        name_at(&NAMES, *self as usize)
     }
 }
 

@@ -6,9 +6,9 @@ use Rattle.std.proofs.lemmas.List.Elements.{All-append, All-map, All-weaker}
 use Rattle.std.proofs.lemmas.List.Folds.{list_any-append}
 use Rattle.std.proofs.lemmas.List.Kept.{AllPairs-cons}
 use Rattle.pb_core.specs.Election.{ElectionView, IsElection}
-use Rattle.pb_greedy.proofs.Added.{added_differ, added_were_not_taken, election_is_filled}
-use Rattle.pb_greedy.proofs.Filled.{rule_from_filled}
-use Rattle.pb_greedy.specs.MostVotes.{IsMostVotesFirst, fits, is_taken, left_after}
+use Rattle.pb_rounds.proofs.Added.{added_differ, added_were_not_taken, election_is_filled}
+use Rattle.pb_rounds.proofs.Filled.{rule_from_filled}
+use Rattle.pb_rounds.specs.MostVotes.{IsMostVotesFirst, fits, is_taken, left_after}
 use Rattle.pb_price.specs.Supporters.{cost_at, support_of}
 use Rattle.pb_rounds.specs.Count.{spent_on}
 use Rattle.pb_rounds.specs.Outcome.{OutcomeView}

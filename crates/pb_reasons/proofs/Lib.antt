@@ -21,3 +21,10 @@ pub mod TiedRounds
 pub mod AllTies
 pub mod TieOrder
 pub mod Rooms
+pub mod Changed
+pub mod ChoicesWon
+pub mod Copies
+pub mod NumberedIds
+pub mod Searches
+pub mod Tidy
+pub mod Ranges

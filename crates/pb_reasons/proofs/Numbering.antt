@@ -2,7 +2,7 @@
 use Rattle.std.proofs.Common.{◌≡◌, ℕ, ◌+◌, ◌<◌, List, length, get_or, ltb, sym, ◌∙◌, ap}
 use Rattle.std.specs.Prelude.{All, count_by, nat_lt, slice_index}
 use Rattle.pb_core.specs.Election.{ElectionView}
-use Rattle.pb_greedy.specs.MostVotes.{is_taken}
+use Rattle.pb_rounds.specs.MostVotes.{is_taken}
 use Rattle.pb_price.specs.Supporters.{ballot_at}
 use Rattle.pb_reasons.specs.Counted.{CountedView}
 use Rattle.pb_reasons.specs.Reasons.{number_of, voter_reason}

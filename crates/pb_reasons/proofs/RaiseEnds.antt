@@ -6,7 +6,7 @@ use Rattle.std.proofs.lemmas.List.{append-nil, map-append}
 use Rattle.std.proofs.lemmas.List.Elements.{filter_more}
 use Rattle.std.proofs.Math.Nat.{mul-le-mul}
 use Rattle.pb_core.specs.Election.{ElectionView, IsElection}
-use Rattle.pb_greedy.specs.MostVotes.{is_taken}
+use Rattle.pb_rounds.specs.MostVotes.{is_taken}
 use Rattle.pb_price.specs.Price.{largest_share}
 use Rattle.pb_price.specs.Supporters.{SupportView, support_of}
 use Rattle.pb_rounds.proofs.Completing.{opening_of_nobody, opening_within}

@@ -6,8 +6,8 @@ use Rattle.std.proofs.lemmas.List.{get_or_past}
 use Rattle.std.proofs.lemmas.List.Elements.{All-nil, All-weaker}
 use Rattle.std.proofs.lemmas.List.FromFn.{length-map-range_with_len}
 use Rattle.pb_core.specs.Election.{ElectionView, IsElection}
-use Rattle.pb_greedy.proofs.Added.{added_are_paid, added_have_votes, election_is_filled}
-use Rattle.pb_greedy.specs.MostVotes.{votes_at}
+use Rattle.pb_rounds.proofs.Added.{added_are_paid, added_have_votes, election_is_filled}
+use Rattle.pb_rounds.specs.MostVotes.{votes_at}
 use Rattle.pb_price.specs.Supporters.{cost_at, support_of, supporters_at, supporters_of}
 use Rattle.pb_rounds.specs.Count.{spent_on}
 use Rattle.pb_rounds.specs.Counted.{IsCountOf}

@@ -9,7 +9,7 @@ use Rattle.std.proofs.lemmas.List.Folds.{Any-from_list_any, list_any_at, list_an
 use Rattle.std.proofs.lemmas.List.FromFn.{get_or-map-range_with_len, get_or-range_with_len, length-range_with_len}
 use Rattle.pb_core.specs.Ballot.{approves}
 use Rattle.pb_core.specs.Election.{ElectionView, IsElection, VoterView}
-use Rattle.pb_greedy.specs.MostVotes.{is_taken}
+use Rattle.pb_rounds.specs.MostVotes.{is_taken}
 use Rattle.pb_price.proofs.SupporterLists.{supporters_of_known}
 use Rattle.pb_price.specs.Supporters.{ballot_at, cost_at, support_of, supporters_at, supporters_of}
 use Rattle.pb_rounds.specs.Completed.{IsExhausted}

@@ -10,6 +10,7 @@ use Rattle.std.proofs.lemmas.Option.{none-some, same_Some}
 use Rattle.std.proofs.Math.Nat.{mul-le-mul_right}
 use Rattle.pb_price.specs.Price.{IsPrice, NoRestRises, price_at}
 use Rattle.pb_price.specs.Supporters.{SupportView, cost_at, supporters_at}
+use Rattle.pb_price.proofs.Bounds.{is_price_at}
 use Rattle.pb_price.proofs.BuiltLists.{range_with_len_more}
 use Rattle.pb_price.proofs.Payments.{price_from_is_price}
 use Rattle.pb_price.proofs.RestsFall.{no_price_falls, no_price_stays}
@@ -51,12 +52,16 @@ module _ (m : Measure) (s : SupportView) (elected : List ElectedView) (rests : L
       and_right (not (is_elected elected place)) _
       (above_by bound h.1 (leb-false _ _ out) (price_at s rests place) refl)
 
-  -- what is not out of it is not elected
-  pub may_tie_is_left : (bound : Option ℕ) → IsTieBound s elected rests place bound
-      → option_map_or (λ least. nat_le (scaled m s w least) (target m s w place)) bound false ≡ true
-      → is_elected elected place ≡ false
-  may_tie_is_left None h inside = absurd (false≢true inside)
-  may_tie_is_left (Some bound) h inside = h.0
+  -- a lower bound, as a step from it asks for it
+  pub bound_for_step : (bound : ℕ) → IsTieBound s elected rests place (Some bound) → (price : ℕ) → IsPrice s rests place (Some price) → bound ≤ price
+  bound_for_step bound h price is =
+      h.1 price (sym (price_from_is_price (supporters_at s place) rests (cost_at s place) (Some price) is))
+
+  -- a better one, as a step gives it
+  pub bound_by_step : (bound next : ℕ) → IsTieBound s elected rests place (Some bound) → ((price : ℕ) → IsPrice s rests place (Some price) → next ≤ price)
+      → IsTieBound s elected rests place (Some next)
+  bound_by_step bound next h lower =
+      (h.0, λ price e. lower price (is_price_at (supporters_at s place) rests (cost_at s place) (Some price) (sym e)))
 
   pub priced_is_tied : is_elected elected place ≡ false → (answer : Option ℕ) → IsPrice s rests place answer
       → option_map_or (is_as_good m s w place) answer false ≡ is_tied m s elected rests w place

@@ -1,7 +1,7 @@
 -- A count beside most votes first.
 use Rattle.std.specs.Prelude.{ℕ, List, []}
 use Rattle.pb_core.specs.Election.{ElectionView}
-use Rattle.pb_greedy.specs.MostVotes.{most_votes_first}
+use Rattle.pb_rounds.specs.MostVotes.{most_votes_first}
 use Rattle.pb_price.specs.Supporters.{support_of}
 use Rattle.pb_reasons.specs.Comparison.{comparison_of}
 use Rattle.pb_reasons.specs.Counted.{CountedView, winners_of}

@@ -1,7 +1,7 @@
 -- Two rules side by side: what the winners by each cost, and what they are to the voters.
 use Rattle.std.specs.Prelude.{ℕ, ◌-◌, ◌==◌, List, count_by, filter, length, nat_lt, sum_by}
 use Rattle.pb_core.specs.Election.{ElectionView}
-use Rattle.pb_greedy.specs.MostVotes.{is_taken}
+use Rattle.pb_rounds.specs.MostVotes.{is_taken}
 use Rattle.pb_price.specs.Supporters.{cost_at, support_of}
 use Rattle.pb_reasons.specs.declared.comparison.Comparison.{Comparison}
 use Rattle.pb_reasons.specs.declared.rule_row.RuleRow.{RuleRow}

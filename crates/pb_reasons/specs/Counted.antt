@@ -1,7 +1,7 @@
 -- What a count comes to: its outcome, and what is added to that by votes.
 use Rattle.std.specs.Prelude.{◌≡◌, ℕ, ◌-◌, ◌||◌, ◌++◌, Bool, List, [], if◌then◌else◌, map}
 use Rattle.pb_core.specs.Election.{ElectionView}
-use Rattle.pb_greedy.specs.MostVotes.{is_taken, most_votes_first}
+use Rattle.pb_rounds.specs.MostVotes.{is_taken, most_votes_first}
 use Rattle.pb_price.specs.Supporters.{support_of}
 use Rattle.pb_rounds.specs.Count.{spent_on}
 use Rattle.pb_rounds.specs.Counted.{IsCountOf}

@@ -8,3 +8,5 @@ pub mod Replay
 pub mod Rounds
 pub mod Told
 pub mod Turns
+pub mod Numbered
+pub mod Searching

@@ -6,4 +6,5 @@ pub mod RaiseEnd
 pub mod Reasons
 pub mod Ties
 pub mod Totals
+pub mod WhatIf
 pub mod Inner

@@ -7,8 +7,8 @@ use crate::comparison::{Comparison, compare};
 use crate::counted::Counted;
 use pb_core::election::Election;
 use pb_core::no_memory::NoMemory;
-use pb_greedy::most_votes_first;
 use pb_price::supporters::Supporters;
+use pb_rounds::most_votes_first;
 use std::alloc::Global;
 
 /// Whom most votes first elects, by place: from an empty list, and with the whole budget.

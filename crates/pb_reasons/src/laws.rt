@@ -2,7 +2,7 @@
 
 ghost use Rattle.std.specs.Prelude.{◌≡◌, ◌≢◌, ◌-◌, ◌<◌, ◌≤◌, ℕ, All, AllPairs, false, true};
 ghost use Rattle.pb_core.specs.Election.{ElectionView, IsElection};
-ghost use Rattle.pb_greedy.specs.MostVotes.{fits, is_taken};
+ghost use Rattle.pb_rounds.specs.MostVotes.{fits, is_taken};
 ghost use Rattle.pb_price.specs.Supporters.{support_of};
 ghost use Rattle.pb_reasons.specs.Counted.{CountedView, IsCounted, is_selected, winners_of};
 ghost use Rattle.pb_reasons.specs.Ties.{ties_of};

@@ -3,6 +3,7 @@
 #![tactic(auto)]
 
 mod beside_votes;
+pub mod changes;
 pub mod comparison;
 mod content;
 pub mod counted;
@@ -29,6 +30,7 @@ pub mod voter_teller;
 pub mod winners;
 
 pub use beside_votes::{compare_with_votes, elected_by_votes};
+pub use changes::{Change, Found, Question, Recount, Row, Verdict, WhatIf, one_change, what_if};
 pub use comparison::{Comparison, compare};
 pub use counted::Counted;
 pub use payment::Payment;

@@ -1,6 +1,7 @@
 //! Why each project is elected or added, or is neither.
 
 ghost use Rattle.std.specs.Prelude.{◌≡◌, ◌<◌, IfOk, length};
+ghost use Rattle.pb_price.specs.Supporters.{support_of};
 ghost use Rattle.pb_reasons.specs.Counted.{IsCounted};
 ghost use Rattle.pb_reasons.specs.Inner.Kept.{AreReasons};
 ghost use Rattle.pb_reasons.specs.Inner.OfOutcome.{IsOutcome, ending_as, outcome_reason};
@@ -13,6 +14,7 @@ use crate::project_reason::{Added, Ending, ProjectReason};
 use crate::reasons::Reasons;
 use pb_core::election::Election;
 use pb_core::no_memory::NoMemory;
+use pb_price::supporters::Supporters;
 use pb_rounds::outcome::Outcome;
 use std::alloc::Global;
 use std::marker::Model;
@@ -54,6 +56,13 @@ impl<'a> ProjectTeller<'a> {
         ensures { result ≡ project_reason self.now.0 self.now.1 place }
     {
         self.filled.tell(place)
+    }
+
+    /// The supporters of each project, from which it tells.
+    pub fn supporters(&self) -> &Supporters
+        ensures { result.now ≡ support_of self.now.0 }
+    {
+        self.filled.supporters()
     }
 }
 
@@ -113,6 +122,12 @@ impl<'a> Filled<'a> {
             ending,
         }
     }
+
+    fn supporters(&self) -> &Supporters
+        ensures { result.now ≡ support_of self.now.0 }
+    {
+        self.kept.supporters()
+    }
 }
 
 /// How a project ended that ended so in the outcome, and has this number among so many added ones, from 0, if below that.
@@ -169,5 +184,11 @@ impl<'a> Kept<'a> {
         ensures { result ≡ outcome_reason self.now.0 self.now.1 place }
     {
         self.reasons.project(self.election, self.outcome, place)
+    }
+
+    fn supporters(&self) -> &Supporters
+        ensures { result.now ≡ support_of self.now.0 }
+    {
+        self.reasons.supporters()
     }
 }

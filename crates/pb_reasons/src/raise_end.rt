@@ -1,7 +1,7 @@
 //! Why the raises of a count ended.
 
 ghost use Rattle.std.specs.Prelude.{◌≡◌, ◌+◌, ◌<◌, ◌≤◌, ◌^◌, All, IfOk, filter, length, map, not};
-ghost use Rattle.pb_greedy.specs.MostVotes.{is_taken};
+ghost use Rattle.pb_rounds.specs.MostVotes.{is_taken};
 ghost use Rattle.pb_price.specs.Price.{largest_share};
 ghost use Rattle.pb_price.specs.Supporters.{support_of};
 ghost use Rattle.pb_rounds.specs.Count.{spent_on};

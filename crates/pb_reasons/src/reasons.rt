@@ -58,6 +58,13 @@ impl Reasons {
         })
     }
 
+    /// The supporters of each project.
+    pub(crate) fn supporters(&self) -> &Supporters
+        ensures { result.now ≡ self.now.supporters }
+    {
+        &self.supporters
+    }
+
     /// Why the project at this place is elected, or is not.
     pub(crate) fn project(
         &self,

@@ -1,7 +1,6 @@
 //! The ties of one round.
 
-ghost use Rattle.std.specs.Prelude.{◌≡◌, ◌++◌, ◌∷◌, [], ◌<◌, ◌≤◌, OnOk, false, length, nat_le, take};
-ghost use Rattle.std.specs.Option.{option_map_or};
+ghost use Rattle.std.specs.Prelude.{◌≡◌, ◌++◌, ◌∷◌, [], ◌<◌, ◌≤◌, OnOk, Some, length, nat_le, take};
 ghost use Rattle.pb_price.specs.Price.{AreRests};
 ghost use Rattle.pb_reasons.specs.Inner.Rounds.{AreTieBounds, IsTieBound, scaled, target, ties_with};
 ghost use Rattle.pb_reasons.specs.Ties.{is_as_good, is_tied};
@@ -9,7 +8,7 @@ ghost use Rattle.pb_reasons.specs.Ties.{is_as_good, is_tied};
 use crate::tie::Tie;
 use pb_core::money::Money;
 use pb_core::no_memory::NoMemory;
-use pb_price::price_in_steps;
+use pb_price::next_bound;
 use pb_price::supporters::Supporters;
 use pb_rounds::measure::Measure;
 use pb_rounds::outcome::Elected;
@@ -61,35 +60,26 @@ impl<'a> TiedRound<'a> {
         }
     }
 
-    /// Whether this price of the project at this place, if it has one, is as good as the winner's.
-    fn is_as_good(&self, place: u32, price: &Option<Money>) -> bool
+    /// Whether this price of the project at this place is as good as the winner's.
+    fn is_as_good(&self, place: u32, price: Money) -> bool
         requires winner { self.now.winner.place < length self.now.supporters.now.costs }
         requires known { place < length self.now.supporters.now.costs }
-        ensures { result ≡ option_map_or
-            (is_as_good self.now.measure self.now.supporters.now self.now.winner place) price.now false }
+        ensures { result ≡ is_as_good self.now.measure self.now.supporters.now self.now.winner place price }
     {
-        match price {
-            Some(price) => self.scaled(*price) == self.target(place),
-            None => false,
-        }
+        self.scaled(price) == self.target(place)
     }
 
-    /// Whether a lower bound of the price of the project at this place, if it has one, is not above a tie.
-    fn may_tie(&self, place: u32, bound: &Option<Money>) -> bool
+    /// Whether a lower bound of the price of the project at this place is not above a tie.
+    fn may_tie(&self, place: u32, bound: Money) -> bool
         requires winner { self.now.winner.place < length self.now.supporters.now.costs }
         requires known { place < length self.now.supporters.now.costs }
-        ensures { result ≡ option_map_or
-            (λ least. nat_le (scaled self.now.measure self.now.supporters.now self.now.winner least)
-            (target self.now.measure self.now.supporters.now self.now.winner place)) bound.now false }
+        ensures { result ≡ nat_le (scaled self.now.measure self.now.supporters.now self.now.winner bound)
+            (target self.now.measure self.now.supporters.now self.now.winner place) }
     {
-        match bound {
-            Some(least) => self.scaled(*least) <= self.target(place),
-            None => false,
-        }
+        self.scaled(bound) <= self.target(place)
     }
 
-    /// Looks at the project at this place, of whose price this is a lower bound. It is priced only where the bound leaves
-    /// room for a tie.
+    /// Looks at the project at this place, of whose price this is a lower bound.
     fn look(&self, rests: &[Money], place: u32, bound: Option<Money>) -> Look
         requires winner { self.now.winner.place < length self.now.supporters.now.costs }
         requires known { place < length self.now.supporters.now.costs }
@@ -99,16 +89,48 @@ impl<'a> TiedRound<'a> {
             rests.now self.now.winner place }
         ensures bound { IsTieBound self.now.supporters.now self.now.elected.now rests.now place result.bound }
     {
-        if !self.may_tie(place, &bound) {
-            return Look {
+        match bound {
+            Some(bound) => self.look_from(rests, place, bound),
+            None => Look {
                 is_tied: false,
-                bound,
-            };
+                bound: None,
+            },
         }
-        let price = price_in_steps(self.supporters, rests, place);
+    }
+
+    /// The same from a lower bound up: from bound to bound, as long as they leave room for a tie.
+    fn look_from(&self, rests: &[Money], place: u32, least: Money) -> Look
+        requires winner { self.now.winner.place < length self.now.supporters.now.costs }
+        requires known { place < length self.now.supporters.now.costs }
+        requires rests { AreRests self.now.supporters.now.voters rests.now }
+        requires bound { IsTieBound self.now.supporters.now self.now.elected.now rests.now place (Some least) }
+        ensures tied { result.is_tied ≡ is_tied self.now.measure self.now.supporters.now self.now.elected.now
+            rests.now self.now.winner place }
+        ensures bound { IsTieBound self.now.supporters.now self.now.elected.now rests.now place result.bound }
+    {
+        let mut bound = least;
+        while self.may_tie(place, bound) {
+            match next_bound(self.supporters, rests, place, bound) {
+                None => {
+                    return Look {
+                        is_tied: false,
+                        bound: None,
+                    };
+                }
+                Some(next) => {
+                    if next == bound {
+                        return Look {
+                            is_tied: self.is_as_good(place, bound),
+                            bound: Some(bound),
+                        };
+                    }
+                    bound = next;
+                }
+            }
+        }
         Look {
-            is_tied: self.is_as_good(place, &price),
-            bound: price,
+            is_tied: false,
+            bound: Some(bound),
         }
     }
 

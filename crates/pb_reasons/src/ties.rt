@@ -3,6 +3,7 @@
 ghost use Rattle.std.specs.Prelude.{◌≡◌, ◌<◌, ◌≤◌, All, IfOk, flat_map, length, replicate, take};
 ghost use Rattle.std.specs.List.{range_with_len};
 ghost use Rattle.pb_price.specs.Price.{largest_share};
+ghost use Rattle.pb_price.specs.Supporters.{support_of};
 ghost use Rattle.pb_reasons.specs.Inner.Rounds.{AreOpeningBounds};
 ghost use Rattle.pb_reasons.specs.Ties.{ties_in, ties_of};
 ghost use Rattle.pb_rounds.specs.Counted.{IsCountOf};
@@ -19,7 +20,7 @@ use pb_rounds::measure::Measure;
 use pb_rounds::outcome::{Elected, Outcome};
 use std::alloc::Global;
 
-/// The ties of a count by this measure that the order of the file decided, in order of the rounds and then of the file: where
+/// The ties of a count by this measure, with these supporters of its projects, that the order of the file decided, in order of the rounds and then of the file: where
 /// a project that is not elected in the end had a price in a round as good as that of the project that the round elected.
 /// The first hundred are told.
 ///
@@ -28,19 +29,18 @@ use std::alloc::Global;
 pub fn ties_of(
     alloc: Global,
     election: &Election,
+    supporters: &Supporters,
     measure: Measure,
     outcome: &Outcome,
 ) -> Result<Vec<Tie>, NoMemory>
-    requires { (options : CountOptions) × IsCountOf election.now options outcome.now }
+    requires supporters { supporters.now ≡ support_of election.now }
+    requires counted { (options : CountOptions) × IsCountOf election.now options outcome.now }
     ensures { IfOk result (λ ties. ties.items ≡ ties_of measure election.now outcome.now) }
 {
     // What is true of every election is true of its outcomes.
     let _budget = election.budget();
-    let supporters = Supporters::build(alloc, election)?;
     let elected = outcome.elected.as_slice();
-    let told = replay_ties(alloc, &supporters, measure, outcome.share, elected);
-    drop(supporters);
-    told
+    replay_ties(alloc, supporters, measure, outcome.share, elected)
 }
 
 /// The ties of a run at this share that elected these.

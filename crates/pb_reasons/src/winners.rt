@@ -1,8 +1,10 @@
 //! The winners by a rule.
 
 ghost use Rattle.std.specs.Prelude.{◌≡◌, ◌^◌, ◌<◌, ◌≤◌, All, List, [], IfOk, ℕ, length, map, slice_index, sum_by};
-ghost use Rattle.pb_greedy.specs.MostVotes.{is_taken};
-ghost use Rattle.pb_price.specs.Supporters.{cost_at, support_of};
+ghost use Rattle.std.specs.List.{range_with_len};
+ghost use Rattle.pb_rounds.specs.MostVotes.{is_taken};
+ghost use Rattle.pb_price.specs.Supporters.{ballot_at, cost_at, support_of};
+ghost use Rattle.pb_reasons.specs.Comparison.{choices_of};
 ghost use Rattle.pb_reasons.specs.Inner.Comparing.{AreFlags, content_of, row_after};
 ghost use Rattle.pb_reasons.specs.Inner.Raises.{leave_room_for};
 
@@ -61,6 +63,35 @@ impl<'a> Winners<'a> {
         ensures { result ≡ is_taken self.now.1 place }
     {
         self.flags[place as usize]
+    }
+
+    /// How many choices of each voter are among them, voters in the order of the file.
+    pub fn choices_by_voter(&self, alloc: Global) -> Result<Vec<u32>, NoMemory>
+        ensures { IfOk result (λ choices. choices.items ≡
+            map (λ voter. choices_of self.now.1 (ballot_at self.now.0 voter)) (range_with_len 0 (length self.now.0.voters))) }
+    {
+        let voters = self.election.voters();
+        let mut choices = Vec::with_capacity(alloc, voters.len())?;
+        for voter in voters {
+            let ballot = voter.ballot.places();
+            choices.push(self.choices(ballot))?;
+        }
+        Ok(choices)
+    }
+
+    /// How many of a ballot's choices are among them.
+    fn choices(&self, ballot: &[u32]) -> u32
+        requires known { All (λ place. place < length self.now.0.projects) ballot.now }
+        requires few { length ballot.now < 2 ^ 32 }
+        ensures { result ≡ choices_of self.now.1 ballot.now }
+    {
+        let mut choices = 0;
+        for place in ballot {
+            if self.flags[*place as usize] {
+                choices += 1;
+            }
+        }
+        choices
     }
 
     /// Whether the project at this place is not among them and costs at most what is left.

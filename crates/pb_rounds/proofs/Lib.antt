@@ -29,3 +29,9 @@ pub mod Room
 pub mod RunIs
 pub mod PricedRounds
 pub mod PricedRule
+pub mod Added
+pub mod Computed
+pub mod Filled
+pub mod InOrder
+pub mod PassedOver
+pub mod VotesOrder

@@ -13,3 +13,4 @@ pub mod Queue
 pub mod RaiseEnds
 pub mod Reach
 pub mod Threads
+pub mod Candidates

@@ -10,4 +10,5 @@ pub mod Payments
 pub mod PriceSystem
 pub mod PricingRecord
 pub mod Run
+pub mod MostVotes
 pub mod Inner

@@ -4,8 +4,18 @@ ghost use Rattle.std.specs.Prelude.{◌≡◌};
 ghost use Rattle.pb_rounds.specs.CountFault.{numbered_name};
 ghost use Rattle.pb_rounds.specs.declared.count_fault.CountFault.TheVariants as fault;
 
+use pb_core::names::name_at;
 use pb_core::no_memory::NoMemory;
 use thiserror::Error;
+
+/// The names of `CountFault`, in the order of its variants.
+pub(crate) const NAMES: [&str; 5] = [
+    "WorkerCount",
+    "StepRange",
+    "RaisesRange",
+    "RaisesSpent",
+    "NoMemory",
+];
 
 /// Why a count gives no outcome. The first of these faults that applies is the one that is given.
 #[derive(Clone, Copy, Debug, PartialEq, Eq, Error)]
@@ -32,26 +42,14 @@ impl CountFault {
     pub fn number(&self) -> u32
         ensures { result ≡ (numbered_name self.now).0 }
     {
-        match self {
-            CountFault::WorkerCount => 1,
-            CountFault::StepRange => 2,
-            CountFault::RaisesRange => 3,
-            CountFault::RaisesSpent => 4,
-            CountFault::NoMemory => 5,
-        }
+        *self as u32 + 1
     }
 
     /// The fault's name.
     pub fn name(&self) -> &'static str
         ensures { result.now ≡ (numbered_name self.now).1 }
     {
-        match self {
-            CountFault::WorkerCount => "WorkerCount",
-            CountFault::StepRange => "StepRange",
-            CountFault::RaisesRange => "RaisesRange",
-            CountFault::RaisesSpent => "RaisesSpent",
-            CountFault::NoMemory => "NoMemory",
-        }
+        name_at(&NAMES, *self as usize)
     }
 }
 

@@ -2,6 +2,7 @@
 #![tactic(auto)]
 
 mod bounds;
+pub mod by_votes;
 pub mod count;
 pub mod count_fault;
 mod exhaustion;
@@ -23,6 +24,7 @@ mod shortcut_laws;
 mod side_by_side;
 mod trial;
 
+pub use by_votes::most_votes_first;
 pub use count::equal_shares;
 pub use count_fault::CountFault;
 pub use key::Key;

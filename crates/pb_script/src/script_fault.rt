@@ -1,12 +1,24 @@
 //! Why a script is refused.
 
 ghost use Rattle.std.specs.Prelude.{◌≡◌};
-ghost use Rattle.pb_script.specs.ScriptFault.{numbered_name};
+ghost use Rattle.pb_script.specs.ScriptFault.{at_row, numbered_name};
 
 use crate::script::MOST_ROWS;
+use pb_core::names::name_at;
 use pb_core::no_memory::NoMemory;
 use std::alloc::AllocError;
 use thiserror::Error;
+
+/// The names of `ScriptFault`, in the order of its variants.
+pub(crate) const NAMES: [&str; 7] = [
+    "ReadFailed",
+    "BadRow",
+    "TooManyRows",
+    "NoMemory",
+    "UnknownId",
+    "NotOnRoll",
+    "TooFew",
+];
 
 /// Why a script was not accepted. The first faulty row decides. Rows have their numbers from 1.
 #[derive(Clone, Copy, Debug, PartialEq, Eq, Error)]
@@ -76,20 +88,12 @@ impl ScriptFault {
     pub fn name(&self) -> &'static str
         ensures { result.now ≡ (numbered_name self.now).1 }
     {
-        match self {
-            ScriptFault::ReadFailed(_) => "ReadFailed",
-            ScriptFault::BadRow(_) => "BadRow",
-            ScriptFault::TooManyRows => "TooManyRows",
-            ScriptFault::NoMemory => "NoMemory",
-            ScriptFault::UnknownId(_) => "UnknownId",
-            ScriptFault::NotOnRoll(_) => "NotOnRoll",
-            ScriptFault::TooFew(_) => "TooFew",
-        }
+        name_at(&NAMES, self.number() as usize - 1)
     }
 
     /// The number of the row, from 1; 0 where memory was refused, which is the fault of no row.
     pub fn at(&self) -> u32
-        ensures { result ≡ (numbered_name self.now).2 }
+        ensures { result ≡ at_row self.now }
     {
         match self {
             ScriptFault::ReadFailed(row)

@@ -12,7 +12,7 @@ use Rattle.pb_desk.specs.Replay.{most_clerks}
 use Rattle.pb_desk.specs.Rows.{journal_text, row_of, rows_from}
 use Rattle.pb_desk.specs.declared.version.Version.TheVariants.{One}
 use Rattle.pb_durable.specs.DurableDesk.{entries_of}
-use Rattle.pb_durable.specs.declared.asked.Asked.{Asked}
+use Rattle.pb_durable.specs.declared.clerk_request.ClerkRequest.{ClerkRequest}
 use Rattle.pb_rows.proofs.RowsText.{text_of_rows-append}
 use Rattle.pb_rows.specs.Reading.{Fields}
 use Rattle.pb_rows.specs.declared.fault.RecordsFault.{RecordsFault}
@@ -98,14 +98,14 @@ zip-length R (x ∷ xs) [] f = absurd f
 zip-length R (x ∷ xs) (y ∷ ys) f = ap suc (zip-length R xs ys f.1)
 
 -- rows that ask this become its entries
-pub asks_become : (ad : Admission) (rows : List Fields) (asks : List Asked) (answers : List Answer) → AllZip (IsRowAsking ad) rows asks → length answers ≡ length asks → AllZip (Becomes ad) rows (map Ok (entries_of asks answers))
+pub asks_become : (ad : Admission) (rows : List Fields) (asks : List ClerkRequest) (answers : List Answer) → AllZip (IsRowAsking ad) rows asks → length answers ≡ length asks → AllZip (Becomes ad) rows (map Ok (entries_of asks answers))
 asks_become ad [] [] answers each same = tt
 asks_become ad [] (a ∷ asks) answers each same = absurd each
 asks_become ad (row ∷ rows) [] answers each same = absurd each
 asks_become ad (row ∷ rows) (a ∷ asks) [] each same = absurd (omega (arith, same))
 asks_become ad (row ∷ rows) (a ∷ asks) (x ∷ answers) each same = (each.0, asks_become ad rows asks answers each.1 (omega (arith, same)))
 
-pub length-entries : (requests : List Asked) (answers : List Answer) → length answers ≡ length requests → length (entries_of requests answers) ≡ length requests
+pub length-entries : (requests : List ClerkRequest) (answers : List Answer) → length answers ≡ length requests → length (entries_of requests answers) ≡ length requests
 length-entries [] answers same = refl
 length-entries (r ∷ requests) [] same = absurd (omega (arith, same))
 length-entries (r ∷ requests) (x ∷ answers) same = ap suc (length-entries requests answers (omega (arith, same)))
@@ -153,7 +153,7 @@ started ad all old before = record {
 
 -- a batch more
 module _ (ad : Admission) (all left mid : Option (List Fields)) (old journal now : List EntryView) (before after later : Option (List ℕ)) (row bad : ℕ) where
-  pub batch_more : (rows : List Fields) (asks : List Asked) (answers : List Answer) → Progress ad all left old journal before after row bad → HaveGone left rows mid → AllZip (IsRowAsking ad) rows asks
+  pub batch_more : (rows : List Fields) (asks : List ClerkRequest) (answers : List Answer) → Progress ad all left old journal before after row bad → HaveGone left rows mid → AllZip (IsRowAsking ad) rows asks
       → length answers ≡ length asks → now ≡ journal ++ entries_of asks answers → Appends after later (text_of_rows (rows_from (length journal + 1) (entries_of asks answers)))
       → Progress ad all mid old now before later (row + length asks) bad
   batch_more rows asks answers p goes each same grown said =

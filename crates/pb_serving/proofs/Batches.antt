@@ -18,11 +18,11 @@ use Rattle.pb_script.specs.Inner.ScriptReading.{HaveGone, NoneLeft}
 use Rattle.pb_script.specs.declared.admission.Admission.{Admission}
 use Rattle.pb_script.specs.declared.request_rows.RequestRow.{RequestRow}
 use Rattle.pb_script.specs.declared.request_rows.RequestRow.TheVariants as row
-use Rattle.pb_durable.specs.declared.asked.Asked.{Asked}
+use Rattle.pb_durable.specs.declared.clerk_request.ClerkRequest.{ClerkRequest}
 use Rattle.pb_serving.specs.Inner.Batch.{IsRowAsking}
 
 -- these records were read, and ask this
-pub record HasRows (ad : Admission) (left after : Option (List Fields)) (asks : List Asked) : Type 0 where
+pub record HasRows (ad : Admission) (left after : Option (List Fields)) (asks : List ClerkRequest) : Type 0 where
   pub rows : List Fields
   pub each : AllZip (IsRowAsking ad) rows asks
   pub gone : HaveGone left rows after
@@ -38,13 +38,13 @@ gone-more (Some all) (Some []) after rows fields gone next = cc next
 gone-more (Some all) (Some (row ∷ rest)) after rows fields gone next =
     rw next.2 (gone ∙ ap (λ r. rows ++ r ∷ rest) (sym next.1) ∙ sym (append_assoc rows (fields ∷ []) rest))
 
-zip-push : (ad : Admission) (rows : List Fields) (asks : List Asked) (row : Fields) (a : Asked) → AllZip (IsRowAsking ad) rows asks → IsRowAsking ad row a → AllZip (IsRowAsking ad) (rows ++ row ∷ []) (asks ++ a ∷ [])
+zip-push : (ad : Admission) (rows : List Fields) (asks : List ClerkRequest) (row : Fields) (a : ClerkRequest) → AllZip (IsRowAsking ad) rows asks → IsRowAsking ad row a → AllZip (IsRowAsking ad) (rows ++ row ∷ []) (asks ++ a ∷ [])
 zip-push ad [] [] row a f r = (r, tt)
 zip-push ad [] (b ∷ asks) row a f r = absurd f
 zip-push ad (x ∷ rows) [] row a f r = absurd f
 zip-push ad (x ∷ rows) (b ∷ asks) row a f r = (f.0, zip-push ad rows asks row a f.1 r)
 
-pub row_more : (ad : Admission) (left mid after : Option (List Fields)) (asks : List Asked) (a : Asked) (fields : Fields) → HasRows ad left mid asks → IsNext mid after true fields → IsRowAsking ad fields a
+pub row_more : (ad : Admission) (left mid after : Option (List Fields)) (asks : List ClerkRequest) (a : ClerkRequest) (fields : Fields) → HasRows ad left mid asks → IsNext mid after true fields → IsRowAsking ad fields a
     → HasRows ad left after (asks ++ a ∷ [])
 row_more ad left mid after asks a fields h next asked = record {
   rows = h.rows ++ fields ∷ [];
@@ -57,14 +57,14 @@ abbrev Takes : Admission → Option (List Fields) → Option (List Fields) → R
 Takes ad left after row = (fields : Fields) × IsNext left after true fields × IsRequestRow ad fields row
 
 -- the next row asks this
-pub asks_more : (ad : Admission) (left mid after : Option (List Fields)) (asks : List Asked) (next : Option RequestRow) (a : Asked) → next ≡ Some (row.Asks a.clerk a.request)
+pub asks_more : (ad : Admission) (left mid after : Option (List Fields)) (asks : List ClerkRequest) (next : Option RequestRow) (a : ClerkRequest) → next ≡ Some (row.Asks a.clerk a.request)
     → MatchOption next (NoneLeft mid) (Takes ad mid after) → HasRows ad left mid asks → HasRows ad left after (asks ++ a ∷ [])
 asks_more ad left mid after asks next a is takes h =
     let t : Takes ad mid after (row.Asks a.clerk a.request) = subst (λ (n : Option RequestRow). MatchOption n (NoneLeft mid) (Takes ad mid after)) is takes in
     row_more ad left mid after asks a t.0 h t.1 t.2
 
 -- the clerks of a batch are of this run
-pub asks_clerks : (ad : Admission) (rows : List Fields) (asks : List Asked) → AllZip (IsRowAsking ad) rows asks → All (λ (a : Asked). a.clerk < most_clerks) asks
+pub asks_clerks : (ad : Admission) (rows : List Fields) (asks : List ClerkRequest) → AllZip (IsRowAsking ad) rows asks → All (λ (a : ClerkRequest). a.clerk < most_clerks) asks
 asks_clerks ad [] [] each k d below = absurd (omega (arith, below))
 asks_clerks ad [] (a ∷ asks) each k d below = absurd each
 asks_clerks ad (row ∷ rows) [] each k d below = absurd (omega (arith, below))
@@ -80,7 +80,7 @@ on_roll false b c e = cc
 on_roll true false c e = cc
 on_roll true true c e = refl
 
-pub entries_on_roll : (ad : Admission) (rows : List Fields) (asks : List Asked) (answers : List Answer) → AllZip (IsRowAsking ad) rows asks
+pub entries_on_roll : (ad : Admission) (rows : List Fields) (asks : List ClerkRequest) (answers : List Answer) → AllZip (IsRowAsking ad) rows asks
     → All (λ (x : EntryView). is_on_roll ad x.request ≡ true) (entries_of asks answers)
 entries_on_roll ad [] [] answers each = All-nil (λ (x : EntryView). is_on_roll ad x.request ≡ true)
 entries_on_roll ad [] (a ∷ asks) answers each = absurd each

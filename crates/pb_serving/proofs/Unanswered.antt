@@ -7,7 +7,7 @@ use Rattle.std.proofs.lemmas.List.Elements.{filter_map-append}
 use Rattle.pb_core.specs.Request.{EntryView}
 use Rattle.pb_core.specs.declared.answer.Answer.{Answer}
 use Rattle.pb_durable.specs.DurableDesk.{entries_of}
-use Rattle.pb_durable.specs.declared.asked.Asked.{Asked}
+use Rattle.pb_durable.specs.declared.clerk_request.ClerkRequest.{ClerkRequest}
 use Rattle.pb_rows.specs.Reading.{Fields}
 use Rattle.pb_script.specs.RowsView.{HasGiven, RowsView}
 use Rattle.pb_script.specs.declared.admission.Admission.{Admission}
@@ -57,14 +57,14 @@ refused-most ReadFailed = omega arith
 refused-most NoMemory = omega arith
 
 -- the first of the rows that ask are served
-record Part (ad : Admission) (rows : List Fields) (asks : List Asked) (answers : List Answer) : Type 0 where
+record Part (ad : Admission) (rows : List Fields) (asks : List ClerkRequest) (answers : List Answer) : Type 0 where
   pub served : List Fields
   pub unserved : List Fields
   pub is : rows ≡ served ++ unserved
   pub each : AllZip (Becomes ad) served (map Ok (entries_of asks answers))
   pub all : length answers ≡ length asks → unserved ≡ []
 
-part : (ad : Admission) (rows : List Fields) (asks : List Asked) (answers : List Answer) → AllZip (IsRowAsking ad) rows asks → Part ad rows asks answers
+part : (ad : Admission) (rows : List Fields) (asks : List ClerkRequest) (answers : List Answer) → AllZip (IsRowAsking ad) rows asks → Part ad rows asks answers
 part ad [] [] answers each = record { served = []; unserved = []; is = refl; each = tt; all = λ same. refl }
 part ad [] (a ∷ asks) answers each = absurd each
 part ad (row ∷ rows) [] answers each = absurd each
@@ -79,7 +79,7 @@ part ad (row ∷ rows) (a ∷ asks) (x ∷ answers) each = let p = part ad rows 
 
 -- a batch was not answered
 module _ (ad : Admission) (fault : ServingFault) (start end : RowsView) (left after : Option (List Fields)) (old now last : List EntryView) (w0 w1 : Option (List ℕ)) (row bad : ℕ)
-    (rows : List Fields) (asks : List Asked) (answers : List Answer) (why : BatchEnd) (p : Progress ad start.left left old now w0 w1 row bad) (each : AllZip (IsRowAsking ad) rows asks)
+    (rows : List Fields) (asks : List ClerkRequest) (answers : List Answer) (why : BatchEnd) (p : Progress ad start.left left old now w0 w1 row bad) (each : AllZip (IsRowAsking ad) rows asks)
     (ends : EndsBy ad why left rows after) (few : length asks ≤ 4096) (some : 0 < length asks) (grown : last ≡ now ++ entries_of asks answers) (full : fault ≡ Output → length answers ≡ length asks)
     (given : HasGiven start end (row + (length asks + refused why)))
     (behind : (answered served unserved : ℕ) → served + unserved ≤ 4097 → (fault ≡ Output → unserved ≡ 0) → IsBehind fault answered served unserved) where

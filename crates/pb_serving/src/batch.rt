@@ -6,7 +6,7 @@ ghost use Rattle.pb_serving.specs.Inner.Batch.{refused, IsBatch};
 
 use crate::pace::Pace;
 use crate::session::Session;
-use pb_durable::Asked;
+use pb_durable::ClerkRequest;
 use pb_script::{Notice, RequestRow, RequestRows, RowRefusal, RowsFault};
 use std::alloc::Global;
 use std::io::Read;
@@ -35,7 +35,7 @@ pub(crate) fn next_batch<R: Read, P: Pace, N: Notice>(
     alloc: Global,
     rows: &mut RequestRows<R>,
     session: &Session<'_, P, N>,
-    asks: &mut Vec<Asked>,
+    asks: &mut Vec<ClerkRequest>,
 ) -> BatchEnd
     requires { asks.old.items ≡ [] }
     ensures few { length asks.new.items ≤ 4096 }
@@ -53,7 +53,7 @@ pub(crate) fn next_batch<R: Read, P: Pace, N: Notice>(
         }
         match rows.next(alloc, session.admission, session.notice) {
             Ok(Some(RequestRow::Asks(clerk, request))) => {
-                asks.push_reserved(Asked { clerk, request });
+                asks.push_reserved(ClerkRequest { clerk, request });
             }
             Ok(Some(RequestRow::Refused(why))) => return BatchEnd::Refused(why),
             Ok(None) => return BatchEnd::Over,

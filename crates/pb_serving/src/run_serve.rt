@@ -24,7 +24,7 @@ use crate::heading::heading;
 use crate::pace::Pace;
 use crate::serving_fault::ServingFault;
 use crate::session::Session;
-use pb_durable::{Asked, Device, DurableDesk};
+use pb_durable::{ClerkRequest, Device, DurableDesk};
 use pb_faults::{AppFault, write_out, write_refused_row};
 use pb_script::{Notice, RequestRows, RowRefusal, ScriptFault};
 use std::alloc::Global;
@@ -176,7 +176,7 @@ fn read_failed(row: u64) -> ServingFault
 fn answer<D: Device, W: Write>(
     alloc: Global,
     desk: &mut DurableDesk<D>,
-    asks: &[Asked],
+    asks: &[ClerkRequest],
     writer: &mut W,
 ) -> Result<(), ServingFault>
     requires durable { D.tells → IsDurable D.seen D.may_leave desk.old }

@@ -3,7 +3,5 @@ pub mod Clerk
 pub mod Refusal
 pub mod Rule
 pub mod Seats
-pub mod ShareFault
-pub mod SharedFault
 pub mod Steps
 pub mod Inner

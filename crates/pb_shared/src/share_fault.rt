@@ -1,8 +1,12 @@
 //! Why a desk was not shared.
 
+use pb_core::names::name_at;
 use pb_desk::desk::Desk;
 use std::fmt;
 use thiserror::Error;
+
+/// The names of `ShareFault`, in the order of its variants.
+pub(crate) const NAMES: [&str; 2] = ["ClerkCount", "NoMemory"];
 
 /// Why a desk was not shared. It carries the desk back, unchanged.
 #[derive(Drop, Error)]
@@ -23,11 +27,12 @@ impl fmt::Debug for ShareFault {
 
 impl ShareFault {
     ghost use Rattle.std.specs.Prelude.{◌≡◌};
-    ghost use Rattle.pb_shared.specs.ShareFault.{numbered_name};
+    ghost use Rattle.pb_core.specs.Numbered.{numbered};
+    ghost use Rattle.pb_shared.specs.contracts.share_fault.ShareFault.{the_type};
 
     /// The fault's number, from 1.
     pub fn number(&self) -> u32
-        ensures { result ≡ (numbered_name self.now).0 }
+        ensures { result ≡ (numbered the_type NAMES self.now).0 }
     {
         match self {
             ShareFault::ClerkCount(_) => 1,
@@ -37,11 +42,8 @@ impl ShareFault {
 
     /// The fault's name.
     pub fn name(&self) -> &'static str
-        ensures { result.now ≡ (numbered_name self.now).1 }
+        ensures { result.now ≡ (numbered the_type NAMES self.now).1 }
     {
-        match self {
-            ShareFault::ClerkCount(_) => "ClerkCount",
-            ShareFault::NoMemory(_) => "NoMemory",
-        }
+        name_at(&NAMES, self.number() as usize - 1)
     }
 }

@@ -1,9 +1,14 @@
 //! Why a request was not served on a shared desk.
 
 ghost use Rattle.std.specs.Prelude.{◌≡◌};
-ghost use Rattle.pb_shared.specs.SharedFault.{numbered_name};
+ghost use Rattle.pb_core.specs.Numbered.{numbered};
+ghost use Rattle.pb_shared.specs.contracts.shared_fault.SharedFault.{the_type};
 
+use pb_core::names::name_at;
 use thiserror::Error;
+
+/// The names of `SharedFault`, in the order of its variants.
+pub(crate) const NAMES: [&str; 3] = ["Busy", "JournalFull", "NoMemory"];
 
 /// Why a request was not served on a shared desk. Nothing was appended.
 #[derive(Clone, Copy, Debug, PartialEq, Eq, Error)]
@@ -22,7 +27,7 @@ pub enum SharedFault {
 impl SharedFault {
     /// The fault's number, from 1.
     pub fn number(&self) -> u32
-        ensures { result ≡ (numbered_name self.now).0 }
+        ensures { result ≡ (numbered the_type NAMES self.now).0 }
     {
         match self {
             SharedFault::Busy(_) => 1,
@@ -33,12 +38,8 @@ impl SharedFault {
 
     /// The fault's name.
     pub fn name(&self) -> &'static str
-        ensures { result.now ≡ (numbered_name self.now).1 }
+        ensures { result.now ≡ (numbered the_type NAMES self.now).1 }
     {
-        match self {
-            SharedFault::Busy(_) => "Busy",
-            SharedFault::JournalFull => "JournalFull",
-            SharedFault::NoMemory => "NoMemory",
-        }
+        name_at(&NAMES, self.number() as usize - 1)
     }
 }

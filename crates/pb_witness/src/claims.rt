@@ -4,6 +4,7 @@ use crate::fields::text_at;
 use crate::mark::Mark;
 use csv::ByteRecord;
 use pb_core::money::Money;
+use pb_read::MetaKey;
 
 /// A number that a row of META says.
 #[derive(Clone, Copy)]
@@ -46,18 +47,29 @@ impl Claims {
         } else {
             Some(Claim { mark, number })
         };
+        match MetaKey::of(key) {
+            Some(MetaKey::Budget) => {
+                self.budget = match Money::read(value) {
+                    Ok(budget) => Some(budget.0),
+                    Err(_) => None,
+                };
+            }
+            Some(MetaKey::VoteType) => {}
+            Some(MetaKey::MaxLength) => self.max_length = number,
+            None => self.take_beside(key, claim),
+        }
+    }
+
+    /// Takes a row of META with a key that readers pass over.
+    fn take_beside(&mut self, key: &str, claim: Option<Claim>) {
         if key.eq_ignore_ascii_case("num_votes") {
             self.votes = claim;
         } else if key.eq_ignore_ascii_case("num_projects") {
             self.projects = claim;
-        } else if key.eq_ignore_ascii_case("max_length") {
-            self.max_length = number;
         } else if key.eq_ignore_ascii_case("min_length") {
-            self.min_length = number;
-        } else if key.eq_ignore_ascii_case("budget") {
-            self.budget = match Money::read(value) {
-                Ok(budget) => Some(budget.0),
-                Err(_) => None,
+            self.min_length = match claim {
+                Some(claim) => claim.number,
+                None => None,
             };
         }
     }

@@ -174,6 +174,14 @@ impl<'r> FaultyRecord<'r> {
             _ => None,
         }
     }
+
+    /// What separates its column names in place of `;`, if it is a row of them that seems to be one field by that.
+    pub fn separators(&self) -> Option<&'static str> {
+        match (self.kind, self.joined()) {
+            (ReadKind::MissingColumn, Some(joined)) => joined.separators(),
+            _ => None,
+        }
+    }
 }
 
 /// Whether a character is a control character, or one that is not seen or turns the direction of a line.

@@ -64,6 +64,17 @@ pub enum JoinedBy {
     Commas,
 }
 
+impl JoinedBy {
+    /// What separates the fields in place of `;`, if something does.
+    pub fn separators(self) -> Option<&'static str> {
+        match self {
+            JoinedBy::Quotes => None,
+            JoinedBy::Tabs => Some("tabs"),
+            JoinedBy::Commas => Some("commas"),
+        }
+    }
+}
+
 /// Why a record is one field that seems to be a whole row, if it is one.
 pub fn joined(record: &ByteRecord) -> Option<JoinedBy> {
     if record.len() != 1 {

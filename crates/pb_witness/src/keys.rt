@@ -1,10 +1,7 @@
-//! The rows of META that gave the keys that the count uses.
+//! The rows of META that gave the keys that the desk or the count uses.
 
 use crate::mark::Mark;
-use pb_read::ReadKind;
-
-/// The keys of META that the count uses.
-const KEYS: [&str; 3] = ["budget", "vote_type", "max_length"];
+use pb_read::{MetaKey, ReadKind};
 
 /// The rows of META that gave a key: the first, and the last, which counts.
 #[derive(Clone, Copy)]
@@ -13,20 +10,11 @@ pub struct Given {
     pub last: Mark,
 }
 
-/// The rows of META that gave these keys.
+/// The rows of META that gave the keys that the desk or the count uses.
 #[derive(Clone, Copy)]
 pub struct Keys {
+    /// The rows of each key, in the order in which `MetaKey` declares them.
     given: [Option<Given>; 3],
-}
-
-/// Whether a word is a key that the count uses.
-pub(crate) fn is_key(word: &str) -> bool {
-    for key in KEYS {
-        if word.eq_ignore_ascii_case(key) {
-            return true;
-        }
-    }
-    false
 }
 
 impl Keys {
@@ -37,44 +25,31 @@ impl Keys {
 
     /// Takes a row of META with this key, and answers where it stood last, if it is one of these and repeated.
     pub fn take(&mut self, key: &str, mark: Mark) -> Option<Mark> {
-        for place in 0..3usize {
-            if key.eq_ignore_ascii_case(KEYS[place]) {
-                let before = self.given[place];
-                let first = match before {
-                    Some(given) => given.first,
-                    None => mark,
-                };
-                self.given[place] = Some(Given { first, last: mark });
-                return match before {
-                    Some(given) => Some(given.last),
-                    None => None,
-                };
-            }
+        let key = MetaKey::of(key)?;
+        let before = self.given(key);
+        let first = match before {
+            Some(given) => given.first,
+            None => mark,
+        };
+        self.given[key as usize] = Some(Given { first, last: mark });
+        match before {
+            Some(given) => Some(given.last),
+            None => None,
         }
-        None
+    }
+
+    /// The rows that gave this key.
+    pub fn given(&self, key: MetaKey) -> Option<Given> {
+        self.given[key as usize]
     }
 
     /// The key that a fault at the head of PROJECTS is about, and the rows that gave it.
-    pub fn judged(&self, kind: ReadKind) -> (&'static str, Option<Given>) {
-        match kind {
-            ReadKind::VoteType => ("vote_type", self.vote_type()),
-            ReadKind::BadLength => ("max_length", self.max_length()),
-            _ => ("budget", self.budget()),
-        }
-    }
-
-    /// The rows that gave `budget`.
-    pub fn budget(&self) -> Option<Given> {
-        self.given[0]
-    }
-
-    /// The rows that gave `vote_type`.
-    pub fn vote_type(&self) -> Option<Given> {
-        self.given[1]
-    }
-
-    /// The rows that gave `max_length`.
-    pub fn max_length(&self) -> Option<Given> {
-        self.given[2]
+    pub fn judged(&self, kind: ReadKind) -> (MetaKey, Option<Given>) {
+        let key = match kind {
+            ReadKind::VoteType => MetaKey::VoteType,
+            ReadKind::BadLength => MetaKey::MaxLength,
+            _ => MetaKey::Budget,
+        };
+        (key, self.given(key))
     }
 }

@@ -1,7 +1,7 @@
 //! What was seen of the texts that a run reads, and is found when they are looked at again.
 //!
 //! While pb_read reads a .pb file, a `Witness` looks on and keeps what words need of what is refused; `Warnings` and
-//! `ResultWarnings` collect what is accepted and probably not meant. A `Tally` counts the answers of a journal as its
+//! `ResultWarnings` collect what is accepted and probably not meant. `EntryCounts` count the answers of a journal as its
 //! bytes go by. After a run has failed, a text that is a file is looked at again: where a record begins, which quotation
 //! mark is open, what the proved desk answers. Nothing but that each call returns is proved of this, and no result can
 //! change by it but by `--strict`, which refuses a file for a warning.
@@ -10,6 +10,7 @@
 pub mod audited;
 mod claims;
 pub mod desk_answer;
+pub mod entry_counts;
 pub mod failures;
 pub mod faulty_record;
 pub mod fields;
@@ -17,6 +18,7 @@ pub mod firsts;
 pub mod heads;
 pub mod ids;
 pub mod keys;
+pub mod last_rows;
 pub mod mark;
 pub mod oddities;
 pub mod page_notes;
@@ -26,10 +28,8 @@ mod result_columns;
 mod result_oddities;
 pub mod row_flaw;
 pub mod seen;
-mod swallowed;
-pub mod tally;
+pub mod swallowed;
 pub mod text;
-pub mod typed_row;
 pub mod unwritable;
 pub mod voters;
 pub mod warnings;

@@ -7,7 +7,7 @@ use crate::mark::Mark;
 use crate::oddities::{Odd, Oddities};
 use csv::ByteRecord;
 use pb_core::money::Money;
-use pb_read::{Oddity, Part, ProjectColumns, Stage, VoteColumns};
+use pb_read::{MetaKey, Oddity, Part, ProjectColumns, Stage, VoteColumns};
 
 /// What the records say so far.
 #[derive(Clone, Copy)]
@@ -91,7 +91,7 @@ impl ResultOddities {
                 ..Odd::of_key(Oddity::RepeatedKey, mark, 0)
             });
         }
-        if key.eq_ignore_ascii_case("budget") {
+        if matches!(MetaKey::of(key), Some(MetaKey::Budget)) {
             self.thousands = None;
             if has_thousands_mark(text_at(row, 1)) {
                 self.thousands = Some(mark);

@@ -78,6 +78,18 @@ impl<'a, R: Files> Text<'a, R> {
         joined
     }
 
+    /// The same of the record behind that with this mark; behind the start of the text it is the first.
+    pub fn joined_behind(&self, mark: Mark) -> Option<JoinedBy> {
+        let mut records = self.record_at(mark)?;
+        let joined = if records.advance() {
+            joined(&records.last)
+        } else {
+            None
+        };
+        drop(records);
+        joined
+    }
+
     /// Whether the record with this mark begins with this word, in any case.
     pub fn begins_with(&self, mark: Mark, word: &str) -> bool {
         let Some(records) = self.record_at(mark) else {

@@ -232,6 +232,7 @@ impl Watch for Warnings {
     }
 
     fn end(&mut self) {
+        self.witness.end();
         self.has_ended = true;
         self.results.end(&mut self.oddities);
         for project in &self.projects {
@@ -317,6 +318,7 @@ impl Watch for ResultWarnings {
     }
 
     fn end(&mut self) {
+        self.witness.end();
         self.results.end(&mut self.oddities);
         self.first = self.oddities.first();
     }

@@ -3,6 +3,7 @@
 use crate::ids::Ids;
 use crate::mark::Mark;
 use crate::seen::Seen;
+use crate::swallowed::SwallowingRows;
 use crate::text::Text;
 use csv::ByteRecord;
 use pb_read::{MOST_FAULTS, Part, ReadFault, ReadKind, Stage, Watch, read_pb_watched};
@@ -29,6 +30,10 @@ pub struct Witness {
     seen: Seen,
     pub ids: Ids,
     pub refused: Vec<Refused>,
+    /// Rows that are accepted, and seem to have further rows in a field.
+    swallowing: SwallowingRows,
+    /// Whether the file has ended, and may end there.
+    has_ended: bool,
     /// Whether all was kept: no memory was refused.
     pub is_whole: bool,
 }
@@ -40,7 +45,18 @@ impl Witness {
             seen: Seen::nothing(),
             ids: Ids::new(alloc),
             refused: Vec::new(alloc),
+            swallowing: SwallowingRows::new(alloc),
+            has_ended: false,
             is_whole: true,
+        }
+    }
+
+    /// The rows that are accepted and seem to have further rows in a field, once the file has ended and may end there.
+    pub fn swallowing(&self) -> Option<&SwallowingRows> {
+        if self.has_ended {
+            Some(&self.swallowing)
+        } else {
+            None
         }
     }
 
@@ -85,7 +101,8 @@ impl Watch for Witness {
     fn see(&mut self, record: &ByteRecord, at: u32, part: Part) {
         let mark = Mark::of(record, u64::from(at));
         self.seen.take(record, mark, part);
-        if self.ids.take(record, mark, part).is_err() {
+        let kept = self.swallowing.take(record, mark, part, &self.ids.projects);
+        if kept.is_err() || self.ids.take(record, mark, part).is_err() {
             self.is_whole = false;
         }
     }
@@ -96,5 +113,7 @@ impl Watch for Witness {
         }
     }
 
-    fn end(&mut self) {}
+    fn end(&mut self) {
+        self.has_ended = true;
+    }
 }

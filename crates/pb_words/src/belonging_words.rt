@@ -5,8 +5,7 @@ use crate::words::{Said, Words, said};
 use std::alloc::Global;
 use std::io::Error;
 
-/// Words for a journal that belongs to another file than the one with this path, as the file beside it says, whose text is
-/// this.
+/// Words for a journal that belongs to another file than the one with this path, as this text of the file beside it says.
 pub fn other_file_words(
     alloc: Global,
     file: Option<&str>,
@@ -22,7 +21,7 @@ pub fn other_file_words(
             &[Name(journal), Name(file), Name(Some(beside))],
         );
         out.fill(
-            "The journal has only the numbers of the projects, in the order of the .pb file. With another file, a number may mean another project. Run the command again with the .pb file with which the desk was opened.\nIf you want to use {}, give `--other-file`. Do so only if the projects have the same order as before: names and costs may differ, and projects may be added at the end.\n",
+            "The journal names each project only by its position in the .pb file (0, 1, ..). In another file, the same position may be another project. Run the command again with the .pb file with which the desk was opened.\nIf you want to use {}, give `--other-file`. Do so only if all projects of the old file are in it, in the same order. Their names and costs may differ. New projects may only come after the old ones.\n",
             &[Name(file)],
         );
     } else {

@@ -43,8 +43,7 @@ pub fn count_words(
     out.finish()
 }
 
-/// Words for what to do about raises that were spent, of a count by these options: what is known of more raises, and a step
-/// that decides, where one is known.
+/// Words for what to do about raises that were spent: what is known of more raises, and of a step that decides.
 pub fn spent_words(
     alloc: Global,
     options: &CountOptions,
@@ -81,7 +80,7 @@ fn put_raises(out: &mut Words, deciding: Deciding) {
             "More raises can't help: `--raises` can be at most 1000000, and that is not enough.\n",
         ),
         Deciding::NotFound => out.put(
-            "You can allow more raises, up to 1000000. The program does not know how many you need: it searched for about as long as the count took, and then stopped.\n",
+            "You can allow more raises, up to 1000000, but that may not be enough. The program looked for the number that you need, and did not find it in the time that it allows itself.\n",
         ),
         Deciding::Unread => out.put(
             "You can allow more raises, up to 1000000. The program can't say how many you need: it can't read the ballots twice from standard input or a pipe. Save them in a file, and name that file.\n",
@@ -97,7 +96,7 @@ fn put_step(out: &mut Words, raises: u32, step: Option<u64>) {
             put_count(out, raises);
             out.fill(", `--step {}` (", &[Number(step)]);
             put_amount(out, step);
-            out.put(") is always enough.\n");
+            out.put(") is certainly enough; a smaller step may be enough too.\n");
         }
         None => out.put("You can try a larger step: `--step` can be at most 1000000000.\n"),
     }

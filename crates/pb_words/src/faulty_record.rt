@@ -11,8 +11,7 @@ use pb_witness::fields::{bytes_at, column_of, place_of_no_text, text_at};
 use pb_witness::heads::{head_of, section_of};
 
 /// What to do about the column names of VOTES among the projects.
-const NO_VOTES: &str =
-    "These are the column names of VOTES: write the heading VOTES on a line above them.\n";
+const NO_VOTES: &str = "Write the heading VOTES on a line above them.\n";
 
 /// What to do about a byte order mark in front of META, and about another unseen character.
 const NO_MARK: &str = "Save the file again with the encoding UTF-8, without a byte order mark.\n";
@@ -21,11 +20,11 @@ const TYPE_ANEW: &str = "Delete the invisible character before META, or type MET
 
 /// What to do about a file that does not begin with META.
 const NO_META: &str =
-    "Check that this is the .pb file: a command names it first. If it is, write META on its first line, or get the whole file again.\n";
+    "Check that this is the .pb file (in a command with two files, it comes first). If it is, write META on its first line, or get the whole file again.\n";
 
 /// What to do about a row that can't be seen.
 const INVISIBLE: &str =
-    "The line has only an invisible character, which some programs put at the end of a file: delete the line.\n";
+    "Delete the line. (Some programs put such a character at the end of a file.)\n";
 
 /// What to do about a row of PROJECTS that is one word, or too short.
 const ONE_WORD: &str =
@@ -38,13 +37,16 @@ fn names(faulty: &FaultyRecord) -> &'static Names {
     names_of(section_of(faulty.stage))
 }
 
+/// Whether a record among the projects is the column names of VOTES.
+fn is_votes_names(faulty: &FaultyRecord) -> bool {
+    matches!(faulty.stage, Stage::InProjects(_)) && column_of(faulty.record, "voter_id").is_some()
+}
+
 /// What to do about a record, where more is known than its fault.
 pub(crate) fn remedy_of(faulty: &FaultyRecord) -> Option<&'static str> {
     let is_one = faulty.record.len() == 1;
     match (faulty.kind, faulty.stage) {
-        (_, Stage::InProjects(_)) if column_of(faulty.record, "voter_id").is_some() => Some(
-            NO_VOTES,
-        ),
+        _ if is_votes_names(faulty) => Some(NO_VOTES),
         (ReadKind::NoSection, _) if faulty.is_behind_mark() => {
             let is_bom = text_at(faulty.record, 0).starts_with('\u{feff}');
             Some(if is_bom { NO_MARK } else { TYPE_ANEW })
@@ -67,6 +69,11 @@ pub(crate) fn put_what(out: &mut Words, faulty: &FaultyRecord) {
     let first = text_at(faulty.record, 0);
     match faulty.kind {
         ReadKind::NotText => put_no_text(out, faulty),
+        _ if is_votes_names(faulty) => {
+            out.put(
+                ": these are the column names of VOTES, but there is no heading VOTES above them.\n",
+            )
+        }
         ReadKind::NoSection if faulty.is_behind_mark() => {
             out.put(": an invisible character is before META.\n")
         }
@@ -120,6 +127,12 @@ fn put_no_text(out: &mut Words, faulty: &FaultyRecord) {
 
 fn put_no_column(out: &mut Words, faulty: &FaultyRecord) {
     let names = names(faulty);
+    if let Some(separators) = faulty.separators() {
+        return out.fill(
+            ": the column names are separated by {}.\n",
+            &[Own(separators)],
+        );
+    }
     let missing = if column_of(faulty.record, names.id_column).is_some() {
         names.value_column
     } else {
@@ -133,6 +146,9 @@ fn put_no_column(out: &mut Words, faulty: &FaultyRecord) {
 
 fn put_short(out: &mut Words, faulty: &FaultyRecord) {
     let names = names(faulty);
+    if faulty.is_invisible() {
+        return out.put(": the line has only an invisible character.\n");
+    }
     if faulty.record.len() == 1 && matches!(faulty.stage, Stage::InProjects(_)) {
         return out.fill(
             " has only {}, and no field for the column `cost`.\n",

@@ -7,6 +7,9 @@ use crate::words::Value::{Bytes, Name, Number, Own};
 use crate::words::{Said, Words};
 use csv::ByteRecord;
 use pb_core::answer::Answer;
+use pb_core::row_words::{
+    ALREADY_CAST, CAST, DESK_SHUT, NO_BALLOT, REPLACE, TOO_LONG, VOTER_LIMIT, WITHDRAW,
+};
 use pb_desk::AuditFault;
 use pb_desk::desk::MOST_CLERKS;
 use pb_script::ROOM;
@@ -23,7 +26,7 @@ const MISPLACED: &str = "A row is missing, repeated or in the wrong order.";
 
 /// What is said of a row whose answer is wrong.
 const OTHER_ANSWER: &str =
-    "Check that {} is the .pb file with which the desk was opened. If it is, this row or a row above it was changed.";
+    "Check that {} is the .pb file with which the desk was opened. If it is, this row was changed, or a row above it was changed or deleted.";
 
 /// What is said of a journal that is perhaps another file, has an incomplete end, or is of another version.
 const OTHER_FILE: &str =
@@ -88,8 +91,11 @@ fn put_fault<R>(out: &mut Words, audited: &Audited<R>) {
             audited,
             ": the row is not a journal's row.\nCheck that this is the journal. If it is, it is not as the desk wrote it.",
         ),
-        AuditFault::WrongNumber(_) => {
-            out.put(": the row's number is not the next one.\n");
+        AuditFault::WrongNumber(row) => {
+            out.fill(
+                ": the row should have the number {}, but it has another.\n",
+                &[Number(row)],
+            );
             put_get(out, audited, MISPLACED)
         }
         AuditFault::JournalFull(_) => out.put(
@@ -141,7 +147,8 @@ fn put_row<R: Files>(out: &mut Words, audited: &Audited<R>, row: &ByteRecord, ma
                 ", field number: this row has the number {}, but it should have {}.\n",
                 &[Bytes(bytes_at(row, 0)), Number(at)],
             );
-            put_get(out, audited, MISPLACED)
+            let is_torn = !audited.is_served && audited.has_gap_before(mark);
+            put_get(out, audited, if is_torn { INCOMPLETE } else { MISPLACED })
         }
         AuditFault::WrongAnswer(_) => {
             put_wrong_answer(out, row, None);
@@ -195,17 +202,19 @@ fn put_answer(out: &mut Words, desk: &DeskAnswer, request: &str, said: &str) {
             ", but the right answer is `too-long`, because `max_length` is {}.\n",
             &[Number(desk.most)],
         ),
-        Answer::DeskShut => put_plain(out, "desk-shut", "the desk was shut before"),
-        Answer::AlreadyCast => put_plain(out, "already-cast", "the voter has a ballot"),
-        Answer::NoBallot => put_plain(out, "no-ballot", "the voter has no ballot"),
-        Answer::VoterLimit => put_plain(out, "voter-limit", "the desk has 1,000,000 ballots"),
+        Answer::DeskShut => put_plain(out, DESK_SHUT, "the desk was shut before"),
+        Answer::AlreadyCast => put_plain(out, ALREADY_CAST, "the voter has a ballot"),
+        Answer::NoBallot => put_plain(out, NO_BALLOT, "the voter has no ballot"),
+        Answer::VoterLimit => put_plain(out, VOTER_LIMIT, "the desk has 1,000,000 ballots"),
         Answer::Done => {
             out.put(", but the right answer is `done`, because ");
-            if said == "too-long" && desk.is_unlimited {
-                out.put("a journal of version 1 has no limit on a ballot's length, and ");
+            if said == TOO_LONG && desk.is_unlimited {
+                out.put(
+                    "this journal sets no limit on a ballot's length (its first line is not `journal;2`), and ",
+                );
             }
             out.put(why_done(request));
-            if said == "too-long" && !desk.is_unlimited {
+            if said == TOO_LONG && !desk.is_unlimited {
                 put_short_enough(out, desk);
             }
             out.put(".\n")
@@ -257,8 +266,8 @@ fn put_plain(out: &mut Words, answer: &'static str, why: &'static str) {
 /// Why a request is carried out.
 fn why_done(request: &str) -> &'static str {
     match request {
-        "cast" => "the voter has no ballot",
-        "replace" | "withdraw" => "the voter has a ballot",
+        CAST => "the voter has no ballot",
+        REPLACE | WITHDRAW => "the voter has a ballot",
         _ => "the desk is open",
     }
 }

@@ -15,7 +15,6 @@ pub mod journal_words;
 mod looks;
 mod mark_words;
 mod meta_words;
-pub mod output_words;
 mod read_rules;
 pub mod read_words;
 mod record_words;
@@ -26,8 +25,7 @@ mod section;
 pub mod serve_words;
 pub mod tally_words;
 pub mod warning_words;
-pub mod what_if_words;
 mod words;
 
 pub use file_words::{NO_MEMORY, mistaken_words, open_words, unread_words, write_words};
-pub use words::{Value, Words, for_terminal};
+pub use words::{Said, Value, Words, for_terminal, said};

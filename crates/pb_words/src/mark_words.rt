@@ -8,23 +8,21 @@ use pb_witness::text::Text;
 use std::rt::Files;
 
 /// What is said of a quotation mark that is never closed.
-const UNCLOSED: &str =
-    "{} quotation mark opens on line {} and is never closed, so the rest of the file is read as one field.\n";
+const UNCLOSED: &str = " and is never closed, so the rest of the file is read as one field.\n";
 
-/// What to do about a quotation mark that is never closed.
+/// What to do about it.
 pub(crate) const CLOSE_IT: &str =
-    "Write a second quotation mark where this text should end. If the text itself has quotation marks, write each of them twice, and put the whole text in quotation marks: `\"Playground \"\"Otter\"\"\"`.\n";
+    "Delete it, or write a second quotation mark where the text should end. If the text itself has quotation marks, write each of them twice, and put the whole text in quotation marks: `\"Playground \"\"Otter\"\"\"`.\n";
 
 /// What is said of a field in quotes that runs over several lines.
-const OVER_LINES: &str =
-    "{} quotation mark opens on line {} and is closed on line {}, so these lines are read as one field.\n";
+const OVER_LINES: &str = " and is closed on line {}, so these lines are read as one field.\n";
 
 /// What to do about it, where the two lines have no other quotation mark, and where they have.
 const TWO_MARKS: &str =
     "If each line should be a row of its own, delete the quotation mark on line {} and the one on line {}.\n";
 
 const LOOK_THERE: &str =
-    "If each line should be a row of its own, a quotation mark on line {} is too many, or one is missing there. The quotation marks on line {} may be right.\n";
+    "If each line should be a row of its own, line {} has one quotation mark too many, or one too few. The quotation marks on line {} may be right.\n";
 
 /// Puts where a record stands that was not read again: `standard input: row 32`.
 pub(crate) fn put_record_number<R>(out: &mut Words, text: &Text<R>, at: u64) {
@@ -50,47 +48,50 @@ pub(crate) fn put_subject(out: &mut Words, subject: &str, id: &str) {
     }
 }
 
-/// Puts that a quotation mark in this record is never closed, if one is; answers whether it is so. What to do is not said.
+/// Puts that a quotation mark opens on a line of the record whose line was put.
+fn put_opening(out: &mut Words, span: Span, opens: u64) {
+    if opens == span.begins {
+        out.put(": a quotation mark opens here")
+    } else {
+        out.fill(": a quotation mark opens on line {}", &[Number(opens)])
+    }
+}
+
+/// Puts that a quotation mark in the record whose line was put is never closed, if so, and answers whether it is.
 pub(crate) fn put_unclosed(out: &mut Words, span: Span) -> bool {
-    let Some(opened) = span.unclosed() else {
+    let Some(opens) = span.unclosed() else {
         return false;
     };
-    out.fill(UNCLOSED, &[Own(": a"), Number(opened)]);
+    put_opening(out, span, opens);
+    out.put(UNCLOSED);
     true
 }
 
-/// Puts what is to be said of quotation marks, where the record runs over several lines by one; answers
-/// whether one is never closed.
-pub(crate) fn put_quotes(out: &mut Words, span: Span) -> bool {
-    if let Some(opened) = span.unclosed() {
-        out.fill(UNCLOSED, &[Own("A"), Number(opened)]);
-        out.put(CLOSE_IT);
-        return true;
-    }
-    let _ = put_over(out, "A", span);
-    false
-}
-
-/// Puts on which lines a quotation mark opens and closes that makes them one row, if one does; answers whether.
-pub(crate) fn put_over(out: &mut Words, article: &'static str, span: Span) -> bool {
+/// Puts that a quotation mark makes several lines one field, if one does, of the record whose line was put, or as a sentence of
+/// its own; answers whether one does.
+pub(crate) fn put_over(out: &mut Words, span: Span, is_sentence: bool) -> bool {
     let Some((opens, closes)) = span.over else {
         return false;
     };
-    let (opens, closes) = (Number(opens), Number(closes));
-    out.fill(OVER_LINES, &[Own(article), opens, closes]);
+    if is_sentence {
+        out.fill("A quotation mark opens on line {}", &[Number(opens)]);
+    } else {
+        put_opening(out, span, opens);
+    }
+    out.fill(OVER_LINES, &[Number(closes)]);
     let form = if span.is_single {
         TWO_MARKS
     } else {
         LOOK_THERE
     };
-    out.fill(form, &[opens, closes]);
+    out.fill(form, &[Number(opens), Number(closes)]);
     true
 }
 
 /// Puts the same of an earlier row that swallowed rows which are missed now, if there is one; answers whether it did.
 pub(crate) fn put_swallowing<R: Files>(out: &mut Words, text: &Text<R>, row: Option<Mark>) -> bool {
     match row {
-        Some(mark) => put_over(out, "A", span_of(text, mark)),
+        Some(mark) => put_over(out, span_of(text, mark), true),
         None => false,
     }
 }

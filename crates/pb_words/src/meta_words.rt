@@ -4,7 +4,7 @@ use crate::mark_words::{line_of, put_mark, put_swallowing};
 use crate::read_rules::{put_broken, words_of};
 use crate::words::Value::{Number, Own, Quoted};
 use crate::words::Words;
-use pb_read::ReadKind;
+use pb_read::{MetaKey, ReadKind};
 use pb_witness::fields::{JoinedBy, text_at};
 use pb_witness::heads::{OddHead, head_of, late_meta};
 use pb_witness::keys::Given;
@@ -32,7 +32,7 @@ pub(crate) const BALLOT: &str =
     "Save the file again with `;` between the fields. Keep the commas between the projects of a ballot.\n";
 
 pub(crate) const TYPED: &str =
-    "Type `;` between the fields, and `,` only between the projects of a ballot.\n";
+    "Write `;` between the fields, and `,` only between the projects of a ballot.\n";
 
 /// What to do about a row that is one field in quotes.
 const NO_QUOTES: &str =
@@ -44,7 +44,7 @@ const NO_QUOTES_AT: &str =
 
 /// What to do about a key that stands more than once.
 const REPEATED_KEY: &str =
-    "The key is on line {} as well. When a key is repeated, the last row counts. If this row is wrong, delete it. If not:\n";
+    "The key is on line {} as well, but only its last row counts. Delete this row if it does not belong here. If it does:\n";
 
 /// Puts what is wrong with a value of META, and what to do; answers whether it was found.
 pub(crate) fn put_value_words<R: Files>(
@@ -62,7 +62,7 @@ pub(crate) fn put_value_words<R: Files>(
     };
     let _ = put_mark(out, text, last);
     let value = text_at(&records.last, 1);
-    out.fill(", key {}", &[Quoted(key)]);
+    out.fill(", key {}", &[Quoted(key.text())]);
     put_broken(out, kind, value);
     let remedy = value_remedy(kind, value);
     drop(records);
@@ -84,26 +84,34 @@ fn value_remedy(kind: ReadKind, value: &str) -> &'static str {
 
 /// Puts which key META lacks, and what to do.
 pub(crate) fn put_missing_key<R: Files>(out: &mut Words, text: &Text<R>, seen: &Seen, mark: Mark) {
-    let (key, remedy) = if seen.keys.budget().is_none() {
+    let (key, remedy) = if seen.keys.given(MetaKey::Budget).is_none() {
         (
-            "budget",
+            MetaKey::Budget,
             "Add it above this line, in the form `budget;AMOUNT`.\n",
         )
     } else {
-        ("vote_type", ADD_VOTE_TYPE)
+        (MetaKey::VoteType, ADD_VOTE_TYPE)
     };
-    if text.begins_with(seen.names, key) {
+    if text.begins_with(seen.names, key.text()) {
         let _ = put_mark(out, text, seen.names);
-        return out.fill(TAKEN_FOR_NAMES, &[Own(key)]);
+        return out.fill(TAKEN_FOR_NAMES, &[Own(key.text())]);
+    }
+    let joined = text.joined_at(seen.last);
+    if let Some(Some(separators)) = joined.map(JoinedBy::separators) {
+        let _ = put_mark(out, text, seen.last);
+        return out.fill(
+            ": the fields are separated by {}.\n{}",
+            &[Own(separators), Own(VOTE)],
+        );
     }
     let _ = put_mark(out, text, mark);
-    out.fill(": META has no row for the key `{}`.\n", &[Own(key)]);
+    out.fill(": META has no row for the key `{}`.\n", &[Own(key.text())]);
     if put_swallowing(out, text, seen.swallowing) {
         return;
     }
-    match text.joined_at(seen.last) {
-        Some(JoinedBy::Quotes) => out.fill(NO_QUOTES_AT, &[Number(line_of(text, seen.last))]),
-        joined => put_joined(out, joined, remedy, VOTE),
+    match joined {
+        Some(_) => out.fill(NO_QUOTES_AT, &[Number(line_of(text, seen.last))]),
+        None => out.put(remedy),
     }
 }
 
@@ -114,10 +122,9 @@ pub(crate) fn put_joined(
     remedy: &str,
     separate: &'static str,
 ) {
-    match joined {
-        Some(JoinedBy::Quotes) => out.put(NO_QUOTES),
-        Some(JoinedBy::Tabs) => out.fill(SAVE_AGAIN, &[Own("tabs"), Own(separate)]),
-        Some(JoinedBy::Commas) => out.fill(SAVE_AGAIN, &[Own("commas"), Own(separate)]),
+    match joined.map(JoinedBy::separators) {
+        Some(Some(separators)) => out.fill(SAVE_AGAIN, &[Own(separators), Own(separate)]),
+        Some(None) => out.put(NO_QUOTES),
         None => out.put(remedy),
     }
 }

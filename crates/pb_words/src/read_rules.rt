@@ -42,15 +42,15 @@ Add the row of column names below the section's heading.\n",
     "a needed column is missing in the row of column names.
 PROJECTS needs the columns `project_id` and `cost`; VOTES needs `voter_id` and `vote`.\n",
     "the row has no field for a needed column.
-Complete the row, or delete it if it does not belong here. An empty vote still needs the `;` in front of it.\n",
+Complete the row, or delete it if it does not belong here. If a voter approves no project, leave the field empty, but keep its `;`.\n",
     "META has no row for `budget`, or none for `vote_type`.
 Add the row that is missing: `budget;AMOUNT`, or `vote_type;approval` (only if the votes are approval votes).\n",
     "the vote type is not `approval`.
 If voters only tick projects, without ranks or points, write `vote_type;approval`. If not, this program can't count the file.\n",
     "an amount is missing, or is not one that the program can read.
-Write it with digits only, like `1200` or `1200.50`: no currency, no minus sign, nothing between thousands.\n",
+Write the amount with digits only, like `1200` or `1200.50`: no currency, no minus sign, nothing between thousands.\n",
     "an amount has more than two decimals.
-Round the amount to two decimals. If the point or comma separates thousands, delete it.\n",
+If the point or comma separates thousands, delete it. If not, round the amount to two decimals.\n",
     "an amount is more than 10,000,000,000,000.00, the largest that the program takes.
 Check whether the amount has too many digits.\n",
     "a project's cost is 0, but every project must cost something.
@@ -60,7 +60,7 @@ Fill in the id, or delete the row if it is a total or a note.\n",
     "an earlier row has the same project id.
 Delete one of the two rows, or give one project another id.\n",
     "an earlier row has the same voter id.
-Find out which of the voter's rows is valid, and delete the other.\n",
+Find out which of the voter's rows is valid, and delete every other row of this voter.\n",
     "the vote names an id that no project has.
 Correct the id, or add the project. Capital and small letters count as different.\n",
     "this is project row 10,001.

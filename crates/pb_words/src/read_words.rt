@@ -112,8 +112,7 @@ fn put_fault<R: Files>(out: &mut Words, text: &Text<R>, known: &Known, refused: 
     }
 }
 
-/// Puts what is said of a fault of a text that can't be read again: little more than the fault says. Answers whether that is a
-/// row's.
+/// Puts what is known of a fault of a text that can't be read again. Answers whether that is a row's.
 fn put_from_input<R: Files>(
     out: &mut Words,
     text: &Text<R>,

@@ -3,7 +3,7 @@
 use crate::faulty_record::{put_repeated, put_what, remedy_of};
 use crate::looks::EMPTY;
 use crate::mark_words::{
-    CLOSE_IT, line_of, put_mark, put_over, put_quotes, put_subject, put_swallowing, put_unclosed,
+    CLOSE_IT, line_of, put_mark, put_over, put_subject, put_swallowing, put_unclosed,
 };
 use crate::meta_words::{
     VOTE, put_joined, put_late_meta, put_missing_key, put_odd_head, put_value_words,
@@ -87,7 +87,7 @@ fn put_record<R: Files>(out: &mut Words, text: &Text<R>, known: &Known, faulty: 
     if let Some(section) = faulty.head_with_names() {
         return out.fill(OWN_LINE, &[Own(head_of(section))]);
     }
-    if faulty.id().contains('\n') && put_over(out, ": a", span) {
+    if faulty.id().contains('\n') && put_over(out, span, false) {
         return;
     }
     let mut remedy = words_of(faulty.kind).1;
@@ -108,8 +108,11 @@ fn put_record<R: Files>(out: &mut Words, text: &Text<R>, known: &Known, faulty: 
         }
         _ => put_what(out, faulty),
     }
-    let _ = put_quotes(out, span);
-    put_remedy(out, text, faulty, remedy);
+    // Where a field is missing, the quotation mark may have taken it.
+    if faulty.kind != ReadKind::MissingField || span.over.is_none() {
+        put_remedy(out, text, faulty, remedy);
+    }
+    let _ = put_over(out, span, true);
 }
 
 /// Puts what to do about a record.
@@ -126,6 +129,14 @@ fn put_remedy<R: Files>(out: &mut Words, text: &Text<R>, faulty: &FaultyRecord, 
     }
     if faulty.is_split() {
         return put_split(out, faulty);
+    }
+    if faulty.separators().is_some() {
+        let are_all = text.joined_behind(faulty.mark).is_some();
+        return out.put(if are_all {
+            VOTE
+        } else {
+            "Write `;` between them.\n"
+        });
     }
     if faulty.is_short() && faulty.joined().is_none() && text.is_last(faulty.mark) {
         out.put(LAST_LINE);
@@ -168,7 +179,7 @@ fn put_unknown<R: Files>(
     }
     if let Some(bare) = ids.bare(unknown) {
         if unknown.contains('"') {
-            out.put(": quotation marks are around single ids, or beside one.\n");
+            out.put(": a quotation mark is beside an id, and is read as part of it.\n");
             return "Delete all quotation marks in the vote.\n";
         }
         let form = ": an invisible character is beside the id {}.\n";
@@ -184,8 +195,7 @@ fn put_unknown<R: Files>(
     put_no_project(out, text, ids, unknown)
 }
 
-/// Puts that an id is no project's, and the nearest one; answers what to do. Of an id with a line end the quotation marks
-/// around it say that.
+/// Puts that an id is no project's, and the nearest one; answers what to do.
 fn put_no_project<R: Files>(
     out: &mut Words,
     text: &Text<R>,
@@ -222,13 +232,19 @@ pub(crate) fn put_end<R: Files>(out: &mut Words, text: &Text<R>, end: &FaultyRec
         return true;
     }
     let span = span_of(text, last);
+    if span.unclosed().is_some() {
+        let _ = put_mark(out, text, last);
+        let _ = put_unclosed(out, span);
+        out.put(CLOSE_IT);
+        return true;
+    }
+    let (_, ends) = span.over.unwrap_or((0, span.begins));
     out.fill(
         "{}: the file ends after line {}, and ",
-        &[Name(text.path), Number(span.begins)],
+        &[Name(text.path), Number(ends)],
     );
     out.fill(due, &[Own(head_of(section))]);
-    let is_closed = span.unclosed().is_none();
-    if is_closed && put_swallowing(out, text, end.seen.swallowing) || put_quotes(out, span) {
+    if put_swallowing(out, text, end.seen.swallowing) || put_over(out, span, true) {
         return true;
     }
     match end.seen.odd_head {

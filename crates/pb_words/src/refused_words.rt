@@ -6,7 +6,7 @@ use crate::words::Value::{Name, Number, Own, Quoted};
 use crate::words::{Said, Words, said};
 use pb_script::{RollFault, RowRefusal};
 use pb_witness::failures::is_folder;
-use pb_witness::fields::text_at;
+use pb_witness::fields::{JoinedBy, text_at};
 use pb_witness::mark::Mark;
 use pb_witness::text::Text;
 use std::alloc::Global;
@@ -46,29 +46,44 @@ pub fn refused_words<R: Files>(rt: &R, alloc: Global, refused: &RefusedRow<'_>) 
             put_why(&mut out, refused, None);
         }
     }
-    let has_marks = refused.unknown.contains('"');
+    out.put(if refused.refuses_script {
+        " Nothing was written.\n"
+    } else {
+        " The request is not recorded.\n"
+    });
+    put_remedy(&mut out, refused, &Text::new(rt, alloc, refused.roll));
+    out.finish()
+}
+
+/// Puts what to do about it.
+fn put_remedy<R: Files>(out: &mut Words, refused: &RefusedRow<'_>, roll: &Text<R>) {
     let remedy = match refused.why {
-        RowRefusal::UnknownId if has_marks => "Delete all quotation marks in this field",
+        RowRefusal::UnknownId if refused.unknown.contains('"') => {
+            "Delete all quotation marks in this field"
+        }
         RowRefusal::UnknownId => "Correct the id",
-        RowRefusal::TooFew => "Add projects to the ballot",
+        RowRefusal::TooFew => "Ask the voter which further projects to add",
         RowRefusal::NotOnRoll | RowRefusal::Bad => {
+            let joined = roll.joined_behind(Mark::start());
+            if let Some(Some(separators)) = joined.map(JoinedBy::separators) {
+                return out.fill(OTHER_SEPARATORS, &[Own(separators)]);
+            }
             "Correct the voter's id, or add it to the roll as the first field of a row"
         }
     };
-    let form = if refused.refuses_script {
-        " Nothing was written.\n{}, and run again.\n"
-    } else {
-        " The request is not recorded.\n{}, and send the request again.\n"
+    let again = match (refused.refuses_script, refused.why) {
+        (true, _) => "run again.",
+        (false, RowRefusal::NotOnRoll) => AGAIN,
+        (false, _) => "send the request again.",
     };
-    out.fill(form, &[Own(remedy)]);
-    out.finish()
+    out.fill("{}, and {}\n", &[Own(remedy), Own(again)])
 }
 
 /// Puts why a row of this voter, if it is known, is refused.
 fn put_why(out: &mut Words, refused: &RefusedRow<'_>, voter: Option<&str>) {
     match (refused.why, voter) {
         (RowRefusal::UnknownId, _) if refused.unknown.contains('"') => {
-            out.put(", field places: quotation marks are around single ids, or beside one.")
+            out.put(", field places: a quotation mark is beside an id, and is read as part of it.")
         }
         (RowRefusal::UnknownId, _) => out.fill(
             ", field places: no project has the id {}.",
@@ -97,6 +112,14 @@ pub fn like_a_place_words(alloc: Global, id: &str) -> Said {
         &[Quoted(id), Name(Some(id))],
     )
 }
+
+/// What to do where a voter is not on a roll whose fields something else than `;` separates.
+const OTHER_SEPARATORS: &str =
+    "The fields of the roll are separated by {}. Save the roll again with `;` between the fields, and run again.\n";
+
+/// What to do behind the correction of a voter who is not on the roll of `serve`.
+const AGAIN: &str =
+    "send the request again. (`serve` reads the roll when it starts: start it again if you changed the roll.)";
 
 const ROLL_UNREAD: &str =
     "the roll could not be read to its end.\nCheck the disk or the connection, then run again.\n";

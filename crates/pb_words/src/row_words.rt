@@ -14,8 +14,7 @@ pub(crate) const JOURNAL_FIELDS: &[&str] = &[
     "number", "clerk", "request", "voter", "places", "answer",
 ];
 
-/// How a value breaks each condition, in their order, and in a second line what to do about it in a script. Of a clerk's number
-/// that is too high more is said.
+/// How a value breaks each condition, in their order, and in a second line what to do about it in a script.
 const BROKEN: [&str; 14] = [
     " is not UTF-8 text
 Save the file again with the encoding UTF-8.",
@@ -72,14 +71,18 @@ fn put_clerks(out: &mut Words, clerks: u32) {
 }
 
 /// Puts what to do about a clerk's number that is too high, in a run of so many clerks.
-pub(crate) fn put_clerk_remedy(out: &mut Words, flaw: &RowFlaw, clerks: u32) {
+pub(crate) fn put_clerk_remedy(out: &mut Words, is_shut: bool, flaw: &RowFlaw, clerks: u32) {
     out.put(if clerks == 1 {
         "Write 0"
     } else {
         "Write one of these numbers"
     });
     let number = flaw.number().unwrap_or(MOST_CLERKS);
-    if clerks < MOST_CLERKS && number < MOST_CLERKS {
+    if is_shut {
+        out.put(
+            ". If several clerks should work, give their number with `--clerks`, delete this row, and shut the desk with `--shut`",
+        )
+    } else if clerks < MOST_CLERKS && number < MOST_CLERKS {
         out.fill(
             ", or run again with `--clerks {}`",
             &[Number(u64::from(number) + 1)],

@@ -2,7 +2,7 @@
 
 use crate::count_words::put_range;
 use crate::file_words::{NO_MEMORY, put_reading_failed};
-use crate::mark_words::{CLOSE_IT, put_mark, put_quotes, put_record_number, put_unclosed};
+use crate::mark_words::{CLOSE_IT, put_mark, put_over, put_record_number, put_unclosed};
 use crate::meta_words::{BALLOT, TYPED, put_joined};
 use crate::row_words::{SCRIPT_FIELDS, broken, put_clerk_remedy, put_field_count, put_flaw};
 use crate::words::Value::{Number, Own};
@@ -11,10 +11,10 @@ use csv::ByteRecord;
 use pb_desk::desk::MOST_CLERKS;
 use pb_script::ScriptFault;
 use pb_witness::fields::{joined, raw_text};
+use pb_witness::last_rows::LastRows;
 use pb_witness::mark::Mark;
 use pb_witness::row_flaw::{Condition, flaw_of_script_row, is_of_journal};
 use pb_witness::text::Text;
-use pb_witness::typed_row::TypedRow;
 use std::alloc::Global;
 use std::rt::Files;
 
@@ -29,16 +29,16 @@ To check a journal, run `pb_app audit FILE JOURNAL`. To continue its desk, run `
 
 /// What is said of a .pb file's first row.
 const PB_FILE: &str = " is the heading of a .pb file, not a request.
-In the command, name the .pb file first, and then the script.
+Name the .pb file first, and then the script: `pb_app desk FILE SCRIPT`. (`pb_app serve` reads the requests from standard input.)
 ";
 
 /// The form of requests that name projects by their positions.
 const BY_POSITIONS: &str =
-    "A request has the form CLERK;REQUEST;VOTER;PLACES. PLACES are positions such as 0,1; for ids, run again with `--by-id`.\n";
+    "A request has the form CLERK;REQUEST;VOTER;PLACES; only `shut` has an empty VOTER. PLACES are positions such as 0,1; for ids, run again with `--by-id`.\n";
 
 /// The form of requests that name projects by their ids.
 const BY_IDS: &str =
-    "A request has the form CLERK;REQUEST;VOTER;PLACES. PLACES are ids of projects, with `,` between them.\n";
+    "A request has the form CLERK;REQUEST;VOTER;PLACES; only `shut` has an empty VOTER. PLACES are ids of projects, with `,` between them.\n";
 
 /// How a run takes the rows of a script.
 #[derive(Clone, Copy)]
@@ -81,7 +81,6 @@ fn put_words<R: Files>(out: &mut Words, text: &Text<R>, fault: ScriptFault, taki
         out.put(what_and_remedy(fault));
         if let ScriptFault::BadRow(_) = fault {
             out.put(if taking.by_id { BY_IDS } else { BY_POSITIONS });
-            out.put("The clerk's number must be less than --clerks (1 if you do not give it).\n");
         }
     }
 }
@@ -93,7 +92,7 @@ fn what_and_remedy(fault: ScriptFault) -> &'static str {
             ": the requests could not be read to their end.\nCheck the disk or the connection, then run again.\n"
         }
         ScriptFault::BadRow(_) => {
-            ": the row is not a valid request, or its clerk's number is too high.\n"
+            ": the row is not a valid request, or its clerk's number is too high. Clerks are numbered from 0; without `--clerks` there is only clerk 0.\nTo see what is wrong, save the script in a file, and name this file in the command.\n"
         }
         ScriptFault::TooManyRows => {
             ": the script has more than 2,000,000 rows.\nA longer script can't be used.\n"
@@ -115,21 +114,20 @@ fn put_row<R: Files>(out: &mut Words, text: &Text<R>, at: u64, clerks: u32) -> b
         out.put(CLOSE_IT);
     } else {
         put_row_words(out, &records.last, clerks, BALLOT);
-        let _ = put_quotes(out, span);
+        let _ = put_over(out, span, true);
     }
     drop(records);
     true
 }
 
-/// Words for why the row that was typed last is none.
-pub fn typed_words(alloc: Global, row: &TypedRow) -> Said {
+/// Words for why the row with this number is none, if it is among those that were read last.
+pub fn last_row_words(alloc: Global, rows: &LastRows, number: u64) -> Said {
     let mut out = Words::new(alloc);
-    out.fill("standard input: row {}", &[Number(row.number())]);
-    let mut records = row.records();
-    if records.advance() {
+    if let Some(records) = rows.records_to(number) {
+        out.fill("standard input: row {}", &[Number(number)]);
         put_row_words(&mut out, &records.last, MOST_CLERKS, TYPED);
+        drop(records);
     }
-    drop(records);
     out.finish()
 }
 
@@ -150,7 +148,7 @@ fn put_row_words(out: &mut Words, row: &ByteRecord, clerks: u32, separate: &'sta
             let clerks = clerks.min(MOST_CLERKS);
             put_flaw(out, &flaw, SCRIPT_FIELDS, clerks);
             if flaw.condition == Condition::KnownClerk {
-                return put_clerk_remedy(out, &flaw, clerks);
+                return put_clerk_remedy(out, raw_text(row, 1) == "shut", &flaw, clerks);
             }
             out.fill("{}\n", &[Own(broken(flaw.condition).1)])
         }

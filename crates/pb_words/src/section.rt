@@ -29,7 +29,7 @@ const PROJECTS: &Names = &Names {
     value_column: "cost",
     subject: "project",
     add_header: "Add it below the heading PROJECTS, for example `project_id;cost`.\n",
-    add_column: "PROJECTS needs the columns `project_id` and `cost`. If this row is a project, add the row of column names above it.\n",
+    add_column: "PROJECTS needs columns with the names `project_id` and `cost`. If this row is a project, add the row of column names above it.\n",
 };
 
 const VOTES: &Names = &Names {
@@ -37,7 +37,7 @@ const VOTES: &Names = &Names {
     value_column: "vote",
     subject: "voter",
     add_header: "Add it below the heading VOTES, for example `voter_id;vote`.\n",
-    add_column: "VOTES needs the columns `voter_id` and `vote`. If this row is a vote, add the row of column names above it.\n",
+    add_column: "VOTES needs columns with the names `voter_id` and `vote`. If this row is a vote, add the row of column names above it.\n",
 };
 
 /// What is said of a section that is missing, and of one without a row of column names.

@@ -6,6 +6,13 @@ use crate::words::{Said, Words, said};
 use std::alloc::Global;
 use std::io::{Error, ErrorKind};
 
+/// What is said where one of the rows that were cut off shuts the desk.
+const CAREFUL: &str =
+    "Careful: one of the rows that were cut off shuts the desk, and without them the desk is open.\n";
+
+/// The end of the row that shuts a desk.
+const SHUT: &[u8] = b";shut;;;done";
+
 /// Words for a journal that another run serves.
 pub fn locked_words(alloc: Global, path: &str) -> Said {
     said(
@@ -92,47 +99,39 @@ pub fn open_desk_words(alloc: Global, journal: Option<&str>) -> Said {
     )
 }
 
-/// Words for so many bytes behind a journal's text that are kept in this file.
-pub fn torn_words(alloc: Global, path: &str, bytes: usize) -> Said {
-    let cut = if bytes == 1 { "byte was" } else { "bytes were" };
+/// Words for these bytes from behind a journal's text that are kept in this file.
+pub fn torn_words(alloc: Global, path: &str, bytes: &[u8]) -> Said {
+    let (unit, warning) = match (bytes.len(), has_shut_row(bytes)) {
+        (_, true) => ("bytes were", CAREFUL),
+        (1, _) => ("byte was", ""),
+        _ => ("bytes were", ""),
+    };
     said(
         alloc,
-        "The end of the journal was incomplete: {} {} cut off, and kept in {}.\nSend again each request that got no answer.\n",
-        &[Number(bytes as u64), Own(cut), Name(Some(path))],
+        "The journal was read up to its first empty line or incomplete row. After that, {} {} cut off, and kept in {}.\nIf the power failed, this is normal: send again each request that got no answer. If not, somebody changed the journal: compare it with last evening's copy.\n{}",
+        &[
+            Number(bytes.len() as u64),
+            Own(unit),
+            Name(Some(path)),
+            Own(warning),
+        ],
     )
 }
 
-/// Words for so many rows that were not of the form; these are the numbers of the first of them.
-pub fn bad_rows_words(alloc: Global, rows: u64, first: &[u64]) -> Said {
-    let mut out = Words::new(alloc);
-    let more = rows.saturating_sub(first.len() as u64);
-    match (rows, more) {
-        (1, _) => out.put("Row"),
-        (_, 0) => out.put("Rows"),
-        _ => out.fill(
-            "{} rows are not valid requests, and are not in the journal: rows",
-            &[Number(rows)],
-        ),
-    }
-    for i in 0..first.len() {
-        let is_last = i + 1 == first.len() && more == 0;
-        let before = if is_last { " and " } else { ", " };
-        out.fill(
-            "{}{}",
-            &[Own(if i == 0 { " " } else { before }), Number(first[i])],
-        );
-    }
-    out.put(match (rows, more) {
-        (1, _) => " is not a valid request, and is not in the journal.\nCorrect it, and send it",
-        (_, 0) =>
-            " are not valid requests, and are not in the journal.\nCorrect them, and send them",
-        _ => " and others.\nCorrect them, and send them",
-    });
-    out.put(" again: `pb_app serve --help` shows the form of a request.\n");
-    if more > 0 {
-        out.put("Each of these rows has a line `fault;script;2;BadRow;ROW` among the answers.\n");
-    }
-    out.finish()
+/// Whether one of these rows shuts a desk.
+fn has_shut_row(rows: &[u8]) -> bool {
+    rows.split(|byte| *byte == b'\n')
+        .any(|row| row.ends_with(SHUT))
+}
+
+/// Words for so many rows that were not of the form.
+pub fn bad_rows_words(alloc: Global, rows: u64) -> Said {
+    let form = if rows == 1 {
+        "{} row is not a valid request, and is not in the journal.\nCorrect it, and send it again: `pb_app serve --help` shows the form of a request.\n"
+    } else {
+        "{} rows are not valid requests, and are not in the journal. Each of them has a line `fault;script;2;BadRow;ROW` among the answers.\nCorrect them, and send them again: `pb_app serve --help` shows the form of a request.\n"
+    };
+    said(alloc, form, &[Number(rows)])
 }
 
 /// The path, why a call on it failed, and what to do.

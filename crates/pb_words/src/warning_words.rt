@@ -1,13 +1,17 @@
 //! Words for warnings: where, what, and what to do.
 
 use crate::count_words::put_amount;
-use crate::mark_words::{line_of, put_mark, put_record_number, put_subject};
+use crate::mark_words::{
+    CLOSE_IT, line_of, put_mark, put_over, put_record_number, put_subject, put_unclosed,
+};
 use crate::words::Value::{Number, Own, Quoted};
 use crate::words::{Said, Words};
 use pb_core::money::Money;
 use pb_read::Oddity;
 use pb_witness::fields::text_at;
+use pb_witness::mark::Mark;
 use pb_witness::oddities::{ALL, Odd, Oddities, Subject};
+use pb_witness::swallowed::SwallowingRows;
 use pb_witness::text::Text;
 use std::alloc::Global;
 use std::rt::Files;
@@ -15,11 +19,11 @@ use std::rt::Files;
 /// What is said of each oddity, in the order of `ALL`, in three lines: what is odd, with the row's value and numbers in
 /// place of `{}`; the same where the row is not known, with the number; and what to do.
 const SAID: [&str; 14] = [
-    "{} is wrong: the number of vote rows is {}
-`num_votes` is wrong: the number of vote rows is {}
+    "{} is wrong: the number of vote rows in the file is {}
+`num_votes` is wrong: the number of vote rows in the file is {}
 If rows are missing, get the whole file again. Otherwise correct the number.",
-    "{} is wrong: the number of project rows is {}
-`num_projects` is wrong: the number of project rows is {}
+    "{} is wrong: the number of project rows in the file is {}
+`num_projects` is wrong: the number of project rows in the file is {}
 If rows are missing, get the whole file again. Otherwise correct the number.",
     "only {} is counted. The row has {} fields, but the number of column names is {}
 the row has too many fields: the number of column names is {}
@@ -35,7 +39,7 @@ the ballot is empty
 It is counted, and its voter gets a share of the budget. If your rules do not allow it, delete the row.",
     "no vote names this project
 no vote names the project
-Check whether votes for it are missing, or have another id by mistake.",
+Check whether votes for it are missing, or name it by another id.",
     "{} is more than the budget, so the project can't win
 the project costs more than the budget, so it can't win
 Check whether the amount has too many digits, or is in another unit (cents, for example).",
@@ -64,6 +68,15 @@ const LAST_VOTE: &str = "this last row is the only one with an empty vote
 the last row is the only one with an empty vote
 It is counted as a voter. If it is a total or a note, delete the row.";
 
+/// What is said of a row with rows in a field, of which no lines are known.
+const LIKE_ROWS: &str =
+    ": a field in quotation marks runs over several lines that look like rows.\nIf each line should be a row of its own, delete the quotation marks.\n";
+
+/// What is said of a number of rows that is not a number, and what to do.
+const NO_DIGITS: &str = "{} is not in digits; the number of these rows in the file is {}";
+
+const NUMBER: &str = "Write the number in digits.";
+
 /// What to do where there are more rows than META says.
 const SURPLUS_ROWS: &str = "Delete the rows that do not belong there, or correct the number.";
 
@@ -79,6 +92,7 @@ fn said_of(odd: &Odd) -> (&'static str, &'static str, &'static str) {
         (Oddity::VotesMissing | Oddity::ProjectsMissing, Some(said)) if said < odd.number => {
             (what, alone, SURPLUS_ROWS)
         }
+        (Oddity::VotesMissing | Oddity::ProjectsMissing, None) => (NO_DIGITS, alone, NUMBER),
         _ => (what, alone, remedy),
     }
 }
@@ -95,6 +109,38 @@ pub fn warning_words<R: Files>(
         put_oddities(&mut out, &Text::new(rt, alloc, path), oddities);
     }
     out.finish()
+}
+
+/// Words for accepted rows that seem to have further rows in a field in quotes; no path is standard input.
+pub fn swallowing_words<R: Files>(
+    rt: &R,
+    alloc: Global,
+    path: Option<&str>,
+    rows: &SwallowingRows,
+) -> Said {
+    let mut out = Words::new(alloc);
+    let text = Text::new(rt, alloc, path);
+    for mark in &rows.first {
+        put_swallowing_row(&mut out, &text, *mark);
+    }
+    if rows.more() > 0 {
+        out.fill("{} more such rows are not shown.\n", &[Number(rows.more())]);
+    }
+    out.finish()
+}
+
+/// Puts that a row seems to have further rows in a field in quotes.
+fn put_swallowing_row<R: Files>(out: &mut Words, text: &Text<R>, mark: Mark) {
+    if !text.is_file() {
+        put_record_number(out, text, mark.at);
+        return out.put(LIKE_ROWS);
+    }
+    let span = put_mark(out, text, mark);
+    if put_unclosed(out, span) {
+        out.put(CLOSE_IT)
+    } else if !put_over(out, span, false) {
+        out.put(LIKE_ROWS)
+    }
 }
 
 /// Puts what is said of each warning, by their names.

@@ -188,8 +188,8 @@ pub fn for_terminal(alloc: Global, bytes: &[u8]) -> Result<Option<String>, Alloc
     Ok(Some(out.finish()?))
 }
 
-/// A text with these values in it.
-pub(crate) fn said(alloc: Global, form: &str, values: &[Value<'_>]) -> Result<String, AllocError> {
+/// A text that is the program's own, with the next one of these values in place of each `{}`.
+pub fn said(alloc: Global, form: &str, values: &[Value<'_>]) -> Said {
     let mut out = Words::new(alloc);
     out.fill(form, values);
     out.finish()

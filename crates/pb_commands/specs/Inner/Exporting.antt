@@ -3,16 +3,15 @@ use Rattle.std.specs.Prelude.{Bool, true, false, ⊤}
 use Rattle.pb_core.specs.Election.{ElectionView}
 use Rattle.pb_reasons.specs.declared.project_reason.Ending.{Ending}
 use Rattle.pb_reasons.specs.declared.project_reason.Ending.TheVariants.{Won, Added, Lost}
-use Rattle.pb_rounds.specs.declared.options.CountOptions.{CountOptions}
-use Rattle.pb_commands.specs.Exported.{ExportRefuses}
+use Rattle.pb_export.specs.Export.{IsExportFault}
 use Rattle.pb_faults.specs.declared.fault.AppFault.{AppFault}
-use Rattle.pb_faults.specs.declared.fault.AppFault.TheVariants.{Memory, Warned}
+use Rattle.pb_faults.specs.declared.fault.AppFault.TheVariants.{Export, Memory}
 
--- memory was refused, or the election is
-abbrev pub IsStopped : CountOptions → ElectionView → AppFault → Type 0
-IsStopped options e Memory = ⊤
-IsStopped options e (Warned warning) = ⊥
-IsStopped options e fault = ExportRefuses options e fault
+-- memory was refused, or no file would be read back as the election
+abbrev pub IsStopped : ElectionView → AppFault → Type 0
+IsStopped e Memory = ⊤
+IsStopped e (Export fault) = IsExportFault e fault
+IsStopped e fault = ⊥
 
 -- whether a project is elected or added
 abbrev pub is_won : Ending → Bool

@@ -4,8 +4,8 @@ use Rattle.pb_core.specs.Election.{ElectionView, most_voters}
 use Rattle.pb_core.specs.Money.{largest_money}
 use Rattle.pb_core.specs.MoneyText.{money_text}
 use Rattle.pb_rows.specs.Reading.{Fields}
-use Rattle.pb_whatif.specs.declared.change.Change.{Change}
-use Rattle.pb_whatif.specs.declared.change.Change.TheVariants.{Cost, Voters}
+use Rattle.pb_reasons.specs.declared.changes.change.Change.{Change}
+use Rattle.pb_reasons.specs.declared.changes.change.Change.TheVariants.{Cost, Voters}
 
 -- the largest cost, or how many further voters the election can have
 abbrev pub most_of : ElectionView → Change → ℕ

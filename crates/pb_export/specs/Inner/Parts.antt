@@ -1,12 +1,15 @@
 -- Parts of what is asked of an election, and of its file's rows; private contracts speak of them.
-use Rattle.std.specs.Prelude.{ℕ, Bool, true, false, List, [], ◌∷◌, Option, codes, decimal, if◌then◌else◌, is_some, map, nat_le, slice_index, slice_index_or}
+use Rattle.std.specs.Prelude.{ℕ, Bool, true, false, List, [], ◌∷◌, Option, decimal, if◌then◌else◌, is_some, map, nat_le, slice_index, slice_index_or}
 use Rattle.std.specs.List.{enumerate_from, join_with_byte}
 use Rattle.std.specs.Option.{option_map_or, option_to_list}
 use Rattle.std.specs.Str.{bytes_eq, trim}
 use Rattle.pb_core.specs.Election.{ProjectView, VoterView, most_projects}
+use Rattle.pb_core.specs.declared.terms.Terms.{Terms}
 use Rattle.pb_export.specs.FileRows.{may_follow, project_row}
 use Rattle.pb_export.specs.Further.{KeyView}
+use Rattle.pb_read.specs.MetaKeys.{key_text}
 use Rattle.pb_read.specs.Rows.{head_of}
+use Rattle.pb_read.specs.declared.meta_key.MetaKey.TheVariants.{MaxLength}
 use Rattle.pb_rows.specs.Reading.{Fields}
 
 -- a text has no white space at its ends
@@ -21,9 +24,13 @@ is_small max_length = option_map_or (λ most. nat_le most most_projects) max_len
 abbrev pub is_section_word : List ℕ → Bool
 is_section_word id = is_some (head_of (id ∷ []))
 
+-- a file can name these terms
+abbrev pub can_be_named : Terms → Bool
+can_be_named terms = is_small terms.max_length
+
 -- the row of META on how long a ballot may be, where there is a limit
 abbrev pub limit_rows : Option ℕ → List Fields
-limit_rows max_length = map (λ most. codes "max_length" ∷ decimal most ∷ []) (option_to_list max_length)
+limit_rows max_length = map (λ most. key_text MaxLength ∷ decimal most ∷ []) (option_to_list max_length)
 
 -- the rows of the projects from a place on
 abbrev pub projects_from : List ℕ → List Bool → List Fields → ℕ → List ProjectView → List Fields

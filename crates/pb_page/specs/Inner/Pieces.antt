@@ -1,21 +1,23 @@
 -- What each function of the code puts after a page: parts of the public definitions.
-use Rattle.std.specs.Prelude.{ℕ, Bool, ◌<◌, ◌-◌, ◌==◌, List, [], ◌∷◌, ◌++◌, All, ⊤, Option, codes, decimal, filter, flat_map, if◌then◌else◌, length, map, slice_get, slice_index_or, sum_by}
+use Rattle.std.specs.Prelude.{ℕ, Bool, ◌<◌, ◌-◌, ◌==◌, List, [], ◌∷◌, ◌++◌, All, ⊤, Option, codes, decimal, filter, flat_map, if◌then◌else◌, length, map, slice_index_or, sum_by}
 use Rattle.std.specs.Borrow.{Bor}
 use Rattle.std.specs.List.{range_with_len}
 use Rattle.std.specs.Option.{option_map_or}
 use Rattle.pb_core.specs.MoneyText.{money_text}
+use Rattle.pb_reasons.specs.declared.project_reason.Added.{Added}
 use Rattle.pb_reasons.specs.declared.project_reason.Lost.{Lost}
+use Rattle.pb_reasons.specs.declared.project_reason.Won.{Won}
 use Rattle.pb_page.specs.declared.categories.Categories.{Categories}
 use Rattle.pb_page.specs.declared.facts.Facts.{Facts}
-use Rattle.pb_page.specs.declared.facts.Source.{Source}
+use Rattle.pb_page.specs.declared.facts.ReadText.{ReadText}
 use Rattle.pb_page.specs.declared.figures.Figures.{Figures}
 use Rattle.pb_page.specs.declared.in_category.InCategory.{InCategory}
 use Rattle.pb_reasons.specs.declared.tie.Tie.{Tie}
 use Rattle.pb_core.specs.Election.{ElectionView, ProjectView}
 use Rattle.pb_price.specs.Supporters.{cost_at, support_of}
-use Rattle.pb_markup.specs.Amount.{shown}
-use Rattle.pb_markup.specs.Filling.{Filling}
-use Rattle.pb_markup.specs.declared.form.Form.{Form}
+use Rattle.pb_page.specs.Amount.{shown}
+use Rattle.pb_page.specs.Filling.{Filling}
+use Rattle.pb_page.specs.declared.markup.form.Form.{Form}
 use Rattle.pb_reasons.specs.Counted.{CountedView, winners_of}
 use Rattle.pb_reasons.specs.Ties.{ties_of}
 use Rattle.pb_reasons.specs.Totals.{totals_of}
@@ -24,11 +26,11 @@ use Rattle.pb_reasons.specs.declared.raise_end.RaiseEnd.TheVariants.{Plain, Exha
 use Rattle.pb_rounds.specs.declared.measure.Measure.{Measure}
 use Rattle.pb_rounds.specs.declared.options.Completion.{Completion}
 use Rattle.pb_rounds.specs.declared.options.CountOptions.{CountOptions}
-use Rattle.pb_page.specs.Page.{added, amount, at, at_least, ballots_row, besides, between, budget, by_completion, by_measure, called, categories, category_row, check, exactly, filling, labels, lost_row, made, noun_at, number, others, row_of, rule, say, text, tie, ties, voters, width, winners, won_by_voter, won_row}
+use Rattle.pb_page.specs.Page.{added, amount, at, at_least, ballots_row, besides, between, budget, by_completion, by_measure, called, categories, category_name, category_of, category_row, check, exactly, filling, head_end, labels, lost_row, made, noun_at, number, others, row_of, rule, say, text, tie, ties, voters, width, winners, won_by_voter, won_row}
 use Rattle.pb_page.specs.declared.keys.TheConstants as key
 use Rattle.pb_page.specs.declared.language.Language.{Language}
 use Rattle.pb_page.specs.declared.style.TheConstants.{HEAD}
-use Rattle.pb_page.specs.declared.templates.TheConstants.{LEAD_NEXT, NOTHING, BUDGET_OPENING, BLOCKS_OPENING, BUDGET_PART, BLOCKS_CLOSING, BUDGET_CLOSING, WINNERS_OPENING, ADDED_OPENING, OTHERS_OPENING, OTHER, TABLE_CLOSING, CATEGORIES_OPENING, CATEGORY, COMPARED_OPENING, VOTERS_OPENING, VOTERS_TABLE, VOTERS_ROW, VOTERS_ROW_CLOSING, RULE_OPENING, RULE_NEXT, ITEM, ITEM_OPENING, ONLY_THEN_OPENING, ONLY_THEN, NAMELESS, CALLED, TIES_OPENING, TIES_CLOSING, CHECK_OPENING, CHECK_FILE, CHECK_JOURNAL, RECOUNT_OPENING, RECOUNT_LINK, RECOUNT_CLOSING, NO_RECOUNT, COUNT, AUDIT, OPTION_COST, OPTION_PLAIN, OPTION_UTILITARIAN, OPTION_ADD1U, COMMAND_CLOSING, MADE_BY_OPENING}
+use Rattle.pb_page.specs.declared.templates.TheConstants.{LEAD_NEXT, NOTHING, BUDGET_OPENING, BLOCKS_OPENING, BUDGET_PART, BLOCKS_CLOSING, BUDGET_CLOSING, HEAD_CATEGORY, ROW_CATEGORY, WINNERS_OPENING, WINNER, ADDED_OPENING, ADDED, OTHERS_OPENING, OTHER, OTHER_CLOSING, TABLE_CLOSING, CATEGORIES_OPENING, CATEGORY, COMPARED_OPENING, VOTERS_OPENING, VOTERS_TABLE, VOTERS_ROW, VOTERS_ROW_CLOSING, RULE_OPENING, RULE_NEXT, ITEM, ITEM_OPENING, ONLY_THEN_OPENING, ONLY_THEN, NAMELESS, CALLED, TIES_OPENING, LIST_CLOSING, CHECK_OPENING, CHECK_FILE, CHECK_JOURNAL, RECOUNT_OPENING, RECOUNT_LINK, RECOUNT_CLOSING, NO_RECOUNT, COUNT, AUDIT, OPTION_COST, OPTION_PLAIN, OPTION_UTILITARIAN, OPTION_ADD1U, COMMAND_CLOSING, MADE_BY_OPENING}
 
 -- the numbers of the whole
 abbrev pub figures_of : ElectionView → CountedView → Figures
@@ -100,11 +102,34 @@ compared_head l = labels l COMPARED_OPENING.now (key.COMPARED_HEADING ∷ key.CO
     ∷ key.COMPARED_RULE ∷ key.COMPARED_WON ∷ key.WITHOUT ∷ key.MORE ∷ [])
 
 -- the rows of the project at a place, as a winner and as another
-abbrev pub won_rows : Language → ElectionView → CountedView → ℕ → List Filling
-won_rows l e c place = row_of (won_row l e.budget) e c place
+abbrev pub won_rows : Facts → ElectionView → CountedView → ℕ → List Filling
+won_rows facts e c place = row_of (won_row facts e.budget) e c place
 
-abbrev pub lost_rows : Language → ElectionView → CountedView → ℕ → List Filling
-lost_rows l e c place = row_of (lost_row l) e c place
+abbrev pub lost_rows : Facts → ElectionView → CountedView → ℕ → List Filling
+lost_rows facts e c place = row_of (lost_row facts) e c place
+
+-- the row of a winner and of an added project, up to their ends
+abbrev pub winner_cells : Language → (whole : ℕ) → ProjectView → (votes : ℕ) → Won → Filling
+winner_cells l whole p votes w = filling WINNER.now
+    (p.id ∷ at l key.ROUND ∷ decimal w.round ∷ p.id ∷ p.name ∷ decimal (width p.cost whole)
+    ∷ at l key.COST ∷ money_text p.cost ∷ shown l.costs p.cost ∷ at l key.VOTES ∷ decimal votes
+    ∷ at l key.PRICE ∷ money_text w.price ∷ shown l.amounts w.price ∷ at l key.IN_FULL ∷ decimal w.in_full ∷ [])
+
+abbrev pub added_cells : Language → (whole : ℕ) → ProjectView → (votes : ℕ) → Added → Filling
+added_cells l whole p votes a = filling ADDED.now
+    (p.id ∷ at l key.NUMBER ∷ decimal a.number ∷ p.id ∷ p.name ∷ decimal (width p.cost whole)
+    ∷ at l key.COST ∷ money_text p.cost ∷ shown l.costs p.cost ∷ at l key.VOTES ∷ decimal votes ∷ [])
+
+-- the cell of a project's category, and the head of its column, where there are categories
+abbrev pub category_cell : (label name : List ℕ) → List Filling
+category_cell label name = filling ROW_CATEGORY.now (label ∷ name ∷ []) ∷ []
+
+abbrev pub row_category : Facts → (place : ℕ) → List Filling
+row_category facts place =
+    option_map_or (λ g. category_cell (at facts.language key.CATEGORY) (category_name g (category_of g place))) facts.categories []
+
+abbrev pub head_category : Facts → List Filling
+head_category facts = option_map_or (λ g. labels facts.language HEAD_CATEGORY.now (key.CATEGORY ∷ []) ∷ []) facts.categories []
 
 -- how many voters have a winner among their choices, and the head of the histogram
 abbrev pub got : Language → List ℕ → List Filling
@@ -125,11 +150,11 @@ abbrev pub item : Language → ℕ → Filling
 item l k = labels l ITEM.now (k ∷ [])
 
 -- a text that was read: its name and its digest
-abbrev pub named : List ℕ → Source → Filling
+abbrev pub named : List ℕ → ReadText → Filling
 named piece s = filling piece (s.name.now ∷ s.digest.now ∷ [])
 
 -- what was counted, where a page recounts it, and the command that does, with its options
-abbrev pub sources : Language → Source → Option Source → List Filling
+abbrev pub sources : Language → ReadText → Option ReadText → List Filling
 sources l file journal =
     labels l CHECK_OPENING.now (key.CHECK_HEADING ∷ key.CHECK_BYTES ∷ []) ∷ named CHECK_FILE.now file
     ∷ option_map_or (λ journal. named CHECK_JOURNAL.now journal ∷ []) journal []
@@ -147,19 +172,20 @@ block form budget before p =
     filling BUDGET_PART.now
     (decimal (width before budget) ∷ decimal (width p.cost budget) ∷ called p ∷ shown form p.cost ∷ p.id ∷ [])
 
-abbrev pub winner_table : Language → ElectionView → CountedView → List Filling
-winner_table l e c =
-    winners_head l
-    ∷ (flat_map (λ w. won_rows l e c w.place) c.outcome.elected ++ filling TABLE_CLOSING.now [] ∷ [])
+abbrev pub winner_table : Facts → ElectionView → CountedView → List Filling
+winner_table facts e c =
+    winners_head facts.language ∷ (head_end facts
+    ++ (flat_map (λ w. won_rows facts e c w.place) c.outcome.elected ++ filling TABLE_CLOSING.now [] ∷ []))
 
-abbrev pub added_table : Language → ElectionView → CountedView → List Filling
-added_table l e c =
-    added_head l ∷ (flat_map (won_rows l e c) c.added ++ filling TABLE_CLOSING.now [] ∷ [])
+abbrev pub added_table : Facts → ElectionView → CountedView → List Filling
+added_table facts e c =
+    added_head facts.language ∷ (head_end facts
+    ++ (flat_map (won_rows facts e c) c.added ++ filling TABLE_CLOSING.now [] ∷ []))
 
-abbrev pub other_table : Language → ElectionView → CountedView → List Filling
-other_table l e c =
-    others_head l
-    ∷ (flat_map (lost_rows l e c) (range_with_len 0 (length e.projects)) ++ filling TABLE_CLOSING.now [] ∷ [])
+abbrev pub other_table : Facts → ElectionView → CountedView → List Filling
+other_table facts e c =
+    others_head facts.language ∷ (head_end facts
+    ++ (flat_map (lost_rows facts e c) (range_with_len 0 (length e.projects)) ++ filling TABLE_CLOSING.now [] ∷ []))
 
 abbrev pub exact_row : Language → List ℕ → ℕ → List Filling
 exact_row l won n = ballots_row l key.EXACTLY n (exactly n won) won
@@ -207,7 +233,7 @@ tie_said l m round winner other =
 -- some ties
 abbrev pub tie_list : Language → Measure → ElectionView → List Tie → List Filling
 tie_list l m e all =
-    labels l TIES_OPENING.now (key.TIES ∷ []) ∷ (flat_map (tie l m e) all ++ filling TIES_CLOSING.now [] ∷ [])
+    labels l TIES_OPENING.now (key.TIES ∷ []) ∷ (flat_map (tie l m e) all ++ filling LIST_CLOSING.now [] ∷ [])
 
 -- how that is called, and how what was left was filled up
 abbrev pub method_said : Language → Completion → (fills_up : Bool) → List Filling
@@ -249,6 +275,10 @@ lost_figures l p votes lost =
     ∷ at l key.VOTES ∷ decimal votes ∷ at l key.LEFT ∷ money_text lost.left ∷ shown l.amounts lost.left
     ∷ at l key.MISSING ∷ money_text lost.missing ∷ [])
 
+abbrev pub lost_cells : Language → ProjectView → (votes : ℕ) → Lost → List Filling
+lost_cells l p votes lost =
+    between (lost_figures l p votes lost) (filling OTHER_CLOSING.now []) l key.SHORT (text (shown l.amounts lost.missing) ∷ [])
+
 abbrev pub got_said : Language → (with voters without : ℕ) → List Filling
 got_said l with voters without =
     say l key.GOT
@@ -261,7 +291,7 @@ voters_table l = labels l VOTERS_TABLE.now (key.VOTERS_CAPTION ∷ key.CHOSEN �
 abbrev pub row_closing : (ballots : ℕ) → List ℕ → Filling
 row_closing ballots won = filling VOTERS_ROW_CLOSING.now (decimal (width ballots (length won)) ∷ decimal ballots ∷ [])
 
-abbrev pub journal_source : Option Source → List Filling
+abbrev pub journal_source : Option ReadText → List Filling
 journal_source journal = option_map_or (λ journal. named CHECK_JOURNAL.now journal ∷ []) journal []
 
 abbrev pub recount : Language → List ℕ → List Filling
@@ -269,7 +299,7 @@ recount l address =
     between (filling RECOUNT_OPENING.now []) (labels l RECOUNT_CLOSING.now (key.PROGRAM_TOO ∷ [])) l key.RECOUNT
     (filling RECOUNT_LINK.now (address ∷ at l key.LINK ∷ []) ∷ [])
 
-abbrev pub recounting : Option Source → List Filling
+abbrev pub recounting : Option ReadText → List Filling
 recounting journal = filling (option_map_or (λ journal. AUDIT.now) journal COUNT.now) [] ∷ []
 
 abbrev pub shown_row : Language → (k n ballots : ℕ) → List ℕ → List Filling
@@ -281,12 +311,9 @@ command l facts =
     recounting facts.journal
     ++ (measure_option facts.options.measure ++ (completion_option facts.options.completion facts.fills_up ++ made l facts))
 
--- the text of a category, and which of these winners are of it
-abbrev pub category_name : Categories → ℕ → List ℕ
-category_name g k = option_map_or (λ text. text.now) (slice_get g.names.now k) []
-
+-- which of these winners are of a category
 abbrev pub winners_in : Categories → List ℕ → ℕ → List ℕ
-winners_in g winners k = filter (λ place. slice_index_or g.of_project.now place (length g.names.now) == k) winners
+winners_in g winners k = filter (λ place. category_of g place == k) winners
 
 -- what a category has of these winners, and its row, by its text and that
 abbrev pub in_category : ElectionView → Categories → List ℕ → ℕ → InCategory
@@ -327,8 +354,8 @@ category_table l e winners g =
 unfoldable pub the_budget : Language → List ℕ → ElectionView → CountedView → List Filling
 the_budget l title e c = budget l title e c
 
-unfoldable pub the_projects : Language → ElectionView → CountedView → List Filling
-the_projects l e c = winners l e c ++ (added l e c ++ others l e c)
+unfoldable pub the_projects : Facts → ElectionView → CountedView → List Filling
+the_projects facts e c = winners facts e c ++ (added facts e c ++ others facts e c)
 
 unfoldable pub the_voters : Language → List ℕ → List Filling
 the_voters l won = voters l won
@@ -342,7 +369,7 @@ the_check l facts = check l facts
 -- and one after the other
 unfoldable pub the_parts : ElectionView → CountedView → Facts → RaiseEnd → List Filling
 the_parts e c facts end =
-    the_budget facts.language facts.title.now e c ++ (the_projects facts.language e c ++ (categories e c facts
+    the_budget facts.language facts.title.now e c ++ (the_projects facts e c ++ (categories e c facts
     ++ (the_voters facts.language (won_by_voter e c) ++ (besides e c facts
     ++ (the_rule facts.language e facts.options end c.fills_up c.outcome.share c.outcome.raised
     ++ (ties facts.language facts.options.measure e (ties_of facts.options.measure e c.outcome)

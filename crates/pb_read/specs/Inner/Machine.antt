@@ -6,19 +6,21 @@ use Rattle.std.specs.Option.{option_map_or}
 use Rattle.std.specs.Prelude.{length, map, nat_le}
 use Rattle.std.specs.List.{list_all, position_or_len}
 use Rattle.std.specs.Str.{bytes_eq, is_utf8}
-use Rattle.pb_core.specs.Election.{ElectionView, ProjectView, VoterView, most_projects, most_voters, project_ids, voter_ids}
+use Rattle.pb_core.specs.Election.{ElectionView, ProjectView, VoterView, most_projects, most_voters, opening, project_ids, voter_ids}
 use Rattle.pb_core.specs.Money.{money_of}
 use Rattle.pb_core.specs.declared.money_fault.MoneyFault.{MoneyFault}
+use Rattle.pb_core.specs.declared.terms.Terms.{Terms}
 use Rattle.pb_rows.specs.Reading.{Fields}
 use Rattle.pb_read.specs.Inner.Fields.{name_field, trimmed}
 use Rattle.pb_read.specs.Columns.{project_columns, vote_columns, has_fields}
 use Rattle.pb_read.specs.Faults.{applies}
 use Rattle.pb_read.specs.Inner.MoneyKinds.{kind_of_money}
 use Rattle.pb_read.specs.Lengths.{max_length_of}
+use Rattle.pb_read.specs.MetaKeys.{key_of}
 use Rattle.pb_read.specs.MetaRows.{meta_of}
 use Rattle.pb_read.specs.Stages.{Next, head, plain, the_end, next_row}
 use Rattle.pb_read.specs.Rows.{field, is_empty, is_word}
-use Rattle.pb_read.specs.Inner.Opening.{opening}
+use Rattle.pb_read.specs.Inner.Opening.{empty}
 use Rattle.pb_read.specs.StandsFor.{most_records}
 use Rattle.pb_read.specs.Voting.{ballot_of, is_among, names_only}
 use Rattle.pb_read.specs.declared.columns.ProjectColumns.{ProjectColumns}
@@ -26,6 +28,8 @@ use Rattle.pb_read.specs.declared.columns.VoteColumns.{VoteColumns}
 use Rattle.pb_read.specs.declared.fault.ReadKind.{ReadKind}
 use Rattle.pb_read.specs.declared.fault.ReadKind.TheVariants.{ReadFailed, NotText, TooManyRecords, NoSection, SectionOrder, NoHeader, MissingColumn, MissingField, MissingKey, VoteType, BadMoney, MoneyTooFine, MoneyTooLarge, ZeroCost, EmptyId, RepeatedProject, RepeatedVoter, UnknownProject, TooManyProjects, TooManyVoters, NoMemory, BadLength}
 use Rattle.pb_read.specs.declared.meta.Meta.{Meta}
+use Rattle.pb_read.specs.declared.meta_key.MetaKey.{MetaKey}
+use Rattle.pb_read.specs.declared.meta_key.MetaKey.TheVariants as key
 use Rattle.pb_read.specs.declared.progress.Stage.{Stage}
 use Rattle.pb_read.specs.declared.progress.Stage.TheVariants.{Start, Header, InMeta, InProjects, InVotes}
 use Rattle.pb_read.specs.declared.section.Section.TheVariants.{Projects, Votes}
@@ -36,18 +40,18 @@ Position = Stage × ElectionView
 
 -- before the first row
 abbrev pub start : Position
-start = (Start, opening 0 None)
+start = (Start, empty)
+
+-- what META says where a row gives a key this value; a row of another key says nothing
+abbrev pub with_value : Meta → Option MetaKey → List ℕ → Meta
+with_value meta None value = meta
+with_value meta (Some key.Budget) value = record meta { budget = Some (money_of value) }
+with_value meta (Some key.VoteType) value = record meta { approval = Some (is_word (codes "approval") value) }
+with_value meta (Some key.MaxLength) value = record meta { max_length = max_length_of value }
 
 -- what META says with one more row
 abbrev pub with_row : Meta → Fields → Meta
-with_row meta row = record {
-  budget = if is_word (codes "budget") (field row 0) then Some (money_of (field row 1)) else meta.budget;
-  approval =
-      if is_word (codes "vote_type") (field row 0) then Some (is_word (codes "approval") (field row 1))
-      else meta.approval;
-  max_length =
-      if is_word (codes "max_length") (field row 0) then max_length_of (field row 1) else meta.max_length;
-}
+with_row meta row = with_value meta (key_of (field row 0)) (field row 1)
 
 abbrev pub amount_of : Result ℕ MoneyFault → ℕ
 amount_of (Ok amount) = amount
@@ -60,6 +64,10 @@ budget_of (Some read) = amount_of read
 abbrev pub limit_of : Result (Option ℕ) ReadKind → Option ℕ
 limit_of (Ok max_length) = max_length
 limit_of (Err kind) = None
+
+-- the terms that META sets, where its values are as they must be
+abbrev pub terms_said : Meta → Terms
+terms_said meta = record { budget = budget_of meta.budget; max_length = limit_of meta.max_length }
 
 abbrev pub project_of : ProjectColumns → Fields → ProjectView
 project_of columns row = record {
@@ -88,8 +96,7 @@ advance (Header Projects, e) (plain header) =
 advance (Header Votes, e) (plain header) =
     option_map_or (λ columns. (InVotes columns, e)) (vote_columns header) (Start, e)
 advance (Header name, e) (plain row) = (InMeta (meta_of []), e)
-advance (InMeta meta, e) (head name) =
-    (Header name, opening (budget_of meta.budget) (limit_of meta.max_length))
+advance (InMeta meta, e) (head name) = (Header name, opening (terms_said meta))
 advance (InMeta meta, e) (plain row) = (InMeta (with_row meta row), e)
 advance (InProjects columns, e) (head name) = (Header name, e)
 advance (InProjects columns, e) (plain row) = (InProjects columns, with_project columns row e)
@@ -153,6 +160,9 @@ head_checks None approval max_length = Some MissingKey
 head_checks (Some budget) None max_length = Some MissingKey
 head_checks (Some budget) (Some approval) max_length =
     if not approval then Some VoteType else money_checks budget (length_checks max_length)
+
+abbrev pub meta_checks : Meta → Option ReadKind
+meta_checks meta = head_checks meta.budget meta.approval meta.max_length
 
 abbrev pub project_checks : Bool → Result ℕ MoneyFault → Bool → Bool → Bool → Option ReadKind
 project_checks whole cost no_id repeated full =

@@ -1,7 +1,12 @@
--- Elections without rows; private contracts and proofs speak of them.
-use Rattle.std.specs.Prelude.{ℕ, [], Option}
-use Rattle.pb_core.specs.Election.{ElectionView}
+-- Before META is read; private contracts and proofs speak of it.
+use Rattle.std.specs.Prelude.{None}
+use Rattle.pb_core.specs.Election.{ElectionView, opening}
+use Rattle.pb_core.specs.declared.terms.Terms.{Terms}
 
--- an election of this budget and this limit on a ballot's length, with neither projects nor voters yet
-abbrev pub opening : ℕ → Option ℕ → ElectionView
-opening budget max_length = record { budget = budget; max_length = max_length; projects = []; voters = [] }
+-- neither a budget nor a limit is known yet
+abbrev pub no_terms : Terms
+no_terms = record { budget = 0; max_length = None }
+
+-- and there is an election without anything
+abbrev pub empty : ElectionView
+empty = opening no_terms

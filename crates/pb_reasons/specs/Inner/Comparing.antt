@@ -1,7 +1,7 @@
 -- How a comparison grows voter by voter; private contracts speak of it.
 use Rattle.std.specs.Prelude.{◌≡◌, ℕ, ◌+◌, ◌-◌, ◌*◌, ◌^◌, ◌<◌, ◌≤◌, ◌==◌, Bool, List, count_by, false, if◌then◌else◌, length, nat_lt, slice_index_or, sum_by}
 use Rattle.pb_core.specs.Election.{ElectionView, VoterView}
-use Rattle.pb_greedy.specs.MostVotes.{is_taken}
+use Rattle.pb_rounds.specs.MostVotes.{is_taken}
 use Rattle.pb_price.specs.Supporters.{cost_at, support_of}
 use Rattle.pb_reasons.specs.Comparison.{choices_of, worth_of}
 use Rattle.pb_reasons.specs.declared.content.Content.{Content}

@@ -1,7 +1,7 @@
 -- Whether an outcome is exhausted, as private contracts tell it.
 use Rattle.std.specs.Prelude.{ℕ, ◌&&◌, Bool, true, false, List, nat_le, not}
 use Rattle.pb_core.specs.Election.{ElectionView}
-use Rattle.pb_greedy.specs.MostVotes.{is_taken}
+use Rattle.pb_rounds.specs.MostVotes.{is_taken}
 use Rattle.pb_price.specs.Supporters.{cost_at, support_of}
 use Rattle.pb_rounds.specs.Completed.{IsExhausted}
 use Rattle.pb_rounds.specs.Outcome.{OutcomeView}

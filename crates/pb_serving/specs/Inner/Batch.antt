@@ -7,7 +7,7 @@ use Rattle.pb_rows.specs.Reading.{Fields}
 use Rattle.pb_script.specs.Admission.{Judges}
 use Rattle.pb_script.specs.declared.admission.Admission.{Admission}
 use Rattle.pb_script.specs.Inner.ScriptReading.{HaveGone, NoneLeft}
-use Rattle.pb_durable.specs.declared.asked.Asked.{Asked}
+use Rattle.pb_durable.specs.declared.clerk_request.ClerkRequest.{ClerkRequest}
 use Rattle.pb_serving.specs.declared.batch.BatchEnd.{BatchEnd}
 use Rattle.pb_serving.specs.declared.batch.BatchEnd.TheVariants.{More, Refused, Over, ReadFailed, NoMemory}
 
@@ -17,7 +17,7 @@ refused (Refused why) = 1
 refused end = 0
 
 -- the row asks this
-abbrev pub IsRowAsking : Admission → Fields → Asked → Type 0
+abbrev pub IsRowAsking : Admission → Fields → ClerkRequest → Type 0
 IsRowAsking a row x = Judges a most_clerks row (Ok (record { clerk = x.clerk; request = asked x.request }))
 
 -- how the records go on behind these rows, of which it was known what was left before and is now
@@ -30,7 +30,7 @@ EndsBy a ReadFailed left rows after = (mid : Option (List Fields)) × HaveGone l
 EndsBy a NoMemory left rows after = (mid : Option (List Fields)) × HaveGone left rows mid
 
 -- the next records ask this, and so they go on
-pub record IsBatch (a : Admission) (left after : Option (List Fields)) (asks : List Asked) (end : BatchEnd) : Type 0 where
+pub record IsBatch (a : Admission) (left after : Option (List Fields)) (asks : List ClerkRequest) (end : BatchEnd) : Type 0 where
   pub rows : List Fields
   pub each : AllZip (IsRowAsking a) rows asks
   pub goes_on : EndsBy a end left rows after

@@ -1,5 +1,5 @@
 use Rattle.std.proofs.Common.{◌≡◌, ◌<◌, ◌++◌, ◌∙◌, ap, length}
-use Rattle.pb_greedy.specs.MostVotes.{is_taken, votes_at}
+use Rattle.pb_rounds.specs.MostVotes.{is_taken, votes_at}
 use Rattle.pb_price.specs.Supporters.{SupportView, support_of}
 use Rattle.pb_rows.specs.Writing.{text_of_row}
 use Rattle.pb_commands.proofs.ComparedRows.{ruled_row_read}

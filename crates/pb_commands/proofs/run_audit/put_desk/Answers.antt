@@ -1,15 +1,18 @@
-use Rattle.std.proofs.Common.{◌≡◌, false, true, refl, rules}
-use Rattle.pb_desk.specs.Desk.{standing_of}
+use Rattle.pb_reasons.proofs.Results.{result_of}
 use Rattle.pb_commands.proofs.Closings.{report_follows, row_alone}
 use Rattle.pb_commands.proofs.run_audit.put_desk.Goals as goal
 
-pub returns-then-is_shut-clause-ok : goal.returns-then-is_shut-clause-ok
-returns-then-is_shut-clause-ok g c =
-    let shut : (standing_of c.args.desk).is_shut ≡ true = search rules in
-    report_follows _ c.args.desk c.args.counting.now.options.now _ c.args.rows.now.text c.put_entries.new.rows.text c.put_ballots.new.rows.text c.put_ballots.result shut refl
-    c.in-Ok.ensures c.put_ballots.ensures.ok
+pub put_report-put-requires : goal.put_report-put-requires
+put_report-put-requires g c =
+    let count = rw c.in-Ok-Some.field-0-is at c.in-Ok-Some.ensures.shut in
+    result_of c.in-Ok-Some.count.election c.args.counting.now.options.now c.args.counting.now.fills_up _ count.2 count.3 count.4
 
-pub returns-else-is_shut-clause-ok : goal.returns-else-is_shut-clause-ok
-returns-else-is_shut-clause-ok g c =
-    let unshut : (standing_of c.args.desk).is_shut ≡ false = search rules in
-    row_alone _ c.args.desk c.args.counting.now.options.now c.args.rows.now.text c.put_entries.new.rows.text unshut c.in-Ok.ensures
+pub returns-in-Ok-put-clause-ok : goal.returns-in-Ok-put-clause-ok
+returns-in-Ok-put-clause-ok g c =
+    let count = rw c.in-Ok-Some.field-0-is at c.in-Ok-Some.ensures.shut in
+    report_follows c.args.counting.now.fills_up c.args.desk c.args.counting.now.options.now c.in-Ok-Some.count.election c.in-Ok-Some.count.counted count.2 c.args.rows.now.text
+    c.put_entries.new.rows.text c.put_report-put.new.rows.text count.0 count.1 count.3 count.4 c.in-Ok.ensures c.in-Ok-put.ensures
+
+pub returns-in-Ok-None-clause-ok : goal.returns-in-Ok-None-clause-ok
+returns-in-Ok-None-clause-ok g c =
+    row_alone c.args.counting.now.fills_up c.args.desk c.args.counting.now.options.now c.args.rows.now.text c.put_entries.new.rows.text (c.in-Ok-None.ensures.open c.in-Ok-None.field-0-is) c.in-Ok.ensures

@@ -1,73 +1,40 @@
-use Rattle.pb_commands.proofs.Accepted.{refused_of_both, stays_merged}
-use Rattle.pb_commands.proofs.AuditAccepted.{audited_by_desk, audited_by_journal, audited_by_reader}
-use Rattle.pb_commands.proofs.AuditWritten.{audit_written, judged_by_audit, judged_by_count, judged_by_reader, judged_by_writer, refused_by_desk, refused_by_journal, write_fails}
-use Rattle.pb_commands.specs.Audited.{AuditRefuses, AuditWrites}
-use Rattle.pb_faults.specs.declared.fault.AppFault.TheVariants.{Read, Audit, Count}
+use Rattle.std.proofs.Common.{Some, None}
+use Rattle.pb_commands.proofs.Endings.{run_ended, run_given, run_written}
+use Rattle.pb_commands.proofs.RunEnds.{audit_known, audits_pass, refused_audit}
+use Rattle.pb_commands.specs.Audited.{AuditWrites}
+use Rattle.pb_commands.specs.Closed.{CountRefuses, MayBeOpen}
+use Rattle.pb_faults.specs.Fault.{merged}
+use Rattle.pb_faults.specs.declared.fault.AppFault.TheVariants.{Count}
 use Rattle.pb_commands.proofs.run_audit.run_audit_watched.Goals as goal
 
-pub returns-in_err-election-clause-fault : goal.returns-in_err-election-clause-fault
-returns-in_err-election-clause-fault g c =
-    refused_of_both (λ bytes rows. AuditRefuses bytes rows c.args.counting.now.options.now) (λ bytes rows. AuditWrites bytes rows c.args.counting.now.options.now c.args.counting.now.fills_up) _ _
-    c.in_err-election.field-0.0 _ c.from_residual.ensures.1 c.in_err-election.ensures.fault
+pub returns-in-Err : goal.returns-in-Err
+returns-in-Err g c =
+    let options = c.args.counting.now.options.now in
+    let fills_up = c.args.counting.now.fills_up in
+    let files = g.P.Read.remaining c.args.file in
+    let journals = g.J.Read.remaining c.args.journal in
+    run_ended (λ bytes rows. AuditWrites bytes rows options fills_up) (λ bytes rows. MayBeOpen (CountRefuses options bytes (Some rows))) files journals _ g.W.Write.contents _ c.in-Err.fault
+    (audits_pass files journals _ options fills_up c.in-Err.fault c.in-Err.ensures.reads c.in-Err.ensures.ends)
 
-pub returns-in_err-election-clause-merged : goal.returns-in_err-election-clause-merged
-returns-in_err-election-clause-merged g c = stays_merged (Read c.in_err-election.field-0.0) _ c.from_residual.ensures.1
+pub returns-in_err-text : goal.returns-in_err-text
+returns-in_err-text g c =
+    let options = c.args.counting.now.options.now in
+    let fills_up = c.args.counting.now.fills_up in
+    let files = g.P.Read.remaining c.args.file in
+    let journals = g.J.Read.remaining c.args.journal in
+    let file = c.in-Ok.ensures.ends.judges in
+    let fault = c.in_err-text.field-0.0 in
+    run_given (λ bytes rows. AuditWrites bytes rows options fills_up) (λ bytes rows. MayBeOpen (CountRefuses options bytes (Some rows))) files journals _ g.W.Write.contents _ _ (merged (Count fault))
+    c.from_residual.ensures.1 (refused_audit files journals _ c.in-Ok.desk c.in-Ok.ensures.ok options fills_up fault c.in_err-text.ensures.fault file.1 file.0)
 
-pub returns-in_err-desk-clause-merged : goal.returns-in_err-desk-clause-merged
-returns-in_err-desk-clause-merged g c = stays_merged (Audit c.in_err-desk.field-0.0) _ c.from_residual-in_err-desk.ensures.1
-
-pub returns-in_err-text-clause-merged : goal.returns-in_err-text-clause-merged
-returns-in_err-text-clause-merged g c = stays_merged (Count c.in_err-text.field-0.0) _ c.from_residual-in_err-text.ensures.1
-
-pub returns-clause-ok : goal.returns-clause-ok
-returns-clause-ok g c =
-    let desk = c.in_ok-desk.ensures in
-    audit_written _ _ _ _ _ _ c.in_ok-election.election c.in_ok-desk.desk c.in_ok-text.text.items c.write_out.result
-    (rw c.as_slice.ensures.value at c.write_out.ensures.ok)
-    (record { stands = c.in_ok-election.ensures.ok; election = desk.opening; room = desk.room; sound = desk.sound; rows = desk.rows }) c.in_ok-text.ensures.ok
-
-pub returns-clause-fault : goal.returns-clause-fault
-returns-clause-fault g c =
-    let desk = c.in_ok-desk.ensures in
-    write_fails _ _ _ _ c.in_ok-election.election c.in_ok-desk.desk c.in_ok-text.text.items _ c.write_out.ensures.fault
-    (record { stands = c.in_ok-election.ensures.ok; election = desk.opening; room = desk.room; sound = desk.sound; rows = desk.rows }) c.in_ok-text.ensures.ok
-
-pub returns-clause-file : goal.returns-clause-file
-returns-clause-file g c = judged_by_writer _ c.in_ok-election.election _ c.write_out.ensures.fault c.in_ok-election.ensures.ok
-
-pub returns-in_err-election-clause-accepts : goal.returns-in_err-election-clause-accepts
-returns-in_err-election-clause-accepts g c = λ none.
-    audited_by_reader _ _ _ c.args.counting.now.options.now c.in_err-election.field-0.0 _ c.from_residual.ensures.1 c.in_err-election.ensures.accepts
-
-pub returns-in_err-election-clause-file : goal.returns-in_err-election-clause-file
-returns-in_err-election-clause-file g c = judged_by_reader _ c.in_err-election.field-0.0 _ c.from_residual.ensures.1 c.in_err-election.ensures.fault
-
-pub returns-in_err-desk-clause-fault : goal.returns-in_err-desk-clause-fault
-returns-in_err-desk-clause-fault g c =
-    refused_by_journal _ _ _ c.args.counting.now.options.now c.in_ok-election.election c.in_err-desk.field-0.0 _ c.from_residual-in_err-desk.ensures.1
-    c.in_ok-election.ensures.ok c.in_err-desk.ensures.fault
-
-pub returns-in_err-desk-clause-accepts : goal.returns-in_err-desk-clause-accepts
-returns-in_err-desk-clause-accepts g c = λ none.
-    audited_by_journal _ _ _ c.args.counting.now.options.now c.in_ok-election.election c.in_err-desk.field-0.0 _ c.from_residual-in_err-desk.ensures.1
-    c.in_ok-election.ensures.ok c.in_err-desk.ensures.fault
-
-pub returns-in_err-desk-clause-file : goal.returns-in_err-desk-clause-file
-returns-in_err-desk-clause-file g c =
-    judged_by_audit _ c.in_ok-election.election c.in_err-desk.field-0.0 _ c.from_residual-in_err-desk.ensures.1 c.in_ok-election.ensures.ok
-
-pub returns-in_err-text-clause-fault : goal.returns-in_err-text-clause-fault
-returns-in_err-text-clause-fault g c =
-    let desk = c.in_ok-desk.ensures in
-    refused_by_desk _ _ _ c.args.counting.now.options.now c.in_ok-election.election c.in_ok-desk.desk c.in_err-text.field-0.0 _ c.from_residual-in_err-text.ensures.1
-    (record { stands = c.in_ok-election.ensures.ok; election = desk.opening; room = desk.room; sound = desk.sound; rows = desk.rows }) c.in_err-text.ensures.fault
-
-pub returns-in_err-text-clause-accepts : goal.returns-in_err-text-clause-accepts
-returns-in_err-text-clause-accepts g c = λ none.
-    let desk = c.in_ok-desk.ensures in
-    audited_by_desk _ _ _ c.args.counting.now.options.now c.in_ok-election.election c.in_ok-desk.desk c.in_err-text.field-0.0 _ c.from_residual-in_err-text.ensures.1
-    (record { stands = c.in_ok-election.ensures.ok; election = desk.opening; room = desk.room; sound = desk.sound; rows = desk.rows }) c.in_err-text.ensures.fault
-
-pub returns-in_err-text-clause-file : goal.returns-in_err-text-clause-file
-returns-in_err-text-clause-file g c =
-    judged_by_count _ c.in_ok-election.election c.in_err-text.field-0.0 _ c.from_residual-in_err-text.ensures.1 c.in_ok-election.ensures.ok
+pub returns : goal.returns
+returns g c =
+    let options = c.args.counting.now.options.now in
+    let fills_up = c.args.counting.now.fills_up in
+    let files = g.P.Read.remaining c.args.file in
+    let journals = g.J.Read.remaining c.args.journal in
+    let file = c.in-Ok.ensures.ends.judges in
+    let text = c.in_ok-text.text.items in
+    run_written (λ bytes rows. AuditWrites bytes rows options fills_up) (λ bytes rows. MayBeOpen (CountRefuses options bytes (Some rows))) files journals _ g.W.Write.contents _ _ text _
+    (rw c.as_slice.ensures.value at c.write_out.ensures.ok) c.write_out.ensures.fault file.1 file.0
+    (audit_known files journals None c.in-Ok.desk c.in-Ok.ensures.ok options fills_up text c.in_ok-text.ensures.ok)

@@ -1,29 +1,40 @@
-use Rattle.pb_commands.proofs.Accepted.{accepted_by_count, accepted_by_reader, refused_by_count, refused_by_reader, stays_merged}
-use Rattle.pb_commands.specs.Counted.{CountRefuses, CountWrites}
-use Rattle.pb_faults.specs.declared.fault.AppFault.TheVariants.{Read, Count}
+use Rattle.std.proofs.Common.{Some, None}
+use Rattle.pb_reasons.proofs.Results.{result_of}
+use Rattle.pb_commands.proofs.Endings.{memory_end, run_ended, run_given, run_written}
+use Rattle.pb_commands.proofs.RunEnds.{counts_pass, is_report, report_counts, writes_of}
+use Rattle.pb_commands.specs.Closed.{CountRefuses, WritesOf}
+use Rattle.pb_commands.specs.Counted.{IsReportOf}
+use Rattle.pb_faults.specs.declared.fault.AppFault.TheVariants.{Memory}
 use Rattle.pb_commands.proofs.run_count.run_count_watched.Goals as goal
 
-pub returns-in_err-election-clause-fault : goal.returns-in_err-election-clause-fault
-returns-in_err-election-clause-fault g c =
-    refused_by_reader (λ bytes. CountRefuses c.args.counting.now.options.now) (λ bytes. CountWrites bytes c.args.counting.now.options.now c.args.counting.now.fills_up) _ c.in_err-election.field-0.0 _
-    c.from_residual.ensures.1 c.in_err-election.ensures.fault
+pub returns-in-Err : goal.returns-in-Err
+returns-in-Err g c =
+    let options = c.args.counting.now.options.now in
+    let fills_up = c.args.counting.now.fills_up in
+    run_ended (WritesOf (λ e. IsReportOf e options fills_up)) (CountRefuses options) (g.R.Read.remaining c.args.reader) (Some None) _ g.W.Write.contents _ c.in-Err.fault
+    (counts_pass (λ e. IsReportOf e options fills_up) options (g.R.Read.remaining c.args.reader) (Some None) _ (report_counts options fills_up) c.in-Err.fault c.in-Err.ensures.reads c.in-Err.ensures.ends)
 
-pub returns-in_err-election-clause-merged : goal.returns-in_err-election-clause-merged
-returns-in_err-election-clause-merged g c = stays_merged (Read c.in_err-election.field-0.0) _ c.from_residual.ensures.1
+pub report_text-made-requires : goal.report_text-made-requires
+report_text-made-requires g c =
+    let count = c.in-Ok.ensures.counted in
+    result_of c.in-Ok.count.election c.args.counting.now.options.now c.args.counting.now.fills_up _ count.0 count.1 count.2
 
-pub returns-in_err-text-clause-merged : goal.returns-in_err-text-clause-merged
-returns-in_err-text-clause-merged g c = stays_merged (Count c.in_err-text.field-0.0) _ c.from_residual-in_err-text.ensures.1
+pub returns-in_err-text : goal.returns-in_err-text
+returns-in_err-text g c =
+    let options = c.args.counting.now.options.now in
+    let fills_up = c.args.counting.now.fills_up in
+    let file = c.in-Ok.ensures.ends.judges in
+    run_given (WritesOf (λ e. IsReportOf e options fills_up)) (CountRefuses options) (g.R.Read.remaining c.args.reader) (Some None) _ g.W.Write.contents _ _ Memory c.from_residual.ensures.1
+    (memory_end (WritesOf (λ e. IsReportOf e options fills_up)) (CountRefuses options) (g.R.Read.remaining c.args.reader) (Some None) _ file.1 file.0)
 
-pub returns-in_err-election-clause-accepts : goal.returns-in_err-election-clause-accepts
-returns-in_err-election-clause-accepts g c = λ none.
-    accepted_by_reader _ _ c.args.counting.now.options.now c.in_err-election.field-0.0 _ c.from_residual.ensures.1 c.in_err-election.ensures.accepts
-
-pub returns-in_err-text-clause-fault : goal.returns-in_err-text-clause-fault
-returns-in_err-text-clause-fault g c =
-    refused_by_count _ _ c.args.counting.now.options.now c.in_ok-election.election c.in_err-text.field-0.0 _ c.from_residual-in_err-text.ensures.1
-    c.in_ok-election.ensures.ok c.in_err-text.ensures.fault
-
-pub returns-in_err-text-clause-accepts : goal.returns-in_err-text-clause-accepts
-returns-in_err-text-clause-accepts g c = λ none.
-    accepted_by_count _ _ c.args.counting.now.options.now c.in_ok-election.election c.in_err-text.field-0.0 _ c.from_residual-in_err-text.ensures.1
-    c.in_ok-election.ensures.ok c.in_err-text.ensures.fault
+pub returns : goal.returns
+returns g c =
+    let options = c.args.counting.now.options.now in
+    let fills_up = c.args.counting.now.fills_up in
+    let e = c.in-Ok.count.election in
+    let file = c.in-Ok.ensures.ends.judges in
+    let text = c.in_ok-text.text.items in
+    run_written (WritesOf (λ e. IsReportOf e options fills_up)) (CountRefuses options) (g.R.Read.remaining c.args.reader) (Some None) _ g.W.Write.contents _ _ text _
+    (rw c.as_slice.ensures.value at c.write_out.ensures.ok) c.write_out.ensures.fault file.1 file.0
+    (writes_of (λ e. IsReportOf e options fills_up) (g.R.Read.remaining c.args.reader) (Some None) e text c.in-Ok.ensures.left
+    (is_report options fills_up e c.in-Ok.count.counted text c.in-Ok.ensures.counted c.in_ok-text.ensures))

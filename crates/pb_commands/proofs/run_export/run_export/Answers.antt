@@ -1,32 +1,63 @@
-use Rattle.pb_read.specs.StandsFor.{StandsFor}
-use Rattle.pb_rows.specs.Reading.{records_of}
-use Rattle.pb_commands.proofs.Accepted.{refused_by_reader, stays_merged}
-use Rattle.pb_commands.proofs.Exports.{accepted_by_reader, alone_not_written, alone_written, stopped_accepts}
-use Rattle.pb_commands.specs.Exported.{ExportRefuses, ExportWrites}
-use Rattle.pb_faults.specs.declared.fault.AppFault.TheVariants.{Read}
+use Rattle.std.proofs.Common.{None}
+use Rattle.pb_commands.proofs.Endings.{run_ended, run_written}
+use Rattle.pb_commands.proofs.RunEnds.{exports_pass, passed_bars, stopped_bars, stopped_ends, writer_bars, writes_of}
+use Rattle.pb_commands.specs.Closed.{WritesOf}
+use Rattle.pb_commands.specs.Ends.{known}
+use Rattle.pb_commands.specs.Exported.{ExportRefuses, IsExportOf}
 use Rattle.pb_commands.proofs.run_export.run_export.Goals as goal
 
-pub returns-in_err-election-clause-fault : goal.returns-in_err-election-clause-fault
-returns-in_err-election-clause-fault g c =
-    refused_by_reader (λ bytes. ExportRefuses c.args.counting.now.options.now) (λ bytes. ExportWrites c.args.counting.now.options.now c.args.counting.now.fills_up _ (StandsFor (records_of bytes))) _ c.in_err-election.field-0.0 _
-    c.from_residual.ensures.1 c.in_err-election.ensures.fault
-
-pub returns-in_err-election-clause-merged : goal.returns-in_err-election-clause-merged
-returns-in_err-election-clause-merged g c = stays_merged (Read c.in_err-election.field-0.0) _ c.from_residual.ensures.1
-
-pub returns-in_err-election-clause-accepts : goal.returns-in_err-election-clause-accepts
-returns-in_err-election-clause-accepts g c = λ none. accepted_by_reader c.args.counting.now.options.now _ _ c.in_err-election.field-0.0 _ c.from_residual.ensures.1 c.in_err-election.ensures.accepts
+pub returns-in-Err-clause-runs : goal.returns-in-Err-clause-runs
+returns-in-Err-clause-runs g c =
+    let options = c.args.counting.now.options.now in
+    let fills_up = c.args.counting.now.fills_up in
+    let files = g.P.Read.remaining c.args.inputs.file in
+    let journals = known g.J.Read.remaining c.args.inputs.journal in
+    run_ended (WritesOf (IsExportOf options fills_up _)) (ExportRefuses options) files journals _ g.W.Write.contents _ c.in-Err.fault
+    (exports_pass options fills_up files journals _ _ c.in-Err.fault c.in-Err.ensures.reads c.in-Err.ensures.ends)
 
 pub returns-in-Err-clause-accepts : goal.returns-in-Err-clause-accepts
 returns-in-Err-clause-accepts g c = λ none.
-    stopped_accepts c.args.counting.now.options.now _ _ c.in_ok-election.election c.in-Err.fault c.in_ok-election.ensures.ok c.in-Err.ensures.fault c.in-Err.ensures.merged
+    let files = g.P.Read.remaining c.args.inputs.file in
+    let journals = known g.J.Read.remaining c.args.inputs.journal in
+    passed_bars c.args.counting.now.options.now c.args.counting.now.fills_up files journals _ c.in-Err.fault c.in-Err.ensures.ends none
 
-pub returns-in-Ok-clause-ok : goal.returns-in-Ok-clause-ok
-returns-in-Ok-clause-ok g c =
-    alone_written c.args.counting.now.options.now _ _ _ _ _ c.in_ok-election.election c.in-Ok.text.items c.write_out.result
-    (rw c.as_slice.ensures.value at c.write_out.ensures.ok) c.in_ok-election.ensures.ok (rw c.carried.ensures at c.in-Ok.ensures.ok)
+pub returns-in-Ok-made-clause-runs : goal.returns-in-Ok-made-clause-runs
+returns-in-Ok-made-clause-runs g c =
+    let options = c.args.counting.now.options.now in
+    let fills_up = c.args.counting.now.fills_up in
+    let files = g.P.Read.remaining c.args.inputs.file in
+    let journals = known g.J.Read.remaining c.args.inputs.journal in
+    let e = c.in-Ok.count.election in
+    let file = c.in-Ok.ensures.ends.judges in
+    let text = c.in-Ok-made.text.items in
+    run_written (WritesOf (IsExportOf options fills_up _)) (ExportRefuses options) files journals _ g.W.Write.contents _ _ text _
+    (rw c.as_slice.ensures.value at c.write_out.ensures.ok) c.write_out.ensures.fault file.1 file.0
+    (writes_of (IsExportOf options fills_up _) files journals e text c.in-Ok.ensures.left (rw c.carried.ensures at c.in-Ok-made.ensures.ok))
 
-pub returns-in-Ok-clause-fault : goal.returns-in-Ok-clause-fault
-returns-in-Ok-clause-fault g c =
-    alone_not_written c.args.counting.now.options.now _ _ _ c.in_ok-election.election c.in-Ok.text.items c.write_out.result
-    c.write_out.ensures.fault c.in_ok-election.ensures.ok (rw c.carried.ensures at c.in-Ok.ensures.ok)
+pub returns-in-Ok-made-clause-accepts : goal.returns-in-Ok-made-clause-accepts
+returns-in-Ok-made-clause-accepts g c = λ none.
+    let files = g.P.Read.remaining c.args.inputs.file in
+    let journals = known g.J.Read.remaining c.args.inputs.journal in
+    writer_bars c.args.counting.now.options.now c.args.counting.now.fills_up files journals None c.write_out.result c.write_out.ensures.fault
+
+pub returns-in-Err-made-clause-runs : goal.returns-in-Err-made-clause-runs
+returns-in-Err-made-clause-runs g c =
+    let options = c.args.counting.now.options.now in
+    let fills_up = c.args.counting.now.fills_up in
+    let files = g.P.Read.remaining c.args.inputs.file in
+    let journals = known g.J.Read.remaining c.args.inputs.journal in
+    let e = c.in-Ok.count.election in
+    let file = c.in-Ok.ensures.ends.judges in
+    let count = c.in-Ok.ensures.counted in
+    let fault = c.in-Err-made.fault in
+    run_ended (WritesOf (IsExportOf options fills_up _)) (ExportRefuses options) files journals _ g.W.Write.contents _ fault
+    (stopped_ends options fills_up files journals _ e count.0 count.1 _ fault c.in-Err-made.ensures.fault c.in-Err-made.ensures.merged c.in-Ok.ensures.left file.1 file.0)
+
+pub returns-in-Err-made-clause-accepts : goal.returns-in-Err-made-clause-accepts
+returns-in-Err-made-clause-accepts g c = λ none.
+    let options = c.args.counting.now.options.now in
+    let fills_up = c.args.counting.now.fills_up in
+    let files = g.P.Read.remaining c.args.inputs.file in
+    let journals = known g.J.Read.remaining c.args.inputs.journal in
+    let count = c.in-Ok.ensures.counted in
+    stopped_bars options fills_up files journals None c.in-Ok.count.election count.0 count.1 c.in-Err-made.fault c.in-Err-made.ensures.fault c.in-Err-made.ensures.merged c.in-Ok.ensures.left

@@ -1,33 +1,44 @@
-use Rattle.pb_commands.proofs.Accepted.{refused_by_reader, stays_merged}
-use Rattle.pb_commands.proofs.TableAccepted.{accepted_by_count, accepted_by_reader, refused_by_count}
-use Rattle.pb_read.specs.StandsFor.{StandsFor}
-use Rattle.pb_rows.specs.Reading.{records_of}
-use Rattle.pb_commands.specs.Counted.{CountRefuses}
-use Rattle.pb_commands.specs.Tabled.{TableWrites}
-use Rattle.pb_faults.specs.declared.fault.AppFault.TheVariants.{Read, Count}
+use Rattle.pb_reasons.proofs.Results.{result_of}
+use Rattle.pb_commands.proofs.Endings.{memory_end, run_ended, run_given, run_written}
+use Rattle.pb_commands.proofs.RunEnds.{counts_pass, is_table, table_counts, writes_of}
+use Rattle.pb_commands.specs.Closed.{CountRefuses, WritesOf}
+use Rattle.pb_commands.specs.Ends.{known}
+use Rattle.pb_commands.specs.Tabled.{IsTableOf}
+use Rattle.pb_faults.specs.declared.fault.AppFault.TheVariants.{Memory}
 use Rattle.pb_commands.proofs.run_table.run_table.Goals as goal
 
-pub returns-in_err-election-clause-fault : goal.returns-in_err-election-clause-fault
-returns-in_err-election-clause-fault g c =
-    refused_by_reader (λ bytes. CountRefuses c.args.counting.now.options.now) (λ bytes. TableWrites c.args.table c.args.counting.now.options.now c.args.counting.now.fills_up (StandsFor (records_of bytes))) _ c.in_err-election.field-0.0 _
-    c.from_residual.ensures.1 c.in_err-election.ensures.fault
+pub returns-in-Err : goal.returns-in-Err
+returns-in-Err g c =
+    let options = c.args.counting.now.options.now in
+    let fills_up = c.args.counting.now.fills_up in
+    let journals = known g.J.Read.remaining c.args.inputs.journal in
+    run_ended (WritesOf (IsTableOf c.args.table options fills_up)) (CountRefuses options) (g.P.Read.remaining c.args.inputs.file) journals _ g.W.Write.contents _ c.in-Err.fault
+    (counts_pass (IsTableOf c.args.table options fills_up) options (g.P.Read.remaining c.args.inputs.file) journals _ (table_counts c.args.table options fills_up) c.in-Err.fault
+    c.in-Err.ensures.reads c.in-Err.ensures.ends)
 
-pub returns-in_err-election-clause-merged : goal.returns-in_err-election-clause-merged
-returns-in_err-election-clause-merged g c = stays_merged (Read c.in_err-election.field-0.0) _ c.from_residual.ensures.1
+pub table_text-made-requires : goal.table_text-made-requires
+table_text-made-requires g c =
+    let count = c.in-Ok.ensures.counted in
+    result_of c.in-Ok.count.election c.args.counting.now.options.now c.args.counting.now.fills_up _ count.0 count.1 count.2
 
-pub returns-in_err-text-clause-merged : goal.returns-in_err-text-clause-merged
-returns-in_err-text-clause-merged g c = stays_merged (Count c.in_err-text.field-0.0) _ c.from_residual-in_err-text.ensures.1
+pub returns-in_err-text : goal.returns-in_err-text
+returns-in_err-text g c =
+    let options = c.args.counting.now.options.now in
+    let fills_up = c.args.counting.now.fills_up in
+    let journals = known g.J.Read.remaining c.args.inputs.journal in
+    let file = c.in-Ok.ensures.ends.judges in
+    run_given (WritesOf (IsTableOf c.args.table options fills_up)) (CountRefuses options) (g.P.Read.remaining c.args.inputs.file) journals _ g.W.Write.contents _ _ Memory c.from_residual.ensures.1
+    (memory_end (WritesOf (IsTableOf c.args.table options fills_up)) (CountRefuses options) (g.P.Read.remaining c.args.inputs.file) journals _ file.1 file.0)
 
-pub returns-in_err-election-clause-accepts : goal.returns-in_err-election-clause-accepts
-returns-in_err-election-clause-accepts g c = λ none.
-    accepted_by_reader c.args.table _ _ c.args.counting.now.options.now c.in_err-election.field-0.0 _ c.from_residual.ensures.1 c.in_err-election.ensures.accepts
-
-pub returns-in_err-text-clause-fault : goal.returns-in_err-text-clause-fault
-returns-in_err-text-clause-fault g c =
-    refused_by_count c.args.table _ _ c.args.counting.now.options.now c.in_ok-election.election c.in_err-text.field-0.0 _ c.from_residual-in_err-text.ensures.1
-    c.in_ok-election.ensures.ok c.in_err-text.ensures.fault
-
-pub returns-in_err-text-clause-accepts : goal.returns-in_err-text-clause-accepts
-returns-in_err-text-clause-accepts g c = λ none.
-    accepted_by_count c.args.table _ _ c.args.counting.now.options.now c.in_ok-election.election c.in_err-text.field-0.0 _ c.from_residual-in_err-text.ensures.1
-    c.in_ok-election.ensures.ok c.in_err-text.ensures.fault
+pub returns : goal.returns
+returns g c =
+    let options = c.args.counting.now.options.now in
+    let fills_up = c.args.counting.now.fills_up in
+    let journals = known g.J.Read.remaining c.args.inputs.journal in
+    let e = c.in-Ok.count.election in
+    let file = c.in-Ok.ensures.ends.judges in
+    let text = c.in_ok-text.text.items in
+    run_written (WritesOf (IsTableOf c.args.table options fills_up)) (CountRefuses options) (g.P.Read.remaining c.args.inputs.file) journals _ g.W.Write.contents _ _ text _
+    (rw c.as_slice.ensures.value at c.write_out.ensures.ok) c.write_out.ensures.fault file.1 file.0
+    (writes_of (IsTableOf c.args.table options fills_up) (g.P.Read.remaining c.args.inputs.file) journals e text c.in-Ok.ensures.left
+    (is_table c.args.table options fills_up e c.in-Ok.count.counted text c.budget-budget.ensures.is_election c.in-Ok.ensures.counted c.in_ok-text.ensures))

@@ -2,7 +2,7 @@ use Rattle.std.proofs.Common.{◌∙◌}
 use Rattle.pb_commands.proofs.WhatIfRows.{whole_found}
 use Rattle.pb_commands.specs.Inner.WhatIf.{what_if_columns}
 use Rattle.pb_commands.specs.WhatIf.{found_rows}
-use Rattle.pb_whatif.specs.declared.change.Change.TheVariants.{Cost, Voters}
+use Rattle.pb_reasons.specs.declared.changes.change.Change.TheVariants.{Cost, Voters}
 use Rattle.pb_commands.proofs.what_if_rows.found_text.Goals as goal
 
 pub returns : goal.returns

@@ -1,8 +1,8 @@
 use Rattle.std.proofs.Common.{◌∷◌, [], List, codes, append_assoc, decimal, length, subst}
+use Rattle.pb_core.specs.Election.{terms_of}
 use Rattle.pb_rows.specs.Reading.{Fields}
-use Rattle.pb_export.specs.FileRows.{amount_text, key_rows}
+use Rattle.pb_export.specs.FileRows.{key_rows, terms_rows}
 use Rattle.pb_export.specs.Inner.Growing.{Grows}
-use Rattle.pb_export.specs.Inner.Parts.{limit_rows}
 use Rattle.pb_export.proofs.Grown.{grown}
 use Rattle.pb_export.proofs.write_pb.put_file.Goals as goal
 
@@ -14,7 +14,7 @@ returns c =
     let projects = rw c.projects.ensures.projects at c.in_ok-put_projects.ensures in
     let keys = rw c.keys.ensures.keys at c.in_ok-put_keys.ensures in
     let front : List Fields =
-    (codes "META" ∷ []) ∷ (codes "key" ∷ codes "value" ∷ []) ∷ (codes "budget" ∷ amount_text e.budget ∷ []) ∷ (codes "vote_type" ∷ codes "approval" ∷ []) ∷ limit_rows e.max_length in
+    (codes "META" ∷ []) ∷ (codes "key" ∷ codes "value" ∷ []) ∷ terms_rows (terms_of e) in
     let last : List Fields =
     (codes "num_projects" ∷ decimal (length e.projects) ∷ []) ∷ (codes "num_votes" ∷ decimal (length e.voters) ∷ []) ∷ (codes "rule" ∷ told.rule.now ∷ []) ∷ (codes "comment" ∷ told.comment.now ∷ []) ∷ [] in
     let meta = subst (λ (rows : List Fields). Grows rows old c.put_keys.new.rows.text) (append_assoc front last (key_rows told.further.now.keys))

@@ -15,5 +15,5 @@ loop-place-preserved c =
     let places = c.args.places.now in
     let here = get_or_default places c.loop-place.place-index 0 _ c.loop-place-test.true in
     let placed = the_placed e places _ _ _ _ c.requires.known c.loop-place-test.true here c.projects-projects.ensures.projects c.index-projects-place.is in
-    let row = won_told c.args.language.now e counted _ _ placed.known placed.project c.tell-reason.result (rw c.requires.own at c.tell-reason.ensures) in
-    row_more (won_rows c.args.language.now e counted) _ _ _ _ _ _ placed.below placed.here c.loop-place.invariant (grown_as _ _ _ _ row (rw c.budget.ensures.budget at c.in_ok-put_row.ensures))
+    let row = won_told c.args.facts.now e counted _ _ placed.known placed.project c.tell-reason.result (rw c.requires.own at c.tell-reason.ensures) in
+    row_more (won_rows c.args.facts.now e counted) _ _ _ _ _ _ placed.below placed.here c.loop-place.invariant (grown_as _ _ _ _ row (rw c.budget.ensures.budget at c.in_ok-put_row.ensures))

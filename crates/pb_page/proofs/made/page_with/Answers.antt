@@ -1,5 +1,5 @@
 use Rattle.std.proofs.Common.{List, ◌∙◌, ap}
-use Rattle.pb_markup.specs.Filling.{Filling, page_of}
+use Rattle.pb_page.specs.Filling.{Filling, page_of}
 use Rattle.pb_reasons.specs.Counted.{CountedView}
 use Rattle.pb_page.specs.Page.{parts}
 use Rattle.pb_page.proofs.Grown.{whole}

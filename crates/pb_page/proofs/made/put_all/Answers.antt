@@ -1,4 +1,8 @@
+use Rattle.std.proofs.Common.{◌∙◌, ap}
+use Rattle.pb_core.specs.Election.{ElectionView}
 use Rattle.pb_core.specs.declared.no_memory.NoMemory.{NoMemory}
+use Rattle.pb_price.specs.Supporters.{support_of}
+use Rattle.pb_reasons.specs.Counted.{CountedView}
 use Rattle.pb_page.specs.Inner.Grown.{Grows}
 use Rattle.pb_page.specs.Inner.Pieces.{the_parts}
 use Rattle.pb_page.proofs.Grown.{refused, then_put}
@@ -10,10 +14,14 @@ returns c =
     then_put _ _ _ _ _ _ c.in_ok-put_budget.ensures
     (then_put _ _ _ _ _ _ c.in_ok-put_projects.ensures
     (then_put _ _ _ _ _ _ c.in_ok-put_categories.ensures
-    (then_put _ _ _ _ _ _ (rw c.requires.won at c.in_ok-put_voters.ensures)
+    (then_put _ _ _ _ _ _ c.in_ok-put_voters.ensures
     (then_put _ _ _ _ _ _ c.in_ok-put_besides.ensures
     (then_put _ _ _ _ _ _ c.in_ok-put_rule.ensures
     (then_put _ _ _ _ _ _ c.in_ok-put_ties.ensures c.put_check.ensures))))))
+
+pub put_ties-requires-clause-supporters : goal.put_ties-requires-clause-supporters
+put_ties-requires-clause-supporters c =
+    c.supporters.ensures ∙ ap (λ (told : ElectionView × CountedView). support_of told.0) c.requires.own
 
 pub returns-in_err-put_rule : goal.returns-in_err-put_rule
 returns-in_err-put_rule c =

@@ -5,11 +5,11 @@ use Rattle.pb_page.proofs.made.put_projects.Goals as goal
 
 pub returns : goal.returns
 unfolding the_projects
-returns c = c.put_told-put.ensures
+returns c = c.put_told.ensures
 
-pub put_told-put-requires-clause-elected : goal.put_told-put-requires-clause-elected
-put_told-put-requires-clause-elected c =
-    (count_can_be_told c.args.election.now c.requires.0 c.args.counted.now.outcome c.budget-budget.ensures.is_election c.requires.1).known
+pub put_told-requires-clause-elected : goal.put_told-requires-clause-elected
+put_told-requires-clause-elected c =
+    (count_can_be_told c.args.election.now c.requires.counted.0 c.args.counted.now.outcome c.budget-budget.ensures.is_election c.requires.counted.1).known
 
-pub put_told-put-requires-clause-added : goal.put_told-put-requires-clause-added
-put_told-put-requires-clause-added c = (result_is_added c.args.election.now c.args.counted.now c.budget-budget.ensures.is_election c.requires).known
+pub put_told-requires-clause-added : goal.put_told-requires-clause-added
+put_told-requires-clause-added c = (result_is_added c.args.election.now c.args.counted.now c.budget-budget.ensures.is_election c.requires.counted).known

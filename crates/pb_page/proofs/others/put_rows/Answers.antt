@@ -13,5 +13,5 @@ loop-place-preserved c =
     let o = c.args.teller.now.1 in
     let place = c.loop-place.place in
     let known : place < length e.projects = rw (← c.projects-projects.ensures.projects) c.loop-place-test.true in
-    let row = lost_told c.args.language.now e o place c.index-projects-place.result known (rw c.projects-projects.ensures.projects at c.index-projects-place.is) c.tell-reason.result (rw c.requires at c.tell-reason.ensures) in
-    place_more (lost_rows c.args.language.now e o) place _ _ _ c.loop-place.invariant (grown_as _ _ _ _ row c.in_ok-put_row.ensures)
+    let row = lost_told c.args.facts.now e o place c.index-projects-place.result known (rw c.projects-projects.ensures.projects at c.index-projects-place.is) c.tell-reason.result (rw c.requires at c.tell-reason.ensures) in
+    place_more (lost_rows c.args.facts.now e o) place _ _ _ c.loop-place.invariant (grown_as _ _ _ _ row c.in_ok-put_row.ensures)

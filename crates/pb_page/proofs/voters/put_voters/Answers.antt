@@ -1,10 +1,4 @@
-use Rattle.pb_page.specs.Inner.Pieces.{the_voters}
-use Rattle.pb_page.proofs.Grown.{then_put}
 use Rattle.pb_page.proofs.voters.put_voters.Goals as goal
 
 pub returns : goal.returns
-unfolding the_voters
-returns c =
-    then_put _ _ _ _ _ _ c.in_ok-put_got.ensures
-    (then_put _ _ _ _ _ _ c.in_ok-put_rows.ensures
-    (then_put _ _ _ _ _ _ (rw c.at_least-most.ensures at c.in_ok-put_row.ensures) c.put.ensures))
+returns c = rw (c.as_slice.ensures.value, c.in_ok-won.ensures) at c.put_won-put.ensures

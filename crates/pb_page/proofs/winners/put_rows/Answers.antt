@@ -15,5 +15,5 @@ loop-winner-preserved c =
     let o = c.args.teller.now.1 in
     let winner = the_winner e _ _ _ _ _ _ c.requires.known c.loop-winner-test.true c.winner-item.is c.winner.view_is c.projects-projects.ensures.projects c.index-projects-winner.is in
     let place = ap (λ (w : ElectedView). w.place) c.winner.view_is in
-    let row = won_told c.args.language.now e o _ _ winner.known winner.project c.tell-reason.result (rw (c.requires.own, place) at c.tell-reason.ensures) in
-    row_more (λ (w : ElectedView). won_rows c.args.language.now e o w.place) _ _ _ _ _ _ winner.below winner.here c.loop-winner.invariant (grown_as _ _ _ _ row (rw c.budget.ensures.budget at c.in_ok-put_row.ensures))
+    let row = won_told c.args.facts.now e o _ _ winner.known winner.project c.tell-reason.result (rw (c.requires.own, place) at c.tell-reason.ensures) in
+    row_more (λ (w : ElectedView). won_rows c.args.facts.now e o w.place) _ _ _ _ _ _ winner.below winner.here c.loop-winner.invariant (grown_as _ _ _ _ row (rw (c.budget.ensures.budget, place) at c.in_ok-put_row.ensures))

@@ -8,4 +8,5 @@ use Rattle.pb_page.proofs.winners.put_table.Goals as goal
 pub returns : goal.returns
 returns c =
     then_put _ _ _ _ _ _ c.in_ok-put_table_head.ensures
-    (then_put _ _ _ _ _ _ (grown_as _ _ _ _ (ap (flat_map (λ (w : ElectedView). won_rows c.args.language.now c.args.election.now c.args.teller.now.1 w.place)) (sym c.requires.elected)) c.in_ok-put_rows.ensures) c.put.ensures)
+    (then_put _ _ _ _ _ _ c.in_ok-put_head_end.ensures
+    (then_put _ _ _ _ _ _ (grown_as _ _ _ _ (ap (flat_map (λ (w : ElectedView). won_rows c.args.facts.now c.args.election.now c.args.teller.now.1 w.place)) (sym c.requires.elected)) c.in_ok-put_rows.ensures) c.put.ensures))

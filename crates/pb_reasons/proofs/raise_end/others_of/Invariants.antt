@@ -1,6 +1,6 @@
 use Rattle.std.proofs.Common.{◌≡◌, map, not, take}
 use Rattle.std.specs.Prelude.{filter}
-use Rattle.pb_greedy.specs.MostVotes.{is_taken}
+use Rattle.pb_rounds.specs.MostVotes.{is_taken}
 use Rattle.pb_reasons.proofs.raise_end.others_of.Given as goal
 
 abbrev pub invariant-loop-winner : goal.invariant-loop-winner

@@ -3,7 +3,7 @@ use Rattle.std.specs.Prelude.{MatchOption}
 use Rattle.pb_script.specs.RowsView.{HasGiven}
 use Rattle.pb_script.specs.declared.request_rows.RequestRow.{RequestRow}
 use Rattle.pb_script.specs.declared.request_rows.RequestRow.TheVariants as row
-use Rattle.pb_durable.specs.declared.asked.Asked.{Asked}
+use Rattle.pb_durable.specs.declared.clerk_request.ClerkRequest.{ClerkRequest}
 use Rattle.pb_serving.proofs.Answering.{gives, not_stopped}
 use Rattle.pb_serving.proofs.Batches.{asks_more, HasRows}
 use Rattle.pb_serving.proofs.batch.next_batch.Goals as goal
@@ -12,9 +12,9 @@ pub loop-preserved : goal.loop-preserved
 loop-preserved g c =
     let inv = c.loop.invariant in
     let p = c.in-Ok-Some-Asks in
-    let a : Asked = record { clerk = p.clerk; request = p.request } in
+    let a : ClerkRequest = record { clerk = p.clerk; request = p.request } in
     let is : p.field-0 ≡ Some (row.Asks p.clerk p.request) = cc (p.field-0-is, p.field-0-0-is) in
-    let grown = c.push_reserved.ensures.items ∙ ap (λ (l : List Asked). l ++ a ∷ []) c.reserve.ensures.items in
+    let grown = c.push_reserved.ensures.items ∙ ap (λ (l : List ClerkRequest). l ++ a ∷ []) c.reserve.ensures.items in
     let size = length-append c.loop.asks.items (a ∷ []) in
     let given : HasGiven c.loop.rows c.next.new.self 1 = subst (λ (n : Option RequestRow). MatchOption n (c.next.new.self.count ≡ c.loop.rows.count) (λ _. HasGiven c.loop.rows c.next.new.self 1)) is p.ensures.given in
     record {
@@ -29,9 +29,9 @@ pub returns-then-not-has_row-clause-batch : goal.returns-then-not-has_row-clause
 returns-then-not-has_row-clause-batch g c =
     let inv = c.loop.invariant in
     let p = c.in-Ok-Some-Asks in
-    let a : Asked = record { clerk = p.clerk; request = p.request } in
+    let a : ClerkRequest = record { clerk = p.clerk; request = p.request } in
     let is : p.field-0 ≡ Some (row.Asks p.clerk p.request) = cc (p.field-0-is, p.field-0-0-is) in
-    let grown = c.push_reserved.ensures.items ∙ ap (λ (l : List Asked). l ++ a ∷ []) c.reserve.ensures.items in
+    let grown = c.push_reserved.ensures.items ∙ ap (λ (l : List ClerkRequest). l ++ a ∷ []) c.reserve.ensures.items in
     let h = subst (HasRows c.args.session.now.admission.now c.args.rows.now.left c.next.new.self.left) (sym grown)
     (asks_more c.args.session.now.admission.now c.args.rows.now.left c.loop.rows.left c.next.new.self.left c.loop.asks.items p.field-0 a is p.ensures.next inv.read) in
     record { rows = h.rows; each = h.each; goes_on = h.gone }

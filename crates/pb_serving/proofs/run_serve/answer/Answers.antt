@@ -12,7 +12,7 @@ use Rattle.pb_desk.specs.Desk.{DeskView}
 use Rattle.pb_desk.specs.declared.version.Version.TheVariants.{One}
 use Rattle.pb_durable.specs.DurableDesk.{entries_of}
 use Rattle.pb_serving.proofs.Answering.{nothing_said, on_ok, said_rows}
-use Rattle.pb_durable.specs.declared.asked.Asked.{Asked}
+use Rattle.pb_durable.specs.declared.clerk_request.ClerkRequest.{ClerkRequest}
 use Rattle.std.proofs.lemmas.List.{append-nil, nil_from_length}
 use Rattle.std.proofs.lemmas.Grind.{common_steps}
 use Rattle.pb_desk.specs.Rows.{rows_from}
@@ -44,8 +44,8 @@ returns-then-is_empty-clause-said g c =
     let none : asks ≡ [] = nil_from_length asks (grind (arith, common_steps, c.is_empty.ensures, c.if-is_empty.true)) in (
       [],
       sym (ap length none),
-      subst (λ (a : List Asked). old ≡ old ++ entries_of a []) (sym none) (sym (append-nil old)),
-      subst (λ (a : List Asked). Appends w w (text_of_rows (rows_from (length old + 1) (entries_of a [])))) (sym none) (nothing_said w (length old + 1)),
+      subst (λ (a : List ClerkRequest). old ≡ old ++ entries_of a []) (sym none) (sym (append-nil old)),
+      subst (λ (a : List ClerkRequest). Appends w w (text_of_rows (rows_from (length old + 1) (entries_of a [])))) (sym none) (nothing_said w (length old + 1)),
     )
 
 pub returns-in_err-answers-clause-other : goal.returns-in_err-answers-clause-other

@@ -7,7 +7,7 @@ use Rattle.pb_desk.specs.Replay.{most_clerks}
 use Rattle.pb_desk.specs.Rows.{rows_from}
 use Rattle.pb_durable.proofs.Openings.{if_err}
 use Rattle.pb_durable.specs.DurableDesk.{entries_of}
-use Rattle.pb_durable.specs.declared.asked.Asked.{Asked}
+use Rattle.pb_durable.specs.declared.clerk_request.ClerkRequest.{ClerkRequest}
 use Rattle.pb_rows.specs.Writing.{text_of_rows}
 use Rattle.pb_script.specs.RowsView.{HasGiven}
 use Rattle.pb_serving.specs.Answered.{IsBehind}
@@ -49,7 +49,7 @@ loop-init g c = record {
 pub answer-requires-clause-clerks : goal.answer-requires-clause-clerks
 answer-requires-clause-clerks g c =
     let batch = c.next_batch-end.ensures.batch in
-    subst (λ (asks : List Asked). All (λ (a : Asked). a.clerk < most_clerks) asks) (sym c.as_slice.ensures.value) (asks_clerks c.args.session.now.admission.now batch.rows _ batch.each)
+    subst (λ (asks : List ClerkRequest). All (λ (a : ClerkRequest). a.clerk < most_clerks) asks) (sym c.as_slice.ensures.value) (asks_clerks c.args.session.now.admission.now batch.rows _ batch.each)
 
 pub returns-in_err-answer-clause-stopped : goal.returns-in_err-answer-clause-stopped
 returns-in_err-answer-clause-stopped g c =
@@ -64,7 +64,7 @@ returns-in_err-answer-clause-stopped g c =
     let why = c.in_err-answer.field-0.0 in
     let end = c.next_batch-end.result in
     let some : 0 < length asks = subst (λ (n : ℕ). 0 < n) (ap length value) c.in_err-answer.ensures.some in
-    let grown : new.desk.journal ≡ mid.desk.journal ++ entries_of asks asked.0 = asked.1 ∙ ap (λ (a : List Asked). mid.desk.journal ++ entries_of a asked.0) value in
+    let grown : new.desk.journal ≡ mid.desk.journal ++ entries_of asks asked.0 = asked.1 ∙ ap (λ (a : List ClerkRequest). mid.desk.journal ++ entries_of a asked.0) value in
     let full : why ≡ Output → length asked.0 ≡ length asks = λ is. asked.2 (c.in_err-answer.was ∙ ap (λ (f : ServingFault). Err f) is) ∙ ap length value in
     let given : HasGiven c.args.rows.now c.next_batch-end.new.rows (c.loop.row + (length asks + refused end)) = gives c.args.rows.now c.loop.rows c.next_batch-end.new.rows c.loop.row (length asks + refused end) inv.given c.next_batch-end.ensures.given in
     if_err c.from_residual.result why _ c.from_residual.ensures.1 (
@@ -126,9 +126,9 @@ returns-in-Over-clause-answered g c =
     let said = c.in_ok-answer.ensures.said in
     let asks = c.next_batch-end.new.asks.items in
     let value = c.as_slice.ensures.value in
-    let grown : c.answer.new.desk.desk.journal ≡ mid.desk.journal ++ entries_of asks said.0 = said.2 ∙ ap (λ (a : List Asked). mid.desk.journal ++ entries_of a said.0) value in
+    let grown : c.answer.new.desk.desk.journal ≡ mid.desk.journal ++ entries_of asks said.0 = said.2 ∙ ap (λ (a : List ClerkRequest). mid.desk.journal ++ entries_of a said.0) value in
     let count : length said.0 ≡ length asks = said.1 ∙ ap length value in
-    let text = subst (λ (a : List Asked). Appends (g.W.Write.contents c.loop.writer) (g.W.Write.contents c.answer.new.writer) (text_of_rows (rows_from (length mid.desk.journal + 1) (entries_of a said.0)))) value said.3 in
+    let text = subst (λ (a : List ClerkRequest). Appends (g.W.Write.contents c.loop.writer) (g.W.Write.contents c.answer.new.writer) (text_of_rows (rows_from (length mid.desk.journal + 1) (entries_of a said.0)))) value said.3 in
     let ends = subst (λ (e : BatchEnd). EndsBy c.args.session.now.admission.now e c.loop.rows.left batch.rows c.next_batch-end.new.rows.left) c.in-Over.is batch.goes_on in
     let given = gives c.args.rows.now c.loop.rows c.next_batch-end.new.rows c.loop.row (length asks + refused end.Over) inv.given (subst (λ (e : BatchEnd). HasGiven c.loop.rows c.next_batch-end.new.rows (length asks + refused e)) c.in-Over.is c.next_batch-end.ensures.given) in
     let sizes : c.loop.row + (length asks + 0) ≡ c.loop.row + length asks = omega arith in
@@ -146,9 +146,9 @@ returns-in-ReadFailed-clause-stopped g c =
     let said = c.in_ok-answer.ensures.said in
     let asks = c.next_batch-end.new.asks.items in
     let value = c.as_slice.ensures.value in
-    let grown : c.answer.new.desk.desk.journal ≡ mid.desk.journal ++ entries_of asks said.0 = said.2 ∙ ap (λ (a : List Asked). mid.desk.journal ++ entries_of a said.0) value in
+    let grown : c.answer.new.desk.desk.journal ≡ mid.desk.journal ++ entries_of asks said.0 = said.2 ∙ ap (λ (a : List ClerkRequest). mid.desk.journal ++ entries_of a said.0) value in
     let count : length said.0 ≡ length asks = said.1 ∙ ap length value in
-    let text = subst (λ (a : List Asked). Appends (g.W.Write.contents c.loop.writer) (g.W.Write.contents c.answer.new.writer) (text_of_rows (rows_from (length mid.desk.journal + 1) (entries_of a said.0)))) value said.3 in
+    let text = subst (λ (a : List ClerkRequest). Appends (g.W.Write.contents c.loop.writer) (g.W.Write.contents c.answer.new.writer) (text_of_rows (rows_from (length mid.desk.journal + 1) (entries_of a said.0)))) value said.3 in
     let size : c.len.result ≡ length asks = c.len.ensures ∙ c.next_batch-end.new.asks.ok.0 in
     let new = c.answer.new.desk in
     let ends = subst (λ (e : BatchEnd). EndsBy c.args.session.now.admission.now e c.loop.rows.left batch.rows c.next_batch-end.new.rows.left) c.in-ReadFailed.is batch.goes_on in
@@ -176,9 +176,9 @@ returns-in-NoMemory-clause-stopped g c =
     let said = c.in_ok-answer.ensures.said in
     let asks = c.next_batch-end.new.asks.items in
     let value = c.as_slice.ensures.value in
-    let grown : c.answer.new.desk.desk.journal ≡ mid.desk.journal ++ entries_of asks said.0 = said.2 ∙ ap (λ (a : List Asked). mid.desk.journal ++ entries_of a said.0) value in
+    let grown : c.answer.new.desk.desk.journal ≡ mid.desk.journal ++ entries_of asks said.0 = said.2 ∙ ap (λ (a : List ClerkRequest). mid.desk.journal ++ entries_of a said.0) value in
     let count : length said.0 ≡ length asks = said.1 ∙ ap length value in
-    let text = subst (λ (a : List Asked). Appends (g.W.Write.contents c.loop.writer) (g.W.Write.contents c.answer.new.writer) (text_of_rows (rows_from (length mid.desk.journal + 1) (entries_of a said.0)))) value said.3 in
+    let text = subst (λ (a : List ClerkRequest). Appends (g.W.Write.contents c.loop.writer) (g.W.Write.contents c.answer.new.writer) (text_of_rows (rows_from (length mid.desk.journal + 1) (entries_of a said.0)))) value said.3 in
     let new = c.answer.new.desk in
     let ends = subst (λ (e : BatchEnd). EndsBy c.args.session.now.admission.now e c.loop.rows.left batch.rows c.next_batch-end.new.rows.left) c.in-NoMemory.is batch.goes_on in
     let so_far = batch_more c.args.session.now.admission.now c.args.rows.now.left c.loop.rows.left ends.0 old.desk.journal mid.desk.journal c.answer.new.desk.desk.journal
@@ -205,9 +205,9 @@ loop-preserved g c =
     let said = c.in_ok-answer.ensures.said in
     let asks = c.next_batch-end.new.asks.items in
     let value = c.as_slice.ensures.value in
-    let grown : c.answer.new.desk.desk.journal ≡ mid.desk.journal ++ entries_of asks said.0 = said.2 ∙ ap (λ (a : List Asked). mid.desk.journal ++ entries_of a said.0) value in
+    let grown : c.answer.new.desk.desk.journal ≡ mid.desk.journal ++ entries_of asks said.0 = said.2 ∙ ap (λ (a : List ClerkRequest). mid.desk.journal ++ entries_of a said.0) value in
     let count : length said.0 ≡ length asks = said.1 ∙ ap length value in
-    let text = subst (λ (a : List Asked). Appends (g.W.Write.contents c.loop.writer) (g.W.Write.contents c.answer.new.writer) (text_of_rows (rows_from (length mid.desk.journal + 1) (entries_of a said.0)))) value said.3 in
+    let text = subst (λ (a : List ClerkRequest). Appends (g.W.Write.contents c.loop.writer) (g.W.Write.contents c.answer.new.writer) (text_of_rows (rows_from (length mid.desk.journal + 1) (entries_of a said.0)))) value said.3 in
     let new = c.answer.new.desk in
     let asked = c.answer.ensures.asked in
     let size : c.len.result ≡ length asks = c.len.ensures ∙ c.next_batch-end.new.asks.ok.0 in
@@ -305,9 +305,9 @@ returns-in_err-say_refused-in-Refused-clause-stopped g c =
     let said = c.in_ok-answer.ensures.said in
     let asks = c.next_batch-end.new.asks.items in
     let value = c.as_slice.ensures.value in
-    let grown : new.desk.journal ≡ mid.desk.journal ++ entries_of asks said.0 = said.2 ∙ ap (λ (a : List Asked). mid.desk.journal ++ entries_of a said.0) value in
+    let grown : new.desk.journal ≡ mid.desk.journal ++ entries_of asks said.0 = said.2 ∙ ap (λ (a : List ClerkRequest). mid.desk.journal ++ entries_of a said.0) value in
     let count : length said.0 ≡ length asks = said.1 ∙ ap length value in
-    let text = subst (λ (a : List Asked). Appends (contents c.loop.writer) (contents c.answer.new.writer) (text_of_rows (rows_from (length mid.desk.journal + 1) (entries_of a said.0)))) value said.3 in
+    let text = subst (λ (a : List ClerkRequest). Appends (contents c.loop.writer) (contents c.answer.new.writer) (text_of_rows (rows_from (length mid.desk.journal + 1) (entries_of a said.0)))) value said.3 in
     let here = subst (λ (e : BatchEnd). EndsBy ad e c.loop.rows.left batch.rows c.next_batch-end.new.rows.left) c.in-Refused.is batch.goes_on in
     let between = gone_mid c.loop.rows.left c.next_batch-end.new.rows.left batch.rows here.0 here.2 in
     let so_far = batch_more ad c.args.rows.now.left c.loop.rows.left between.0 old.desk.journal mid.desk.journal new.desk.journal (contents c.args.writer.now) (contents c.loop.writer) (contents c.answer.new.writer) c.loop.row c.loop.refused
@@ -335,7 +335,7 @@ returns-in_err-answer-clause-grown g c =
     let asked = c.answer.ensures.asked in
     let value = c.as_slice.ensures.value in
     adds_more c.args.session.now.admission.now c.args.desk.now.desk.journal c.loop.desk.desk.journal c.answer.new.desk.desk.journal (entries_of c.as_slice.result.now asked.0) inv.grown asked.1
-    (subst (λ (a : List Asked). All (λ (x : EntryView). is_on_roll c.args.session.now.admission.now x.request ≡ true) (entries_of a asked.0)) (sym value)
+    (subst (λ (a : List ClerkRequest). All (λ (x : EntryView). is_on_roll c.args.session.now.admission.now x.request ≡ true) (entries_of a asked.0)) (sym value)
     (entries_on_roll c.args.session.now.admission.now batch.rows c.next_batch-end.new.asks.items asked.0 batch.each))
 
 pub returns-in-Over-clause-grown : goal.returns-in-Over-clause-grown
@@ -345,7 +345,7 @@ returns-in-Over-clause-grown g c =
     let asked = c.answer.ensures.asked in
     let value = c.as_slice.ensures.value in
     adds_more c.args.session.now.admission.now c.args.desk.now.desk.journal c.loop.desk.desk.journal c.answer.new.desk.desk.journal (entries_of c.as_slice.result.now asked.0) inv.grown asked.1
-    (subst (λ (a : List Asked). All (λ (x : EntryView). is_on_roll c.args.session.now.admission.now x.request ≡ true) (entries_of a asked.0)) (sym value)
+    (subst (λ (a : List ClerkRequest). All (λ (x : EntryView). is_on_roll c.args.session.now.admission.now x.request ≡ true) (entries_of a asked.0)) (sym value)
     (entries_on_roll c.args.session.now.admission.now batch.rows c.next_batch-end.new.asks.items asked.0 batch.each))
 
 pub returns-in-ReadFailed-clause-grown : goal.returns-in-ReadFailed-clause-grown
@@ -355,7 +355,7 @@ returns-in-ReadFailed-clause-grown g c =
     let asked = c.answer.ensures.asked in
     let value = c.as_slice.ensures.value in
     adds_more c.args.session.now.admission.now c.args.desk.now.desk.journal c.loop.desk.desk.journal c.answer.new.desk.desk.journal (entries_of c.as_slice.result.now asked.0) inv.grown asked.1
-    (subst (λ (a : List Asked). All (λ (x : EntryView). is_on_roll c.args.session.now.admission.now x.request ≡ true) (entries_of a asked.0)) (sym value)
+    (subst (λ (a : List ClerkRequest). All (λ (x : EntryView). is_on_roll c.args.session.now.admission.now x.request ≡ true) (entries_of a asked.0)) (sym value)
     (entries_on_roll c.args.session.now.admission.now batch.rows c.next_batch-end.new.asks.items asked.0 batch.each))
 
 pub returns-in-NoMemory-clause-grown : goal.returns-in-NoMemory-clause-grown
@@ -365,7 +365,7 @@ returns-in-NoMemory-clause-grown g c =
     let asked = c.answer.ensures.asked in
     let value = c.as_slice.ensures.value in
     adds_more c.args.session.now.admission.now c.args.desk.now.desk.journal c.loop.desk.desk.journal c.answer.new.desk.desk.journal (entries_of c.as_slice.result.now asked.0) inv.grown asked.1
-    (subst (λ (a : List Asked). All (λ (x : EntryView). is_on_roll c.args.session.now.admission.now x.request ≡ true) (entries_of a asked.0)) (sym value)
+    (subst (λ (a : List ClerkRequest). All (λ (x : EntryView). is_on_roll c.args.session.now.admission.now x.request ≡ true) (entries_of a asked.0)) (sym value)
     (entries_on_roll c.args.session.now.admission.now batch.rows c.next_batch-end.new.asks.items asked.0 batch.each))
 
 pub returns-in_err-say_refused-in-Refused-clause-grown : goal.returns-in_err-say_refused-in-Refused-clause-grown
@@ -375,7 +375,7 @@ returns-in_err-say_refused-in-Refused-clause-grown g c =
     let asked = c.answer.ensures.asked in
     let value = c.as_slice.ensures.value in
     adds_more c.args.session.now.admission.now c.args.desk.now.desk.journal c.loop.desk.desk.journal c.answer.new.desk.desk.journal (entries_of c.as_slice.result.now asked.0) inv.grown asked.1
-    (subst (λ (a : List Asked). All (λ (x : EntryView). is_on_roll c.args.session.now.admission.now x.request ≡ true) (entries_of a asked.0)) (sym value)
+    (subst (λ (a : List ClerkRequest). All (λ (x : EntryView). is_on_roll c.args.session.now.admission.now x.request ≡ true) (entries_of a asked.0)) (sym value)
     (entries_on_roll c.args.session.now.admission.now batch.rows c.next_batch-end.new.asks.items asked.0 batch.each))
 
 pub returns-in_err-answer-clause-write : goal.returns-in_err-answer-clause-write

@@ -1,0 +1,174 @@
+-- How what reads a file ends, from the ends of its parts.
+use Rattle.std.proofs.Common.{◌≡◌, ◌≢◌, ℕ, List, Option, Some, None, Ok, Err, refl, sym, subst}
+use Rattle.std.specs.Io.KnownBytes.{Appends}
+use Rattle.std.specs.Option.{option_map}
+use Rattle.std.specs.Prelude.{IfErr, IfSome, IsErrAnd, OnOk, Result, ⊤}
+use Rattle.pb_core.specs.Election.{ElectionView}
+use Rattle.pb_read.specs.StandsFor.{StandsFor}
+use Rattle.pb_read.specs.declared.warning.Warning.{Warning}
+use Rattle.pb_rows.specs.Reading.{records_of}
+use Rattle.pb_commands.specs.Ends.{Ends, FailsBy, HasWritten, IfBothKnown, IsOutsideFault, Judges, Runs}
+use Rattle.pb_faults.specs.Fault.{merged}
+use Rattle.pb_faults.specs.declared.fault.AppFault.{AppFault}
+use Rattle.pb_faults.specs.declared.fault.AppFault.TheVariants.{Read, Open, Write, Memory, Warned}
+
+abbrev pub IsElectionFile : List ℕ → Type 0
+IsElectionFile bytes = (e : ElectionView) × StandsFor (records_of bytes) e
+
+-- a fault that comes once the file has none, and no warning refuses it
+abbrev pub IsLate : AppFault → Type 0
+IsLate (Read fault) = ⊥
+IsLate (Open number) = ⊥
+IsLate (Warned warning) = ⊥
+IsLate fault = ⊤
+
+module _ {X : Type 0} where
+  -- what is so of what is known
+  pub known_map : (P Q : List ℕ → X → Type 0) (files : Option (List ℕ)) (beside : Option X) → ((bytes : List ℕ) (x : X) → P bytes x → Q bytes x)
+      → IfBothKnown files beside P → IfBothKnown files beside Q
+  known_map P Q None beside each holds = tt
+  known_map P Q (Some bytes) None each holds = tt
+  known_map P Q (Some bytes) (Some x) each holds = each bytes x holds
+
+  pub known_all : (Q : List ℕ → X → Type 0) (files : Option (List ℕ)) (beside : Option X) → ((bytes : List ℕ) (x : X) → Q bytes x) → IfBothKnown files beside Q
+  known_all Q None beside each = tt
+  known_all Q (Some bytes) None each = tt
+  known_all Q (Some bytes) (Some x) each = each bytes x
+
+  -- what is known of a journal is known of one that may be read
+  pub known_some : (P : List ℕ → Option X → Type 0) (files : Option (List ℕ)) (beside : Option X) → IfBothKnown files beside (λ bytes x. P bytes (Some x))
+      → IfBothKnown files (option_map Some beside) P
+  known_some P None beside holds = tt
+  known_some P (Some bytes) None holds = tt
+  known_some P (Some bytes) (Some x) holds = holds
+
+-- what is known through what is read beside
+pub known_through : {X Z : Type 0} (f : Z → X) (P : List ℕ → X → Type 0) (Q : List ℕ → Z → Type 0) (files : Option (List ℕ)) (beside : Option X) (other : Option Z)
+    → ((z : Z) → other ≡ Some z → beside ≡ Some (f z)) → ((bytes : List ℕ) (z : Z) → P bytes (f z) → Q bytes z)
+    → IfBothKnown files beside P → IfBothKnown files other Q
+known_through f P Q None beside other is each holds = tt
+known_through f P Q (Some bytes) beside None is each holds = tt
+known_through f P Q (Some bytes) beside (Some z) is each holds = each bytes z (subst (λ x. IfSome x (P bytes)) (is z refl) holds)
+
+-- the file is judged alike before every answer with this fault
+judges_too : (T A : Type 0) (files : Option (List ℕ)) (warning : Option Warning) (fault : AppFault) → Judges {T = T} files warning (Err fault) → Judges {T = A} files warning (Err fault)
+judges_too T A files warning (Read fault) is = is
+judges_too T A files warning (Open number) is = is
+judges_too T A files warning Memory is = is
+judges_too T A files warning (Warned other) is = is
+judges_too T A files warning fault is = is
+
+judges_late : (T : Type 0) (files : Option (List ℕ)) (warning : Option Warning) (fault : AppFault) → IsLate fault → IfSome files (λ bytes. IsElectionFile bytes) → warning ≡ None
+    → Judges {T = T} files warning (Err fault)
+judges_late T files warning (Read fault) late is none = absurd late
+judges_late T files warning (Open number) late is none = absurd late
+judges_late T files warning Memory late is none = tt
+judges_late T files warning (Warned other) late is none = absurd late
+judges_late T files warning fault late is none = (none, is)
+
+-- what refuses one election refuses another in its way
+fails_too : {Y V : Type 0} (Refuses Others : ElectionView → AppFault → Type 0) (P : Y → Type 0) (Q : V → Type 0) (bytes : List ℕ) (fault : AppFault) → fault ≢ Write
+    → ((e : ElectionView) → Refuses e fault → Others e fault) → FailsBy Refuses P bytes fault → FailsBy Others Q bytes fault
+fails_too Refuses Others P Q bytes (Read fault) other each fails = fails
+fails_too Refuses Others P Q bytes Write other each fails = absurd (other refl)
+fails_too Refuses Others P Q bytes Memory other each fails = tt
+fails_too Refuses Others P Q bytes fault other each fails = (fails.0, fails.1, each fails.0 fails.2)
+
+module _ {X Y : Type 0} (Gives : List ℕ → X → Y → Type 0) (Refuses : List ℕ → X → ElectionView → AppFault → Type 0) where
+  -- the bytes bring this fault
+  abbrev pub FailsAs : AppFault → List ℕ → X → Type 0
+  FailsAs fault bytes x = FailsBy (Refuses bytes x) (Gives bytes x) bytes fault
+
+  -- they give nothing, unless the fault comes from outside
+  abbrev pub Bars : AppFault → List ℕ → X → Type 0
+  Bars fault bytes x = (y : Y) → Gives bytes x y → IsOutsideFault fault
+
+module _ {X Y : Type 0} (Gives : List ℕ → X → Y → Type 0) (Refuses : List ℕ → X → ElectionView → AppFault → Type 0)
+    (files : Option (List ℕ)) (beside : Option X) (warning : Option Warning) where
+  -- an error that is a given fault
+  pub given_end : {T : Type 0} (r : Result T AppFault) (fault : AppFault) → IsErrAnd r (λ app. app ≡ fault) → Ends {T = T} Gives Refuses files beside warning (Err fault)
+      → Ends Gives Refuses files beside warning r
+  given_end (Ok done) fault is ends = absurd is
+  given_end {T = T} (Err app) fault is ends = subst (λ fault. Ends {T = T} Gives Refuses files beside warning (Err fault)) (sym is) ends
+
+  -- a fault that comes once the file has none
+  pub late_end : {T : Type 0} (fault : AppFault) → IsLate fault → merged fault ≡ fault → IfSome files (λ bytes. IsElectionFile bytes) → warning ≡ None
+      → IfBothKnown files beside (FailsAs Gives Refuses fault) → IfBothKnown files beside (Bars Gives Refuses fault) → Ends {T = T} Gives Refuses files beside warning (Err fault)
+  late_end {T = T} fault late again is none fails bars = record {
+    fault = fails;
+    accepts = λ _. bars;
+    judges = judges_late T files warning fault late is none;
+    one_memory = again;
+  }
+
+  pub memory_end : {T : Type 0} → IfSome files (λ bytes. IsElectionFile bytes) → warning ≡ None → Ends {T = T} Gives Refuses files beside warning (Err Memory)
+  memory_end is none = late_end Memory tt refl is none (known_all (FailsAs Gives Refuses Memory) files beside (λ bytes x. tt)) (known_all (Bars Gives Refuses Memory) files beside (λ bytes x y gives. refl))
+
+  -- something is given
+  pub given : {T : Type 0} (value : T) → IfSome files (λ bytes. IsElectionFile bytes) → warning ≡ None → Ends {T = T} Gives Refuses files beside warning (Ok value)
+  given {T = T} value is none = record {
+    fault = known_all (λ bytes x. IfErr {T = T} (Ok value) (FailsBy (Refuses bytes x) (Gives bytes x) bytes)) files beside (λ bytes x. tt);
+    accepts = λ _. known_all (λ bytes x. (y : Y) → Gives bytes x y → IfErr {T = T} (Ok value) IsOutsideFault) files beside (λ bytes x y gives. tt);
+    judges = (none, is);
+    one_memory = tt;
+  }
+
+-- a fault of a part is that of the whole
+module _ {X Z Y V : Type 0} (f : Z → X) (Gives : List ℕ → X → Y → Type 0) (Refuses : List ℕ → X → ElectionView → AppFault → Type 0)
+    (Makes : List ℕ → Z → V → Type 0) (Others : List ℕ → Z → ElectionView → AppFault → Type 0) (files : Option (List ℕ)) (beside : Option X) (other : Option Z)
+    (warning : Option Warning) where
+  pub passed_on : {T A : Type 0} (fault : AppFault) → ((z : Z) → other ≡ Some z → beside ≡ Some (f z))
+      → ((bytes : List ℕ) (z : Z) (e : ElectionView) → Refuses bytes (f z) e fault → Others bytes z e fault)
+      → ((bytes : List ℕ) (z : Z) (v : V) → Makes bytes z v → (y : Y) × Gives bytes (f z) y)
+      → fault ≢ Write → Ends {T = T} Gives Refuses files beside warning (Err fault) → Ends {T = A} Makes Others files other warning (Err fault)
+  passed_on {T = T} {A = A} fault is refuses makes reads ends = record {
+    fault = known_through f (FailsAs Gives Refuses fault) (FailsAs Makes Others fault) files beside other is
+        (λ bytes z fails. fails_too (Refuses bytes (f z)) (Others bytes z) (Gives bytes (f z)) (Makes bytes z) bytes fault reads (refuses bytes z) fails) ends.fault;
+    accepts = λ none. known_through f (Bars Gives Refuses fault) (Bars Makes Others fault) files beside other is
+        (λ bytes z bars v made. let given = makes bytes z v made in bars given.0 given.1) (ends.accepts none);
+    judges = judges_too T A files warning fault ends.judges;
+    one_memory = ends.one_memory;
+  }
+
+-- where a journal is read it is one that may be
+module _ {X Y : Type 0} (Gives : List ℕ → Option X → Y → Type 0) (Refuses : List ℕ → Option X → ElectionView → AppFault → Type 0) (files : Option (List ℕ)) (beside : Option X)
+    (warning : Option Warning) where
+  pub end_of_some : {T : Type 0} (r : Result T AppFault) → Ends {T = T} (λ bytes x. Gives bytes (Some x)) (λ bytes x. Refuses bytes (Some x)) files beside warning r
+      → Ends {T = T} Gives Refuses files (option_map Some beside) warning r
+  end_of_some (Ok value) ends = given Gives Refuses files (option_map Some beside) warning value ends.judges.1 ends.judges.0
+  end_of_some (Err fault) ends = record {
+    fault = known_some (FailsAs Gives Refuses fault) files beside ends.fault;
+    accepts = λ none. known_some (Bars Gives Refuses fault) files beside (ends.accepts none);
+    judges = ends.judges;
+    one_memory = ends.one_memory;
+  }
+
+-- runs
+module _ {X W : Type 0} (IsText : List ℕ → X → List ℕ → Type 0) (Refuses : List ℕ → X → ElectionView → AppFault → Type 0)
+    (files : Option (List ℕ)) (beside : Option X) (warning : Option Warning) (contents : W → Option (List ℕ)) (old : W) where
+  -- a fault before anything is written
+  pub run_ended : (fault : AppFault) → Ends {T = Unit {0}} IsText Refuses files beside warning (Err fault) → Runs IsText Refuses files beside warning contents old old (Err fault)
+  run_ended fault ends = record { writes = tt; unchanged = λ _. refl; ends = ends }
+
+  pub run_given : (r : Result (Unit {0}) AppFault) (fault : AppFault) → IsErrAnd r (λ app. app ≡ fault) → Ends {T = Unit {0}} IsText Refuses files beside warning (Err fault)
+      → Runs IsText Refuses files beside warning contents old old r
+  run_given (Ok done) fault is ends = absurd is
+  run_given (Err app) fault is ends = subst (λ fault. Runs IsText Refuses files beside warning contents old old (Err fault)) (sym is) (run_ended fault ends)
+
+  -- the writer's turn
+  pub run_written : (new : W) (text : List ℕ) (r : Result (Unit {0}) AppFault) → OnOk r (Appends (contents old) (contents new) text) → IfErr r (λ fault. fault ≡ Write)
+      → IfSome files (λ bytes. IsElectionFile bytes) → warning ≡ None → IfBothKnown files beside (λ bytes x. IsText bytes x text)
+      → Runs IsText Refuses files beside warning contents old new r
+  run_written new text (Ok done) appends is file none told = record {
+    writes = known_map (λ bytes x. IsText bytes x text) (λ bytes x. HasWritten (IsText bytes x) (contents old) (contents new)) files beside (λ bytes x told. (text, told, appends)) told;
+    unchanged = tt;
+    ends = given IsText Refuses files beside warning done file none;
+  }
+  run_written new text (Err fault) appends is file none told = record {
+    writes = tt;
+    unchanged = λ other. absurd (other is);
+    ends = subst (λ fault. Ends {T = Unit {0}} IsText Refuses files beside warning (Err fault)) (sym is)
+        (late_end IsText Refuses files beside warning Write tt refl file none
+        (known_map (λ bytes x. IsText bytes x text) (FailsAs IsText Refuses Write) files beside (λ bytes x told. (text, told)) told)
+        (known_all (Bars IsText Refuses Write) files beside (λ bytes x y gives. refl)));
+  }

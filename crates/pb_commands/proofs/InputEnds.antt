@@ -1,0 +1,207 @@
+-- How the reading of an election ends, of a desk, and of the election that it leaves.
+use Rattle.std.proofs.Common.{◌≡◌, ◌≢◌, ℕ, List, Option, Some, None, Ok, Err, false, true, refl, sym, ◌∙◌, ap, subst}
+use Rattle.std.specs.Prelude.{IfErr, IfOk, IfSome, IsErrAnd, Result}
+use Rattle.std.proofs.lemmas.Bool.{true≢false}
+use Rattle.std.proofs.lemmas.Option.{none-some}
+use Rattle.pb_core.specs.Election.{ElectionView}
+use Rattle.pb_desk.specs.Audit.{IsFaultOfJournal}
+use Rattle.pb_desk.specs.Desk.{DeskView, closed_election, standing_of}
+use Rattle.pb_desk.specs.Rows.{journal_rows}
+use Rattle.pb_desk.specs.declared.audit_fault.AuditFault.{AuditFault}
+use Rattle.pb_desk.specs.declared.audit_fault.AuditFault.TheVariants as audit
+use Rattle.pb_read.proofs.Uniqueness.{one_election}
+use Rattle.pb_read.specs.FirstFault.{IsFaultAt, IsFromOutside}
+use Rattle.pb_read.specs.StandsFor.{StandsFor}
+use Rattle.pb_read.specs.declared.fault.ReadFault.{ReadFault}
+use Rattle.pb_read.specs.declared.fault.ReadKind.{ReadKind}
+use Rattle.pb_read.specs.declared.fault.ReadKind.TheVariants.{NoMemory}
+use Rattle.pb_read.specs.declared.warning.Warning.{Warning}
+use Rattle.pb_rows.specs.Reading.{records_of}
+use Rattle.pb_script.specs.Serving.{program_room}
+use Rattle.pb_commands.proofs.Accepted.{audit_again, read_again, read_from_outside}
+use Rattle.pb_commands.proofs.AuditAccepted.{IsAudited, desk_of, journal_from_outside, one_desk}
+use Rattle.pb_commands.proofs.Endings.{Bars, FailsAs, IsElectionFile, IsLate, given, given_end, known_all, known_map, late_end, memory_end, passed_on}
+use Rattle.pb_commands.specs.Audited.{IsDeskOf}
+use Rattle.pb_commands.specs.Closed.{Leaves, LeavesNone, MayBeOpen}
+use Rattle.pb_commands.specs.Ends.{Ends, IfBothKnown, IsOutsideFault, Judges}
+use Rattle.pb_faults.specs.Fault.{merged}
+use Rattle.pb_faults.specs.declared.fault.AppFault.{AppFault}
+use Rattle.pb_faults.specs.declared.fault.AppFault.TheVariants.{Read, Script, ClerkCount, Audit, OtherFile, OpenDesk, Count, Export, Open, Write, Memory, Warned, Roll}
+
+pub is_file : (files : Option (List ℕ)) (e : ElectionView) → IfSome files (λ bytes. StandsFor (records_of bytes) e) → IfSome files (λ bytes. IsElectionFile bytes)
+is_file None e stands = tt
+is_file (Some bytes) e stands = (e, stands)
+
+-- the file of an election that is left
+pub file_of : (bytes : List ℕ) (journal : Option (List ℕ)) (e : ElectionView) → Leaves bytes journal e → IsElectionFile bytes
+file_of bytes None e leaves = (e, leaves)
+file_of bytes (Some journal) e leaves = (leaves.0.opening.election, leaves.1.stands)
+
+-- the bytes leave one election at most
+pub one_left : (bytes : List ℕ) (journal : Option (List ℕ)) (a b : ElectionView) → Leaves bytes journal a → Leaves bytes journal b → a ≡ b
+one_left bytes None a b first second = one_election (records_of bytes) a b first second
+one_left bytes (Some journal) a b first second =
+    first.3 ∙ ap closed_election (one_desk bytes journal first.0 second.0 first.1 second.1) ∙ sym second.3
+
+-- the faults of reading are not the writer's
+read_reads : (kind : ReadKind) (at : ℕ) → merged (Read (record { kind = kind; at = at })) ≢ Write
+read_reads NoMemory at is = cc
+read_reads kind at is = cc
+
+audit_reads : (fault : AuditFault) → merged (Audit fault) ≢ Write
+audit_reads audit.NoMemory is = cc
+audit_reads fault is = cc
+
+pub not_written : {T : Type 0} (r : Result T AppFault) (fault : AppFault) → IsErrAnd r (λ app. app ≡ fault) → fault ≢ Write → IfErr r (λ app. app ≢ Write)
+not_written (Ok done) fault is other = tt
+not_written (Err app) fault is other = λ written. other (sym is ∙ written)
+
+pub reader_reads : {T : Type 0} (r : Result T AppFault) (fault : ReadFault) → IsErrAnd r (λ app. app ≡ merged (Read fault)) → IfErr r (λ app. app ≢ Write)
+reader_reads r fault is = not_written r (merged (Read fault)) is (read_reads fault.kind fault.at)
+
+pub journal_reads : {T : Type 0} (r : Result T AppFault) (fault : AuditFault) → IsErrAnd r (λ app. app ≡ merged (Audit fault)) → IfErr r (λ app. app ≢ Write)
+journal_reads r fault is = not_written r (merged (Audit fault)) is (audit_reads fault)
+
+-- what is so of bytes that may be known
+if_some : (P Q : List ℕ → Type 0) (files : Option (List ℕ)) → ((bytes : List ℕ) → P bytes → Q bytes) → IfSome files P → IfSome files Q
+if_some P Q None each holds = tt
+if_some P Q (Some bytes) each holds = each bytes holds
+
+-- the file's own election
+module _ (files : Option (List ℕ)) (warning : Option Warning) where
+  read_fails : (kind : ReadKind) (at : ℕ) (bytes : List ℕ) → IsFaultAt (records_of bytes) kind at → FailsAs Leaves LeavesNone (merged (Read (record { kind = kind; at = at }))) bytes None
+  read_fails NoMemory at bytes fails = tt
+  read_fails kind at bytes fails = fails
+
+  read_judges : (T : Type 0) (kind : ReadKind) (at : ℕ) → IfSome files (λ bytes. IsFaultAt (records_of bytes) kind at) → Judges {T = T} files warning (Err (merged (Read (record { kind = kind; at = at }))))
+  read_judges T NoMemory at fails = tt
+  read_judges T kind at fails = fails
+
+  reader_end : {T : Type 0} (kind : ReadKind) (at : ℕ) → IfSome files (λ bytes. IsFaultAt (records_of bytes) kind at)
+      → IfSome files (λ bytes. (e : ElectionView) → StandsFor (records_of bytes) e → IsFromOutside kind)
+      → Ends {T = T} Leaves LeavesNone files (Some None) warning (Err (merged (Read (record { kind = kind; at = at }))))
+  reader_end {T = T} kind at fails accepts = record {
+    fault = if_some (λ bytes. IsFaultAt (records_of bytes) kind at) (λ bytes. FailsAs Leaves LeavesNone (merged (Read (record { kind = kind; at = at }))) bytes None) files (read_fails kind at) fails;
+    accepts = λ _. if_some (λ bytes. (e : ElectionView) → StandsFor (records_of bytes) e → IsFromOutside kind) (λ bytes. Bars Leaves LeavesNone (merged (Read (record { kind = kind; at = at }))) bytes None)
+        files (λ bytes accepts e leaves. read_from_outside kind at (accepts e leaves)) accepts;
+    judges = read_judges T kind at fails;
+    one_memory = read_again kind at;
+  }
+
+  pub reader_ends : {T : Type 0} (fault : ReadFault) (r : Result T AppFault) → IsErrAnd r (λ app. app ≡ merged (Read fault)) → IfSome files (λ bytes. IsFaultAt (records_of bytes) fault.kind fault.at)
+      → IfSome files (λ bytes. (e : ElectionView) → StandsFor (records_of bytes) e → IsFromOutside fault.kind) → Ends Leaves LeavesNone files (Some None) warning r
+  reader_ends fault r is fails accepts = given_end Leaves LeavesNone files (Some None) warning r (merged (Read fault)) is (reader_end fault.kind fault.at fails accepts)
+
+  -- a warning refuses the file
+  pub warning_ends : {T : Type 0} (e : ElectionView) (other : Warning) → warning ≡ Some other → IfSome files (λ bytes. StandsFor (records_of bytes) e)
+      → Ends {T = T} Leaves LeavesNone files (Some None) warning (Err (Warned other))
+  warning_ends e other is stands = record {
+    fault = if_some (λ bytes. StandsFor (records_of bytes) e) (λ bytes. FailsAs Leaves LeavesNone (Warned other) bytes None) files (λ bytes stands. (e, stands, tt)) stands;
+    accepts = λ none. absurd (none-some other (sym none ∙ is));
+    judges = (is, is_file files e stands);
+    one_memory = refl;
+  }
+
+-- what refuses the file alone refuses its desk
+own_refuses : (bytes rows : List ℕ) (e : ElectionView) (fault : AppFault) → LeavesNone bytes None e fault → MayBeOpen (LeavesNone bytes (Some rows)) e fault
+own_refuses bytes rows e (Warned warning) refused = tt
+own_refuses bytes rows e fault refused = absurd refused
+
+-- the desk of a file and a journal
+module _ (files journals : Option (List ℕ)) (warning : Option Warning) where
+  pub desk_passes : {T A : Type 0} (fault : AppFault) → fault ≢ Write → Ends {T = T} Leaves LeavesNone files (Some None) warning (Err fault)
+      → Ends {T = A} IsDeskOf (λ bytes rows. MayBeOpen (LeavesNone bytes (Some rows))) files journals warning (Err fault)
+  desk_passes fault reads ends =
+      passed_on (λ rows. None) Leaves LeavesNone IsDeskOf (λ bytes rows. MayBeOpen (LeavesNone bytes (Some rows))) files (Some None) journals warning fault (λ rows is. refl)
+      (λ bytes rows e refused. own_refuses bytes rows e fault refused) (λ bytes rows d is. (d.opening.election, is.stands)) reads ends
+
+  journal_late : (fault : AuditFault) → IsLate (merged (Audit fault))
+  journal_late audit.NoMemory = tt
+  journal_late fault = tt
+
+  journal_fails : (e : ElectionView) (fault : AuditFault) (bytes rows : List ℕ) → StandsFor (records_of bytes) e → IsFaultOfJournal e program_room (records_of rows) fault
+      → FailsAs IsDeskOf (λ bytes rows. MayBeOpen (LeavesNone bytes (Some rows))) (merged (Audit fault)) bytes rows
+  journal_fails e audit.NoMemory bytes rows stands fails = tt
+  journal_fails e fault bytes rows stands fails = (e, stands, fails)
+
+  journal_bars : (e : ElectionView) (fault : AuditFault) (bytes rows : List ℕ) → StandsFor (records_of bytes) e → IsFaultOfJournal e program_room (records_of rows) fault
+      → (d : DeskView) → IsDeskOf bytes rows d → IsOutsideFault (merged (Audit fault))
+  journal_bars e fault bytes rows stands fails d is =
+      let election = one_election (records_of bytes) e d.opening.election stands is.stands in
+      let sound = rw is.room at is.sound in
+      let P : ElectionView → Type 0 = λ e. IsFaultOfJournal e program_room (journal_rows d.opening.version d.journal) fault in
+      journal_from_outside d.opening d.journal sound fault (subst P election (rw is.rows at fails))
+
+  both : (P : List ℕ → List ℕ → Type 0) (e : ElectionView) (fault : AuditFault) (files journals : Option (List ℕ)) → IfSome files (λ bytes. StandsFor (records_of bytes) e)
+      → IfSome journals (λ rows. IsFaultOfJournal e program_room (records_of rows) fault)
+      → ((bytes rows : List ℕ) → StandsFor (records_of bytes) e → IsFaultOfJournal e program_room (records_of rows) fault → P bytes rows) → IfBothKnown files journals P
+  both P e fault None journals stands fails each = tt
+  both P e fault (Some bytes) None stands fails each = tt
+  both P e fault (Some bytes) (Some rows) stands fails each = each bytes rows stands fails
+
+  pub journal_ends : {T : Type 0} (e : ElectionView) (fault : AuditFault) (r : Result T AppFault) → IsErrAnd r (λ app. app ≡ merged (Audit fault))
+      → IfSome files (λ bytes. StandsFor (records_of bytes) e) → IfSome journals (λ rows. IsFaultOfJournal e program_room (records_of rows) fault) → warning ≡ None
+      → Ends {T = T} IsDeskOf (λ bytes rows. MayBeOpen (LeavesNone bytes (Some rows))) files journals warning r
+  journal_ends e fault r is stands fails none =
+      given_end IsDeskOf (λ bytes rows. MayBeOpen (LeavesNone bytes (Some rows))) files journals warning r (merged (Audit fault)) is
+      (late_end IsDeskOf (λ bytes rows. MayBeOpen (LeavesNone bytes (Some rows))) files journals warning (merged (Audit fault)) (journal_late fault) (audit_again fault) (is_file files e stands) none
+      (both (FailsAs IsDeskOf (λ bytes rows. MayBeOpen (LeavesNone bytes (Some rows))) (merged (Audit fault))) e fault files journals stands fails (journal_fails e fault))
+      (both (Bars IsDeskOf (λ bytes rows. MayBeOpen (LeavesNone bytes (Some rows))) (merged (Audit fault))) e fault files journals stands fails (journal_bars e fault)))
+
+  pub desk_is : (e : ElectionView) (d : DeskView) → IsAudited files journals e d → IfBothKnown files journals (λ bytes rows. IsDeskOf bytes rows d)
+  desk_is e d audited = by files journals audited
+    where
+      by : (files journals : Option (List ℕ)) → IsAudited files journals e d → IfBothKnown files journals (λ bytes rows. IsDeskOf bytes rows d)
+      by None journals audited = tt
+      by (Some bytes) None audited = tt
+      by (Some bytes) (Some rows) audited = desk_of bytes rows e d audited
+
+-- what refuses a desk refuses what it leaves
+pub journal_leaves_none : (bytes rows : List ℕ) (e : ElectionView) (fault : AppFault) → MayBeOpen (LeavesNone bytes (Some rows)) e fault → LeavesNone bytes (Some rows) e fault
+journal_leaves_none bytes rows e OpenDesk refused = absurd refused
+journal_leaves_none bytes rows e fault refused = refused
+
+-- the election that a shut desk leaves
+module _ (files journals : Option (List ℕ)) (warning : Option Warning) where
+  abbrev pub IsLeft : List ℕ → List ℕ → ElectionView → Type 0
+  IsLeft bytes rows = Leaves bytes (Some rows)
+
+  pub left_passes : {T A : Type 0} (fault : AppFault) → fault ≢ Write → Ends {T = T} IsDeskOf (λ bytes rows. MayBeOpen (LeavesNone bytes (Some rows))) files journals warning (Err fault)
+      → Ends {T = A} (λ bytes rows. Leaves bytes (Some rows)) (λ bytes rows. LeavesNone bytes (Some rows)) files journals warning (Err fault)
+  left_passes fault reads ends =
+      passed_on (λ (rows : List ℕ). rows) IsDeskOf (λ bytes rows. MayBeOpen (LeavesNone bytes (Some rows))) (λ bytes rows. Leaves bytes (Some rows)) (λ bytes rows. LeavesNone bytes (Some rows)) files journals journals warning fault
+      (λ rows is. is) (λ bytes rows e refused. journal_leaves_none bytes rows e fault refused) (λ bytes rows e leaves. (leaves.0, leaves.1)) reads ends
+
+  open_bars : (d : DeskView) → (standing_of d).is_shut ≡ false → (bytes rows : List ℕ) → IsDeskOf bytes rows d → (e : ElectionView) → Leaves bytes (Some rows) e → IsOutsideFault OpenDesk
+  open_bars d unshut bytes rows is e leaves =
+      let same = one_desk bytes rows leaves.0 d leaves.1 is in
+      absurd (true≢false (sym leaves.2 ∙ ap (λ (d : DeskView). (standing_of d).is_shut) same ∙ unshut))
+
+  pub open_ends : {T : Type 0} (d : DeskView) → IfBothKnown files journals (λ bytes rows. IsDeskOf bytes rows d) → (standing_of d).is_shut ≡ false
+      → IfSome files (λ bytes. IsElectionFile bytes) → warning ≡ None
+      → Ends {T = T} (λ bytes rows. Leaves bytes (Some rows)) (λ bytes rows. LeavesNone bytes (Some rows)) files journals warning (Err OpenDesk)
+  open_ends d is unshut file none =
+      late_end (λ bytes rows. Leaves bytes (Some rows)) (λ bytes rows. LeavesNone bytes (Some rows)) files journals warning OpenDesk tt refl file none
+      (known_map (λ bytes rows. IsDeskOf bytes rows d) (FailsAs (λ bytes rows. Leaves bytes (Some rows)) (λ bytes rows. LeavesNone bytes (Some rows)) OpenDesk) files journals
+      (λ bytes rows is. (d.opening.election, is.stands, (d, is, unshut))) is)
+      (known_map (λ bytes rows. IsDeskOf bytes rows d) (Bars (λ bytes rows. Leaves bytes (Some rows)) (λ bytes rows. LeavesNone bytes (Some rows)) OpenDesk) files journals (open_bars d unshut) is)
+
+  -- the election itself, or memory was refused
+  pub left_ends : (d : DeskView) (r : Result ElectionView AppFault) → IfErr r (λ fault. fault ≡ Memory) → IfSome files (λ bytes. IsElectionFile bytes) → warning ≡ None
+      → Ends {T = ElectionView} (λ bytes rows. Leaves bytes (Some rows)) (λ bytes rows. LeavesNone bytes (Some rows)) files journals warning r
+  left_ends d (Ok e) is file none = given (λ bytes rows. Leaves bytes (Some rows)) (λ bytes rows. LeavesNone bytes (Some rows)) files journals warning e file none
+  left_ends d (Err fault) is file none =
+      subst (λ fault. Ends {T = ElectionView} (λ bytes rows. Leaves bytes (Some rows)) (λ bytes rows. LeavesNone bytes (Some rows)) files journals warning (Err fault)) (sym is)
+      (memory_end (λ bytes rows. Leaves bytes (Some rows)) (λ bytes rows. LeavesNone bytes (Some rows)) files journals warning file none)
+
+  pub left_is : (d : DeskView) (r : Result ElectionView AppFault) → IfOk r (λ e. e ≡ closed_election d) → IfBothKnown files journals (λ bytes rows. IsDeskOf bytes rows d)
+      → (standing_of d).is_shut ≡ true → IfOk r (λ e. IfBothKnown files journals (λ bytes rows. Leaves bytes (Some rows) e))
+  left_is d (Ok e) is desk shut = known_map (λ bytes rows. IsDeskOf bytes rows d) (λ bytes rows. Leaves bytes (Some rows) e) files journals (λ bytes rows desk. (d, desk, shut, is)) desk
+  left_is d (Err fault) is desk shut = tt
+
+pub left_reads : (r : Result ElectionView AppFault) → IfErr r (λ fault. fault ≡ Memory) → IfErr r (λ fault. fault ≢ Write)
+left_reads (Ok e) is = tt
+left_reads (Err fault) is = λ written. absurd (memory_written (sym is ∙ written))
+  where
+    memory_written : Memory ≡ Write → ⊥
+    memory_written is = cc

@@ -1,0 +1,25 @@
+use Rattle.std.proofs.Common.{Some, None}
+use Rattle.pb_commands.proofs.Endings.{given}
+use Rattle.pb_commands.proofs.InputEnds.{desk_is, desk_passes, journal_ends}
+use Rattle.pb_commands.specs.Audited.{IsDeskOf}
+use Rattle.pb_commands.specs.Closed.{LeavesNone, MayBeOpen}
+use Rattle.pb_commands.proofs.inputs.audited_desk.Goals as goal
+
+pub returns-in-Err-clause-ends : goal.returns-in-Err-clause-ends
+returns-in-Err-clause-ends g c = desk_passes _ _ _ c.in-Err.fault c.in-Err.ensures.reads c.in-Err.ensures.ends
+
+pub returns-clause-ends : goal.returns-clause-ends
+returns-clause-ends g c =
+    given IsDeskOf (λ bytes rows. MayBeOpen (LeavesNone bytes (Some rows))) (g.P.Read.remaining c.args.file) (g.J.Read.remaining c.args.journal) _ c.in_ok-audit.field-0
+    c.in-Ok.ensures.ends.judges.1 c.in-Ok.ensures.ends.judges.0
+
+pub returns-clause-ok : goal.returns-clause-ok
+returns-clause-ok g c =
+    let desk = c.in_ok-audit.ensures in
+    desk_is (g.P.Read.remaining c.args.file) (g.J.Read.remaining c.args.journal) None c.in-Ok.election c.in_ok-audit.field-0
+    (record { stands = c.in-Ok.ensures.ok; election = desk.opening; room = desk.room; sound = desk.sound; rows = desk.rows })
+
+pub returns-in_err-audit-clause-ends : goal.returns-in_err-audit-clause-ends
+returns-in_err-audit-clause-ends g c =
+    journal_ends (g.P.Read.remaining c.args.file) (g.J.Read.remaining c.args.journal) _ c.in-Ok.election c.in_err-audit.field-0.0 _ c.from_residual.ensures.1
+    c.in-Ok.ensures.ok c.in_err-audit.ensures.fault c.in-Ok.ensures.ends.judges.0

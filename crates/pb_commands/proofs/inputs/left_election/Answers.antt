@@ -1,0 +1,13 @@
+use Rattle.std.proofs.Common.{◌≡◌, false, rules}
+use Rattle.pb_desk.specs.Desk.{standing_of}
+use Rattle.pb_commands.proofs.InputEnds.{left_passes, open_ends}
+use Rattle.pb_commands.proofs.inputs.left_election.Goals as goal
+
+pub returns-in-Err-clause-ends : goal.returns-in-Err-clause-ends
+returns-in-Err-clause-ends g c = left_passes _ _ _ c.in-Err.fault c.in-Err.ensures.reads c.in-Err.ensures.ends
+
+pub returns-else-is_shut-clause-ends : goal.returns-else-is_shut-clause-ends
+returns-else-is_shut-clause-ends g c =
+    let unshut : (standing_of c.in-Ok.desk).is_shut ≡ false = search rules in
+    open_ends (g.P.Read.remaining c.args.file) (g.J.Read.remaining c.args.journal) _ c.in-Ok.desk c.in-Ok.ensures.ok unshut
+    c.in-Ok.ensures.ends.judges.1 c.in-Ok.ensures.ends.judges.0

@@ -1,7 +1,0 @@
-use Rattle.pb_commands.proofs.RowsGrown.{whole_text}
-use Rattle.pb_commands.specs.Counted.{IsReportOf}
-use Rattle.pb_commands.proofs.run_count.report_text.Goals as goal
-
-pub returns-in-Ok-clause-ok : goal.returns-in-Ok-clause-ok
-returns-in-Ok-clause-ok g c =
-    whole_text (IsReportOf c.args.election.now c.args.counting.now.options.now c.args.counting.now.fills_up) c.start-rows.result.text c.put_count.new.rows.text c.finished.result c.start-rows.ensures.text c.in-Ok.ensures.ok c.finished.ensures.text

@@ -1,5 +1,0 @@
-use Rattle.pb_greedy.proofs.Added.{is_its_rule}
-use Rattle.pb_greedy.proofs.laws.most_votes_first_is_its_rule.Goals as goal
-
-pub returns : goal.returns
-returns c = is_its_rule

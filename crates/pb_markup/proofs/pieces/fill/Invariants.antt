@@ -1,8 +1,0 @@
-use Rattle.std.proofs.Common.{◌≡◌, ◌++◌, drop, map}
-use Rattle.pb_markup.specs.Filling.{filled, text_of}
-use Rattle.pb_markup.proofs.pieces.fill.Given as goal
-
-abbrev pub invariant-loop-byte : goal.invariant-loop-byte
-invariant-loop-byte l =
-    l.page.items ++ filled (drop l.byte-index l.bytes) (drop l.used (map text_of l.values))
-    ≡ l.fn.page.items ++ filled l.bytes (map text_of l.values)

@@ -1,6 +1,0 @@
-use Rattle.std.proofs.Common.{◌≡◌, ◌++◌, take}
-use Rattle.pb_markup.specs.Markup.{written}
-use Rattle.pb_markup.proofs.written.write_text.Given as goal
-
-abbrev pub invariant-loop-byte : goal.invariant-loop-byte
-invariant-loop-byte l = l.page.items ≡ l.fn.page.items ++ written (take l.byte-index l.bytes)

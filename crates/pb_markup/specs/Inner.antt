@@ -1,2 +1,0 @@
--- Words that only private contracts speak of: nobody has to believe them.
-pub mod Digits

@@ -1,7 +1,0 @@
--- The words that public contracts reach, a notion a file.
-pub mod Markup
-pub mod Filling
-pub mod Sentence
-pub mod Words
-pub mod Amount
-pub mod Inner

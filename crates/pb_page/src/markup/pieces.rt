@@ -1,0 +1,62 @@
+//! Pieces of markup, filled with texts.
+
+ghost use Rattle.std.specs.Prelude.{◌≡◌, ◌++◌, OnOk, map};
+ghost use Rattle.pb_page.specs.Filling.{filled, text_of};
+ghost use Rattle.pb_page.specs.Markup.{written};
+
+use crate::markup::amounts::write_amount;
+use crate::markup::value::Value;
+use crate::markup::written::write_text;
+use itoa::Buffer;
+use pb_core::no_memory::NoMemory;
+use std::alloc::Global;
+
+/// Stands in a piece of markup where a value goes.
+const PLACE: u8 = b'~';
+
+/// Stands in a piece of markup where the value of the next place goes as well.
+const NEXT: u8 = b'^';
+
+/// Writes a piece of the program's own markup after a page, with these values in the places of its `~`, one after
+/// the other; each `^` is the value of the next `~` as well. A place without a value stays empty.
+pub fn fill(
+    page: &mut Vec<u8>,
+    alloc: Global,
+    piece: &'static str,
+    values: &[Value],
+) -> Result<(), NoMemory>
+    ensures { OnOk result (page.new.items ≡ page.old.items ++ filled piece.now (map text_of values.now)) }
+{
+    let mut used = 0;
+    let bytes = piece.as_bytes();
+    for byte in bytes {
+        if *byte != PLACE && *byte != NEXT {
+            page.push(*byte)?;
+        } else if used < values.len() {
+            let value = &values[used];
+            write_value(page, alloc, value)?;
+            if *byte == PLACE {
+                used += 1;
+            }
+        }
+    }
+    Ok(())
+}
+
+/// Writes a value.
+fn write_value(page: &mut Vec<u8>, alloc: Global, value: &Value) -> Result<(), NoMemory>
+    ensures { OnOk result (page.new.items ≡ page.old.items ++ written (text_of value.now)) }
+{
+    match value {
+        Value::Text(text) => write_text(page, text),
+        Value::Number(number) => {
+            let mut digits = Buffer::new();
+            write_text(page, digits.format(*number))
+        }
+        Value::Amount(amount) => {
+            let text = amount.text(alloc)?;
+            write_text(page, text.as_str())
+        }
+        Value::Shown(amount, form) => write_amount(page, *amount, form),
+    }
+}

@@ -1,0 +1,10 @@
+use Rattle.std.proofs.Common.{rules}
+use Rattle.pb_reasons.proofs.NumberedIds.{numbered_next}
+use Rattle.pb_reasons.proofs.changes.numbered.numbered.Goals as goal
+
+pub loop-voter-preserved : goal.loop-voter-preserved
+loop-voter-preserved c =
+    let before = c.loop-voter.invariant in
+    let made = numbered_next c.args.projects c.into_iter-voter-iterator.result.rest.items c.loop-voter.own.items c.loop-voter.yielded c.loop-voter.voter-iterator.rest.items c.next.new.self.rest.items
+    c.push.new.self.items c.in-Some.voter c.in_ok-id.id (search rules) (search rules) before.numbered before.ballots before.whole c.in-Some.ensures.steps.0 (search rules) (search rules) in
+    record { numbered = made.0; ballots = made.1; whole = made.2 }

@@ -1,0 +1,16 @@
+use Rattle.std.proofs.Common.{◌≡◌, ◌≤◌, ◌-◌}
+use Rattle.pb_reasons.specs.declared.changes.change.Change.TheVariants.{Voters}
+use Rattle.pb_reasons.specs.declared.changes.change.Verdict.TheVariants.{Lost}
+use Rattle.pb_reasons.specs.WhatIf.{IsTrue}
+use Rattle.pb_reasons.proofs.changes.search.doubled.Given as goal
+
+abbrev pub invariant-doubling : goal.invariant-doubling
+invariant-doubling g l = record {
+  same : l.changing ≡ l.initial.changing;
+  is_true : IsTrue l.changing l.recount.question Voters l.last;
+  verdict : l.last.verdict ≡ Lost;
+  within : l.last.value ≤ l.most;
+}
+
+abbrev pub decreases-doubling : goal.decreases-doubling
+decreases-doubling g l = l.most - l.last.value

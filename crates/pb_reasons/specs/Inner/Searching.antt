@@ -1,0 +1,62 @@
+-- What the parts of a search know.
+use Rattle.std.specs.Prelude.{◌≡◌, ◌≢◌, ℕ, ◌+◌, ◌<◌, ◌≤◌, Bool, true, false, Some}
+use Rattle.pb_core.specs.Election.{ElectionView}
+use Rattle.pb_reasons.specs.Counted.{counted, is_selected}
+use Rattle.pb_rounds.specs.CountFault.{refusal_of}
+use Rattle.pb_rounds.specs.Counted.{IsCountOf}
+use Rattle.pb_rounds.specs.Outcome.{OutcomeView}
+use Rattle.pb_rounds.specs.declared.count_fault.CountFault.{CountFault}
+use Rattle.pb_rounds.specs.declared.count_fault.CountFault.TheVariants.{NoMemory, RaisesSpent}
+use Rattle.pb_reasons.specs.WhatIf.{CanBe, IsTrue, Seen}
+use Rattle.pb_reasons.specs.declared.changes.change.Change.{Change}
+use Rattle.pb_reasons.specs.declared.changes.change.Change.TheVariants.{Cost, Voters}
+use Rattle.pb_reasons.specs.declared.changes.change.Row.{Row}
+use Rattle.pb_reasons.specs.declared.changes.change.Verdict.{Verdict}
+use Rattle.pb_reasons.specs.declared.changes.change.Verdict.TheVariants.{Lost, Won, Refused}
+use Rattle.pb_reasons.specs.declared.changes.question.Question.{Question}
+
+-- whether the count of an election elects or adds the project that is asked about
+abbrev pub HasWon : ElectionView → Question → Bool → Type 0
+HasWon e q won = (o : OutcomeView) × IsCountOf e q.options o × (is_selected (counted e q.fills_up o) q.place ≡ won)
+
+-- how many further voters a change has
+abbrev pub further_of : Change → ℕ → ℕ
+further_of Cost value = 0
+further_of Voters value = value
+
+-- a fault that ends a search: out of memory, or options that are out of their ranges
+pub record IsStop (q : Question) (fault : CountFault) : Type 0 where
+  pub out_of_range : fault ≢ NoMemory → refusal_of q.options ≡ Some fault
+  pub not_spent : fault ≢ RaisesSpent
+
+-- whether a verdict is that the project wins
+abbrev pub wins : Verdict → Bool
+wins Won = true
+wins Lost = false
+wins Refused = false
+
+-- two true rows of one change, the smaller value first
+pub record AreEnds (s : Seen) (q : Question) (change : Change) (low high : Row) : Type 0 where
+  pub low_is : IsTrue s q change low
+  pub high_is : IsTrue s q change high
+  pub ordered : low.value < high.value
+  pub from : CanBe s change low.value
+  pub to : CanBe s change high.value
+
+-- two such rows of a range, of which one wins and the other does not
+pub record AreOpposed (s : Seen) (q : Question) (change : Change) (least most : ℕ) (low high : Row) : Type 0 where
+  pub ends : AreEnds s q change low high
+  pub one_wins : wins low.verdict ≢ wins high.verdict
+  pub from : least ≤ low.value
+  pub to : high.value ≤ most
+
+-- the same, one step apart where neither is refused
+pub record AreNear (s : Seen) (q : Question) (change : Change) (least most : ℕ) (a b : Row) : Type 0 where
+  pub opposed : AreOpposed s q change least most a b
+  pub near : a.verdict ≢ Refused → b.verdict ≢ Refused → b.value ≤ a.value + 1
+
+-- what is known of the election as it is, and of its project with its own cost
+pub record AreKnown (s : Seen) (q : Question) (cost : ℕ) (verdict : Verdict) : Type 0 where
+  pub own : IsTrue s q Cost (record { value = cost; verdict = verdict })
+  pub nobody : IsTrue s q Voters (record { value = 0; verdict = verdict })
+  pub can_be : CanBe s Cost cost

@@ -1,0 +1,63 @@
+-- What the counts of a changed election say of a project, and what a search of such changes finds.
+use Rattle.std.specs.Prelude.{◌≡◌, ◌≢◌, ℕ, ◌+◌, ◌-◌, ◌*◌, ◌<◌, ◌≤◌, ◌⊎◌, List, [], ◌∷◌, ◌++◌, if◌then◌else◌, length, map, min, replicate, slice_set}
+use Rattle.pb_core.specs.Election.{ElectionView, IsElection, most_voters}
+use Rattle.pb_core.specs.Money.{largest_money}
+use Rattle.pb_reasons.specs.Counted.{counted, is_selected}
+use Rattle.pb_rounds.specs.Counted.{IsCountFault, IsCountOf}
+use Rattle.pb_rounds.specs.Outcome.{OutcomeView}
+use Rattle.pb_rounds.specs.declared.count_fault.CountFault.TheVariants.{RaisesSpent}
+use Rattle.pb_reasons.specs.declared.changes.change.Change.{Change}
+use Rattle.pb_reasons.specs.declared.changes.change.Change.TheVariants.{Cost, Voters}
+use Rattle.pb_reasons.specs.declared.changes.change.Row.{Row}
+use Rattle.pb_reasons.specs.declared.changes.change.Verdict.{Verdict}
+use Rattle.pb_reasons.specs.declared.changes.change.Verdict.TheVariants.{Lost, Won, Refused}
+use Rattle.pb_reasons.specs.declared.changes.found.WhatIf.{WhatIf}
+use Rattle.pb_reasons.specs.declared.changes.question.Question.{Question}
+
+-- what a count reads of an election: the budget, the costs and the ballots, but no ids and no names
+pub record Seen : Type 0 where
+  pub budget : ℕ
+  pub costs : List ℕ
+  pub ballots : List (List ℕ)
+
+abbrev pub seen : ElectionView → Seen
+seen e = record { budget = e.budget; costs = map (λ p. p.cost) e.projects; ballots = map (λ v. v.ballot) e.voters }
+
+-- the same with this cost for the project at this place, or with so many further voters who approve it alone
+abbrev pub changed : Change → (place value : ℕ) → Seen → Seen
+changed Cost place value s = record s { costs = slice_set s.costs place value }
+changed Voters place value s = record s { ballots = s.ballots ++ replicate value (place ∷ []) }
+
+-- a change that leaves an election
+abbrev pub CanBe : Seen → Change → ℕ → Type 0
+CanBe s Cost value = (0 < value) × (value ≤ largest_money)
+CanBe s Voters value = length s.ballots + value ≤ most_voters
+
+-- what the count of an election says of the project that is asked about: whether it elects or adds it
+abbrev pub Says : ElectionView → Question → Verdict → Type 0
+Says e q Refused = IsCountFault e q.options RaisesSpent
+Says e q verdict = (o : OutcomeView) × IsCountOf e q.options o
+    × (verdict ≡ (if is_selected (counted e q.fills_up o) q.place then Won else Lost))
+
+-- the row says what the count of an election says in which a count reads what is so changed
+unfoldable pub IsTrue : Seen → Question → Change → Row → Type 0
+IsTrue s q change row =
+    (e : ElectionView) × IsElection e × (seen e ≡ changed change q.place row.value s) × Says e q row.verdict
+
+-- What a search of a change from one value to another finds: two true rows, which say the same at its two ends, or of which
+-- one wins and one loses, one step apart, or one is refused.
+pub record IsFound (s : Seen) (q : Question) (change : Change) (low high : ℕ) (a b : Row) : Type 0 where
+  pub first_is : IsTrue s q change a
+  pub second_is : IsTrue s q change b
+  pub agree : a.verdict ≡ b.verdict → (a.value ≡ low) × (b.value ≡ high)
+  pub differ : a.verdict ≢ b.verdict → (low ≤ a.value) × (a.value < b.value) × (b.value ≤ high)
+  pub step : a.verdict ≢ b.verdict → a.verdict ≢ Refused → b.verdict ≢ Refused → b.value ≡ a.value + 1
+
+-- What is found for a project of this cost: for a winner a higher cost, up to ten times it, and for a loser a lower one, or
+-- further voters, up to as many again.
+abbrev pub IsWhatIf : ElectionView → Question → (cost : ℕ) → WhatIf → Type 0
+IsWhatIf e q cost w =
+    Says e q Won × IsFound (seen e) q Cost cost (min (10 * cost) largest_money) w.cost.first w.cost.second
+    × IsFound (seen e) q Voters 0 0 w.voters.first w.voters.second
+    ⊎ Says e q Lost × IsFound (seen e) q Cost 1 cost w.cost.first w.cost.second × IsFound (seen e) q Voters 0
+    (min (length e.voters) (most_voters - length e.voters)) w.voters.first w.voters.second

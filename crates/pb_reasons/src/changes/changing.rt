@@ -1,0 +1,112 @@
+//! An election that is changed for one count at a time.
+
+ghost use Rattle.std.specs.Prelude.{◌≡◌, ◌<◌, ◌≤◌, IfErr, IfOk, length};
+ghost use Rattle.pb_core.specs.Election.{most_voters};
+ghost use Rattle.pb_reasons.specs.WhatIf.{CanBe, IsTrue, seen};
+ghost use Rattle.pb_reasons.specs.Inner.Searching.{IsStop, further_of};
+
+use crate::changes::change::{Change, Row};
+use crate::changes::frame::changed_frame;
+use crate::changes::numbered::{add_further, numbered};
+use crate::changes::recount::{Recount, verdict_of};
+use pb_core::election::Election;
+use pb_core::gate::Gate;
+use pb_core::no_memory::NoMemory;
+use pb_core::voter::Voter;
+use pb_rounds::count_fault::CountFault;
+use std::alloc::Global;
+use std::marker::Model;
+use std::mem;
+use std::thread::Threads;
+
+/// An election that is changed for one count at a time. Its voters have numbers for ids, so that further ones can be added,
+/// and their ballots are moved into each changed election and back.
+///
+/// A contract sees what a count reads of it.
+#[derive(Drop)]
+pub(crate) struct Changing {
+    /// The budget and the projects.
+    frame: Election,
+    voters: Vec<Voter>,
+}
+
+impl Model for Changing {
+    ghost use Rattle.std.specs.Prelude.{◌≡◌, [], length, map};
+    ghost use Rattle.pb_reasons.specs.WhatIf.{Seen};
+    ghost use Rattle.pb_reasons.specs.Inner.Numbered.{AreNumbered};
+
+    ghost Value = { Seen };
+
+    ghost view = { λ c. record {
+      budget = c.frame.budget;
+      costs = map (λ p. p.cost) c.frame.projects;
+      ballots = map (λ v. v.ballot) c.voters.items;
+    } };
+
+    ghost invariant = { λ c. (c.frame.voters ≡ []) × AreNumbered (length c.frame.projects) c.voters.items };
+}
+
+impl Changing {
+    /// The same election, whose voters get numbers for ids.
+    pub(crate) fn of(alloc: Global, election: Election) -> Result<Changing, NoMemory>
+        ensures { IfOk result (λ own. own ≡ seen election) }
+    {
+        let mut frame = election;
+        let projects = frame.projects().len();
+        let voters = frame.replace_voters(Vec::new(alloc));
+        let voters = numbered(alloc, voters, projects)?;
+        Ok(Changing { frame, voters })
+    }
+
+    /// How many voters it has.
+    pub(crate) fn voters(&self) -> usize
+        ensures voters { result ≡ length self.now.ballots }
+        ensures few { result ≤ most_voters }
+    {
+        self.voters.len()
+    }
+
+    /// Counts the election so changed, and changes it back.
+    pub(crate) fn row<T: Threads + Sync, G: Gate>(
+        &mut self,
+        recount: &Recount<T, G>,
+        change: Change,
+        value: u64,
+    ) -> Result<Row, CountFault>
+        requires known { recount.now.question.place < length self.old.costs }
+        requires can_be { CanBe self.old change value }
+        ensures is_true { IfOk result (IsTrue self.old recount.now.question change) }
+        ensures value { IfOk result (λ row. row.value ≡ value) }
+        ensures kept { IfOk result (λ _. self.new ≡ self.old) }
+        ensures fault { IfErr result (IsStop recount.now.question) }
+    {
+        let (alloc, place) = (recount.alloc, recount.question.place);
+        let (own, projects) = (self.voters.len(), self.frame.projects().len());
+        let mut changed = changed_frame(alloc, &self.frame, change, place, value)?;
+        let mut voters = mem::replace(&mut self.voters, Vec::new(alloc));
+        add_further(
+            alloc,
+            &mut voters,
+            place,
+            further_of(change, value),
+            projects,
+        )?;
+        drop(changed.replace_voters(voters));
+        let verdict = verdict_of(recount, &changed)?;
+        let mut voters = changed.replace_voters(Vec::new(alloc));
+        drop(changed);
+        voters.truncate(own);
+        drop(mem::replace(&mut self.voters, voters));
+        Ok(Row { value, verdict })
+    }
+}
+
+/// How many further voters a change has.
+fn further_of(change: Change, value: u64) -> usize
+    ensures { result ≡ further_of change value }
+{
+    match change {
+        Change::Cost => 0,
+        Change::Voters => value as usize,
+    }
+}

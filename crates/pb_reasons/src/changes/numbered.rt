@@ -1,0 +1,65 @@
+//! Voters whose ids are numbers.
+
+ghost use Rattle.std.specs.Prelude.{◌≡◌, ◌+◌, ◌<◌, ◌≤◌, ◌++◌, ◌∷◌, [], All, List, IfOk, OnOk, decimal, length, map, replicate};
+ghost use Rattle.pb_core.specs.Election.{IsVoter, VoterView, most_voters};
+ghost use Rattle.pb_reasons.specs.Inner.Numbered.{AreNumbered};
+
+use itoa::Buffer;
+use pb_core::ballot::Ballot;
+use pb_core::no_memory::NoMemory;
+use pb_core::voter::Voter;
+use pb_core::voter_id::VoterId;
+use std::alloc::Global;
+
+/// Gives the voters numbers for ids, from 0, in their order. Their ballots are moved.
+pub(crate) fn numbered(
+    alloc: Global,
+    voters: Vec<Voter>,
+    projects: usize,
+) -> Result<Vec<Voter>, NoMemory>
+    requires few { length voters.items ≤ most_voters }
+    requires are_voters { All (IsVoter projects) voters.items }
+    ensures numbered { IfOk result (λ own. AreNumbered projects own.items) }
+    ensures ballots { IfOk result (λ own. map (λ v. v.ballot) own.items ≡ map (λ v. v.ballot) voters.items) }
+{
+    let mut own = Vec::with_capacity(alloc, voters.len())?;
+    for voter in voters {
+        let id = number_id(alloc, own.len())?;
+        let Voter { id: name, ballot } = voter;
+        drop(name);
+        own.push(Voter { id, ballot })?;
+    }
+    Ok(own)
+}
+
+/// Adds so many further voters, who approve the project at this place alone.
+pub(crate) fn add_further(
+    alloc: Global,
+    voters: &mut Vec<Voter>,
+    place: u32,
+    further: usize,
+    projects: usize,
+) -> Result<(), NoMemory>
+    requires numbered { AreNumbered projects voters.old.items }
+    requires few { length voters.old.items + further ≤ most_voters }
+    requires known { place < projects }
+    ensures numbered { OnOk result (AreNumbered projects voters.new.items) }
+    ensures grown { OnOk result ((more : List VoterView) × (voters.new.items ≡ voters.old.items ++ more)
+        × (map (λ v. v.ballot) more ≡ replicate further (place ∷ []))) }
+{
+    for _further in 0..further {
+        let id = number_id(alloc, voters.len())?;
+        let ballot = Ballot::of(alloc, &[place])?;
+        voters.push(Voter { id, ballot })?;
+    }
+    Ok(())
+}
+
+/// The id that a number is.
+fn number_id(alloc: Global, number: usize) -> Result<VoterId, NoMemory>
+    ensures { IfOk result (λ id. id ≡ decimal number) }
+{
+    let mut digits = Buffer::new();
+    let id = VoterId::new(alloc, digits.format(number))?;
+    Ok(id.unwrap())
+}

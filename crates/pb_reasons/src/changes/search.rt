@@ -1,0 +1,169 @@
+//! Searches of one kind of change.
+
+ghost use Rattle.std.specs.Prelude.{◌≡◌, ◌≢◌, ◌+◌, ◌<◌, ◌≤◌, IfErr, IfOk, false, length, true};
+ghost use Rattle.pb_core.specs.Election.{most_voters};
+ghost use Rattle.pb_reasons.specs.declared.changes.change.Change.TheVariants.{Voters};
+ghost use Rattle.pb_reasons.specs.declared.changes.change.Verdict.TheVariants.{Lost, Refused};
+ghost use Rattle.pb_reasons.specs.WhatIf.{CanBe, IsFound, IsTrue};
+ghost use Rattle.pb_reasons.specs.Inner.Searching.{AreEnds, AreNear, IsStop, wins};
+
+use crate::changes::change::{Change, Row, Verdict};
+use crate::changes::changing::Changing;
+use crate::changes::found::Found;
+use crate::changes::recount::Recount;
+use pb_core::gate::Gate;
+use pb_rounds::count_fault::CountFault;
+use std::thread::Threads;
+
+/// What is found between the ends of a range.
+pub(crate) fn between<T: Threads + Sync, G: Gate>(
+    recount: &Recount<T, G>,
+    changing: &mut Changing,
+    change: Change,
+    low: Row,
+    high: Row,
+) -> Result<Found, CountFault>
+    requires known { recount.now.question.place < length changing.old.costs }
+    requires ends { AreEnds changing.old recount.now.question change low high }
+    ensures found { IfOk result (λ found.
+        IsFound changing.old recount.now.question change low.value high.value found.first found.second) }
+    ensures kept { IfOk result (λ _. changing.new ≡ changing.old) }
+    ensures fault { IfErr result (IsStop recount.now.question) }
+{
+    if is_alike(low.verdict, high.verdict) {
+        return Ok(Found {
+            first: low,
+            second: high,
+        });
+    }
+    halved(recount, changing, change, low, high)
+}
+
+/// Halves a range of which one end wins and the other does not, until its ends are one step apart, or one is refused. The end
+/// that wins stays one that wins.
+fn halved<T: Threads + Sync, G: Gate>(
+    recount: &Recount<T, G>,
+    changing: &mut Changing,
+    change: Change,
+    low: Row,
+    high: Row,
+) -> Result<Found, CountFault>
+    requires known { recount.now.question.place < length changing.old.costs }
+    requires ends { AreEnds changing.old recount.now.question change low high }
+    requires one_wins { wins low.verdict ≢ wins high.verdict }
+    ensures near { IfOk result (λ found.
+        AreNear changing.old recount.now.question change low.value high.value found.first found.second) }
+    ensures kept { IfOk result (λ _. changing.new ≡ changing.old) }
+    ensures fault { IfErr result (IsStop recount.now.question) }
+{
+    let (mut low, mut high) = (low, high);
+    'halving: while is_open(low, high) {
+        let row = changing.row(recount, change, middle(low.value, high.value))?;
+        if is_alike(low.verdict, row.verdict) {
+            low = row;
+        } else {
+            high = row;
+        }
+    }
+    Ok(Found {
+        first: low,
+        second: high,
+    })
+}
+
+/// Doubles the number of further voters until the project wins, up to so many, and halves between the last two numbers. A
+/// count that is refused ends the search: its row is found, and the last one that loses.
+pub(crate) fn doubled<T: Threads + Sync, G: Gate>(
+    recount: &Recount<T, G>,
+    changing: &mut Changing,
+    most: u64,
+) -> Result<Found, CountFault>
+    requires known { recount.now.question.place < length changing.old.costs }
+    requires nobody { IsTrue changing.old recount.now.question Voters (record { value = 0; verdict = Lost }) }
+    requires can_be { CanBe changing.old Voters most }
+    ensures found { IfOk result (λ found.
+        IsFound changing.old recount.now.question Voters 0 most found.first found.second) }
+    ensures fault { IfErr result (IsStop recount.now.question) }
+{
+    let nobody = Row {
+        value: 0,
+        verdict: Verdict::Lost,
+    };
+    let mut last = nobody;
+    'doubling: while last.value < most {
+        let row = changing.row(recount, Change::Voters, next_value(last.value, most))?;
+        match row.verdict {
+            Verdict::Won => return halved(recount, changing, Change::Voters, last, row),
+            Verdict::Refused => {
+                return Ok(Found {
+                    first: last,
+                    second: row,
+                });
+            }
+            Verdict::Lost => last = row,
+        }
+    }
+    Ok(Found {
+        first: nobody,
+        second: last,
+    })
+}
+
+/// Whether two verdicts both say that the project wins, or both that it does not.
+fn is_alike(one: Verdict, other: Verdict) -> bool
+    ensures alike { result ≡ true → wins one ≡ wins other }
+    ensures differ { result ≡ false → wins one ≢ wins other }
+{
+    match one {
+        Verdict::Won => is_won(other),
+        _ => !is_won(other),
+    }
+}
+
+/// Whether a verdict is that the project wins.
+fn is_won(verdict: Verdict) -> bool
+    ensures { result ≡ wins verdict }
+{
+    match verdict {
+        Verdict::Won => true,
+        _ => false,
+    }
+}
+
+/// Whether there are values between two rows, of which neither is refused.
+fn is_open(low: Row, high: Row) -> bool
+    requires ordered { low.value < high.value }
+    ensures open { result ≡ true → low.value + 1 < high.value }
+    ensures shut { result ≡ false → low.verdict ≢ Refused → high.verdict ≢ Refused → high.value ≤ low.value + 1 }
+{
+    low.value + 1 < high.value && is_counted(low.verdict) && is_counted(high.verdict)
+}
+
+/// Whether a count is not refused.
+fn is_counted(verdict: Verdict) -> bool
+    ensures refused { result ≡ false → verdict ≡ Refused }
+{
+    match verdict {
+        Verdict::Refused => false,
+        _ => true,
+    }
+}
+
+/// A value between two.
+fn middle(low: u64, high: u64) -> u64
+    requires apart { low + 1 < high }
+    ensures above { low < result }
+    ensures below { result < high }
+{
+    low + (high - low) / 2
+}
+
+/// Twice a number, at least 1 and at most this limit.
+fn next_value(value: u64, most: u64) -> u64
+    requires below { value < most }
+    requires small { most ≤ most_voters }
+    ensures more { value < result }
+    ensures within { result ≤ most }
+{
+    (2 * value).max(1).min(most)
+}

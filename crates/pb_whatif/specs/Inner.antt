@@ -1,3 +1,0 @@
--- Words that only private contracts and the invariants of private fields speak of: nobody has to believe them.
-pub mod Numbered
-pub mod Searching
