@@ -1,12 +1,16 @@
 //! Which requests the desk admits, and what is said of those that it does not.
 
+use crate::typing::Typing;
 use crate::words;
 use pb_command_line::{Admits, Source};
 use pb_commands::AppFault;
 use pb_commands::run_desk::Rules;
+use pb_core::answer::Answer;
 use pb_ids::IdTable;
 use pb_script::{Admission, Notice, RowRefusal, read_roll};
 use pb_streams::open_file;
+use pb_witness::entry_counts::EntryCounts;
+use pb_witness::rule_counts::RuleCounts;
 use pb_words::refused_words::RefusedRow;
 use std::cell::Cell;
 use std::rt::Files;
@@ -14,7 +18,8 @@ use std::rt::Files;
 /// The number on the command line of the voters' roll.
 const ROLL: u32 = 3;
 
-/// Says on standard error why a row is refused, and counts the rows that the rules refuse.
+/// Says on standard error why a row is refused, and counts the rows that the rules refuse, and the answers to
+/// the others.
 #[derive(Drop)]
 pub(crate) struct RefusalNotice<'a, 'p, R> {
     rt: &'a R,
@@ -26,19 +31,28 @@ pub(crate) struct RefusalNotice<'a, 'p, R> {
     least: u32,
     /// Whether a row that is refused refuses the script.
     refuses_script: bool,
-    by_rule: Cell<[u64; 3]>,
+    /// Who is told of rows that are not of the form, if anybody is.
+    typing: Option<&'a Typing>,
+    by_rule: Cell<RuleCounts>,
+    answers: Cell<EntryCounts>,
 }
 
 impl<'a, 'p, R> RefusalNotice<'a, 'p, R> {
-    /// Says it of rows that are answered one by one.
-    pub(crate) fn rows(rt: &'a R, admits: &Admits<'p>) -> RefusalNotice<'a, 'p, R> {
+    /// Says it of rows that are answered one by one, and that somebody may type.
+    pub(crate) fn rows(
+        rt: &'a R,
+        admits: &Admits<'p>,
+        typing: &'a Typing,
+    ) -> RefusalNotice<'a, 'p, R> {
         RefusalNotice {
             rt,
             path: None,
             roll: admits.roll,
             least: admits.least,
             refuses_script: false,
-            by_rule: Cell::new([0; 3]),
+            typing: Some(typing),
+            by_rule: Cell::new(RuleCounts::new()),
+            answers: Cell::new(EntryCounts::new()),
         }
     }
 
@@ -54,25 +68,33 @@ impl<'a, 'p, R> RefusalNotice<'a, 'p, R> {
             roll: admits.roll,
             least: admits.least,
             refuses_script: true,
-            by_rule: Cell::new([0; 3]),
+            typing: None,
+            by_rule: Cell::new(RuleCounts::new()),
+            answers: Cell::new(EntryCounts::new()),
         }
     }
 
-    /// How many rows each rule has refused: for an unknown id, for a voter who is not on the roll, for too few projects.
-    pub(crate) fn by_rule(&self) -> [u64; 3] {
+    /// How many rows each rule has refused.
+    pub(crate) fn by_rule(&self) -> RuleCounts {
         self.by_rule.get()
+    }
+
+    /// How many entries that it heard of have which answer.
+    pub(crate) fn answers(&self) -> EntryCounts {
+        self.answers.get()
     }
 }
 
 impl<R: Files + Eprint + AllocGlobal> Notice for RefusalNotice<'_, '_, R> {
     fn refused(&self, row: u64, why: RowRefusal, unknown: &str) {
-        let mut by_rule = self.by_rule.get();
-        match why {
-            RowRefusal::Bad => return,
-            RowRefusal::UnknownId => by_rule[0] = by_rule[0].saturating_add(1),
-            RowRefusal::NotOnRoll => by_rule[1] = by_rule[1].saturating_add(1),
-            RowRefusal::TooFew => by_rule[2] = by_rule[2].saturating_add(1),
+        if why == RowRefusal::Bad {
+            if let Some(typing) = self.typing {
+                typing.hear_bad_row(row);
+            }
+            return;
         }
+        let mut by_rule = self.by_rule.get();
+        by_rule.take(why);
         self.by_rule.set(by_rule);
         let refused = RefusedRow {
             row,
@@ -84,6 +106,12 @@ impl<R: Files + Eprint + AllocGlobal> Notice for RefusalNotice<'_, '_, R> {
             refuses_script: self.refuses_script,
         };
         words::say_refused_row(self.rt, &refused);
+    }
+
+    fn answered(&self, answer: Answer) {
+        let mut answers = self.answers.get();
+        answers.add(answer);
+        self.answers.set(answers);
     }
 }
 

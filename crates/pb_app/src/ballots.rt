@@ -1,6 +1,5 @@
 //! The command `ballots`: the ballots that a journal leaves on the desk of a file, or that of one voter.
 
-use crate::counted::CountedReader;
 use crate::journal::open_with_journal;
 use crate::kinship::Kinship;
 use crate::perform::Notes;
@@ -25,7 +24,6 @@ where
     R: Files<File = File> + Input + Eprint + Clock + Threads + Sync,
 {
     let (file, journal) = open_with_journal(counting, &asked.file, &asked.journal, kinship)?;
-    let journal = CountedReader::new(journal, &mut notes.audited);
     let alloc = counting.alloc;
     let Some(voter) = asked.voter else {
         return run_ballots(alloc, file, journal, None, writer);

@@ -21,7 +21,7 @@ where
     R: Files + Input + Eprint + Clock + Threads + Sync,
 {
     let file = open_shown(counting.gate, &run.file)?;
-    let listed = if run.against.is_some() {
+    let listed = if run.compares {
         run_check_against(counting, file, writer, &mut notes.checked)
     } else {
         run_check(counting.alloc, file, writer, &mut notes.checked)

@@ -40,7 +40,7 @@ where
     done
 }
 
-/// The same, while this one looks on.
+/// Exports these ballots, while this one looks on at the file.
 fn write_export<'a, R, W: Write>(
     counting: &Counting<'a, R, Progress<'a, R>>,
     ballots: &Ballots<'a>,

@@ -3,10 +3,10 @@
 #![tactic(auto)]
 
 mod admitted;
+mod answer_counts;
 mod audit;
 mod ballots;
 mod check;
-mod counted;
 mod export;
 mod journal;
 mod kinship;
@@ -28,11 +28,11 @@ use crate::perform::{Notes, Refusal, perform};
 use crate::worded::{words_status, write_words_fault};
 use pb_command_line::parse::parse;
 use pb_command_line::{Asked, Parsed};
-use pb_commands::{AppFault, BAD_ARGUMENTS};
+use pb_commands::{AppFault, BAD_ARGUMENTS, rows_status};
 use pb_read::ReadFault;
-use pb_serving::ServingFault;
 use pb_streams::{Output, Progress};
 use pb_witness::entry_counts::EntryCounts;
+use pb_witness::rule_counts::RuleCounts;
 use pb_witness::warnings::{ResultWarnings, Warnings};
 use std::fs::File;
 use std::io::{IsTerminal, Write};
@@ -41,12 +41,6 @@ use std::rt::{Clock, Env, Files};
 use std::thread::Threads;
 use std::time::Instant;
 use std::{env, io};
-
-/// The status where a row was not of the form.
-const BAD_ROWS: u8 = 1;
-
-/// The status of a journal that another run serves.
-const NOT_READY: u8 = 3;
 
 /// Which streams are terminals.
 #[derive(Clone, Copy)]
@@ -115,7 +109,7 @@ where
     let mut output = Output::new(rt, asked);
     let mut notes = Notes {
         written: EntryCounts::new(),
-        by_rule: [0; 3],
+        by_rule: RuleCounts::new(),
         audited: EntryCounts::new(),
         has_no_ballot: false,
         faults: Vec::new(rt.alloc()),
@@ -167,20 +161,10 @@ fn write_line<R: Print>(rt: &R, refusal: &Refusal) -> u8 {
     match refusal {
         Refusal::Fault(fault) => write_fault(rt, *fault),
         Refusal::NoJournal(_) | Refusal::NoFileBeside(_) => write_fault(rt, AppFault::Open(2)),
-        Refusal::Journal(_) | Refusal::Beside(_) | Refusal::FileUnkept(_) | Refusal::Unanswered =>
-            write_fault(rt, AppFault::Write),
-        Refusal::Spelling => {
-            let _ = ServingFault::Spelling.write_line(&mut io::writer(rt));
-            ServingFault::Spelling.status()
+        Refusal::Journal(_) | Refusal::Beside(_) | Refusal::FileUnkept(_) => {
+            write_fault(rt, AppFault::Write)
         }
-        Refusal::Moved(_) => {
-            let _ = ServingFault::Moved.write_line(&mut io::writer(rt));
-            ServingFault::Moved.status()
-        }
-        Refusal::Locked(text) => {
-            let _ = writeln!(io::writer(rt), "fault;locked;{text}");
-            NOT_READY
-        }
+        Refusal::Moved(_) => write_fault(rt, AppFault::Moved),
         Refusal::Words(fault) => {
             let _ = write_words_fault(&mut io::writer(rt), fault);
             words_status(fault)
@@ -188,7 +172,7 @@ fn write_line<R: Print>(rt: &R, refusal: &Refusal) -> u8 {
         // Words alone say it, as of all arguments that are refused.
         Refusal::Barred | Refusal::WhatIf(_) => BAD_ARGUMENTS,
         // Each of them has its line already.
-        Refusal::BadRows(_) => BAD_ROWS,
+        Refusal::BadRows(rows) => rows_status(rows.all),
     }
 }
 

@@ -15,7 +15,8 @@ pub(crate) fn read_output_words(alloc: Global, path: &str, text: Option<&str>) -
     said(alloc, form, &[Name(Some(path)), Name(text)])
 }
 
-/// Words for a path that leads to what stands beside a journal that the run reads; one without a path is standard input.
+/// Words for a path that leads to what stands beside a journal that the run reads; one without a path is
+/// standard input.
 pub(crate) fn beside_output_words(alloc: Global, path: &str, journal: Option<&str>) -> Said {
     said(
         alloc,

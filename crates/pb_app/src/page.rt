@@ -1,24 +1,23 @@
 //! The command `page`: a result that people look at.
 
-ghost use Rattle.std.specs.Prelude.{◌≡◌, IfErr, IfOk, OnOk};
-ghost use Rattle.pb_reasons.specs.RaiseEnd.{IsRaiseEnd};
-ghost use Rattle.pb_rounds.specs.Counted.{IsCountFault, IsCountOf};
+ghost use Rattle.std.specs.Prelude.{◌≡◌, ◌≢◌, IfErr, IfOk, OnOk};
+ghost use Rattle.pb_core.specs.Election.{ElectionView};
+ghost use Rattle.pb_reasons.specs.Counted.{IsCountBy};
 ghost use Rattle.pb_commands.specs.Ends.{HasWritten};
 ghost use Rattle.pb_page.specs.Page.{IsPage};
+ghost use Rattle.pb_page.specs.declared.facts.Facts.{Facts};
 
 use crate::journal::{alone, open_with_journal};
 use crate::kinship::Kinship;
 use crate::page_watch::PageWatch;
 use crate::perform::Refusal;
-use pb_command_line::{PROGRAM, PageRun, Source as Given};
-use pb_commands::{AppFault, Counting, Inputs, counted, election_of, write_out};
+use pb_command_line::{Ballots, PROGRAM, PageRun, Source as Given};
+use pb_commands::{AppFault, CountedElection, Counting, Inputs, count_inputs, write_out};
 use pb_core::election::Election;
 use pb_core::gate::Gate;
 use pb_core::money::Money;
-use pb_core::no_memory::NoMemory;
 use pb_page::{Categories, Facts, Form, Language, ReadText, Speech, Words, WordsFault, page_of};
-use pb_reasons::{Counted, RaiseEnd};
-use pb_rounds::count_fault::CountFault;
+use pb_rounds::rule::Rule;
 use pb_streams::{Digested, Hex, Progress, open_file, open_shown};
 use pb_witness::page_notes::PageNotes;
 use pb_witness::warnings::ResultWarnings;
@@ -36,10 +35,10 @@ const WORDS: u32 = 3;
 /// What standard input is called.
 const INPUT: &str = "standard input";
 
-/// An election that was read, and the SHA-256 of the bytes that it was read from.
+/// An election that was read and counted, and the SHA-256 of the bytes that it was read from.
 #[derive(Drop)]
 struct Contents {
-    election: Election,
+    count: CountedElection,
     file: Option<Hex>,
     /// That of the journal, if there is one.
     journal: Option<Hex>,
@@ -47,15 +46,15 @@ struct Contents {
     notes: PageNotes,
 }
 
-/// What was read, and the language of its page.
+/// What was read and counted, and the language of its page.
 #[derive(Drop)]
 struct Spoken {
     read: Contents,
     speech: Speech,
 }
 
-/// Counts these ballots, and writes the page of the outcome, in the language of a file of words if one is given, which is read
-/// first. What else refuses it, and when, is as for the tables.
+/// Counts these ballots, and writes the page of the outcome. If a file of words is given, the page is in its
+/// language, and it is read first. What else refuses the page, and when, is as for the tables.
 pub(crate) fn page<'a, R, W: Write>(
     counting: &Counting<'a, R, Progress<'a, R>>,
     run: &PageRun<'a>,
@@ -65,21 +64,13 @@ pub(crate) fn page<'a, R, W: Write>(
 ) -> Result<(), Refusal>
 where
     R: Files<File = File> + Input + Eprint + Clock + Threads + Sync,
+    ensures { OnOk result ((e : ElectionView) × (facts : Facts) × (facts.rule ≡ counting.now.rule.now)
+        × HasWritten (IsPage e facts) (W.contents writer.old) (W.contents writer.new)) }
 {
     let speech = speech_of(counting.rt, counting.alloc, run.words)?;
-    let read = match &run.ballots.journal {
-        None => {
-            let file = open_shown(counting.gate, &run.ballots.file)?;
-            let file = Digested::new(file, &kinship.file);
-            read_file(counting.alloc, file, kinship, seen)
-        }
-        Some(journal) => {
-            let (file, journal) = open_with_journal(counting, &run.ballots.file, journal, kinship)?;
-            read_both(counting.alloc, file, journal, kinship, seen)
-        }
-    }?;
+    let read = count_ballots(counting, &run.ballots, kinship, seen)?;
     let spoken = Spoken { read, speech };
-    let written = write_spoken(counting, &spoken, run, writer);
+    let written = write_spoken(counting, &spoken, *run, writer);
     drop(spoken);
     written
 }
@@ -102,57 +93,55 @@ fn speech_of<R: Files>(rt: &R, alloc: Global, path: Option<&str>) -> Result<Spee
     Ok(speech?)
 }
 
-/// Reads the file's own ballots.
-fn read_file<P: Read + Drop>(
-    alloc: Global,
-    file: P,
-    kinship: &Kinship,
+/// Opens these ballots, reads and counts them.
+fn count_ballots<'a, R>(
+    counting: &Counting<'a, R, Progress<'a, R>>,
+    ballots: &Ballots<'a>,
+    kinship: &'a Kinship,
     seen: &mut ResultWarnings,
-) -> Result<Contents, AppFault> {
-    let mut watch = PageWatch::new(alloc, seen);
-    let read = election_of(alloc, alone(file), &mut watch);
-    let notes = watch.take_notes(alloc);
-    drop(watch);
-    read_with(read, notes, kinship, None)
-}
-
-/// Reads the ballots that a journal leaves.
-fn read_both<P: Read + Drop, J: Read + Drop>(
-    alloc: Global,
-    file: P,
-    journal: J,
-    kinship: &Kinship,
-    seen: &mut ResultWarnings,
-) -> Result<Contents, AppFault> {
+) -> Result<Contents, AppFault>
+where
+    R: Files<File = File> + Input + Eprint + Clock + Threads + Sync,
+    ensures { IfOk result (λ x. IsCountBy counting.now.rule.now x.count.election x.count.counted) }
+{
     let of_journal = Cell::new(None);
-    let journal = Digested::new(journal, &of_journal);
-    let mut watch = PageWatch::new(alloc, seen);
+    let Some(journal) = &ballots.journal else {
+        let file = open_shown(counting.gate, &ballots.file)?;
+        let file = Digested::new(file, &kinship.file);
+        return count_noted(counting, alone(file), kinship, &of_journal, seen);
+    };
+    let (file, journal) = open_with_journal(counting, &ballots.file, journal, kinship)?;
     let inputs = Inputs {
         file,
-        journal: Some(journal),
+        journal: Some(Digested::new(journal, &of_journal)),
     };
-    let read = election_of(alloc, inputs, &mut watch);
-    let notes = watch.take_notes(alloc);
-    drop(watch);
-    read_with(read, notes, kinship, of_journal.get())
+    count_noted(counting, inputs, kinship, &of_journal, seen)
 }
 
-/// What was read, where it was, with what its page shows besides.
-fn read_with(
-    read: Result<Election, AppFault>,
-    notes: PageNotes,
+/// Reads and counts these, and keeps what a page shows of the file besides. Their digests are left as they
+/// are read.
+fn count_noted<T: Threads + Sync, G: Gate, P: Read + Drop, J: Read + Drop>(
+    counting: &Counting<T, G>,
+    inputs: Inputs<P, J>,
     kinship: &Kinship,
-    journal: Option<Hex>,
-) -> Result<Contents, AppFault> {
-    match read {
-        Ok(election) if notes.is_whole() => Ok(Contents {
-            election,
+    of_journal: &Cell<Option<Hex>>,
+    seen: &mut ResultWarnings,
+) -> Result<Contents, AppFault>
+    ensures { IfOk result (λ x. IsCountBy counting.now.rule.now x.count.election x.count.counted) }
+{
+    let mut watch = PageWatch::new(counting.alloc, seen);
+    let count = count_inputs(counting, inputs, &mut watch);
+    let notes = watch.take_notes(counting.alloc);
+    drop(watch);
+    match count {
+        Ok(count) if notes.is_whole() => Ok(Contents {
+            count,
             file: kinship.file.get(),
-            journal,
+            journal: of_journal.get(),
             notes,
         }),
-        Ok(election) => {
-            drop(election);
+        Ok(count) => {
+            drop(count);
             drop(notes);
             Err(AppFault::Memory)
         }
@@ -163,13 +152,18 @@ fn read_with(
     }
 }
 
-/// Counts what was read, and writes the page of the outcome in this language.
+/// Writes the page of what was counted, in this language.
 fn write_spoken<'a, T: Threads + Sync, G: Gate, W: Write>(
     counting: &Counting<'_, T, G>,
     spoken: &'a Spoken,
-    run: &PageRun<'a>,
+    run: PageRun<'a>,
     writer: &mut W,
-) -> Result<(), Refusal> {
+) -> Result<(), Refusal>
+    requires { IsCountBy counting.now.rule.now spoken.now.read.count.election spoken.now.read.count.counted }
+    ensures { OnOk result ((facts : Facts) × (facts.rule ≡ counting.now.rule.now)
+        × HasWritten (IsPage spoken.now.read.count.election facts) (W.contents writer.old)
+        (W.contents writer.new)) }
+{
     let names = names_of(&spoken.read.notes)?;
     let written = write_named(counting, spoken, run, names.as_slice(), writer);
     drop(names);
@@ -181,14 +175,19 @@ fn names_of(notes: &PageNotes) -> Result<Vec<&str>, AppFault> {
     Ok(notes.categories()?)
 }
 
-/// The same, where the projects' categories have these names.
+/// Writes the page of what was read, where the projects' categories have these names.
 fn write_named<'a, T: Threads + Sync, G: Gate, W: Write>(
     counting: &Counting<'_, T, G>,
     spoken: &'a Spoken,
-    run: &PageRun<'a>,
+    run: PageRun<'a>,
     names: &'a [&'a str],
     writer: &mut W,
-) -> Result<(), Refusal> {
+) -> Result<(), Refusal>
+    requires { IsCountBy counting.now.rule.now spoken.now.read.count.election spoken.now.read.count.counted }
+    ensures { OnOk result ((facts : Facts) × (facts.rule ≡ counting.now.rule.now)
+        × HasWritten (IsPage spoken.now.read.count.election facts) (W.contents writer.old)
+        (W.contents writer.new)) }
+{
     let read = &spoken.read;
     let speech = &spoken.speech;
     let sentences = speech.sentences(counting.alloc)?;
@@ -203,43 +202,42 @@ fn write_named<'a, T: Threads + Sync, G: Gate, W: Write>(
             plural: speech.plural(),
         },
         amounts: form_of(speech, around, false),
-        costs: form_of(speech, around, is_whole(&read.election)),
+        costs: form_of(speech, around, is_whole(&read.count.election)),
     };
-    let written = write_page(counting, spoken, run, names, language, writer);
+    let facts = facts_of(counting.rule, spoken, run, names, language);
+    let written = write_page(counting, &read.count, &facts, writer);
     drop(after);
     drop(before);
     drop(sentences);
     Ok(written?)
 }
 
-/// Counts what was read, and writes the page of the outcome.
-fn write_page<'a, T: Threads + Sync, G: Gate, W: Write>(
-    counting: &Counting<'_, T, G>,
+/// What the page says beside the outcome, in this language; the projects' categories have these names.
+fn facts_of<'a>(
+    rule: &Rule,
     spoken: &'a Spoken,
-    run: &PageRun<'a>,
+    run: PageRun<'a>,
     names: &'a [&'a str],
     language: Language<'a>,
-    writer: &mut W,
-) -> Result<(), AppFault> {
+) -> Facts<'a>
+    ensures rule { result.rule ≡ rule.now }
+{
     let read = &spoken.read;
     let journal = match (&run.ballots.journal, &read.journal) {
         (Some(given), Some(digest)) => Some(source_of(given, Some(digest))),
         _ => None,
     };
-    let facts = Facts {
+    Facts {
         title: run.title.unwrap_or(spoken.speech.title()),
         file: source_of(&run.ballots.file, read.file.as_ref()),
         journal,
         recount: run.recount,
-        options: *counting.options,
-        fills_up: counting.fills_up,
+        rule: *rule,
         compares: run.compares,
         categories: categories_of(&read.notes, names),
         program: PROGRAM,
         language,
-    };
-    let text = page_text(counting, &read.election, &facts)?;
-    write_whole(writer, text.as_slice())
+    }
 }
 
 /// The categories of the projects, which have these names, if a project has one.
@@ -291,49 +289,21 @@ fn source_of<'a>(given: &Given<'a>, digest: Option<&'a Hex>) -> ReadText<'a> {
     ReadText { name, digest }
 }
 
-/// The page of an election, counted with the options of these facts: each number on it is one of the count's, and nothing
-/// in it is markup but the program's own pieces. What refuses it is what refuses the count.
-fn page_text<T: Threads + Sync, G: Gate>(
+/// Writes the page of a count with these facts: each number on it is one of the count's, and nothing in it is
+/// markup but the program's own pieces. Nothing is written but the whole page. Where the fault is `Write`
+/// some of it may have gone out; on any other fault the writer is as it was.
+fn write_page<T: Threads + Sync, G: Gate, W: Write>(
     counting: &Counting<T, G>,
-    election: &Election,
+    count: &CountedElection,
     facts: &Facts,
-) -> Result<Vec<u8>, CountFault>
-    requires options { counting.now.options.now ≡ facts.now.options }
-    requires fills_up { counting.now.fills_up ≡ facts.now.fills_up }
-    ensures ok { IfOk result (λ text. IsPage election.now facts.now text.items) }
-    ensures fault { IfErr result (IsCountFault election.now facts.now.options) }
-{
-    // What is true of every election is true of its reasons.
-    let _budget = election.budget();
-    let counted = counted(counting, election)?;
-    let end = raise_end(counting, election, &counted)?;
-    Ok(page_of(counting.alloc, election, &counted, facts, &end)?)
-}
-
-/// Why the raises of this count ended.
-fn raise_end<T: Threads + Sync, G: Gate>(
-    counting: &Counting<T, G>,
-    election: &Election,
-    counted: &Counted,
-) -> Result<RaiseEnd, NoMemory>
-    requires { IsCountOf election.now counting.now.options.now counted.now.outcome }
-    ensures { IfOk result (IsRaiseEnd election.now counting.now.options.now counted.now.outcome) }
+    writer: &mut W,
+) -> Result<(), AppFault>
+    requires { IsCountBy facts.now.rule count.now.election count.now.counted }
+    ensures ok { OnOk result (HasWritten (IsPage count.now.election facts.now)
+        (W.contents writer.old) (W.contents writer.new)) }
+    ensures unchanged { IfErr result (λ fault. fault ≢ AppFault.Write → writer.new ≡ writer.old) }
 {
     let (rt, alloc, gate) = (counting.rt, counting.alloc, counting.gate);
-    RaiseEnd::of(
-        rt,
-        alloc,
-        election,
-        counting.options,
-        &counted.outcome,
-        gate,
-    )
-}
-
-/// Writes the whole page, and sees that it leaves the writer.
-fn write_whole<W: Write>(writer: &mut W, text: &[u8]) -> Result<(), AppFault>
-    ensures ok { OnOk result (HasWritten (λ written. written ≡ text.now) (W.contents writer.old) (W.contents writer.new)) }
-    ensures fault { IfErr result (λ fault. fault ≡ AppFault.Write) }
-{
-    write_out(writer, text, AppFault::Write)
+    let text = page_of(rt, alloc, gate, &count.election, &count.counted, facts)?;
+    write_out(writer, text.as_slice(), AppFault::Write)
 }

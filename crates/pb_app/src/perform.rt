@@ -5,7 +5,6 @@ use crate::admitted::{RefusalNotice, rules_of};
 use crate::audit::audit;
 use crate::ballots::ballots;
 use crate::check::check;
-use crate::counted::CountedWriter;
 use crate::export::export;
 use crate::journal::{alone, open_with_journal};
 use crate::kinship::Kinship;
@@ -25,11 +24,21 @@ use pb_page::WordsFault;
 use pb_read::{ReadFault, read_pb};
 use pb_streams::{Bar, Output, Progress, Shown, Unplaced, open_both, open_shown};
 use pb_witness::entry_counts::EntryCounts;
+use pb_witness::rule_counts::RuleCounts;
 use pb_witness::warnings::{ResultWarnings, Warnings};
 use std::fs::File;
 use std::io::{Error, ErrorKind, Write};
 use std::rt::{Clock, Files};
 use std::thread::Threads;
+
+/// How many rows of `serve` were refused.
+#[derive(Clone, Copy)]
+pub(crate) struct RefusedRows {
+    /// For whatever reason.
+    pub(crate) all: u64,
+    /// Because they were not of the form.
+    pub(crate) bad: u64,
+}
 
 /// Why a run ends without a result.
 #[derive(Clone, Copy)]
@@ -38,8 +47,6 @@ pub(crate) enum Refusal {
     Fault(AppFault),
     /// No changed election is counted, for this reason, which is not a count's.
     WhatIf(WhatIfFault),
-    /// Another run serves the journal at the path of this number: 2 is JOURNAL, 3 where the result goes.
-    Locked(u8),
     /// The result would replace what it never does, which the output tells.
     Barred,
     /// The journal could not be opened or made, for this reason.
@@ -48,20 +55,17 @@ pub(crate) enum Refusal {
     NoFileBeside(Error),
     /// It could not be written, for this reason.
     FileUnkept(Error),
-    /// The journal is legal, and not spelled as a desk spells it.
-    Spelling,
     /// The journal could not be written, synced or cut, for this reason.
     Journal(Error),
     /// What is cut off the journal could not be kept beside it, for this reason.
     Beside(Error),
-    /// The journal's name leads elsewhere. Its text is kept in the file of this number beside it, or could not be kept.
+    /// The journal's name leads elsewhere. Its text is kept in the file of this number beside it, or could
+    /// not be kept.
     Moved(Result<u32, Error>),
-    /// An answer could not be written; what it answers stands.
-    Unanswered,
     /// The file with the words of a page is refused.
     Words(WordsFault),
-    /// All rows were answered, and some were refused; so many were not of the form.
-    BadRows(u64),
+    /// All rows were answered, and some were refused.
+    BadRows(RefusedRows),
 }
 
 impl From<AppFault> for Refusal {
@@ -84,9 +88,8 @@ impl From<WordsFault> for Refusal {
 pub(crate) struct Notes {
     /// The entries of a journal that was written.
     pub(crate) written: EntryCounts,
-    /// How many rows each rule of `serve` has refused: for an unknown id, for a voter who is not on the roll, for too few
-    /// projects.
-    pub(crate) by_rule: [u64; 3],
+    /// How many rows each rule of `serve` has refused.
+    pub(crate) by_rule: RuleCounts,
     /// The entries of a journal that was audited.
     pub(crate) audited: EntryCounts,
     /// The voter whose ballot was asked for has none.
@@ -101,8 +104,8 @@ pub(crate) struct Notes {
     pub(crate) lacking: [bool; 6],
 }
 
-/// Does what the arguments ask for, and writes the result to its place. What the result would replace is looked at first,
-/// and then files are opened, in their order, before any is read.
+/// Does what the arguments ask for, and writes the result to its place. What the result would replace is
+/// looked at first, and then files are opened, in their order, before any is read.
 pub(crate) fn perform<'a, R>(
     rt: &R,
     asked: &'a Asked<'a>,
@@ -140,13 +143,11 @@ fn write_result<'a, R>(
 where
     R: Files<File = File> + Input + Print + Eprint + Clock + AllocGlobal + Threads + Sync,
 {
-    let options = asked.task.options();
     let counting = Counting {
         rt,
         alloc: rt.alloc(),
         gate: progress,
-        options: &options,
-        fills_up: asked.fills_up,
+        rule: &asked.rule,
     };
     let kinship = Kinship::new(asked.takes_other);
     let telling = match (is_quiet(asked), terminals.input) {
@@ -178,7 +179,7 @@ fn names_by_id(task: &Task<'_>) -> bool {
 /// Why a run ends whose result is not put in its place.
 fn unplaced<'a, R>(output: &mut Output<'a, R>, why: Unplaced<'a>) -> Refusal {
     match why {
-        Unplaced::Barred(Bar::IsServed) => Refusal::Locked(3),
+        Unplaced::Barred(Bar::IsServed) => Refusal::Fault(AppFault::Locked(3)),
         Unplaced::Barred(bar) => {
             output.bar = Some(bar);
             Refusal::Barred
@@ -206,9 +207,9 @@ where
     R: Files<File = File> + Input + Eprint + Clock + AllocGlobal + Threads + Sync,
 {
     let done = match &asked.task {
-        Task::Count(source, _) => count(counting, source, writer, &mut notes.seen),
-        Task::Projects(ballots, _)
-        | Task::Voters(ballots, _)
+        Task::Count(source) => count(counting, source, writer, &mut notes.seen),
+        Task::Projects(ballots)
+        | Task::Voters(ballots)
         | Task::Compare(CompareRun { ballots, .. }) => {
             let table = table_of(&asked.task);
             tell(counting, ballots, table, writer, kinship, &mut notes.seen)
@@ -217,7 +218,7 @@ where
             return what_if(counting, run, kinship, writer, &mut notes.seen);
         }
         Task::Page(run) => return page(counting, run, kinship, writer, &mut notes.seen),
-        Task::Export(ballots, _) => {
+        Task::Export(ballots) => {
             let keeps_voters = asked.keeps_voters;
             export(counting, ballots, keeps_voters, writer, kinship, notes)
         }
@@ -271,15 +272,15 @@ where
 /// The table that a task writes which writes one.
 fn table_of(task: &Task<'_>) -> Table {
     match task {
-        Task::Voters(..) => Table::Voters,
+        Task::Voters(_) => Table::Voters,
         Task::Compare(CompareRun { by_project, .. }) if *by_project => Table::RuledProjects,
         Task::Compare(_) => Table::Rules,
         _ => Table::Projects,
     }
 }
 
-/// Lets clerks serve a script on the desk of a .pb file. What is typed at a terminal is not shown a second time. A fault of the
-/// file is told before one of the roll.
+/// Lets clerks serve a script on the desk of a .pb file. What is typed at a terminal is not shown a second
+/// time. A fault of the file is told before one of the roll.
 fn desk<R, W: Write>(
     counting: &Counting<'_, R, Progress<'_, R>>,
     asked: &DeskRun<'_>,
@@ -301,18 +302,10 @@ where
         }
     };
     let (clerks, shuts) = (asked.clerks, asked.shuts);
-    let mut entries = CountedWriter::new(writer, counts);
     let notice = RefusalNotice::script(rt, &asked.script, &asked.admits);
-    run_admitted_desk(
-        rt,
-        alloc,
-        file,
-        script,
-        clerks,
-        shuts,
-        &NoGate,
-        rules,
-        &notice,
-        &mut entries,
-    )
+    let done = run_admitted_desk(
+        rt, alloc, file, script, clerks, shuts, &NoGate, rules, &notice, writer,
+    );
+    *counts = notice.answers();
+    done
 }

@@ -10,7 +10,7 @@ const HOW_TO_ASK: &str =
 PLACES are the positions of projects in FILE, counted from 0. Ctrl-D on a line of its own ends the run.
 ";
 
-/// The same, where rows name projects by their ids.
+/// How to ask, where rows name projects by their ids.
 const HOW_TO_ASK_BY_ID: &str =
     "Type one request on each row: CLERK;REQUEST;VOTER;PLACES, for example `0;cast;ann;a,b`, `0;replace;ann;b` or `0;withdraw;ann;`.
 PLACES are the ids of projects, with `,` between them. Ctrl-D on a line of its own ends the run.

@@ -1,10 +1,9 @@
 //! The command `serve`: a desk that stands on a file.
 
 use crate::admitted::{RefusalNotice, rules_of};
-use crate::counted::CountedWriter;
 use crate::kinship::{Kinship, standing_of};
-use crate::perform::{Notes, Refusal};
-use crate::typing::{HeardWriter, TypedReader, Typing};
+use crate::perform::{Notes, Refusal, RefusedRows};
+use crate::typing::{TypedReader, Typing};
 use crate::words;
 use pb_command_line::{Admits, ServeRun};
 use pb_commands::AppFault;
@@ -18,7 +17,7 @@ use pb_read::read_pb_watched;
 use pb_rows::read_number;
 use pb_script::{Admission, ROOM, RequestRows};
 use pb_serving::run_serve::run_serve;
-use pb_serving::{AtHand, Paced, ServingFault, Session};
+use pb_serving::{AtHand, Paced, Session};
 use pb_streams::{Digested, open_file};
 use pb_witness::witness::Witness;
 use std::cell::Cell;
@@ -58,8 +57,8 @@ impl<R: Files<File = File> + Eprint + AllocGlobal> Beside for TornFile<'_, R> {
     }
 }
 
-/// What a run of `serve` stands on: the journal's path, which .pb file it belongs to, which requests are admitted, who hears
-/// of those that are not, and whether rows are typed.
+/// What a run of `serve` stands on: the journal's path, which .pb file it belongs to, which requests are
+/// admitted, who hears of those that are not, and whether rows are typed.
 #[derive(Drop)]
 struct Serving<'a, 'p, R> {
     rt: &'a R,
@@ -70,8 +69,8 @@ struct Serving<'a, 'p, R> {
     typing: &'a Typing,
 }
 
-/// Serves the requests of standard input on the desk of a .pb file, which stands on a journal. FILE and the roll are read
-/// before the journal is opened or made.
+/// Serves the requests of standard input on the desk of a .pb file, which stands on a journal. FILE and the
+/// roll are read before the journal is opened or made.
 pub(crate) fn serve<R, W: Write>(
     rt: &R,
     asked: &ServeRun<'_>,
@@ -89,14 +88,14 @@ where
         journal: asked.journal,
         kinship,
         admission: &admission,
-        notice: RefusalNotice::rows(rt, &asked.admits),
+        notice: RefusalNotice::rows(rt, &asked.admits, typing),
         typing,
     };
-    let mut answers = CountedWriter::new(writer, &mut notes.written);
-    let served = serve_journal(&serving, election, &mut answers);
-    let by_rule = serving.notice.by_rule();
+    let served = serve_journal(&serving, election, writer);
+    let (written, by_rule) = (serving.notice.answers(), serving.notice.by_rule());
     drop(serving);
     drop(admission);
+    notes.written = written;
     notes.by_rule = by_rule;
     served
 }
@@ -120,7 +119,8 @@ where
     }
 }
 
-/// Serves the desk of an election whose journal stands on a device, if it belongs to the .pb file that was read.
+/// Serves the desk of an election whose journal stands on a device, if it belongs to the .pb file that was
+/// read.
 fn serve_device<R, W: Write>(
     serving: &Serving<'_, '_, R>,
     election: Election,
@@ -156,25 +156,16 @@ where
     };
     match served {
         Ok(0) => Ok(()),
-        Ok(rows) => {
-            let by_rule = serving.notice.by_rule();
-            Err(Refusal::BadRows(rows.saturating_sub(sum(&by_rule))))
+        Ok(all) => {
+            let bad = all.saturating_sub(serving.notice.by_rule().all());
+            Err(Refusal::BadRows(RefusedRows { all, bad }))
         }
         Err(fault) => Err(refusal_of(fault, failure.get(), beside.get())),
     }
 }
 
-/// So many together.
-fn sum(counts: &[u64; 3]) -> u64 {
-    let mut all = 0u64;
-    for count in counts.iter() {
-        all = all.saturating_add(*count);
-    }
-    all
-}
-
-/// What the journal on a device says of the .pb file that was read. One without an entry gets to belong to it, before it has
-/// a byte more.
+/// What the journal on a device says of the .pb file that was read. One without an entry gets to belong to
+/// it, before it has a byte more.
 fn seen_on<R>(
     serving: &Serving<'_, '_, R>,
     device: &mut FileDevice<'_, R>,
@@ -187,7 +178,7 @@ where
         Ok(bytes) => bytes,
         Err(fault) => {
             let why = device.failure().get();
-            return Err(refusal_of(ServingFault::from(fault), why, None));
+            return Err(refusal_of(AppFault::from(fault), why, None));
         }
     };
     let digest = kinship.file.get();
@@ -278,8 +269,8 @@ where
     Ok(admission_of(rt.alloc(), rules, election)?)
 }
 
-/// Says the first id that is itself a number below the number of projects, where rows name projects by their places: a
-/// place and an id are then easily confused.
+/// Says the first id that is itself a number below the number of projects, where rows name projects by their
+/// places: a place and an id are then easily confused.
 fn say_like_a_place<R: Eprint + AllocGlobal>(rt: &R, projects: &[Project]) {
     for project in projects {
         let is_place = match read_number(project.id()) {
@@ -299,7 +290,7 @@ fn open_on<'a, R, B: Beside>(
     election: Election,
     device: FileDevice<'a, R>,
     beside: &mut B,
-) -> Result<(DurableDesk<FileDevice<'a, R>>, usize), ServingFault>
+) -> Result<(DurableDesk<FileDevice<'a, R>>, usize), AppFault>
 where
     R: Files<File = File> + AllocGlobal,
 {
@@ -309,7 +300,7 @@ where
         Ok(Opened { desk, torn }) => Ok((DurableDesk::on(desk, file), torn)),
         Err(fault) => {
             drop(file);
-            Err(ServingFault::from(fault))
+            Err(AppFault::from(fault))
         }
     }
 }
@@ -320,7 +311,7 @@ fn serve_desk<R, W: Write>(
     mut desk: DurableDesk<FileDevice<'_, R>>,
     torn: usize,
     writer: &mut W,
-) -> Result<u64, ServingFault>
+) -> Result<u64, AppFault>
 where
     R: Files<File = File> + Input + Eprint + AllocGlobal,
 {
@@ -328,6 +319,7 @@ where
     if !typing.by_id() {
         say_like_a_place(rt, desk.desk().projects());
     }
+    typing.opens(desk.desk().is_shut());
     let at_hand = AtHand::new();
     let served = match Paced::new(rt.alloc(), TypedReader::new(rt, typing), &at_hand) {
         Ok(input) => {
@@ -338,12 +330,11 @@ where
                 admission: serving.admission,
                 notice: &serving.notice,
             };
-            let mut answers = HeardWriter::new(writer, typing);
-            let served = run_serve(rt.alloc(), &mut desk, &mut rows, &session, &mut answers);
+            let served = run_serve(rt.alloc(), &mut desk, &mut rows, &session, writer);
             drop(rows);
             served
         }
-        Err(_) => Err(ServingFault::App(AppFault::Memory)),
+        Err(_) => Err(AppFault::Memory),
     };
     drop(desk);
     served
@@ -352,7 +343,7 @@ where
 /// Why a journal was not opened.
 fn unopened(fault: FileFault) -> Refusal {
     match fault {
-        FileFault::Locked => Refusal::Locked(2),
+        FileFault::Locked => Refusal::Fault(AppFault::Locked(2)),
         FileFault::Open(error) if error.kind() == ErrorKind::OutOfMemory => {
             Refusal::Fault(AppFault::Memory)
         }
@@ -362,18 +353,11 @@ fn unopened(fault: FileFault) -> Refusal {
 }
 
 /// Why a run has ended early, where the journal or what is beside it may have failed.
-fn refusal_of(fault: ServingFault, journal: Option<FileFailure>, beside: Option<Error>) -> Refusal {
+fn refusal_of(fault: AppFault, journal: Option<FileFailure>, beside: Option<Error>) -> Refusal {
     match (fault, journal, beside) {
-        (ServingFault::Spelling, ..) => Refusal::Spelling,
-        (ServingFault::Output, ..) => Refusal::Unanswered,
-        (ServingFault::App(AppFault::Write), _, Some(error)) => Refusal::Beside(error),
-        (ServingFault::App(AppFault::Write), Some(FileFailure::Failed(error)), None) => {
-            Refusal::Journal(error)
-        }
-        (ServingFault::App(AppFault::Write), Some(FileFailure::Moved(kept)), None) => {
-            Refusal::Moved(kept)
-        }
-        (ServingFault::Moved, ..) => Refusal::Fault(AppFault::Write),
-        (ServingFault::App(fault), ..) => Refusal::Fault(fault),
+        (AppFault::Write, _, Some(error)) => Refusal::Beside(error),
+        (AppFault::Write, Some(FileFailure::Failed(error)), None) => Refusal::Journal(error),
+        (AppFault::Write, Some(FileFailure::Moved(kept)), None) => Refusal::Moved(kept),
+        (fault, ..) => Refusal::Fault(fault),
     }
 }

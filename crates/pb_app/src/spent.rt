@@ -1,6 +1,6 @@
 //! Raises that were spent: whether more would decide is looked for, for words alone.
 
-use pb_command_line::{Source, Task};
+use pb_command_line::{Asked, Source, Task};
 use pb_commands::{Inputs, election_of};
 use pb_core::election::Election;
 use pb_core::gate::Gate;
@@ -26,11 +26,11 @@ pub(crate) struct Found {
     pub(crate) step: Option<u64>,
 }
 
-/// Looks for raises that would decide, in ballots that are read once more, where they stand in files. It looks for about as
-/// long as the refused count took, and a second at least.
+/// Looks for raises that would decide, in ballots that are read once more, where they stand in files. It
+/// looks for about as long as the refused count took, and a second at least.
 pub(crate) fn look_further<R, G: Gate>(
     rt: &R,
-    task: &Task<'_>,
+    asked: &Asked<'_>,
     took: Option<Duration>,
     gate: &G,
 ) -> Found
@@ -38,10 +38,10 @@ where
     R: Files + Clock + AllocGlobal + Threads + Sync,
 {
     let allowed = Allowed::new(rt, took);
-    match ballots_again(rt, task) {
+    match ballots_again(rt, &asked.task) {
         Some(election) => {
-            let options = task.options();
-            let deciding = search(rt, &election, &options, &allowed, gate);
+            let options = &asked.rule.options;
+            let deciding = search(rt, &election, options, &allowed, gate);
             let step = sure_step(options.max_raises, election.budget());
             drop(election);
             Found { deciding, step }
@@ -53,9 +53,9 @@ where
     }
 }
 
-/// The least step by which this many raises give each voter the whole budget; none where no raise is allowed. At a share of
-/// the whole budget the outcome is over or exhausted: what is not spent of it pays for any project that fits, by one of its
-/// supporters alone.
+/// The least step by which this many raises give each voter the whole budget; none where no raise is allowed.
+/// At a share of the whole budget the outcome is over or exhausted: what is not spent of it pays for any
+/// project that fits, by one of its supporters alone.
 fn sure_step(max_raises: u32, budget: Money) -> Option<u64> {
     if max_raises == 0 {
         return None;
@@ -135,9 +135,9 @@ impl Allowed {
     }
 }
 
-/// Counts with wide strides first: a count whose step is so many steps decides at a share that the count of single steps
-/// comes to as well, and there it decides too, if it has not before. Each stride is half of the one before, so each count
-/// takes about twice as long as the last one.
+/// Counts with wide strides first: a count whose step is so many steps decides at a share that the count of
+/// single steps comes to as well, and there it decides too, if it has not before. Each stride is half of the
+/// one before, so each count takes about twice as long as the last one.
 fn search<R, G: Gate>(
     rt: &R,
     election: &Election,
@@ -192,8 +192,8 @@ fn widest_stride(step: Money) -> u32 {
     stride
 }
 
-/// The least limit of raises that decides, where the outcome that is answered is raised so many times: as many where that
-/// outcome is exhausted, and one more where the next one is over the budget.
+/// The least limit of raises that decides, where the outcome that is answered is raised so many times: as
+/// many where that outcome is exhausted, and one more where the next one is over the budget.
 fn least<R, G: Gate>(
     rt: &R,
     election: &Election,

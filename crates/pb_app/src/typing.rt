@@ -1,36 +1,10 @@
-//! Requests that come in: at a terminal it is said how to ask, and of a row why it is none or that it goes on; elsewhere it is
-//! said of the first rows that are none why.
+//! Requests that come in: at a terminal it is said how to ask, and of a row why it is none or that it goes
+//! on; elsewhere it is said of the first rows that are none why.
 
 use crate::prompts::{say_bad_row, say_how_to_ask, say_open_row};
 use pb_witness::last_rows::LastRows;
 use std::cell::Cell;
-use std::io::{Read, Result, Write};
-
-/// How the line of a fault begins.
-const FAULT: &[u8] = b"fault";
-
-/// The end of the row of a desk that is shut, which no other row has.
-const SHUT: &[u8] = b";shut\n";
-
-/// The most bytes of a fault's line that are kept.
-const MOST_KEPT: usize = 48;
-
-/// How the answer to a row begins that is not of the form; the row's number follows.
-const BAD_ROW: &[u8] = b"fault;script;2;BadRow;";
-
-/// The number in the last field of a row.
-fn number_of(row: &[u8]) -> u64 {
-    let mut number = 0u64;
-    for byte in row {
-        number = if *byte == b';' {
-            0
-        } else {
-            let digit = u64::from(byte.saturating_sub(b'0'));
-            number.saturating_mul(10).saturating_add(digit)
-        };
-    }
-    number
-}
+use std::io::{Read, Result};
 
 /// What is said of the requests that come in.
 #[derive(Clone, Copy, PartialEq, Eq)]
@@ -90,13 +64,15 @@ impl Typing {
         }
     }
 
-    /// Hears the line of a fault that was written.
-    fn hear(&self, line: &[u8]) {
-        if !line.starts_with(BAD_ROW) {
-            return;
-        }
+    /// Hears whether the desk is shut, before its first row.
+    pub(crate) fn opens(&self, is_shut: bool) {
+        self.is_shut.set(is_shut);
+    }
+
+    /// Hears that the row with this number, from 1, is not of the form.
+    pub(crate) fn hear_bad_row(&self, row: u64) {
         if self.explains() {
-            self.keep(number_of(line));
+            self.keep(row);
         }
         self.bad_rows.set(self.bad_rows.get().saturating_add(1));
     }
@@ -114,7 +90,8 @@ impl Typing {
     }
 }
 
-/// A reader of requests. Behind the end it asks for nothing more: at a terminal that would wait for a second end.
+/// A reader of requests. Behind the end it asks for nothing more: at a terminal that would wait for a second
+/// end.
 #[derive(Drop)]
 pub(crate) struct TypedReader<'a, R: Input> {
     rt: &'a R,
@@ -167,63 +144,5 @@ impl<R: Input + Eprint + AllocGlobal> Read for TypedReader<'_, R> {
             }
         }
         Ok(count)
-    }
-}
-
-/// A writer of answers, of which it is heard which say that a row is not of the form.
-#[derive(Drop)]
-pub(crate) struct HeardWriter<'a, W> {
-    writer: &'a mut W,
-    typing: &'a Typing,
-    /// The first bytes of the fault's line that is being written, and how many they are.
-    line: [u8; 48],
-    length: usize,
-    is_fault: bool,
-}
-
-impl<'a, W> HeardWriter<'a, W> {
-    pub(crate) fn new(writer: &'a mut W, typing: &'a Typing) -> HeardWriter<'a, W> {
-        HeardWriter {
-            writer,
-            typing,
-            line: [0; 48],
-            length: 0,
-            is_fault: false,
-        }
-    }
-
-    /// Hears what is written: a fault's line comes in pieces, the first of which begins with its first word.
-    fn hear(&mut self, piece: &[u8]) {
-        if piece.ends_with(SHUT) {
-            self.typing.is_shut.set(true);
-        }
-        if piece.starts_with(FAULT) {
-            self.is_fault = true;
-            self.length = 0;
-        }
-        if !self.is_fault {
-            return;
-        }
-        for byte in piece {
-            if *byte == b'\n' {
-                let length = self.length.min(MOST_KEPT);
-                self.typing.hear(&self.line[..length]);
-                self.is_fault = false;
-            } else if self.length < MOST_KEPT {
-                self.line[self.length] = *byte;
-                self.length += 1;
-            }
-        }
-    }
-}
-
-impl<W: Write> Write for HeardWriter<'_, W> {
-    fn write(&mut self, buf: &[u8]) -> Result<usize> {
-        self.hear(buf);
-        self.writer.write(buf)
-    }
-
-    fn flush(&mut self) -> Result<()> {
-        self.writer.flush()
     }
 }

@@ -16,8 +16,8 @@ use std::io::Write;
 use std::rt::{Clock, Files};
 use std::thread::Threads;
 
-/// Counts changed elections of these ballots, and writes the rows of what their counts say. What refuses the file and the
-/// journal, and when, is as for the tables.
+/// Counts changed elections of these ballots, and writes the rows of what their counts say. What refuses the
+/// file and the journal, and when, is as for the tables.
 pub(crate) fn what_if<'a, R, W: Write>(
     counting: &Counting<'a, R, Progress<'a, R>>,
     run: &WhatIfRun<'a>,

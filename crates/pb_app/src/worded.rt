@@ -86,7 +86,8 @@ pub(crate) fn words_file_words<R: Files>(
     out.finish()
 }
 
-/// Puts what is wrong in the file with this path, and what to do. The row of the fault is this, if it could be read again.
+/// Puts what is wrong in the file with this path, and what to do. The row of the fault is this, if it could
+/// be read again.
 fn put_fault(out: &mut Words, path: &str, fault: &WordsFault, row: &str) {
     let (key, value) = row.split_once('=').unwrap_or(("", ""));
     out.fill("{}", &[Name(Some(path))]);

@@ -3,7 +3,7 @@
 use crate::output_words::{
     beside_output_words, journal_output_words, read_output_words, served_output_words,
 };
-use crate::perform::{Notes, Refusal};
+use crate::perform::{Notes, Refusal, RefusedRows};
 use crate::spent::look_further;
 use crate::what_if_words::{no_cost_words, no_project_words, too_many_voters_words};
 use crate::worded::words_file_words;
@@ -62,7 +62,7 @@ pub(crate) fn say_refusal<R: Files<File = File> + Eprint + AllocGlobal>(
 ) {
     let failure = output.failure.as_ref();
     match refusal {
-        Refusal::Locked(3) => say_bar(rt, asked.output, Some(Bar::IsServed)),
+        Refusal::Fault(AppFault::Locked(3)) => say_bar(rt, asked.output, Some(Bar::IsServed)),
         Refusal::Barred => say_bar(rt, asked.output, output.bar),
         Refusal::WhatIf(fault) => say_words(rt, words_of_what_if(rt.alloc(), &asked.task, fault)),
         Refusal::Fault(AppFault::OtherFile) => {
@@ -83,7 +83,7 @@ pub(crate) fn say_refusal<R: Files<File = File> + Eprint + AllocGlobal>(
                 ScriptFault::UnknownId(_) | ScriptFault::NotOnRoll(_) | ScriptFault::TooFew(_),
             ),
         ) => {}
-        Refusal::Spelling => {
+        Refusal::Fault(AppFault::Spelling) => {
             let (_, journal) = asked.task.paths();
             let path = journal.unwrap_or("-");
             say_words(rt, spelling_words(rt.alloc(), path));
@@ -92,10 +92,14 @@ pub(crate) fn say_refusal<R: Files<File = File> + Eprint + AllocGlobal>(
             let path = asked.task.roll().unwrap_or("-");
             say_words(rt, words_file_words(rt, rt.alloc(), path, fault));
         }
+        Refusal::Fault(AppFault::Output) => say_words(rt, unanswered_words(rt.alloc(), failure)),
+        Refusal::Fault(AppFault::Locked(_)) => {
+            let (_, journal) = asked.task.paths();
+            say_words(rt, locked_words(rt.alloc(), journal.unwrap_or("-")))
+        }
         Refusal::Fault(fault) => say_words(rt, words_of(rt, asked, fault, failure, notes)),
-        Refusal::Unanswered => say_words(rt, unanswered_words(rt.alloc(), failure)),
         // Why each of the others was refused was said when it was read.
-        Refusal::BadRows(0) => {}
+        Refusal::BadRows(RefusedRows { bad: 0, .. }) => {}
         _ => say_words(rt, words_of_serve(rt.alloc(), &asked.task, refusal)),
     }
 }
@@ -105,16 +109,16 @@ fn words_of_serve(alloc: Global, task: &Task<'_>, refusal: &Refusal) -> Result<S
     let (_, second) = task.paths();
     let path = second.unwrap_or("-");
     match refusal {
-        Refusal::Locked(_) => locked_words(alloc, path),
         Refusal::NoJournal(reason) => unopened_words(alloc, path, reason),
         Refusal::Journal(reason) => unkept_words(alloc, path, reason),
         Refusal::Moved(Err(reason)) => lost_words(alloc, path, reason),
-        Refusal::BadRows(rows) => bad_rows_words(alloc, *rows),
+        Refusal::BadRows(rows) => bad_rows_words(alloc, rows.bad),
         refusal => words_of_file_beside(alloc, path, refusal),
     }
 }
 
-/// Words where a file beside the journal with this path can't be read or written, or keeps the journal's text.
+/// Words where a file beside the journal with this path can't be read or written, or keeps the journal's
+/// text.
 fn words_of_file_beside(
     alloc: Global,
     path: &str,
@@ -218,8 +222,8 @@ fn words_of<R: Files + AllocGlobal>(
             journal_words(rt, alloc, paths, *fault)
         }
         AppFault::Count(fault) => {
-            let options = asked.task.options();
-            count_words(alloc, counted_path(&asked.task), *fault, &options)
+            let options = &asked.rule.options;
+            count_words(alloc, counted_path(&asked.task), *fault, options)
         }
         AppFault::Open(1) => open_words(rt, alloc, first.unwrap_or("-")),
         AppFault::Open(3) => open_words(rt, alloc, asked.task.roll().unwrap_or("-")),
@@ -230,7 +234,11 @@ fn words_of<R: Files + AllocGlobal>(
         | AppFault::OpenDesk
         | AppFault::Export(_)
         | AppFault::Memory
-        | AppFault::Warned(_) => Err(AllocError),
+        | AppFault::Warned(_)
+        | AppFault::Spelling
+        | AppFault::Moved
+        | AppFault::Locked(_)
+        | AppFault::Output => Err(AllocError),
     }
 }
 
@@ -305,19 +313,20 @@ pub(crate) fn say_lacking<R: Eprint + AllocGlobal>(rt: &R, task: &Task<'_>, lack
     say_words(rt, lacking_words(rt.alloc(), file, lacking));
 }
 
-/// Says how many requests were carried out and answered no, where a journal was written or audited and `--quiet` is not given.
+/// Says how many requests were carried out and answered no, where a journal was written or audited and
+/// `--quiet` is not given.
 pub(crate) fn say_tally<R: Eprint + AllocGlobal>(rt: &R, asked: &Asked<'_>, notes: &Notes) {
     if is_quiet(asked) {
         return;
     }
     match &asked.task {
-        Task::Count(..)
-        | Task::Projects(..)
-        | Task::Voters(..)
+        Task::Count(_)
+        | Task::Projects(_)
+        | Task::Voters(_)
         | Task::Compare(_)
         | Task::WhatIf(..)
         | Task::Page(..)
-        | Task::Export(..)
+        | Task::Export(_)
         | Task::Ballots(..)
         | Task::Check(_) => {}
         Task::Desk(..) | Task::Serve(..) => {
@@ -372,8 +381,8 @@ pub(crate) fn say_mistaken<R: Files + Eprint + AllocGlobal>(rt: &R, arguments: &
     }
 }
 
-/// Says what to do where the raises were spent, by a count that took so long. Whether more would decide is looked for first,
-/// after it was said why there is no result.
+/// Says what to do where the raises were spent, by a count that took so long. Whether more would decide is
+/// looked for first, after it was said why there is no result.
 pub(crate) fn say_spent<R>(
     rt: &R,
     asked: &Asked<'_>,
@@ -386,12 +395,12 @@ where
 {
     match refusal {
         Refusal::Fault(AppFault::Count(CountFault::RaisesSpent)) => {
-            let found = look_further(rt, &asked.task, took, progress);
+            let found = look_further(rt, asked, took, progress);
             progress.clear();
-            let options = asked.task.options();
+            let options = &asked.rule.options;
             say_words(
                 rt,
-                spent_words(rt.alloc(), &options, found.deciding, found.step),
+                spent_words(rt.alloc(), options, found.deciding, found.step),
             )
         }
         _ => {}

@@ -10,8 +10,9 @@ use Rattle.pb_closing.specs.declared.close_fault.CloseFault.TheVariants.{Unfinis
 use Rattle.pb_closing.specs.declared.closing.Closing.{Closing}
 use Rattle.pb_closing.specs.declared.closing.Closing.TheVariants.{Open, Counted}
 
--- What a desk comes to. Where it is open it is handed on. Where it is shut the ballots that its journal leaves are counted;
--- or it is handed back where memory is refused; or its election is, where its count is refused.
+-- What a desk comes to. Where it is open it is handed on. Where it is shut the ballots that its journal
+-- leaves are counted; or it is handed back where memory is refused; or its election is, where its count is
+-- refused.
 abbrev pub ComesTo : DeskView → CountOptions → Result Closing CloseFault → Type 0
 ComesTo d options (Ok (Open desk)) = ((standing_of d).is_shut ≡ false) × (desk ≡ d)
 ComesTo d options (Ok (Counted count)) = ((standing_of d).is_shut ≡ true) × (count.entries ≡ length d.journal)

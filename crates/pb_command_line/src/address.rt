@@ -1,7 +1,7 @@
 //! Addresses that a link of a page may lead to.
 
-/// Whether an address is one of http or https, or a relative one. A browser passes over control characters and over blanks
-/// at the ends: with one in it, another address might be read than is seen here.
+/// Whether an address is one of http or https, or a relative one. A browser passes over control characters
+/// and over blanks at the ends: with one in it, another address might be read than is seen here.
 pub(crate) fn is_address(address: &str) -> bool {
     let bytes = address.as_bytes();
     !bytes.is_empty()
@@ -11,8 +11,8 @@ pub(crate) fn is_address(address: &str) -> bool {
         })
 }
 
-/// Whether an address seems to be a site's and lacks its `https://`: it begins with `www.`, or with a name such as `city.org`
-/// and a `/`.
+/// Whether an address seems to be a site's and lacks its `https://`: it begins with `www.`, or with a name
+/// such as `city.org` and a `/`.
 pub(crate) fn lacks_scheme(address: &str) -> bool {
     if scheme_of(address.as_bytes()).is_some() {
         return false;
@@ -32,7 +32,8 @@ fn begins_with_www(text: &str) -> bool {
     }
 }
 
-/// Whether a text is like `city.org`: behind its last point are two letters or more, and something is before the first.
+/// Whether a text is like `city.org`: behind its last point are two letters or more, and something is before
+/// the first.
 fn is_site(text: &str) -> bool {
     match text.rsplit_once('.') {
         Some((name, end)) => {

@@ -1,6 +1,6 @@
 //! What parsed arguments ask for.
 
-use crate::rule::{fills_up, options_of};
+use crate::rule::rule_of;
 use crate::task::{
     Admits, Asked, AuditRun, Ballots, BallotsRun, CheckRun, CompareRun, DeskRun, OneChange,
     PageRun, ServeRun, Source, Task, WhatIfRun,
@@ -8,24 +8,28 @@ use crate::task::{
 use clap::ArgMatches;
 use pb_core::money::Money;
 use pb_rounds::options::CountOptions;
+use pb_rounds::rule::{FillUp, Rule};
 
 /// What parsed arguments ask for; without a command it is a count of standard input.
 pub(crate) fn asked_by<'a>(matches: &ArgMatches<'a>) -> Asked<'a> {
     match matches.subcommand() {
         Some((name, given)) => Asked {
             task: task_of(name, given),
+            rule: rule_of(given),
             output: given.get_str("output"),
             shows: shows_by(given),
-            fills_up: fills_up(given),
             is_strict: given.get_flag("strict"),
             takes_other: given.get_flag("other-file"),
             keeps_voters: given.get_flag("keep-voters"),
         },
         None => Asked {
-            task: Task::Count(Source::Input, CountOptions::standard()),
+            task: Task::Count(Source::Input),
+            rule: Rule {
+                options: CountOptions::standard(),
+                fill_up: FillUp::Nothing,
+            },
             output: None,
             shows: None,
-            fills_up: false,
             is_strict: false,
             takes_other: false,
             keeps_voters: false,
@@ -44,34 +48,30 @@ fn task_of<'a>(name: &str, given: &ArgMatches<'a>) -> Task<'a> {
 
 /// What the arguments of a command ask for that counts these ballots; no other command has a task here.
 fn count_of<'a>(name: &str, given: &ArgMatches<'a>, ballots: Ballots<'a>) -> Option<Task<'a>> {
-    let options = options_of(given);
     let task = match name {
-        "count" => Task::Count(ballots.file, options),
-        "projects" => Task::Projects(ballots, options),
-        "voters" => Task::Voters(ballots, options),
+        "count" => Task::Count(ballots.file),
+        "projects" => Task::Projects(ballots),
+        "voters" => Task::Voters(ballots),
         "compare" => Task::Compare(CompareRun {
             ballots,
-            options,
             by_project: given.get_flag("projects"),
         }),
         "whatif" => Task::WhatIf(WhatIfRun {
             ballots,
-            options,
             project: given.get_str("project").unwrap_or(""),
             change: change_of(given),
         }),
-        "page" => Task::Page(page_of(given, ballots, options)),
-        "export" => Task::Export(ballots, options),
+        "page" => Task::Page(page_of(given, ballots)),
+        "export" => Task::Export(ballots),
         _ => return None,
     };
     Some(task)
 }
 
 /// The page that the arguments ask for.
-fn page_of<'a>(given: &ArgMatches<'a>, ballots: Ballots<'a>, options: CountOptions) -> PageRun<'a> {
+fn page_of<'a>(given: &ArgMatches<'a>, ballots: Ballots<'a>) -> PageRun<'a> {
     PageRun {
         ballots,
-        options,
         title: given.get_str("title"),
         recount: given.get_str("recount"),
         words: given.get_str("words"),
@@ -85,7 +85,7 @@ fn desk_of<'a>(name: &str, given: &ArgMatches<'a>, file: Source<'a>) -> Task<'a>
     match name {
         "check" => Task::Check(CheckRun {
             file,
-            against: against_of(given),
+            compares: given.get_flag("against"),
         }),
         "desk" => Task::Desk(DeskRun {
             file,
@@ -107,19 +107,9 @@ fn desk_of<'a>(name: &str, given: &ArgMatches<'a>, file: Source<'a>) -> Task<'a>
         _ => Task::Audit(AuditRun {
             file,
             journal: source_of(given, "JOURNAL"),
-            options: options_of(given),
             requires_shut: given.get_flag("require-shut"),
             digests: given.get_flag("digests"),
         }),
-    }
-}
-
-/// The options of the count with which the column `selected` is compared, if it is.
-fn against_of(given: &ArgMatches<'_>) -> Option<CountOptions> {
-    if given.get_flag("against") {
-        Some(options_of(given))
-    } else {
-        None
     }
 }
 

@@ -2,10 +2,11 @@
 
 use crate::argument::{Argument, Takes};
 use crate::arguments::{AGAINST, PLAIN, VOTERS};
-use crate::commands::{COUNTS, CommandForm, DESKS};
+use crate::commands::{CommandForm, tables};
 use crate::helps::{ABOUT, AFTER_HELP};
-use crate::rule::{COMPLETIONS, MEASURES, is_of_count};
+use crate::rule::is_of_count;
 use clap::{Arg, ArgAction, Command};
+use pb_rounds::rule_names::{COMPLETIONS, MEASURES};
 use std::alloc::{AllocError, Global};
 
 /// The program's name and its version, which is the same for each build of it.
@@ -17,9 +18,11 @@ const VERSION: &str = "1.0.0 (built from source; which commit is not recorded)";
 /// The command line that the program reads.
 pub(crate) fn command_line<'a>(alloc: Global) -> Result<Command<'a>, AllocError> {
     let program = Command::new(alloc, "pb_app").bin_name("pb_app")?;
-    let program = program.version(VERSION).about(ABOUT).after_help(AFTER_HELP);
-    let program = with_commands(alloc, program, COUNTS)?;
-    with_commands(alloc, program, DESKS)
+    let mut program = program.version(VERSION).about(ABOUT).after_help(AFTER_HELP);
+    for forms in tables() {
+        program = with_commands(alloc, program, forms)?;
+    }
+    Ok(program)
 }
 
 /// The program with the commands of these forms.

@@ -19,8 +19,24 @@ pub(crate) struct CommandForm {
     pub(crate) arguments: &'static [Argument],
 }
 
-/// The commands that read a .pb file, and count its ballots or those of a journal.
-pub(crate) const COUNTS: &[CommandForm] = &[
+/// The tables of all commands, in the order in which the help lists them. A function that names a table is
+/// checked with all its texts, so each table is short, and a function of its own names it.
+pub(crate) fn tables() -> [&'static [CommandForm]; 5] {
+    [
+        counts(),
+        comparisons(),
+        publications(),
+        checks(),
+        journals(),
+    ]
+}
+
+/// The commands that show one count.
+fn counts() -> &'static [CommandForm] {
+    COUNTS
+}
+
+const COUNTS: &[CommandForm] = &[
     CommandForm {
         name: "count",
         notes: "Manual pages: man pb_app-election, man pb_app-report, man pb_app-counting.",
@@ -48,6 +64,14 @@ pub(crate) const COUNTS: &[CommandForm] = &[
             STRICT, OUTPUT, QUIET, PROGRESS,
         ],
     },
+];
+
+/// The commands that count more than once.
+fn comparisons() -> &'static [CommandForm] {
+    COMPARISONS
+}
+
+const COMPARISONS: &[CommandForm] = &[
     CommandForm {
         name: "compare",
         notes: "Manual pages: man pb_app-election, man 5 pb_app-compare, man pb_app-counting.",
@@ -66,6 +90,14 @@ pub(crate) const COUNTS: &[CommandForm] = &[
             COMPLETION, MEASURE, STRICT, OUTPUT, QUIET, PROGRESS,
         ],
     },
+];
+
+/// The commands that make a file for others.
+fn publications() -> &'static [CommandForm] {
+    PUBLICATIONS
+}
+
+const PUBLICATIONS: &[CommandForm] = &[
     CommandForm {
         name: "page",
         notes: "Manual pages: man pb_app-election, man 5 pb_app-page, man pb_app-counting.",
@@ -98,8 +130,12 @@ pub(crate) const COUNTS: &[CommandForm] = &[
     },
 ];
 
-/// The commands that check a .pb file, or take its ballots on a desk.
-pub(crate) const DESKS: &[CommandForm] = &[
+/// The commands that check a .pb file, or try its desk.
+fn checks() -> &'static [CommandForm] {
+    CHECKS
+}
+
+const CHECKS: &[CommandForm] = &[
     CommandForm {
         name: "check",
         notes: "Manual pages: man pb_app-election, man pb_app-faults.",
@@ -117,6 +153,14 @@ pub(crate) const DESKS: &[CommandForm] = &[
             ELECTION, SCRIPT, CLERKS, SHUT, BY_ID, ROLL, LEAST, OUTPUT, QUIET_DESK, PROGRESS,
         ],
     },
+];
+
+/// The commands that read or write the journal of a desk.
+fn journals() -> &'static [CommandForm] {
+    JOURNALS
+}
+
+const JOURNALS: &[CommandForm] = &[
     CommandForm {
         name: "audit",
         notes: "Manual pages: man pb_app-election, man pb_app-journal, man pb_app-report, man pb_app-counting.",

@@ -1,15 +1,15 @@
 //! Options that a command does not have.
 
 use crate::argument::Takes;
-use crate::commands::{COUNTS, CommandForm, DESKS};
+use crate::commands::{CommandForm, tables};
 use crate::rule::is_of_count;
 use std::alloc::{AllocError, Global};
 
 /// What `clap` says of what it can't pass as a value either.
 const DASHES: &str = "  tip: to pass '";
 
-/// The text of a refusal by `clap`, without the lines about `--`, behind which nothing is an option: no command takes a
-/// value that looks like one.
+/// The text of a refusal by `clap`, without the lines about `--`, behind which nothing is an option: no
+/// command takes a value that looks like one.
 pub(crate) fn without_dashes(alloc: Global, text: &str) -> Result<String, AllocError> {
     let mut out = String::new(alloc);
     let mut is_blank = false;
@@ -23,7 +23,8 @@ pub(crate) fn without_dashes(alloc: Global, text: &str) -> Result<String, AllocE
     Ok(out)
 }
 
-/// Words for the first of these arguments that is an option of other commands, and not of the one that is named.
+/// Words for the first of these arguments that is an option of other commands, and not of the one that is
+/// named.
 pub(crate) fn elsewhere_words(
     alloc: Global,
     arguments: &[String],
@@ -44,7 +45,8 @@ pub(crate) fn elsewhere_words(
     Ok(None)
 }
 
-/// Words for the first of these arguments that is an option of a count, if they are those of a `check` that does not count.
+/// Words for the first of these arguments that is an option of a count, if they are those of a `check` that
+/// does not count.
 pub(crate) fn uncounted_words(
     alloc: Global,
     arguments: &[String],
@@ -109,8 +111,11 @@ fn is_listed(commands: &str, command: &str) -> bool {
 
 /// The names of the commands that have this option, with commas between them.
 fn owners_of(alloc: Global, option: &str) -> Result<String, AllocError> {
-    let names = with_owners(String::new(alloc), COUNTS, option)?;
-    with_owners(names, DESKS, option)
+    let mut names = String::new(alloc);
+    for forms in tables() {
+        names = with_owners(names, forms, option)?;
+    }
+    Ok(names)
 }
 
 /// These names, and behind them those of these commands that have this option.

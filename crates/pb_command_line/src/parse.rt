@@ -20,12 +20,13 @@ const NOT_PRINTED: u8 = 3;
 pub enum Parsed<'a> {
     /// They ask for this.
     Asks(Asked<'a>),
-    /// They ask for nothing more: they are refused, or for a text that was printed. The program ends with this status.
+    /// They ask for nothing more: they are refused, or for a text that was printed. The program ends with
+    /// this status.
     Ends(u8),
 }
 
-/// Reads the arguments of the program, its own name first. Where they are refused, or ask for a text such as the
-/// help, that text is printed.
+/// Reads the arguments of the program, its own name first. Where they are refused, or ask for a text such as
+/// the help, that text is printed.
 pub fn parse<'a, R: Print + Eprint>(
     rt: &R,
     alloc: Global,
@@ -101,8 +102,8 @@ fn refused<'a, R: Print + Eprint>(
     }
 }
 
-/// Says why `clap` refuses these arguments, which commands have an option that the named one has not, and what an option of
-/// `check` needs.
+/// Says why `clap` refuses these arguments, which commands have an option that the named one has not, and
+/// what an option of `check` needs.
 fn say_refused<R: Eprint>(
     rt: &R,
     alloc: Global,

@@ -1,15 +1,11 @@
-//! The options of a count: their names, and what they say.
+//! The options of a count, and the rule that they name.
 
 use clap::ArgMatches;
 use pb_core::money::Money;
 use pb_rounds::measure::Measure;
 use pb_rounds::options::{Completion, CountOptions};
-
-/// The measures by their names, votes first.
-pub(crate) const MEASURES: &[&str] = &["votes", "cost"];
-
-/// The completions by their names.
-pub(crate) const COMPLETIONS: &[&str] = &["none", "add1", "utilitarian", "add1u"];
+use pb_rounds::rule::{FillUp, Rule};
+use pb_rounds::rule_names::{completion_named, measure_named};
 
 /// The names of the options of a count.
 const OF_COUNT: &[&str] = &[
@@ -31,38 +27,35 @@ pub(crate) fn is_of_count(name: &str) -> bool {
     false
 }
 
-/// Whether what is left is filled up by votes.
-pub(crate) fn fills_up(given: &ArgMatches<'_>) -> bool {
-    matches!(given.get_str("completion"), Some("utilitarian" | "add1u"))
-}
-
-/// Whether the shares are raised, if an option says so.
-fn completion_of(given: &ArgMatches<'_>) -> Option<Completion> {
+/// Whether shares are raised, and how what is left is filled up, if an option says so.
+fn completion_of(given: &ArgMatches<'_>) -> Option<(Completion, FillUp)> {
     if given.get_flag("plain") {
-        return Some(Completion::Plain);
+        return Some((Completion::Plain, FillUp::Nothing));
     }
-    match given.get_str("completion") {
-        Some("none" | "utilitarian") => Some(Completion::Plain),
-        Some(_) => Some(Completion::Add1),
-        None => None,
-    }
+    completion_named(given.get_str("completion")?)
 }
 
-/// The options of a count; those that are not given are the standard ones.
-pub(crate) fn options_of(given: &ArgMatches<'_>) -> CountOptions {
+/// The rule of a count; what is not given is as in the standard one.
+pub(crate) fn rule_of(given: &ArgMatches<'_>) -> Rule {
     let standard = CountOptions::standard();
-    CountOptions {
+    let (completion, fill_up) = completion_of(given).unwrap_or((
+        standard.completion,
+        FillUp::Nothing,
+    ));
+    let options = CountOptions {
         step: match given.get_one::<u32>("step") {
             Some(hundredths) => Money(u64::from(hundredths)),
             None => standard.step,
         },
         max_raises: given.get_one("raises").unwrap_or(standard.max_raises),
         workers: given.get_one("workers").unwrap_or(standard.workers),
-        completion: completion_of(given).unwrap_or(standard.completion),
-        measure: match given.get_str("measure") {
-            Some("cost") => Measure::Cost,
-            Some(_) => Measure::Votes,
-            None => standard.measure,
-        },
-    }
+        completion,
+        measure: measure_of(given).unwrap_or(standard.measure),
+    };
+    Rule { options, fill_up }
+}
+
+/// The measure, if an option names one.
+fn measure_of(given: &ArgMatches<'_>) -> Option<Measure> {
+    measure_named(given.get_str("measure")?)
 }

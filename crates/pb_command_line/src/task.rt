@@ -1,7 +1,7 @@
 //! What the arguments of the command line ask for.
 
 use pb_core::money::Money;
-use pb_rounds::options::CountOptions;
+use pb_rounds::rule::Rule;
 
 /// Where a text is read from.
 #[derive(Clone, Copy)]
@@ -80,8 +80,6 @@ pub struct AuditRun<'a> {
     /// The .pb file.
     pub file: Source<'a>,
     pub journal: Source<'a>,
-    /// Those of the count that follows.
-    pub options: CountOptions,
     /// An open desk is refused.
     pub requires_shut: bool,
     /// The digests of what was read stand before the report.
@@ -92,7 +90,6 @@ pub struct AuditRun<'a> {
 #[derive(Clone, Copy)]
 pub struct CompareRun<'a> {
     pub ballots: Ballots<'a>,
-    pub options: CountOptions,
     /// A row for each project, in place of one for each rule.
     pub by_project: bool,
 }
@@ -111,15 +108,14 @@ pub struct BallotsRun<'a> {
 #[derive(Clone, Copy)]
 pub struct CheckRun<'a> {
     pub file: Source<'a>,
-    /// The options of the count with which the column `selected` is compared, where it is.
-    pub against: Option<CountOptions>,
+    /// The column `selected` is compared with a count.
+    pub compares: bool,
 }
 
 /// The page of a count.
 #[derive(Clone, Copy)]
 pub struct PageRun<'a> {
     pub ballots: Ballots<'a>,
-    pub options: CountOptions,
     /// What was voted on, if it is said.
     pub title: Option<&'a str>,
     /// The address of a page that recounts in a browser, if one is given.
@@ -145,7 +141,6 @@ pub enum OneChange {
 #[derive(Clone, Copy)]
 pub struct WhatIfRun<'a> {
     pub ballots: Ballots<'a>,
-    pub options: CountOptions,
     /// The project's id.
     pub project: &'a str,
     /// The one change that is counted; with none, changes are searched.
@@ -156,11 +151,11 @@ pub struct WhatIfRun<'a> {
 #[derive(Clone, Copy)]
 pub enum Task<'a> {
     /// A count of a .pb file.
-    Count(Source<'a>, CountOptions),
+    Count(Source<'a>),
     /// The projects of a count of these ballots: who won and why, who lost and by how much.
-    Projects(Ballots<'a>, CountOptions),
+    Projects(Ballots<'a>),
     /// The voters of a count of these ballots: who paid.
-    Voters(Ballots<'a>, CountOptions),
+    Voters(Ballots<'a>),
     /// A count of these ballots beside most votes first.
     Compare(CompareRun<'a>),
     /// Counts of changed elections.
@@ -168,7 +163,7 @@ pub enum Task<'a> {
     /// The page of a count.
     Page(PageRun<'a>),
     /// The .pb file of these ballots, with what their count came to.
-    Export(Ballots<'a>, CountOptions),
+    Export(Ballots<'a>),
     /// A check of a .pb file.
     Check(CheckRun<'a>),
     /// A run of the desk of a .pb file.
@@ -182,29 +177,13 @@ pub enum Task<'a> {
 }
 
 impl<'a> Task<'a> {
-    /// How the ballots are counted, where some are.
-    pub fn options(&self) -> CountOptions {
-        match self {
-            Task::Count(_, options)
-            | Task::Projects(_, options)
-            | Task::Voters(_, options)
-            | Task::Export(_, options) => *options,
-            Task::Compare(run) => run.options,
-            Task::WhatIf(run) => run.options,
-            Task::Page(run) => run.options,
-            Task::Audit(run) => run.options,
-            Task::Check(run) => run.against.unwrap_or(CountOptions::standard()),
-            Task::Desk(..) | Task::Serve(..) | Task::Ballots(_) => { CountOptions::standard() }
-        }
-    }
-
     /// The texts that are read: the .pb file, and behind it a script or a journal, where there is one.
     pub fn texts(&self) -> (Source<'a>, Option<Source<'a>>) {
         match *self {
-            Task::Count(file, _) | Task::Check(CheckRun { file, .. }) => (file, None),
-            Task::Projects(ballots, _)
-            | Task::Voters(ballots, _)
-            | Task::Export(ballots, _)
+            Task::Count(file) | Task::Check(CheckRun { file, .. }) => (file, None),
+            Task::Projects(ballots)
+            | Task::Voters(ballots)
+            | Task::Export(ballots)
             | Task::Compare(CompareRun { ballots, .. })
             | Task::WhatIf(WhatIfRun { ballots, .. })
             | Task::Page(PageRun { ballots, .. }) => (ballots.file, ballots.journal),
@@ -242,12 +221,12 @@ impl<'a> Task<'a> {
 #[derive(Clone, Copy)]
 pub struct Asked<'a> {
     pub task: Task<'a>,
+    /// By which rule the ballots are counted, where some are.
+    pub rule: Rule,
     /// The path of the file that gets the result; none is standard output.
     pub output: Option<&'a str>,
     /// Whether it is shown how far the work has come; none is where standard error is a terminal.
     pub shows: Option<bool>,
-    /// What the elected of a count leave of the budget is filled up by votes.
-    pub fills_up: bool,
     /// A warning refuses the .pb file of a count.
     pub is_strict: bool,
     /// A journal that belongs to another .pb file is read all the same.

@@ -110,9 +110,10 @@ fn said(rt: &impl Abort, alloc: Global, closed: &Result<Closing, CloseFault>) ->
 
 /// Whether the desk is shut, the number of workers, and what the closing says.
 ///
-/// Each voter's share of the example's 100.00 is 50.00 at first. v1 and v2 pay 15.00 each for a, and b's one supporter
-/// v2 has 35.00 left; 25 raises of 1.00 leave v2 with the 60.00 that b costs. A desk that is open has an entry and two
-/// ballots, whatever the options are; a refused count hands the election of two voters back.
+/// Each voter's share of the example's 100.00 is 50.00 at first. v1 and v2 pay 15.00 each for a, and b's one
+/// supporter v2 has 35.00 left; 25 raises of 1.00 leave v2 with the 60.00 that b costs. A desk that is open
+/// has an entry and two ballots, whatever the options are; a refused count hands the election of two voters
+/// back.
 const CLOSINGS: &[(bool, u32, &str)] = &[
     (true, 1, "counted: 2, 2, 25; 0, 1500, 3000; 1, 6000, 6000"),
     (false, 0, "open: 1, 2"),

@@ -7,6 +7,7 @@ use pb_core::gate::Gate;
 use pb_core::money::Money;
 use pb_read::NoWatch;
 use pb_rounds::options::CountOptions;
+use pb_rounds::rule::{FillUp, Rule};
 use std::sync::atomic::Ordering::Relaxed;
 use std::sync::atomic::{AtomicBool, AtomicU32};
 
@@ -41,8 +42,8 @@ impl Gate for Told {
     }
 }
 
-/// Five raises of 1.00 let v2 pay the rest of b, as docs/counting.md works by hand; what is tried goes no further than the
-/// sixth, which would be over.
+/// Five raises of 1.00 let v2 pay the rest of b, as docs/counting.md works by hand; what is tried goes no
+/// further than the sixth, which would be over.
 #[test]
 fn a_count_tells_of_its_raises(rt: HostRuntime) {
     let told = Told {
@@ -52,13 +53,15 @@ fn a_count_tells_of_its_raises(rt: HostRuntime) {
     };
     let mut report = Vec::new(rt.alloc());
     let file = THREE_VOTERS.as_bytes();
-    let options = CountOptions::standard();
+    let rule = Rule {
+        options: CountOptions::standard(),
+        fill_up: FillUp::Nothing,
+    };
     let counting = Counting {
         rt: &rt,
         alloc: rt.alloc(),
         gate: &told,
-        options: &options,
-        fills_up: false,
+        rule: &rule,
     };
     let counted = run_count_watched(&counting, file, &mut NoWatch, &mut report);
     same(&rt, counted.is_ok(), true, "a count");

@@ -1,17 +1,18 @@
-//! Requests that are answered as they come in: when the answers leave, and how often the journal is synced; and a device in
-//! memory, where memory suffices.
+//! Requests that are answered as they come in: when the answers leave, and how often the journal is synced;
+//! and a device in memory, where memory suffices.
 
 ghost use Rattle.std.specs.Prelude.{[]};
 
 use crate::checks::{THREE_VOTERS, same};
 use crate::memory_device::MemoryDevice;
 use pb_commands::AppFault;
-use pb_core::devices::FailsAfter;
+use pb_core::answer::Answer;
+use pb_core::devices::{FailsAfter, FailsAt};
 use pb_durable::{Device, DeviceFault, DurableDesk, JournalFile, Opened, open};
 use pb_read::read_pb;
-use pb_script::{Admission, NoNotice, RequestRows, ScriptFault};
+use pb_script::{Admission, NoNotice, Notice, RequestRows, RowRefusal, ScriptFault};
 use pb_serving::run_serve::run_serve;
-use pb_serving::{Always, Pace, ServingFault, Session};
+use pb_serving::{Always, Pace, Session};
 use std::alloc::Global;
 use std::cell::Cell;
 use std::io::{Read, Result, Write};
@@ -26,7 +27,8 @@ const AT_HAND: &str = "0;cast;v4;0\n1;cast;v5;1\n0;cast;v4;1\n";
 const ANSWERS: &str =
     "torn;7\nentries;0;open\n1;0;cast;v4;0;done\n2;1;cast;v5;1;done\n3;0;cast;v4;1;already-cast\n";
 
-/// Journals of one row that lacks its line end, and what else stands there; and how many bytes of it are cut off.
+/// Journals of one row that lacks its line end, and what else stands there; and how many bytes of it are cut
+/// off.
 const UNENDED: [(&str, usize); 8] = [
     ("journal;2\n1;0;cast;v4;0;done", 0),
     ("journal;2\n1;0;cast;v4;0;done\0", 1),
@@ -97,6 +99,37 @@ struct Never;
 impl Pace for Never {
     fn has_row(&self) -> bool {
         false
+    }
+}
+
+/// Whoever hears of the rows of a run.
+#[derive(Drop)]
+struct Heard {
+    /// How many answers there were, and the last of them.
+    answers: Cell<u32>,
+    last: Cell<Option<Answer>>,
+    /// The last row that was refused.
+    refused: Cell<Option<u64>>,
+}
+
+impl Heard {
+    fn new() -> Heard {
+        Heard {
+            answers: Cell::new(0),
+            last: Cell::new(None),
+            refused: Cell::new(None),
+        }
+    }
+}
+
+impl Notice for Heard {
+    fn refused(&self, row: u64, _why: RowRefusal, _unknown: &str) {
+        self.refused.set(Some(row));
+    }
+
+    fn answered(&self, answer: Answer) {
+        self.answers.set(self.answers.get().wrapping_add(1));
+        self.last.set(Some(answer));
     }
 }
 
@@ -192,21 +225,32 @@ fn opened<'a>(
     (DurableDesk::on(desk, file), torn)
 }
 
-/// Serves the rows of this input on a desk that is open to all.
+/// Serves the rows of this input on a desk that is open to all; nobody listens.
 fn served<R: Read + Drop, P: Pace, W: Write>(
     alloc: Global,
-    (mut desk, torn): (DurableDesk<Disk<'_>>, usize),
+    opened: (DurableDesk<Disk<'_>>, usize),
     input: R,
     pace: &P,
     writer: &mut W,
-) -> std::result::Result<u64, ServingFault> {
+) -> std::result::Result<u64, AppFault> {
+    served_to(alloc, opened, input, (pace, &NoNotice), writer)
+}
+
+/// Serves the rows of this input on a desk that is open to all, and tells the notice.
+fn served_to<R: Read + Drop, P: Pace, N: Notice, W: Write>(
+    alloc: Global,
+    (mut desk, torn): (DurableDesk<Disk<'_>>, usize),
+    input: R,
+    (pace, notice): (&P, &N),
+    writer: &mut W,
+) -> std::result::Result<u64, AppFault> {
     let admission = Admission::open();
     let mut rows = RequestRows::new(alloc, input);
     let session = Session {
         torn,
         pace,
         admission: &admission,
-        notice: &NoNotice,
+        notice,
     };
     let ended = run_serve(alloc, &mut desk, &mut rows, &session, writer);
     drop(rows);
@@ -248,6 +292,41 @@ fn rows_at_hand_share_their_syncs(rt: HostRuntime) {
     drop(text);
 }
 
+/// Whoever listens is told each answer, and the number of each row that is refused.
+#[test]
+fn answers_are_told(rt: HostRuntime) {
+    let seen = Seen::new();
+    let opened = opened(&rt, rt.alloc(), &seen, "");
+    let notice = Heard::new();
+    let mut text = Vec::new(rt.alloc());
+    let input = "0;cast;v4;0\n0;cast\n1;cast;v5;1\n0;cast;v4;1\n";
+    let both = (&Always, &notice);
+    let bad_rows = served_to(rt.alloc(), opened, input.as_bytes(), both, &mut text);
+    same(&rt, bad_rows, Ok(1), "rows not of the form");
+    same(&rt, notice.answers.get(), 3, "answers");
+    let last = notice.last.get();
+    same(&rt, last, Some(Answer::AlreadyCast), "the last answer");
+    same(&rt, notice.refused.get(), Some(2), "the row refused");
+    drop(notice);
+    drop(text);
+}
+
+/// Where the answers don't leave the writer, none of them is told.
+#[test]
+fn what_is_not_written_is_not_told(rt: HostRuntime) {
+    let seen = Seen::new();
+    let opened = opened(&rt, rt.alloc(), &seen, "");
+    let notice = Heard::new();
+    // The row of the desk is one write, the answers are the other, and the flush behind them fails.
+    let mut writer = FailsAt::new(Vec::new(rt.alloc()), 2);
+    let both = (&Always, &notice);
+    let ended = served_to(rt.alloc(), opened, AT_HAND.as_bytes(), both, &mut writer);
+    same(&rt, ended, Err(AppFault::Output), "the fault");
+    same(&rt, notice.answers.get(), 0, "answers");
+    drop(writer);
+    drop(notice);
+}
+
 /// Where the input fails, all rows before are answered, and the fault has the number of the next.
 #[test]
 fn rows_before_a_failed_read_are_answered(rt: HostRuntime) {
@@ -256,7 +335,7 @@ fn rows_before_a_failed_read_are_answered(rt: HostRuntime) {
     let mut text = Vec::new(rt.alloc());
     let input = FailsAfter::new(AT_HAND.as_bytes());
     let ended = served(rt.alloc(), opened, input, &Always, &mut text);
-    let fault = ServingFault::App(AppFault::Script(ScriptFault::ReadFailed(4)));
+    let fault = AppFault::Script(ScriptFault::ReadFailed(4));
     same(&rt, ended, Err(fault), "the fault");
     same(&rt, text.as_slice() == ANSWERS.as_bytes(), true, "answers");
     drop(text);

@@ -1,11 +1,10 @@
 -- Which faults come from outside, what merged faults are, and that a file has one report.
-use Rattle.std.proofs.Common.{Bool, true, false, ◌≡◌, ℕ, List, Option, Some, None, Ok, Err, refl, sym, ◌∙◌, ap, subst, inl, inr}
+use Rattle.std.proofs.Common.{◌≡◌, ℕ, List, None, Ok, Err, refl, sym, ◌∙◌, ap, subst, inl, inr}
 use Rattle.std.specs.Prelude.{IfErr, IsErrAnd, Result}
 use Rattle.std.proofs.lemmas.Option.{none-some}
 use Rattle.pb_core.specs.Election.{ElectionView}
 use Rattle.pb_read.proofs.Uniqueness.{one_election}
 use Rattle.pb_read.specs.FirstFault.{IsFromOutside}
-use Rattle.pb_read.specs.StandsFor.{StandsFor}
 use Rattle.pb_desk.specs.declared.audit_fault.AuditFault.{AuditFault}
 use Rattle.pb_desk.specs.declared.audit_fault.AuditFault.TheVariants as audit
 use Rattle.pb_export.specs.declared.export_fault.ExportFault.{ExportFault}
@@ -19,6 +18,9 @@ use Rattle.pb_rounds.specs.Outcome.{OutcomeView}
 use Rattle.pb_rounds.specs.declared.count_fault.CountFault.{CountFault}
 use Rattle.pb_rounds.specs.declared.count_fault.CountFault.TheVariants as count
 use Rattle.pb_rounds.specs.declared.options.CountOptions.{CountOptions}
+use Rattle.pb_rounds.specs.declared.rule.FillUp.{FillUp}
+use Rattle.pb_rounds.specs.declared.rule.FillUp.TheVariants.{Nothing, MostVotes}
+use Rattle.pb_rounds.specs.declared.rule.Rule.{Rule}
 use Rattle.pb_rows.specs.Reading.{records_of}
 use Rattle.pb_commands.specs.Counted.{IsReportOf}
 use Rattle.pb_commands.specs.Closed.{WritesOf}
@@ -30,7 +32,7 @@ use Rattle.pb_script.specs.declared.roll.RollFault.TheVariants as roll
 use Rattle.pb_script.specs.declared.script_fault.ScriptFault.{ScriptFault}
 use Rattle.pb_script.specs.declared.script_fault.ScriptFault.TheVariants as script
 use Rattle.pb_faults.specs.declared.fault.AppFault.{AppFault}
-use Rattle.pb_faults.specs.declared.fault.AppFault.TheVariants.{Read, Script, ClerkCount, Audit, OtherFile, OpenDesk, Count, Export, Open, Write, Memory, Warned, Roll}
+use Rattle.pb_faults.specs.declared.fault.AppFault.TheVariants.{Read, Script, ClerkCount, Audit, OtherFile, OpenDesk, Count, Export, Open, Write, Memory, Warned, Roll, Spelling, Moved, Locked, Output}
 
 pub read_from_outside : (kind : ReadKind) (at : ℕ) → IsFromOutside kind → IsOutsideFault (merged (Read (record { kind = kind; at = at })))
 read_from_outside kind at (inl is) = rw is refl
@@ -80,6 +82,10 @@ merged_again Write = refl
 merged_again Memory = refl
 merged_again (Warned warning) = refl
 merged_again (Roll fault) = roll_again fault
+merged_again Spelling = refl
+merged_again Moved = refl
+merged_again (Locked number) = refl
+merged_again Output = refl
 
 -- the count of an election that has an outcome is refused from outside alone
 pub count_from_outside : (e : ElectionView) (options : CountOptions) (o : OutcomeView) → IsCountOf e options o
@@ -91,19 +97,22 @@ count_from_outside e options o is_count count.RaisesSpent refused = absurd (none
 count_from_outside e options o is_count count.NoMemory refused = refl
 
 -- a report doesn't say how many prices were computed
-report_of_other : (e : ElectionView) (fills_up : Bool) (o : OutcomeView) (priced : List ℕ)
-    → report_of e (counted e fills_up (record o { priced = priced })) ≡ report_of e (counted e fills_up o)
+report_of_other : (e : ElectionView) (fill_up : FillUp) (o : OutcomeView) (priced : List ℕ)
+    → report_of e (counted e fill_up (record o { priced = priced })) ≡ report_of e (counted e fill_up o)
 unfolding report_of
-report_of_other e true o priced = refl
-report_of_other e false o priced = refl
+report_of_other e Nothing o priced = refl
+report_of_other e MostVotes o priced = refl
 
--- an election and options have one report
-pub one_report : (fills_up : Bool) (e : ElectionView) (options : CountOptions) (a b : List ℕ) → IsReportOf e options fills_up a → IsReportOf e options fills_up b → a ≡ b
-one_report fills_up e options a b first second =
-    let outcome = one_outcome e options first.0 second.0 first.1 second.1 in
-    first.2 ∙ ap (λ o. report_of e (counted e fills_up o)) outcome ∙ report_of_other e fills_up second.0 first.0.priced ∙ sym second.2
+-- an election has one report by a rule
+pub one_report : (rule : Rule) (e : ElectionView) (a b : List ℕ) → IsReportOf rule e a → IsReportOf rule e b → a ≡ b
+one_report rule e a b first second =
+    let one = first.1 in
+    let other = second.1 in
+    let outcome = one_outcome e rule.options one.0 other.0 one.1 other.1 in
+    first.2 ∙ ap (report_of e) one.2 ∙ ap (λ o. report_of e (counted e rule.fill_up o)) outcome
+    ∙ report_of_other e rule.fill_up other.0 one.0.priced ∙ ap (report_of e) (sym other.2) ∙ sym second.2
 
-pub one_text : (fills_up : Bool) (bytes : List ℕ) (options : CountOptions) (a b : List ℕ) → WritesOf (λ e. IsReportOf e options fills_up) bytes None a → WritesOf (λ e. IsReportOf e options fills_up) bytes None b → a ≡ b
-one_text fills_up bytes options a b first second =
+pub one_text : (rule : Rule) (bytes : List ℕ) (a b : List ℕ) → WritesOf (IsReportOf rule) bytes None a → WritesOf (IsReportOf rule) bytes None b → a ≡ b
+one_text rule bytes a b first second =
     let report = rw (one_election (records_of bytes) second.0 first.0 second.1 first.1) at second.2 in
-    one_report fills_up first.0 options a b first.2 report
+    one_report rule first.0 a b first.2 report

@@ -1,6 +1,6 @@
 -- A file and a journal are those of one desk at most, which has one text; and what refuses them then comes from outside.
-use Rattle.std.proofs.Common.{◌≡◌, ℕ, ◌++◌, List, [], Option, Some, None, Bool, true, false, refl, sym, ◌∙◌, ap, subst, arith}
-use Rattle.std.specs.Prelude.{IfSome, IsErrAnd, MatchBool, Result}
+use Rattle.std.proofs.Common.{◌≡◌, ℕ, ◌++◌, List, [], Option, Some, Bool, true, false, refl, sym, ◌∙◌, ap, subst, arith}
+use Rattle.std.specs.Prelude.{IfSome, MatchBool}
 use Rattle.pb_core.specs.Election.{ElectionView}
 use Rattle.pb_core.specs.Request.{EntryView}
 use Rattle.pb_desk.proofs.AuditLaws.{no_fault, small_numbers}
@@ -12,12 +12,10 @@ use Rattle.pb_desk.specs.Rows.{journal_rows}
 use Rattle.pb_desk.specs.declared.audit_fault.AuditFault.{AuditFault}
 use Rattle.pb_desk.specs.declared.audit_fault.AuditFault.TheVariants as audit
 use Rattle.pb_read.proofs.Uniqueness.{one_election}
-use Rattle.pb_read.specs.FirstFault.{IsFromOutside}
 use Rattle.pb_read.specs.StandsFor.{StandsFor}
-use Rattle.pb_read.specs.declared.fault.ReadFault.{ReadFault}
 use Rattle.pb_rounds.specs.declared.count_fault.CountFault.{CountFault}
 use Rattle.pb_rounds.specs.declared.count_fault.CountFault.TheVariants as count
-use Rattle.pb_rounds.specs.declared.options.CountOptions.{CountOptions}
+use Rattle.pb_rounds.specs.declared.rule.Rule.{Rule}
 use Rattle.pb_rows.specs.Reading.{records_of}
 use Rattle.pb_rows.specs.Writing.{text_of_row}
 use Rattle.pb_script.specs.Serving.{program_room}
@@ -25,10 +23,10 @@ use Rattle.pb_faults.specs.DeskRow.{entries_row}
 use Rattle.pb_commands.specs.Audited.{AuditWrites, IsDeskOf, IsTextOf}
 use Rattle.pb_commands.specs.Inner.Audited.{IsRefusedDesk}
 use Rattle.pb_commands.specs.Counted.{IsReportOf}
+use Rattle.pb_commands.specs.declared.demand.Demand.{Demand}
 use Rattle.pb_commands.specs.Ends.{IsOutsideFault}
 use Rattle.pb_faults.specs.Fault.{merged}
-use Rattle.pb_faults.specs.declared.fault.AppFault.{AppFault}
-use Rattle.pb_faults.specs.declared.fault.AppFault.TheVariants.{Read, Audit, Count}
+use Rattle.pb_faults.specs.declared.fault.AppFault.TheVariants.{Audit, Count}
 use Rattle.pb_commands.proofs.Accepted.{count_from_outside, one_report}
 
 -- these bytes are those of one desk at most
@@ -54,12 +52,13 @@ journal_from_outside o journal sound (audit.WrongAnswer row) fails = absurd (no_
 journal_from_outside o journal sound audit.NoMemory fails = refl
 
 -- a desk that has a text is refused from outside alone
-pub desk_from_outside : (fills_up : Bool) (d : DeskView) (options : CountOptions) (text : List ℕ) → IsTextOf d options fills_up text
-    → (fault : CountFault) → IsRefusedDesk d options fault → IsOutsideFault (merged (Count fault))
-desk_from_outside fills_up d options text written count.NoMemory refused = refl
-desk_from_outside fills_up d options text written fault refused =
-    let report = rw refused.0 at written.2 in
-    count_from_outside (closed_election d) options report.0 report.1 fault refused.1
+pub desk_from_outside : (rule : Rule) (d : DeskView) (text : List ℕ) → IsTextOf rule d text
+    → (fault : CountFault) → IsRefusedDesk d rule.options fault → IsOutsideFault (merged (Count fault))
+desk_from_outside rule d text written count.NoMemory refused = refl
+desk_from_outside rule d text written fault refused =
+    let report : IsReportOf rule (closed_election d) written.0 = rw refused.0 at written.2 in
+    let count = report.1 in
+    count_from_outside (closed_election d) rule.options count.0 count.1 fault refused.1
 
 -- what is known of a desk that an audit answered
 pub record IsAudited (files journals : Option (List ℕ)) (e : ElectionView) (d : DeskView) : Type 0 where
@@ -78,18 +77,19 @@ desk_of bytes journal e d is = record {
 }
 
 -- a desk has one text
-one_desk_text : (fills_up : Bool) (shut : Bool) (e : ElectionView) (options : CountOptions) (row a b first second : List ℕ)
-    → a ≡ row ++ first → b ≡ row ++ second → MatchBool shut (IsReportOf e options fills_up first) (first ≡ [])
-    → MatchBool shut (IsReportOf e options fills_up second) (second ≡ []) → a ≡ b
-one_desk_text fills_up true e options row a b first second is_a is_b one other =
-    is_a ∙ ap (λ (t : List ℕ). row ++ t) (one_report fills_up e options first second one other) ∙ sym is_b
-one_desk_text fills_up false e options row a b first second is_a is_b one other =
+one_desk_text : (rule : Rule) (shut : Bool) (e : ElectionView) (row a b first second : List ℕ)
+    → a ≡ row ++ first → b ≡ row ++ second → MatchBool shut (IsReportOf rule e first) (first ≡ [])
+    → MatchBool shut (IsReportOf rule e second) (second ≡ []) → a ≡ b
+one_desk_text rule true e row a b first second is_a is_b one other =
+    is_a ∙ ap (λ (t : List ℕ). row ++ t) (one_report rule e first second one other) ∙ sym is_b
+one_desk_text rule false e row a b first second is_a is_b one other =
     is_a ∙ ap (λ (t : List ℕ). row ++ t) (one ∙ sym other) ∙ sym is_b
 
-pub one_audit : (fills_up : Bool) (bytes journal : List ℕ) (options : CountOptions) (a b : List ℕ)
-    → AuditWrites bytes journal options fills_up a → AuditWrites bytes journal options fills_up b → a ≡ b
-one_audit fills_up bytes journal options a b first second =
+pub one_audit : (demand : Demand) (rule : Rule) (bytes journal : List ℕ) (a b : List ℕ)
+    → AuditWrites demand rule bytes journal a → AuditWrites demand rule bytes journal b → a ≡ b
+one_audit demand rule bytes journal a b first second =
     let d = first.0 in
-    let written = rw (one_desk bytes journal second.0 d second.1 first.1) at second.2 in
-    one_desk_text fills_up (standing_of d).is_shut (closed_election d) options (text_of_row (entries_row d)) a b first.2.0 written.0
-    first.2.1 written.1 first.2.2 written.2
+    let P : DeskView → Type 0 = λ d. IsTextOf rule d b in
+    let written = subst P (one_desk bytes journal second.0 d second.1 first.1) second.3 in
+    one_desk_text rule (standing_of d).is_shut (closed_election d) (text_of_row (entries_row d)) a b first.3.0 written.0
+    first.3.1 written.1 first.3.2 written.2

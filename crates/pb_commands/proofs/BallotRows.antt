@@ -1,5 +1,5 @@
 -- The rows of ballots, written one after the other.
-use Rattle.std.proofs.Common.{◌≡◌, ℕ, Bool, true, false, cond, List, [], ◌∷◌, ◌++◌, filter, map, append_assoc, append-nil, codes, decimal, Option, Ok, Err, refl, sym, ◌∙◌, ap}
+use Rattle.std.proofs.Common.{◌≡◌, ℕ, Bool, true, false, cond, List, [], ◌∷◌, ◌++◌, filter, map, append_assoc, append-nil, codes, decimal, Option, Ok, Err, sym, ◌∙◌, ap}
 use Rattle.std.specs.Prelude.{OnOk, Result}
 use Rattle.std.specs.Option.{option_map_or}
 use Rattle.csv.specs.Writing.{escaped, fields_text, is_blank}

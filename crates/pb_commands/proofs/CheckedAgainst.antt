@@ -1,12 +1,12 @@
 -- A check against a count: what it hands out is the election of the file, and how it fails.
-use Rattle.std.proofs.Common.{◌≡◌, ◌≢◌, ℕ, List, [], ◌∷◌, Option, Some, None, Ok, Err, refl, subst, arith}
+use Rattle.std.proofs.Common.{◌≡◌, ℕ, List, [], ◌∷◌, Option, Some, None, Ok, Err, refl, subst, arith}
 use Rattle.std.specs.Prelude.{IfErr, IfSome, IsErrAnd, Result}
 use Rattle.pb_core.specs.Election.{ElectionView}
 use Rattle.pb_read.specs.Listed.{IsHandedOut}
 use Rattle.pb_read.specs.StandsFor.{StandsFor}
 use Rattle.pb_read.specs.declared.fault.ReadFault.{ReadFault}
+use Rattle.pb_reasons.specs.Counted.{CountedView}
 use Rattle.pb_rounds.specs.Counted.{IsCountFault}
-use Rattle.pb_rounds.specs.Outcome.{OutcomeView}
 use Rattle.pb_rounds.specs.declared.count_fault.CountFault.{CountFault}
 use Rattle.pb_rounds.specs.declared.count_fault.CountFault.TheVariants as count
 use Rattle.pb_rounds.specs.declared.options.CountOptions.{CountOptions}
@@ -24,16 +24,16 @@ handed_stands records [] e handed = handed
 handed_stands records (first ∷ more) e handed = absurd handed
 
 -- where there is no fault, what is so of the election that is handed out, and of its count, is so of the file's
-handed_has : (Counts Compares : ElectionView → OutcomeView → Type 0) (records : List Fields) (faults : List ReadFault) (election : Option ElectionView) → IsHandedOut records faults election
-    → IfSome election (λ e. (o : OutcomeView) × Counts e o × Compares e o)
-    → faults ≡ [] → (e : ElectionView) × StandsFor records e × (o : OutcomeView) × Counts e o × Compares e o
+handed_has : (Counts Compares : ElectionView → CountedView → Type 0) (records : List Fields) (faults : List ReadFault) (election : Option ElectionView) → IsHandedOut records faults election
+    → IfSome election (λ e. (c : CountedView) × Counts e c × Compares e c)
+    → faults ≡ [] → (e : ElectionView) × StandsFor records e × (c : CountedView) × Counts e c × Compares e c
 handed_has Counts Compares records [] (Some e) handed has none = (e, handed, has.0, has.1, has.2)
 handed_has Counts Compares records [] None handed has none = absurd handed
 handed_has Counts Compares records (first ∷ more) election handed has none = absurd cc
 
-pub known_has : (Counts Compares : ElectionView → OutcomeView → Type 0) (known : Option (List ℕ)) (faults result : List ReadFault) (election : Option ElectionView)
-    → IfSome known (λ bytes. IsHandedOut (records_of bytes) faults election) → IfSome election (λ e. (o : OutcomeView) × Counts e o × Compares e o) → result ≡ faults
-    → IfSome known (λ bytes. result ≡ [] → (e : ElectionView) × StandsFor (records_of bytes) e × (o : OutcomeView) × Counts e o × Compares e o)
+pub known_has : (Counts Compares : ElectionView → CountedView → Type 0) (known : Option (List ℕ)) (faults result : List ReadFault) (election : Option ElectionView)
+    → IfSome known (λ bytes. IsHandedOut (records_of bytes) faults election) → IfSome election (λ e. (c : CountedView) × Counts e c × Compares e c) → result ≡ faults
+    → IfSome known (λ bytes. result ≡ [] → (e : ElectionView) × StandsFor (records_of bytes) e × (c : CountedView) × Counts e c × Compares e c)
 known_has Counts Compares None faults result election handed has same = tt
 known_has Counts Compares (Some bytes) faults result election handed has same = λ none.
     handed_has Counts Compares (records_of bytes) faults election handed has (subst (λ (x : List ReadFault). x ≡ []) same none)

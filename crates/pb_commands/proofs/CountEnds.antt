@@ -1,25 +1,25 @@
 -- How the count of what is read ends.
-use Rattle.std.proofs.Common.{◌≡◌, ◌≢◌, ◌∙◌, ℕ, Bool, List, Option, Some, None, Ok, Err, false, true, refl, sym, ap, subst}
-use Rattle.std.specs.Prelude.{IfErr, IfOk, IfSome, Result}
+use Rattle.std.proofs.Common.{◌≡◌, ◌≢◌, ◌∙◌, ℕ, List, Option, Some, None, Err, false, true, refl, sym, subst}
+use Rattle.std.specs.Prelude.{IfSome}
 use Rattle.pb_core.specs.Election.{ElectionView}
 use Rattle.pb_desk.specs.Desk.{DeskView, closed_election, standing_of}
 use Rattle.pb_read.specs.declared.warning.Warning.{Warning}
-use Rattle.pb_reasons.specs.Counted.{CountedView, counted}
 use Rattle.pb_rounds.specs.Counted.{IsCountFault, IsCountOf}
 use Rattle.pb_rounds.specs.Outcome.{OutcomeView}
 use Rattle.pb_rounds.specs.declared.count_fault.CountFault.{CountFault}
 use Rattle.pb_rounds.specs.declared.count_fault.CountFault.TheVariants as count
 use Rattle.pb_rounds.specs.declared.options.CountOptions.{CountOptions}
 use Rattle.pb_commands.proofs.Accepted.{count_again, count_from_outside}
-use Rattle.pb_commands.proofs.Endings.{Bars, FailsAs, IsElectionFile, IsLate, given_end, known_all, known_map, late_end, memory_end, passed_on}
+use Rattle.pb_commands.proofs.Endings.{Bars, FailsAs, IsElectionFile, IsLate, given_end, known_map, late_end, passed_on}
 use Rattle.pb_commands.proofs.InputEnds.{file_of, journal_leaves_none, one_left, open_ends}
 use Rattle.pb_commands.specs.Audited.{IsDeskOf}
-use Rattle.pb_commands.specs.Closed.{CountRefuses, CountsAs, Leaves, LeavesNone, MayBeOpen}
-use Rattle.pb_commands.specs.Ends.{Ends, FailsBy, IfBothKnown, IsOutsideFault}
+use Rattle.pb_commands.specs.Closed.{CountRefuses, CountsAs, Demanding, Leaves, LeavesNone}
+use Rattle.pb_commands.specs.declared.demand.Demand.TheVariants.{Any}
+use Rattle.pb_commands.specs.Ends.{Ends, IfBothKnown, IsOutsideFault}
 use Rattle.pb_commands.specs.Inner.Audited.{IsRefusedDesk}
 use Rattle.pb_faults.specs.Fault.{merged}
 use Rattle.pb_faults.specs.declared.fault.AppFault.{AppFault}
-use Rattle.pb_faults.specs.declared.fault.AppFault.TheVariants.{Audit, Count, Memory, OpenDesk, Warned, Write}
+use Rattle.pb_faults.specs.declared.fault.AppFault.TheVariants.{Count, OpenDesk, Write}
 
 pub count_late : (fault : CountFault) → IsLate (merged (Count fault))
 count_late count.NoMemory = tt
@@ -74,10 +74,10 @@ module _ (options : CountOptions) (files : Option (List ℕ)) (warning : Option 
     abbrev Refuses : List ℕ → List ℕ → ElectionView → AppFault → Type 0
     Refuses bytes rows = CountRefuses options bytes (Some rows)
 
-    pub desk_passes : {T A : Type 0} (fault : AppFault) → fault ≢ Write → Ends {T = T} IsDeskOf (λ bytes rows. MayBeOpen (LeavesNone bytes (Some rows))) files journals warning (Err fault)
+    pub desk_passes : {T A : Type 0} (fault : AppFault) → fault ≢ Write → Ends {T = T} IsDeskOf (λ bytes rows. Demanding Any (LeavesNone bytes (Some rows))) files journals warning (Err fault)
         → Ends {T = A} (λ bytes rows. CountsAs options bytes (Some rows)) (λ bytes rows. CountRefuses options bytes (Some rows)) files journals warning (Err fault)
     desk_passes fault reads ends =
-        passed_on (λ (rows : List ℕ). rows) IsDeskOf (λ bytes rows. MayBeOpen (LeavesNone bytes (Some rows))) Gives Refuses files journals journals warning fault (λ rows is. is)
+        passed_on (λ (rows : List ℕ). rows) IsDeskOf (λ bytes rows. Demanding Any (LeavesNone bytes (Some rows))) Gives Refuses files journals journals warning fault (λ rows is. is)
         (λ bytes rows e refused. none_counted options bytes (Some rows) e fault (journal_leaves_none bytes rows e fault refused)) (λ bytes rows x counts. (counts.0.0, counts.0.1)) reads ends
 
     pub open_counts : {T : Type 0} (d : DeskView) → IfBothKnown files journals (λ bytes rows. IsDeskOf bytes rows d) → (standing_of d).is_shut ≡ false

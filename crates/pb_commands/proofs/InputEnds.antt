@@ -20,13 +20,14 @@ use Rattle.pb_rows.specs.Reading.{records_of}
 use Rattle.pb_script.specs.Serving.{program_room}
 use Rattle.pb_commands.proofs.Accepted.{audit_again, read_again, read_from_outside}
 use Rattle.pb_commands.proofs.AuditAccepted.{IsAudited, desk_of, journal_from_outside, one_desk}
-use Rattle.pb_commands.proofs.Endings.{Bars, FailsAs, IsElectionFile, IsLate, given, given_end, known_all, known_map, late_end, memory_end, passed_on}
+use Rattle.pb_commands.proofs.Endings.{Bars, FailsAs, IsElectionFile, IsLate, given, given_end, known_map, late_end, memory_end, passed_on}
 use Rattle.pb_commands.specs.Audited.{IsDeskOf}
-use Rattle.pb_commands.specs.Closed.{Leaves, LeavesNone, MayBeOpen}
+use Rattle.pb_commands.specs.Closed.{Demanding, Leaves, LeavesNone}
+use Rattle.pb_commands.specs.declared.demand.Demand.TheVariants.{Any}
 use Rattle.pb_commands.specs.Ends.{Ends, IfBothKnown, IsOutsideFault, Judges}
 use Rattle.pb_faults.specs.Fault.{merged}
 use Rattle.pb_faults.specs.declared.fault.AppFault.{AppFault}
-use Rattle.pb_faults.specs.declared.fault.AppFault.TheVariants.{Read, Script, ClerkCount, Audit, OtherFile, OpenDesk, Count, Export, Open, Write, Memory, Warned, Roll}
+use Rattle.pb_faults.specs.declared.fault.AppFault.TheVariants.{Read, Audit, OpenDesk, Write, Memory, Warned}
 
 pub is_file : (files : Option (List ℕ)) (e : ElectionView) → IfSome files (λ bytes. StandsFor (records_of bytes) e) → IfSome files (λ bytes. IsElectionFile bytes)
 is_file None e stands = tt
@@ -103,16 +104,16 @@ module _ (files : Option (List ℕ)) (warning : Option Warning) where
   }
 
 -- what refuses the file alone refuses its desk
-own_refuses : (bytes rows : List ℕ) (e : ElectionView) (fault : AppFault) → LeavesNone bytes None e fault → MayBeOpen (LeavesNone bytes (Some rows)) e fault
+own_refuses : (bytes rows : List ℕ) (e : ElectionView) (fault : AppFault) → LeavesNone bytes None e fault → Demanding Any (LeavesNone bytes (Some rows)) e fault
 own_refuses bytes rows e (Warned warning) refused = tt
 own_refuses bytes rows e fault refused = absurd refused
 
 -- the desk of a file and a journal
 module _ (files journals : Option (List ℕ)) (warning : Option Warning) where
   pub desk_passes : {T A : Type 0} (fault : AppFault) → fault ≢ Write → Ends {T = T} Leaves LeavesNone files (Some None) warning (Err fault)
-      → Ends {T = A} IsDeskOf (λ bytes rows. MayBeOpen (LeavesNone bytes (Some rows))) files journals warning (Err fault)
+      → Ends {T = A} IsDeskOf (λ bytes rows. Demanding Any (LeavesNone bytes (Some rows))) files journals warning (Err fault)
   desk_passes fault reads ends =
-      passed_on (λ rows. None) Leaves LeavesNone IsDeskOf (λ bytes rows. MayBeOpen (LeavesNone bytes (Some rows))) files (Some None) journals warning fault (λ rows is. refl)
+      passed_on (λ rows. None) Leaves LeavesNone IsDeskOf (λ bytes rows. Demanding Any (LeavesNone bytes (Some rows))) files (Some None) journals warning fault (λ rows is. refl)
       (λ bytes rows e refused. own_refuses bytes rows e fault refused) (λ bytes rows d is. (d.opening.election, is.stands)) reads ends
 
   journal_late : (fault : AuditFault) → IsLate (merged (Audit fault))
@@ -120,7 +121,7 @@ module _ (files journals : Option (List ℕ)) (warning : Option Warning) where
   journal_late fault = tt
 
   journal_fails : (e : ElectionView) (fault : AuditFault) (bytes rows : List ℕ) → StandsFor (records_of bytes) e → IsFaultOfJournal e program_room (records_of rows) fault
-      → FailsAs IsDeskOf (λ bytes rows. MayBeOpen (LeavesNone bytes (Some rows))) (merged (Audit fault)) bytes rows
+      → FailsAs IsDeskOf (λ bytes rows. Demanding Any (LeavesNone bytes (Some rows))) (merged (Audit fault)) bytes rows
   journal_fails e audit.NoMemory bytes rows stands fails = tt
   journal_fails e fault bytes rows stands fails = (e, stands, fails)
 
@@ -141,12 +142,12 @@ module _ (files journals : Option (List ℕ)) (warning : Option Warning) where
 
   pub journal_ends : {T : Type 0} (e : ElectionView) (fault : AuditFault) (r : Result T AppFault) → IsErrAnd r (λ app. app ≡ merged (Audit fault))
       → IfSome files (λ bytes. StandsFor (records_of bytes) e) → IfSome journals (λ rows. IsFaultOfJournal e program_room (records_of rows) fault) → warning ≡ None
-      → Ends {T = T} IsDeskOf (λ bytes rows. MayBeOpen (LeavesNone bytes (Some rows))) files journals warning r
+      → Ends {T = T} IsDeskOf (λ bytes rows. Demanding Any (LeavesNone bytes (Some rows))) files journals warning r
   journal_ends e fault r is stands fails none =
-      given_end IsDeskOf (λ bytes rows. MayBeOpen (LeavesNone bytes (Some rows))) files journals warning r (merged (Audit fault)) is
-      (late_end IsDeskOf (λ bytes rows. MayBeOpen (LeavesNone bytes (Some rows))) files journals warning (merged (Audit fault)) (journal_late fault) (audit_again fault) (is_file files e stands) none
-      (both (FailsAs IsDeskOf (λ bytes rows. MayBeOpen (LeavesNone bytes (Some rows))) (merged (Audit fault))) e fault files journals stands fails (journal_fails e fault))
-      (both (Bars IsDeskOf (λ bytes rows. MayBeOpen (LeavesNone bytes (Some rows))) (merged (Audit fault))) e fault files journals stands fails (journal_bars e fault)))
+      given_end IsDeskOf (λ bytes rows. Demanding Any (LeavesNone bytes (Some rows))) files journals warning r (merged (Audit fault)) is
+      (late_end IsDeskOf (λ bytes rows. Demanding Any (LeavesNone bytes (Some rows))) files journals warning (merged (Audit fault)) (journal_late fault) (audit_again fault) (is_file files e stands) none
+      (both (FailsAs IsDeskOf (λ bytes rows. Demanding Any (LeavesNone bytes (Some rows))) (merged (Audit fault))) e fault files journals stands fails (journal_fails e fault))
+      (both (Bars IsDeskOf (λ bytes rows. Demanding Any (LeavesNone bytes (Some rows))) (merged (Audit fault))) e fault files journals stands fails (journal_bars e fault)))
 
   pub desk_is : (e : ElectionView) (d : DeskView) → IsAudited files journals e d → IfBothKnown files journals (λ bytes rows. IsDeskOf bytes rows d)
   desk_is e d audited = by files journals audited
@@ -157,7 +158,7 @@ module _ (files journals : Option (List ℕ)) (warning : Option Warning) where
       by (Some bytes) (Some rows) audited = desk_of bytes rows e d audited
 
 -- what refuses a desk refuses what it leaves
-pub journal_leaves_none : (bytes rows : List ℕ) (e : ElectionView) (fault : AppFault) → MayBeOpen (LeavesNone bytes (Some rows)) e fault → LeavesNone bytes (Some rows) e fault
+pub journal_leaves_none : (bytes rows : List ℕ) (e : ElectionView) (fault : AppFault) → Demanding Any (LeavesNone bytes (Some rows)) e fault → LeavesNone bytes (Some rows) e fault
 journal_leaves_none bytes rows e OpenDesk refused = absurd refused
 journal_leaves_none bytes rows e fault refused = refused
 
@@ -166,10 +167,10 @@ module _ (files journals : Option (List ℕ)) (warning : Option Warning) where
   abbrev pub IsLeft : List ℕ → List ℕ → ElectionView → Type 0
   IsLeft bytes rows = Leaves bytes (Some rows)
 
-  pub left_passes : {T A : Type 0} (fault : AppFault) → fault ≢ Write → Ends {T = T} IsDeskOf (λ bytes rows. MayBeOpen (LeavesNone bytes (Some rows))) files journals warning (Err fault)
+  pub left_passes : {T A : Type 0} (fault : AppFault) → fault ≢ Write → Ends {T = T} IsDeskOf (λ bytes rows. Demanding Any (LeavesNone bytes (Some rows))) files journals warning (Err fault)
       → Ends {T = A} (λ bytes rows. Leaves bytes (Some rows)) (λ bytes rows. LeavesNone bytes (Some rows)) files journals warning (Err fault)
   left_passes fault reads ends =
-      passed_on (λ (rows : List ℕ). rows) IsDeskOf (λ bytes rows. MayBeOpen (LeavesNone bytes (Some rows))) (λ bytes rows. Leaves bytes (Some rows)) (λ bytes rows. LeavesNone bytes (Some rows)) files journals journals warning fault
+      passed_on (λ (rows : List ℕ). rows) IsDeskOf (λ bytes rows. Demanding Any (LeavesNone bytes (Some rows))) (λ bytes rows. Leaves bytes (Some rows)) (λ bytes rows. LeavesNone bytes (Some rows)) files journals journals warning fault
       (λ rows is. is) (λ bytes rows e refused. journal_leaves_none bytes rows e fault refused) (λ bytes rows e leaves. (leaves.0, leaves.1)) reads ends
 
   open_bars : (d : DeskView) → (standing_of d).is_shut ≡ false → (bytes rows : List ℕ) → IsDeskOf bytes rows d → (e : ElectionView) → Leaves bytes (Some rows) e → IsOutsideFault OpenDesk

@@ -11,6 +11,7 @@ use Rattle.pb_reasons.specs.Reasons.{project_reason, voter_payments, voter_reaso
 use Rattle.pb_reasons.specs.declared.payment.Payment.{Payment}
 use Rattle.pb_reasons.specs.declared.project_reason.ProjectReason.{ProjectReason}
 use Rattle.pb_reasons.specs.declared.voter_reason.VoterReason.{VoterReason}
+use Rattle.pb_rounds.specs.RuleNames.{fills_up}
 use Rattle.pb_rows.specs.Reading.{Fields}
 use Rattle.pb_rows.specs.Writing.{text_of_row, text_of_rows}
 use Rattle.pb_commands.proofs.ReportSums.{id_at-known}
@@ -37,12 +38,12 @@ name_at-known e place p known is = get_or-map (λ (q : ProjectView). q.name) e.p
 -- the row of a project, as it is written
 pub project_row_read : (e : ElectionView) (c : CountedView) (place : ℕ) (p : ProjectView) → place < length e.projects → p ≡ get_or e.projects place p
     → (reason : ProjectReason) → reason ≡ project_reason e c place
-    → take (if c.fills_up then 12 else 11) (decimal place ∷ p.id ∷ p.name ∷ money_text p.cost ∷ decimal reason.votes ∷ ending_fields reason.ending) ≡ project_table_row e c place
+    → take (if fills_up c.fill_up then 12 else 11) (decimal place ∷ p.id ∷ p.name ∷ money_text p.cost ∷ decimal reason.votes ∷ ending_fields reason.ending) ≡ project_table_row e c place
 project_row_read e c place p known is reason reason_is =
-    ap (λ (r : ProjectReason). take (if c.fills_up then 12 else 11) (decimal place ∷ p.id ∷ p.name ∷ money_text p.cost ∷ decimal r.votes ∷ ending_fields r.ending)) reason_is
-    ∙ ap (λ id. take (if c.fills_up then 12 else 11) (decimal place ∷ id ∷ p.name ∷ money_text p.cost ∷ decimal (project_reason e c place).votes ∷ ending_fields (project_reason e c place).ending)) (sym (id_at-known e place p known is))
-    ∙ ap (λ name. take (if c.fills_up then 12 else 11) (decimal place ∷ get_or (project_ids e) place [] ∷ name ∷ money_text p.cost ∷ decimal (project_reason e c place).votes ∷ ending_fields (project_reason e c place).ending)) (sym (name_at-known e place p known is))
-    ∙ ap (λ cost. take (if c.fills_up then 12 else 11) (decimal place ∷ get_or (project_ids e) place [] ∷ name_at e place ∷ money_text cost ∷ decimal (project_reason e c place).votes ∷ ending_fields (project_reason e c place).ending)) (sym (cost_at-known e place p known is))
+    ap (λ (r : ProjectReason). take (if fills_up c.fill_up then 12 else 11) (decimal place ∷ p.id ∷ p.name ∷ money_text p.cost ∷ decimal r.votes ∷ ending_fields r.ending)) reason_is
+    ∙ ap (λ id. take (if fills_up c.fill_up then 12 else 11) (decimal place ∷ id ∷ p.name ∷ money_text p.cost ∷ decimal (project_reason e c place).votes ∷ ending_fields (project_reason e c place).ending)) (sym (id_at-known e place p known is))
+    ∙ ap (λ name. take (if fills_up c.fill_up then 12 else 11) (decimal place ∷ get_or (project_ids e) place [] ∷ name ∷ money_text p.cost ∷ decimal (project_reason e c place).votes ∷ ending_fields (project_reason e c place).ending)) (sym (name_at-known e place p known is))
+    ∙ ap (λ cost. take (if fills_up c.fill_up then 12 else 11) (decimal place ∷ get_or (project_ids e) place [] ∷ name_at e place ∷ money_text cost ∷ decimal (project_reason e c place).votes ∷ ending_fields (project_reason e c place).ending)) (sym (cost_at-known e place p known is))
 
 -- the row of a voter, as it is written
 pub voter_row_read : (e : ElectionView) (c : CountedView) (voter : ℕ) (v : VoterView) → voter < length e.voters → v ≡ get_or e.voters voter v

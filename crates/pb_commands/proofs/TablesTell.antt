@@ -1,5 +1,5 @@
 -- What the tables of a count tell, and that they agree with its report.
-use Rattle.std.proofs.Common.{◌≡◌, Bool, ℕ, ◌+◌, ◌-◌, ◌<◌, ◌≤◌, List, [], ◌∷◌, length, get_or, false, Some, refl, sym, ◌∙◌, ap, inl, inr, arith}
+use Rattle.std.proofs.Common.{◌≡◌, ℕ, ◌+◌, ◌-◌, ◌<◌, ◌≤◌, List, [], ◌∷◌, length, get_or, false, Some, refl, sym, ◌∙◌, ap, inl, inr, arith}
 use Rattle.std.specs.Prelude.{◌==◌, count_by, slice_get, slice_index, sum, sum_by}
 use Rattle.std.specs.List.{AllZip, range_with_len}
 use Rattle.std.proofs.lemmas.Bool.{cases_lt, eq-eqb, lt-ltb, or_parts, true≢false}
@@ -13,18 +13,16 @@ use Rattle.pb_price.specs.Supporters.{SupportView, cost_at, support_of, supporte
 use Rattle.pb_reasons.proofs.Due.{round_is}
 use Rattle.pb_reasons.proofs.Told.{elected_has_round}
 use Rattle.pb_rounds.specs.MostVotes.{is_taken}
-use Rattle.pb_reasons.specs.Counted.{counted, is_selected}
+use Rattle.pb_reasons.specs.Counted.{CountedView, IsCounted, is_selected}
 use Rattle.pb_reasons.specs.Reasons.{all_payments, ending_of, paid_for, project_reason, round_of, voter_reason}
 use Rattle.pb_reasons.specs.declared.project_reason.Ending.TheVariants as ending
 use Rattle.pb_reasons.specs.declared.project_reason.Lost.{Lost}
 use Rattle.pb_reasons.specs.declared.project_reason.Won.{Won}
 use Rattle.pb_rounds.proofs.Counted.{is_computed}
 use Rattle.pb_rounds.specs.Count.{spent_on}
-use Rattle.pb_rounds.specs.Counted.{IsCountOf}
-use Rattle.pb_rounds.specs.Outcome.{OutcomeView, settled}
+use Rattle.pb_rounds.specs.Outcome.{settled}
 use Rattle.pb_rounds.specs.PriceSystem.{PaysFor}
 use Rattle.pb_rounds.specs.Run.{ElectedView, is_elected}
-use Rattle.pb_rounds.specs.declared.options.CountOptions.{CountOptions}
 use Rattle.pb_reasons.proofs.ElectedPlaces.{count_elects_projects}
 use Rattle.pb_reasons.proofs.Tellable.{count_can_be_told}
 use Rattle.pb_reasons.specs.Totals.{collected_for, totals_of}
@@ -36,14 +34,14 @@ no_round elected place none = elim (cases_lt (round_of elected place) (length el
   | inr more ↦ more
 ]
 
-pub missing_told : (e : ElectionView) (options : CountOptions) (fills_up : Bool) (o : OutcomeView) (place : ℕ) → IsElection e → IsCountOf e options o → place < length e.projects
-    → is_selected (counted e fills_up o) place ≡ false
-    → (lost : Lost) × ((project_reason e (counted e fills_up o) place).ending ≡ ending.Lost lost) × (0 < lost.missing) × (lost.left + lost.missing ≡ cost_at (support_of e) place)
-missing_told e options fills_up o place h is_count known unselected =
-    let c = counted e fills_up o in
+pub missing_told : (e : ElectionView) (c : CountedView) (place : ℕ) → IsElection e → IsCounted e c → place < length e.projects
+    → is_selected c place ≡ false
+    → (lost : Lost) × ((project_reason e c place).ending ≡ ending.Lost lost) × (0 < lost.missing) × (lost.left + lost.missing ≡ cost_at (support_of e) place)
+missing_told e c place h is_count known unselected =
+    let o = c.outcome in
     let parts = or_parts (is_elected o.elected place) (is_taken c.added place) unselected in
     let none = parts.0 in
-    let told = count_can_be_told e options o h is_count in
+    let told = count_can_be_told e is_count.0 c.outcome h is_count.1 in
     let past = no_round o.elected place none in
     let costs : length (support_of e).costs ≡ length e.projects = simp length-map in
     let left = total_rest (supporters_at (support_of e) place) o.rests in
@@ -56,9 +54,9 @@ missing_told e options fills_up o place h is_count known unselected =
       omega (arith, short),
     )
 
-pub share_told : (e : ElectionView) (options : CountOptions) (fills_up : Bool) (o : OutcomeView) (voter : ℕ) → IsElection e → IsCountOf e options o → voter < length e.voters
-    → (voter_reason e (counted e fills_up o) voter).paid + (voter_reason e (counted e fills_up o) voter).left ≡ o.share
-share_told e options fills_up o voter h is_count known = (count_can_be_told e options o h is_count).price_system.endowed voter known
+pub share_told : (e : ElectionView) (c : CountedView) (voter : ℕ) → IsElection e → IsCounted e c → voter < length e.voters
+    → (voter_reason e c voter).paid + (voter_reason e c voter).left ≡ c.outcome.share
+share_told e c voter h is_count known = (count_can_be_told e is_count.0 c.outcome h is_count.1).price_system.endowed voter known
 
 read_here : (elected : List ElectedView) (round : ℕ) (w : ElectedView) → slice_get elected round ≡ Some w → (round < length elected) × (get_or elected round w ≡ w)
 read_here elected round w is = elim (cases_lt round (length elected)) [
@@ -66,14 +64,15 @@ read_here elected round w is = elim (cases_lt round (length elected)) [
   | inr more ↦ absurd (none-some _ (sym (slice_get_past elected round more) ∙ is))
 ]
 
-pub elected_told : (e : ElectionView) (options : CountOptions) (fills_up : Bool) (o : OutcomeView) (round : ℕ) (w : ElectedView) → IsElection e → IsCountOf e options o → slice_get o.elected round ≡ Some w
-    → (won : Won) × ((project_reason e (counted e fills_up o) w.place).ending ≡ ending.Won won) × (won.round ≡ round + 1) × (won.price ≡ w.price) × (won.collected ≡ w.collected)
-elected_told e options fills_up o round w h is_count is =
-    let places = count_elects_projects e options (settled o) (is_computed e options o is_count) in
+pub elected_told : (e : ElectionView) (c : CountedView) (round : ℕ) (w : ElectedView) → IsElection e → IsCounted e c → slice_get c.outcome.elected round ≡ Some w
+    → (won : Won) × ((project_reason e c w.place).ending ≡ ending.Won won) × (won.round ≡ round + 1) × (won.price ≡ w.price) × (won.collected ≡ w.collected)
+elected_told e c round w h is_count is =
+    let o = c.outcome in
+    let places = count_elects_projects e is_count.0 (settled o) (is_computed e is_count.0 o is_count.1) in
     let here = read_here o.elected round w is in
     let numbered = round_is o.elected places.apart round w here.0 here.1 in (
       record { round = round_of o.elected w.place + 1; price = w.price; collected = w.collected; in_full = count_by (λ voter. paid_for e o w.place voter == w.price) (supporters_at (support_of e) w.place) },
-      ap (ending_of e (counted e fills_up o) w.place) (ap (slice_get o.elected) numbered ∙ is),
+      ap (ending_of e c w.place) (ap (slice_get o.elected) numbered ∙ is),
       ap (λ n. n + 1) numbered,
       refl,
       refl,
@@ -115,11 +114,12 @@ spent_within s rests (w ∷ elected) [] all = absurd all
 spent_within s rests (w ∷ elected) (row ∷ rows) all =
     omega (arith, spent_within s rests elected rows all.1, all.0.covered, sum_by-cons (λ (w : ElectedView). w.collected) w elected, sum_by-cons (λ (w : ElectedView). cost_at s w.place) w elected)
 
-pub paid_told : (e : ElectionView) (options : CountOptions) (fills_up : Bool) (o : OutcomeView) → IsElection e → IsCountOf e options o
-    → (sum_by (λ voter. (voter_reason e (counted e fills_up o) voter).paid) (range_with_len 0 (length e.voters)) ≡ collected_for o.elected)
-    × ((totals_of e (counted e fills_up o)).spent + (totals_of e (counted e fills_up o)).surplus ≡ collected_for o.elected + sum_by (cost_at (support_of e)) (counted e fills_up o).added)
-paid_told e options fills_up o h is_count =
-    let told = count_can_be_told e options o h is_count in
+pub paid_told : (e : ElectionView) (c : CountedView) → IsElection e → IsCounted e c
+    → (sum_by (λ voter. (voter_reason e c voter).paid) (range_with_len 0 (length e.voters)) ≡ collected_for c.outcome.elected)
+    × ((totals_of e c).spent + (totals_of e c).surplus ≡ collected_for c.outcome.elected + sum_by (cost_at (support_of e)) c.added)
+paid_told e c h is_count =
+    let o = c.outcome in
+    let told = count_can_be_told e is_count.0 c.outcome h is_count.1 in
     let all = columns_sum (support_of e) o.rests o.elected (all_payments e o) told.price_system.paid in
     let within = spent_within (support_of e) o.rests o.elected (all_payments e o) told.price_system.paid in
     (all, omega (arith, within))

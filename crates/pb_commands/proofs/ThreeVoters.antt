@@ -1,5 +1,5 @@
 -- The definitions, computed on an election of three voters.
-use Rattle.std.proofs.Common.{◌≡◌, false, [], ◌∷◌, None, codes, refl}
+use Rattle.std.proofs.Common.{◌≡◌, [], ◌∷◌, None, codes, refl}
 use Rattle.csv.specs.Writing.{escaped, fields_text, is_blank}
 use Rattle.std.specs.Fmt.{digits}
 use Rattle.pb_core.specs.Election.{ElectionView}
@@ -7,6 +7,7 @@ use Rattle.pb_price.specs.Supporters.{supporters_of}
 use Rattle.pb_read.specs.declared.fault.ReadKind.TheVariants.{MoneyTooFine}
 use Rattle.pb_reasons.specs.Counted.{counted}
 use Rattle.pb_rounds.specs.Outcome.{OutcomeView}
+use Rattle.pb_rounds.specs.declared.rule.FillUp.TheVariants.{Nothing}
 use Rattle.pb_rows.specs.Writing.{text_of_row, text_of_rows}
 use Rattle.pb_faults.specs.Fault.{line, merged, told}
 use Rattle.pb_commands.specs.Report.{report_of}
@@ -31,7 +32,7 @@ o = record {
   priced = [];
 }
 
-report : report_of e (counted e false o) ≡ codes "budget;100.00\nvoters;3\nshare;38.33\nraises;5\nelected;a;30.00;15.00\nelected;b;60.00;36.67\nspent;90.00\nsurplus;0.00\n"
+report : report_of e (counted e Nothing o) ≡ codes "budget;100.00\nvoters;3\nshare;38.33\nraises;5\nelected;a;30.00;15.00\nelected;b;60.00;36.67\nspent;90.00\nsurplus;0.00\n"
 unfolding report_of text_of_rows text_of_row fields_text is_blank escaped digits supporters_of
 report = refl
 

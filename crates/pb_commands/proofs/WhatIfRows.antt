@@ -1,5 +1,5 @@
 -- The rows of changed elections, and the place of the project that is asked about.
-use Rattle.std.proofs.Common.{◌≡◌, ◌∙◌, ◌++◌, ◌<◌, ◌==◌, ℕ, List, [], ◌∷◌, Bool, Ok, Err, if◌then◌else◌, Some, length, map, refl, sym, ap}
+use Rattle.std.proofs.Common.{◌≡◌, ◌∙◌, ◌++◌, ◌<◌, ℕ, List, [], ◌∷◌, Bool, Ok, Err, if◌then◌else◌, Some, length, map, refl, sym, ap}
 use Rattle.std.specs.List.{slice_get, slice_index_or}
 use Rattle.std.specs.Option.{option_map}
 use Rattle.std.specs.Prelude.{OnOk, Result}

@@ -1,14 +1,16 @@
 -- What a run of `audit` writes.
-use Rattle.std.specs.Prelude.{◌≡◌, ℕ, ◌++◌, Bool, MatchBool, List, []}
+use Rattle.std.specs.Prelude.{◌≡◌, ℕ, ◌++◌, MatchBool, List, [], true}
 use Rattle.pb_desk.specs.Audit.{IsSound}
 use Rattle.pb_desk.specs.Desk.{DeskView, closed_election, standing_of}
 use Rattle.pb_desk.specs.Rows.{journal_rows}
 use Rattle.pb_read.specs.StandsFor.{StandsFor}
-use Rattle.pb_rounds.specs.declared.options.CountOptions.{CountOptions}
+use Rattle.pb_rounds.specs.declared.rule.Rule.{Rule}
 use Rattle.pb_rows.specs.Reading.{records_of}
 use Rattle.pb_rows.specs.Writing.{text_of_row}
 use Rattle.pb_script.specs.Serving.{program_room}
 use Rattle.pb_commands.specs.Counted.{IsReportOf}
+use Rattle.pb_commands.specs.declared.demand.Demand.{Demand}
+use Rattle.pb_commands.specs.declared.demand.Demand.TheVariants.{Shut}
 use Rattle.pb_faults.specs.DeskRow.{entries_row}
 
 -- these bytes, read as a file and as a journal, are those of a desk of either version: the file stands for
@@ -19,11 +21,13 @@ pub record IsDeskOf (bytes journal : List ℕ) (d : DeskView) : Type 0 where
   pub rows : records_of journal ≡ journal_rows d.opening.version d.journal
   pub sound : IsSound d.opening d.room d.journal
 
--- what is written of a desk: its row, and then, where it is shut, the report of the ballots that its journal leaves
-abbrev pub IsTextOf : DeskView → CountOptions → (fills_up : Bool) → List ℕ → Type 0
-IsTextOf d options fills_up text = (report : List ℕ) × (text ≡ text_of_row (entries_row d) ++ report)
-    × MatchBool (standing_of d).is_shut (IsReportOf (closed_election d) options fills_up report) (report ≡ [])
+-- what is written of a desk: its row, and then, where it is shut, the report of the ballots that its journal
+-- leaves
+abbrev pub IsTextOf : Rule → DeskView → List ℕ → Type 0
+IsTextOf rule d text = (report : List ℕ) × (text ≡ text_of_row (entries_row d) ++ report)
+    × MatchBool (standing_of d).is_shut (IsReportOf rule (closed_election d) report) (report ≡ [])
 
--- what these bytes make a run of `audit` write
-abbrev pub AuditWrites : List ℕ → List ℕ → CountOptions → (fills_up : Bool) → List ℕ → Type 0
-AuditWrites bytes journal options fills_up text = (d : DeskView) × IsDeskOf bytes journal d × IsTextOf d options fills_up text
+-- what these bytes make a run of `audit` write: of a shut desk, where one is demanded
+abbrev pub AuditWrites : Demand → Rule → List ℕ → List ℕ → List ℕ → Type 0
+AuditWrites demand rule bytes journal text =
+    (d : DeskView) × IsDeskOf bytes journal d × (demand ≡ Shut → (standing_of d).is_shut ≡ true) × IsTextOf rule d text

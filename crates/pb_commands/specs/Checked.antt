@@ -22,8 +22,8 @@ IsTextOfCheck faults text =
     (warnings : List Fields)
     × (text ≡ text_of_rows (map fault_row faults ++ map (λ row. codes "warning" ∷ row) warnings))
 
--- why a check against a count fails: the count of such an election is refused; or the fault comes from outside, as out of
--- memory does in a count too
+-- why a check against a count fails: the count of such an election is refused; or the fault comes from
+-- outside, as out of memory does in a count too
 abbrev pub CheckFails : (ElectionView → Type 0) → CountOptions → AppFault → Type 0
 CheckFails IsIt options (Count count.NoMemory) = ⊥
 CheckFails IsIt options (Count fault) = (e : ElectionView) × IsIt e × IsCountFault e options fault

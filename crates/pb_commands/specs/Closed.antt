@@ -10,10 +10,13 @@ use Rattle.pb_rounds.specs.declared.options.CountOptions.{CountOptions}
 use Rattle.pb_rows.specs.Reading.{records_of}
 use Rattle.pb_script.specs.Serving.{program_room}
 use Rattle.pb_commands.specs.Audited.{IsDeskOf}
+use Rattle.pb_commands.specs.declared.demand.Demand.{Demand}
+use Rattle.pb_commands.specs.declared.demand.Demand.TheVariants.{Any}
 use Rattle.pb_faults.specs.declared.fault.AppFault.{AppFault}
 use Rattle.pb_faults.specs.declared.fault.AppFault.TheVariants.{Audit, Count, OpenDesk, Warned}
 
--- these bytes, read as a file, stand for this election; or, where a journal is read too, its shut desk leaves it
+-- these bytes, read as a file, stand for this election; or, where a journal is read too, its shut desk leaves
+-- it
 abbrev pub Leaves : List ℕ → Option (List ℕ) → ElectionView → Type 0
 Leaves bytes None e = StandsFor (records_of bytes) e
 Leaves bytes (Some journal) e =
@@ -27,8 +30,8 @@ WritesOf IsSuch bytes journal text = (e : ElectionView) × Leaves bytes journal 
 abbrev pub CountsAs : CountOptions → List ℕ → Option (List ℕ) → ElectionView × OutcomeView → Type 0
 CountsAs options bytes journal x = Leaves bytes journal x.0 × IsCountOf x.0 options x.1
 
--- why these bytes leave no election to count, once the file stands for one: the journal's first fault; or its desk is
--- open; or a warning, of which `Judges` says when
+-- why these bytes leave no election to count, once the file stands for one: the journal's first fault; or its
+-- desk is open; or a warning, of which `Judges` says when
 abbrev pub LeavesNone : List ℕ → Option (List ℕ) → ElectionView → AppFault → Type 0
 LeavesNone bytes (Some journal) e (Audit fault) = IsFaultOfJournal e program_room (records_of journal) fault
 LeavesNone bytes (Some journal) e OpenDesk =
@@ -42,7 +45,8 @@ CountRefuses options bytes journal e (Count fault) =
     (left : ElectionView) × Leaves bytes journal left × IsCountFault left options fault
 CountRefuses options bytes journal e fault = LeavesNone bytes journal e fault
 
--- what refuses so where the desk may be open
-abbrev pub MayBeOpen : (ElectionView → AppFault → Type 0) → ElectionView → AppFault → Type 0
-MayBeOpen Refuses e OpenDesk = ⊥
-MayBeOpen Refuses e fault = Refuses e fault
+-- the same refusals, where this is demanded of the desk: an open one is refused only where a shut one is
+-- demanded
+abbrev pub Demanding : Demand → (ElectionView → AppFault → Type 0) → ElectionView → AppFault → Type 0
+Demanding Any Refuses e OpenDesk = ⊥
+Demanding demand Refuses e fault = Refuses e fault

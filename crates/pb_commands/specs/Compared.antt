@@ -1,5 +1,6 @@
 -- The tables that put a count beside most votes first.
-use Rattle.std.specs.Prelude.{ℕ, List, [], ◌∷◌, ◌++◌, codes, decimal, if◌then◌else◌, length, map, slice_index_or}
+use Rattle.std.specs.Prelude.{ℕ, List, [], ◌∷◌, ◌++◌, codes, decimal, if◌then◌else◌, length, map}
+use Rattle.std.specs.Prelude.{slice_index_or}
 use Rattle.std.specs.List.{range_with_len}
 use Rattle.pb_core.specs.Election.{ElectionView, project_ids}
 use Rattle.pb_core.specs.MoneyText.{money_text}
@@ -17,7 +18,8 @@ rule_fields rule r =
     rule ∷ decimal r.projects ∷ money_text r.spent ∷ money_text r.left ∷ decimal r.without ∷ decimal r.choices
     ∷ money_text r.worth ∷ decimal r.more_choices ∷ decimal r.more_worth ∷ []
 
--- the row of the project at this place: at the end 1 or 0 for each rule, as the project is among its winners or not
+-- the row of the project at this place: at the end 1 or 0 for each rule, as the project is among its winners
+-- or not
 abbrev pub ruled_project_row : ElectionView → (winners other : List ℕ) → ℕ → Fields
 ruled_project_row e winners other place =
     decimal place ∷ slice_index_or (project_ids e) place []

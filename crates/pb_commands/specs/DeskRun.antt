@@ -14,8 +14,8 @@ use Rattle.pb_faults.specs.declared.fault.AppFault.TheVariants.{Script, ClerkCou
 abbrev pub admission_on : Rules → ElectionView → Admission
 admission_on rules e = if rules.by_id then record rules.admission { ids = Some (project_ids e) } else rules.admission
 
--- what these bytes, as a file and as a script for this many clerks, make a run of `desk` by these rules write that
--- shuts the desk at its end, or does not
+-- what these bytes, as a file and as a script for this many clerks, make a run of `desk` by these rules write
+-- that shuts the desk at its end, or does not
 abbrev pub DeskWrites : Rules → List ℕ → List ℕ → ℕ → Bool → List ℕ → Type 0
 DeskWrites rules bytes rows clerks shuts text =
     (e : ElectionView) × StandsFor (records_of bytes) e × IsServed (admission_on rules e) e clerks shuts (records_of rows) text

@@ -9,7 +9,8 @@ use Rattle.pb_read.specs.declared.warning.Warning.{Warning}
 use Rattle.pb_rows.specs.Reading.{records_of}
 use Rattle.pb_faults.specs.Fault.{merged, told}
 use Rattle.pb_faults.specs.declared.fault.AppFault.{AppFault}
-use Rattle.pb_faults.specs.declared.fault.AppFault.TheVariants.{Read, Open, Write, Memory, Warned}
+use Rattle.pb_faults.specs.declared.fault.AppFault.TheVariants.{Read, Open, Write, Memory, Warned, Spelling}
+use Rattle.pb_faults.specs.declared.fault.AppFault.TheVariants.{Moved, Locked, Output}
 
 -- where the bytes of a file are known, and what is read beside it, they are so
 abbrev pub IfBothKnown : {X : Type 0} → Option (List ℕ) → Option X → (List ℕ → X → Type 0) → Type 0
@@ -23,31 +24,40 @@ known remaining journal = option_map_or (λ journal. option_map Some (remaining 
 abbrev pub HasWritten : (List ℕ → Type 0) → Option (List ℕ) → Option (List ℕ) → Type 0
 HasWritten IsText before after = (text : List ℕ) × IsText text × Appends before after text
 
--- the fault of a device, or out of memory: it comes from outside, whatever the bytes are
+-- the fault of a device, or out of memory: it comes from outside, whatever the bytes are; that of a journal
+-- that is served comes in none of these runs
 abbrev pub IsOutsideFault : AppFault → Type 0
+IsOutsideFault Moved = ⊥
+IsOutsideFault (Locked number) = ⊥
+IsOutsideFault Output = ⊥
 IsOutsideFault fault = (told fault).0 ≡ 3
 
--- why a run on this file ends: the file's first fault; or, of the election that it stands for, such a refusal;
--- or the writer failed, which is tried last, once there is something to write; or memory was refused
+-- why a run on this file ends: the file's first fault; or, of the election that it stands for, such a
+-- refusal; or the writer failed, which is tried last, once there is something to write; or memory was refused
 abbrev pub FailsBy : {Y : Type 0} → (ElectionView → AppFault → Type 0) → (Y → Type 0) → List ℕ → AppFault → Type 0
 FailsBy Refuses IsIt bytes (Read fault) = IsFaultAt (records_of bytes) fault.kind fault.at
 FailsBy {Y = Y} Refuses IsIt bytes Write = (y : Y) × IsIt y
 FailsBy Refuses IsIt bytes Memory = ⊤
 FailsBy Refuses IsIt bytes fault = (e : ElectionView) × StandsFor (records_of bytes) e × Refuses e fault
 
--- the file is judged first: its first fault is the answer; then the warning for which who looked on refuses it, if there is
--- one; and any other end, out of memory aside, says that the file stands for an election, and that there is no such warning
+-- the file is judged first: its first fault is the answer; then the warning for which who looked on refuses
+-- it, if there is one; and any other end, out of memory aside, says that the file stands for an election, and
+-- that there is no such warning
 abbrev pub Judges : {T : Type 0} → Option (List ℕ) → Option Warning → Result T AppFault → Type 0
 Judges file warning (Err (Read fault)) = IfSome file (λ bytes. IsFaultAt (records_of bytes) fault.kind fault.at)
 Judges file warning (Err (Open number)) = ⊥
+Judges file warning (Err Spelling) = ⊥
+Judges file warning (Err Moved) = ⊥
+Judges file warning (Err (Locked number)) = ⊥
+Judges file warning (Err Output) = ⊥
 Judges file warning (Err Memory) = ⊤
 Judges file warning (Err (Warned other)) =
     (warning ≡ Some other) × IfSome file (λ bytes. (e : ElectionView) × StandsFor (records_of bytes) e)
 Judges file warning result =
     (warning ≡ None) × IfSome file (λ bytes. (e : ElectionView) × StandsFor (records_of bytes) e)
 
--- How what reads a file ends, and what is read beside it, of whose bytes this is known. The bytes say what they give (a
--- run: the text that it writes), and which faults refuse the file's election.
+-- How what reads a file ends, and what is read beside it, of whose bytes this is known. The bytes say what
+-- they give (a run: the text that it writes), and which faults refuse the file's election.
 -- `fault`: they decide which fault comes.
 -- `accepts`: where they give something, only a fault from outside stands against it, or a warning.
 -- `judges`: the file is judged first, whatever is known of the rest.

@@ -29,7 +29,8 @@ added_row e place =
     codes "added" ∷ slice_index_or (project_ids e) place [] ∷ money_text (cost_at (support_of e) place)
     ∷ decimal (votes_at (support_of e) place) ∷ []
 
--- the rows below: what the elected and the added cost together, and what was paid beyond the costs of the elected
+-- the rows below: what the elected and the added cost together, and what was paid beyond the costs of the
+-- elected
 abbrev pub closing_rows : Totals → List Fields
 closing_rows totals =
     (codes "spent" ∷ money_text totals.spent ∷ []) ∷ (codes "surplus" ∷ money_text totals.surplus ∷ []) ∷ []

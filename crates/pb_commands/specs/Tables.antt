@@ -1,5 +1,6 @@
 -- The tables of a count: project by project, voter by voter, and beside most votes first.
-use Rattle.std.specs.Prelude.{ℕ, List, [], ◌∷◌, ◌++◌, codes, decimal, if◌then◌else◌, length, map, slice_index_or, take}
+use Rattle.std.specs.Prelude.{ℕ, List, [], ◌∷◌, ◌++◌, codes, decimal, if◌then◌else◌, length, map}
+use Rattle.std.specs.Prelude.{slice_index_or, take}
 use Rattle.std.specs.List.{join_with_byte, range_with_len}
 use Rattle.pb_core.specs.Election.{ElectionView, project_ids, voter_ids}
 use Rattle.pb_core.specs.MoneyText.{money_text}
@@ -9,6 +10,7 @@ use Rattle.pb_reasons.specs.Reasons.{project_reason, voter_payments, voter_reaso
 use Rattle.pb_reasons.specs.declared.payment.Payment.{Payment}
 use Rattle.pb_reasons.specs.declared.project_reason.Ending.{Ending}
 use Rattle.pb_reasons.specs.declared.project_reason.Ending.TheVariants.{Won, Added, Lost}
+use Rattle.pb_rounds.specs.RuleNames.{fills_up}
 use Rattle.pb_rows.specs.Reading.{Fields}
 use Rattle.pb_rows.specs.Writing.{text_of_rows}
 use Rattle.pb_commands.specs.Compared.{ruled_projects_table, rules_table}
@@ -26,11 +28,12 @@ ending_fields (Won w) =
 ending_fields (Added a) = [] ∷ [] ∷ [] ∷ [] ∷ [] ∷ [] ∷ decimal a.number ∷ []
 ending_fields (Lost l) = [] ∷ [] ∷ [] ∷ [] ∷ money_text l.left ∷ money_text l.missing ∷ [] ∷ []
 
--- the row of the project at this place; the last field, the number of an added project, stands where an outcome is filled up
+-- the row of the project at this place; the last field, the number of an added project, stands where an
+-- outcome is filled up
 abbrev pub project_table_row : ElectionView → CountedView → ℕ → Fields
 project_table_row e c place =
     let r = project_reason e c place in
-    take (if c.fills_up then 12 else 11)
+    take (if fills_up c.fill_up then 12 else 11)
     (decimal place ∷ slice_index_or (project_ids e) place [] ∷ name_at e place ∷ money_text (cost_at (support_of e) place)
     ∷ decimal r.votes ∷ ending_fields r.ending)
 
@@ -50,7 +53,7 @@ voter_table_row e c voter =
 unfoldable pub table_of : Table → ElectionView → CountedView → List ℕ
 table_of Projects e c =
     codes "place;project_id;name;cost;votes;round;price;collected;in_full;left;missing"
-    ++ (if c.fills_up then codes ";added\n" else codes "\n")
+    ++ (if fills_up c.fill_up then codes ";added\n" else codes "\n")
     ++ text_of_rows (map (project_table_row e c) (range_with_len 0 (length e.projects)))
 table_of Voters e c =
     codes "voter_id;votes;elected;paid;left;payments\n"

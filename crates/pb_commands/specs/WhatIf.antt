@@ -1,5 +1,6 @@
 -- What would have made a project win, as text.
-use Rattle.std.specs.Prelude.{◌≡◌, ◌≢◌, ℕ, Contains, List, [], ◌∷◌, ◌++◌, ◌==◌, Some, codes, decimal, if◌then◌else◌}
+use Rattle.std.specs.Prelude.{◌≡◌, ◌≢◌, ℕ, Contains, List, [], ◌∷◌, ◌++◌, ◌==◌, Some, codes, decimal}
+use Rattle.std.specs.Prelude.{if◌then◌else◌}
 use Rattle.pb_core.specs.Election.{ElectionView, project_ids}
 use Rattle.pb_core.specs.MoneyText.{money_text}
 use Rattle.pb_price.specs.Supporters.{cost_at, support_of}
@@ -42,15 +43,16 @@ found_rows change f = what_if_row change f.first
 abbrev pub what_if_text : List Fields → List ℕ
 what_if_text rows = text_of_rows ((codes "change" ∷ codes "value" ∷ codes "won" ∷ []) ∷ rows)
 
--- the text is what is found of a project of the election, or what the count of one changed election says of it
+-- the text is what is found of a project of the election, or what the count of one changed election says of
+-- it
 abbrev pub IsWhatIfText : ElectionView → Question → Changes → List ℕ → Type 0
 IsWhatIfText e q Searched text = (w : WhatIf) × IsWhatIf e q (cost_at (support_of e) q.place) w
     × (text ≡ what_if_text (found_rows Cost w.cost ++ found_rows Voters w.voters))
 IsWhatIfText e q (One change value) text = (row : Row) × (row.value ≡ value) × IsTrue (seen e) q change row
     × (text ≡ what_if_text (what_if_row change row ∷ []))
 
--- when each fault comes, out of memory aside: no project has the id; the count of the election is refused, or the options are
--- out of their ranges; the election can't be changed so
+-- when each fault comes, out of memory aside: no project has the id; the count of the election is refused, or
+-- the options are out of their ranges; the election can't be changed so
 abbrev pub WhatIfRefuses : ElectionView → CountOptions → (id : List ℕ) → Changes → WhatIfFault → Type 0
 WhatIfRefuses e options id changes NoProject = ¬ Contains (project_ids e) id
 WhatIfRefuses e options id Searched (Count fault) = fault ≢ NoMemory → IsCountFault e options fault

@@ -1,6 +1,7 @@
 //! The table of the ballots that a desk has.
 
-ghost use Rattle.std.specs.Prelude.{◌≡◌, ◌<◌, ◌-◌, ◌++◌, ◌∷◌, ℕ, List, [], OnOk, IfOk, decimal, filter, map, slice_get, slice_index_or, string_bytes, true};
+ghost use Rattle.std.specs.Prelude.{◌≡◌, ◌<◌, ◌-◌, ◌++◌, ◌∷◌, ℕ, List, [], OnOk, IfOk, decimal, filter, map};
+ghost use Rattle.std.specs.Prelude.{slice_get, slice_index_or, string_bytes, true};
 ghost use Rattle.std.specs.FinMap as finite;
 ghost use Rattle.std.specs.Option.{option_and_then, option_copied, option_map_or};
 ghost use Rattle.std.specs.Str.{bytes_eq};
@@ -57,7 +58,8 @@ fn put_ballots(
     voter: Option<&str>,
 ) -> Result<(), NoMemory>
     ensures { OnOk result (rows.new.text ≡ rows.old.text ++ text_of_rows (ballot_columns
-        ∷ map (ballot_row desk.now) (filter (is_asked (option_copied voter.entry)) (standing_of desk.now).ballots))) }
+        ∷ map (ballot_row desk.now) (filter (is_asked (option_copied voter.entry))
+        (standing_of desk.now).ballots))) }
 {
     rows.put_row(&["voter_id", "entry", "project_ids"])?;
     let givers = givers_of(alloc, desk)?;
@@ -123,7 +125,8 @@ fn put_each(
 ) -> Result<(), NoMemory>
     requires { (id : List ℕ) → finite.get givers.now id ≡ last_given id desk.now.journal }
     ensures { OnOk result (rows.new.text ≡ rows.old.text ++ text_of_rows
-        (map (ballot_row desk.now) (filter (is_asked (option_copied voter.entry)) (standing_of desk.now).ballots))) }
+        (map (ballot_row desk.now) (filter (is_asked (option_copied voter.entry))
+        (standing_of desk.now).ballots))) }
 {
     let projects = desk.projects();
     let mut ids = String::new(alloc);

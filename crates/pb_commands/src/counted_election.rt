@@ -3,9 +3,8 @@
 ghost use Rattle.std.specs.Prelude.{◌≡◌, ◌≢◌, IfErr, IfOk, IfSome, None, Some, false, true};
 ghost use Rattle.pb_desk.specs.Desk.{closed_election, standing_of};
 ghost use Rattle.pb_faults.specs.Fault.{merged};
-ghost use Rattle.pb_reasons.specs.Counted.{counted};
+ghost use Rattle.pb_reasons.specs.Counted.{IsCountBy};
 ghost use Rattle.pb_rounds.specs.Counted.{IsCountOf};
-ghost use Rattle.pb_rounds.specs.Outcome.{OutcomeView};
 ghost use Rattle.pb_commands.specs.Closed.{CountRefuses, CountsAs, Leaves};
 ghost use Rattle.pb_commands.specs.Ends.{Ends, IfBothKnown, known};
 ghost use Rattle.pb_commands.specs.Inner.Audited.{IsRefusedDesk};
@@ -32,10 +31,11 @@ pub struct CountedElection {
     pub counted: Counted,
 }
 
-/// Reads an election and counts it. The ballots that a shut desk leaves are counted as `pb_closing` counts them.
+/// Reads an election and counts it. The ballots that a shut desk leaves are counted as `pb_closing` counts
+/// them.
 ///
-/// The file is refused before the journal, the journal before an open desk, and that before the options. Who looks on
-/// while the file is read may refuse it for a warning, before the journal is judged.
+/// The file is refused before the journal, the journal before an open desk, and that before the options. Who
+/// looks on while the file is read may refuse it for a warning, before the journal is judged.
 pub fn count_inputs<T: Threads + Sync, P: Read + Drop, J: Read + Drop, G: Gate, H: Heed>(
     counting: &Counting<T, G>,
     inputs: Inputs<P, J>,
@@ -43,9 +43,8 @@ pub fn count_inputs<T: Threads + Sync, P: Read + Drop, J: Read + Drop, G: Gate, 
 ) -> Result<CountedElection, AppFault>
     ensures left { IfOk result (λ x. IfBothKnown (P.remaining inputs.file) (known J.remaining inputs.journal)
         (λ bytes journal. Leaves bytes journal x.election)) }
-    ensures counted { IfOk result (λ x. (o : OutcomeView) × IsCountOf x.election counting.now.options.now o
-        × (x.counted ≡ counted x.election counting.now.fills_up o)) }
-    ensures ends { Ends (CountsAs counting.now.options.now) (CountRefuses counting.now.options.now)
+    ensures counted { IfOk result (λ x. IsCountBy counting.now.rule.now x.election x.counted) }
+    ensures ends { Ends (CountsAs counting.now.rule.now.options) (CountRefuses counting.now.rule.now.options)
         (P.remaining inputs.file) (known J.remaining inputs.journal) (H.refused_for watch.new) result }
     ensures reads { IfErr result (λ fault. fault ≢ AppFault.Write) }
 {
@@ -64,9 +63,8 @@ pub(crate) fn count_own<T: Threads + Sync, P: Read + Drop, G: Gate, H: Heed>(
 ) -> Result<CountedElection, AppFault>
     ensures left { IfOk result (λ x. IfBothKnown (P.remaining file) (Some None) (λ bytes journal.
         Leaves bytes journal x.election)) }
-    ensures counted { IfOk result (λ x. (o : OutcomeView) × IsCountOf x.election counting.now.options.now o
-        × (x.counted ≡ counted x.election counting.now.fills_up o)) }
-    ensures ends { Ends (CountsAs counting.now.options.now) (CountRefuses counting.now.options.now)
+    ensures counted { IfOk result (λ x. IsCountBy counting.now.rule.now x.election x.counted) }
+    ensures ends { Ends (CountsAs counting.now.rule.now.options) (CountRefuses counting.now.rule.now.options)
         (P.remaining file) (Some None) (H.refused_for watch.new) result }
     ensures reads { IfErr result (λ fault. fault ≢ AppFault.Write) }
 {
@@ -92,10 +90,9 @@ fn count_left<T: Threads + Sync, P: Read + Drop, J: Read + Drop, G: Gate, H: Hee
 ) -> Result<CountedElection, AppFault>
     ensures left { IfOk result (λ x. IfBothKnown (P.remaining file) (J.remaining journal) (λ bytes rows.
         Leaves bytes (Some rows) x.election)) }
-    ensures counted { IfOk result (λ x. (o : OutcomeView) × IsCountOf x.election counting.now.options.now o
-        × (x.counted ≡ counted x.election counting.now.fills_up o)) }
-    ensures ends { Ends (λ bytes rows. CountsAs counting.now.options.now bytes (Some rows))
-        (λ bytes rows. CountRefuses counting.now.options.now bytes (Some rows))
+    ensures counted { IfOk result (λ x. IsCountBy counting.now.rule.now x.election x.counted) }
+    ensures ends { Ends (λ bytes rows. CountsAs counting.now.rule.now.options bytes (Some rows))
+        (λ bytes rows. CountRefuses counting.now.rule.now.options bytes (Some rows))
         (P.remaining file) (J.remaining journal) (H.refused_for watch.new) result }
     ensures reads { IfErr result (λ fault. fault ≢ AppFault.Write) }
 {
@@ -124,12 +121,11 @@ pub(crate) fn desk_count<T: Threads + Sync, G: Gate>(
 ) -> Result<Option<CountedElection>, CountFault>
     ensures open { IfOk result (λ count. count ≡ None → (standing_of desk).is_shut ≡ false) }
     ensures shut { IfOk result (λ count. IfSome count (λ x. ((standing_of desk).is_shut ≡ true)
-        × (x.election ≡ closed_election desk) × (o : OutcomeView) × IsCountOf x.election counting.now.options.now o
-        × (x.counted ≡ counted x.election counting.now.fills_up o))) }
-    ensures fault { IfErr result (IsRefusedDesk desk counting.now.options.now) }
+        × (x.election ≡ closed_election desk) × IsCountBy counting.now.rule.now x.election x.counted)) }
+    ensures fault { IfErr result (IsRefusedDesk desk counting.now.rule.now.options) }
 {
     let (rt, alloc) = (counting.rt, counting.alloc);
-    match count_desk_watched(rt, alloc, desk, counting.options, counting.gate) {
+    match count_desk_watched(rt, alloc, desk, &counting.rule.options, counting.gate) {
         Ok(Closing::Open(desk)) => {
             drop(desk);
             Ok(None)
@@ -153,16 +149,16 @@ pub(crate) fn desk_count<T: Threads + Sync, G: Gate>(
 
 /// The count of a desk, filled up where that is asked for.
 fn filled_up<T, G>(counting: &Counting<T, G>, count: DeskCount) -> Result<CountedElection, NoMemory>
-    requires { IsCountOf count.election counting.now.options.now count.outcome }
+    requires { IsCountOf count.election counting.now.rule.now.options count.outcome }
     ensures { IfOk result (λ x. (x.election ≡ count.election)
-        × (x.counted ≡ counted count.election counting.now.fills_up count.outcome)) }
+        × IsCountBy counting.now.rule.now count.election x.counted) }
 {
     let DeskCount {
         election,
         outcome,
         ..
     } = count;
-    match Counted::of(counting.alloc, &election, outcome, counting.fills_up) {
+    match Counted::of(counting.alloc, &election, outcome, counting.rule.fill_up) {
         Ok(counted) => Ok(CountedElection { election, counted }),
         Err(refused) => {
             drop(election);

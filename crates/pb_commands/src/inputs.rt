@@ -3,7 +3,8 @@
 ghost use Rattle.std.specs.Prelude.{◌≡◌, ◌≢◌, IfErr, IfOk, None, Some, true};
 ghost use Rattle.pb_desk.specs.Desk.{closed_election, standing_of};
 ghost use Rattle.pb_commands.specs.Audited.{IsDeskOf};
-ghost use Rattle.pb_commands.specs.Closed.{Leaves, LeavesNone, MayBeOpen};
+ghost use Rattle.pb_commands.specs.Closed.{Demanding, Leaves, LeavesNone};
+ghost use Rattle.pb_commands.specs.declared.demand.Demand.TheVariants.{Any};
 ghost use Rattle.pb_commands.specs.Ends.{Ends, IfBothKnown, known};
 
 use pb_core::election::Election;
@@ -25,8 +26,8 @@ pub struct Inputs<P, J> {
 
 /// Reads the election that is counted.
 ///
-/// The file is refused before the journal, and the journal before an open desk. Who looks on while the file is read may
-/// refuse it for a warning, before the journal is judged.
+/// The file is refused before the journal, and the journal before an open desk. Who looks on while the file
+/// is read may refuse it for a warning, before the journal is judged.
 pub fn election_of<P: Read + Drop, J: Read + Drop, H: Heed>(
     alloc: Global,
     inputs: Inputs<P, J>,
@@ -51,7 +52,8 @@ pub(crate) fn own_election<P: Read + Drop, H: Heed>(
     file: P,
     watch: &mut H,
 ) -> Result<Election, AppFault>
-    ensures ok { IfOk result (λ e. IfBothKnown (P.remaining file) (Some None) (λ bytes journal. Leaves bytes journal e)) }
+    ensures ok { IfOk result (λ e. IfBothKnown (P.remaining file) (Some None)
+        (λ bytes journal. Leaves bytes journal e)) }
     ensures ends { Ends Leaves LeavesNone (P.remaining file) (Some None) (H.refused_for watch.new) result }
     ensures reads { IfErr result (λ fault. fault ≢ AppFault.Write) }
 {
@@ -72,7 +74,8 @@ pub(crate) fn audited_desk<P: Read + Drop, J: Read + Drop, H: Heed>(
 ) -> Result<Desk, AppFault>
     ensures ok { IfOk result (λ d. IfBothKnown (P.remaining file) (J.remaining journal) (λ bytes rows.
         IsDeskOf bytes rows d)) }
-    ensures ends { Ends IsDeskOf (λ bytes rows. MayBeOpen (LeavesNone bytes (Some rows))) (P.remaining file) (J.remaining journal)
+    ensures ends { Ends IsDeskOf (λ bytes rows. Demanding Any (LeavesNone bytes (Some rows)))
+        (P.remaining file) (J.remaining journal)
         (H.refused_for watch.new) result }
     ensures reads { IfErr result (λ fault. fault ≢ AppFault.Write) }
 {
@@ -83,7 +86,8 @@ pub(crate) fn audited_desk<P: Read + Drop, J: Read + Drop, H: Heed>(
     Ok(audit(alloc, election, ROOM, journal)?)
 }
 
-/// Reads a .pb file and a journal, and audits the journal: the election whose ballots are those that its shut desk leaves.
+/// Reads a .pb file and a journal, and audits the journal: the election whose ballots are those that its shut
+/// desk leaves.
 fn left_election<P: Read + Drop, J: Read + Drop, H: Heed>(
     alloc: Global,
     file: P,

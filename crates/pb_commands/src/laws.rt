@@ -1,6 +1,7 @@
 //! Laws of the definitions.
 
-ghost use Rattle.std.specs.Prelude.{◌≡◌, ◌≢◌, ◌↔◌, ◌⊎◌, ◌<◌, ◌==◌, ◌+◌, ◌++◌, ℕ, All, Bool, Contains, List, [], ◌∷◌, None, Option, Some, filter, length, map, true};
+ghost use Rattle.std.specs.Prelude.{◌≡◌, ◌≢◌, ◌↔◌, ◌⊎◌, ◌<◌, ◌==◌, ◌+◌, ◌++◌, ℕ, All, Bool, Contains, List};
+ghost use Rattle.std.specs.Prelude.{[], ◌∷◌, None, Option, Some, filter, length, map, true};
 ghost use Rattle.std.specs.Bool.{MatchBool};
 ghost use Rattle.pb_core.specs.Election.{IsElection};
 ghost use Rattle.pb_core.specs.Request.{EntryView, Cast, Replace, Shut};
@@ -13,10 +14,8 @@ ghost use Rattle.pb_desk.specs.Step.{voter_of};
 ghost use Rattle.pb_read.specs.StandsFor.{StandsFor};
 ghost use Rattle.pb_rows.specs.Reading.{records_of};
 ghost use Rattle.pb_rows.specs.Writing.{text_of_row};
-ghost use Rattle.pb_reasons.specs.Counted.{counted};
-ghost use Rattle.pb_rounds.specs.Counted.{IsCountOf};
-ghost use Rattle.pb_rounds.specs.Outcome.{OutcomeView};
-ghost use Rattle.pb_rounds.specs.declared.options.CountOptions.{CountOptions};
+ghost use Rattle.pb_reasons.specs.Counted.{CountedView, IsCountBy};
+ghost use Rattle.pb_rounds.specs.declared.rule.Rule.{Rule};
 ghost use Rattle.pb_script.specs.Script.{ScriptRowView};
 ghost use Rattle.pb_script.specs.Scripts.{IsScript};
 ghost use Rattle.pb_script.specs.Serving.{program_room};
@@ -25,39 +24,44 @@ ghost use Rattle.pb_commands.specs.Audited.{AuditWrites, IsDeskOf, IsTextOf};
 ghost use Rattle.pb_commands.specs.Ballots.{BallotsWrites, last_given};
 ghost use Rattle.pb_commands.specs.Closed.{WritesOf};
 ghost use Rattle.pb_commands.specs.Counted.{IsReportOf};
+ghost use Rattle.pb_commands.specs.declared.demand.Demand.{Demand};
+ghost use Rattle.pb_commands.specs.declared.demand.Demand.TheVariants.{Any};
 ghost use Rattle.pb_commands.specs.DeskRun.{DeskWrites, admission_on};
 ghost use Rattle.pb_commands.specs.declared.run_desk.Rules.{Rules};
 ghost use Rattle.pb_commands.specs.Report.{report_of};
 
 use pb_core::answer::Answer;
 
-/// What is written is a function of the bytes that are read and of the options: a file has one report at
+/// What is written is a function of the bytes that are read and of the rule: a file has one report at
 /// most, and a file and a journal have one text and one table of ballots at most.
 pub fn one_report()
-    ensures counted { (bytes : List ℕ) (options : CountOptions) (fills_up : Bool) (first second : List ℕ)
-        → WritesOf (λ e. IsReportOf e options fills_up) bytes None first
-        → WritesOf (λ e. IsReportOf e options fills_up) bytes None second → first ≡ second }
-    ensures audited { (bytes journal : List ℕ) (options : CountOptions) (fills_up : Bool) (first second : List ℕ)
-        → AuditWrites bytes journal options fills_up first → AuditWrites bytes journal options fills_up second
+    ensures counted { (bytes : List ℕ) (rule : Rule) (first second : List ℕ)
+        → WritesOf (IsReportOf rule) bytes None first → WritesOf (IsReportOf rule) bytes None second
+        → first ≡ second }
+    ensures audited { (demand : Demand) (rule : Rule) (bytes journal first second : List ℕ)
+        → AuditWrites demand rule bytes journal first → AuditWrites demand rule bytes journal second
         → first ≡ second }
     ensures ballots { (voter : Option (List ℕ)) (bytes journal first second : List ℕ)
-        → BallotsWrites voter bytes journal first → BallotsWrites voter bytes journal second → first ≡ second }
+        → BallotsWrites voter bytes journal first → BallotsWrites voter bytes journal second
+        → first ≡ second }
 {}
 
 /// The recount. For every file that stands for an election, and every legal journal of its desk that fits the
 /// room: an audit of the journal's text on the file accepts it as this desk's, and writes just what is to be
 /// written of this desk, its row and where it is shut the report of the ballots that its journal leaves. What
-/// `desk` writes is the text of such a journal. So who recounts what `desk` wrote gets the desk's winners: where
-/// such a desk is closed and counted, as `pb_closing` does it, the audit's report is that of this very count.
+/// `desk` writes is the text of such a journal. So who recounts what `desk` wrote gets the desk's winners:
+/// where such a desk is closed and counted, as `pb_closing` does it, the audit's report is that of this very
+/// count.
 pub fn journals_recount()
     ensures accepted { (bytes : List ℕ) (d : DeskView) → StandsFor (records_of bytes) d.opening.election
         → d.room ≡ program_room → IsSound d.opening d.room d.journal
         → IsDeskOf bytes (journal_text d.opening.version d.journal) d }
-    ensures recounted { (bytes journal : List ℕ) (d : DeskView) (options : CountOptions) (fills_up : Bool) (text : List ℕ)
-        → IsDeskOf bytes journal d → AuditWrites bytes journal options fills_up text ↔ IsTextOf d options fills_up text }
+    ensures recounted { (bytes journal : List ℕ) (d : DeskView) (rule : Rule) (text : List ℕ)
+        → IsDeskOf bytes journal d → AuditWrites Any rule bytes journal text ↔ IsTextOf rule d text }
 
-    // What `desk` wrote is a desk's: each clerk's entries ask what its rows in the script do, in their order, and no
-    // other entries stand there, but where the run shuts the desk one last entry by clerk 0, which shuts it.
+    // What `desk` wrote is a desk's: each clerk's entries ask what its rows in the script do, in their order,
+    // and no other entries stand there, but where the run shuts the desk one last entry by clerk 0, which
+    // shuts it.
     ensures written { (rules : Rules) (bytes rows : List ℕ) (clerks : ℕ) (shuts : Bool) (journal : List ℕ)
         → DeskWrites rules bytes rows clerks shuts journal
         → (d : DeskView) × (script : List ScriptRowView) × (served : List EntryView)
@@ -70,10 +74,9 @@ pub fn journals_recount()
         (((standing_of d).is_shut ≡ true) × (answer : Answer)
         × (d.journal ≡ served ++ record { clerk = 0; request = Shut; answer = answer } ∷ []))
         (d.journal ≡ served) }
-    ensures winners { (d : DeskView) (options : CountOptions) (fills_up : Bool) (o : OutcomeView)
-        → (standing_of d).is_shut ≡ true → IsCountOf (closed_election d) options o
-        → IsTextOf d options fills_up
-        (text_of_row (entries_row d) ++ report_of (closed_election d) (counted (closed_election d) fills_up o)) }
+    ensures winners { (d : DeskView) (rule : Rule) (c : CountedView)
+        → (standing_of d).is_shut ≡ true → IsCountBy rule (closed_election d) c
+        → IsTextOf rule d (text_of_row (entries_row d) ++ report_of (closed_election d) c) }
 {}
 
 /// What the number in a row of the table of ballots says. Of each ballot that a legal journal leaves on the

@@ -1,12 +1,14 @@
-//! The commands `count`, `projects`, `voters`, `compare`, `export`, `desk`, `audit`, `ballots` and `check`, from bytes to bytes.
+//! The commands `count`, `projects`, `voters`, `compare`, `export`, `desk`, `audit`, `ballots` and `check`,
+//! from bytes to bytes.
 //!
-//! A run reads its inputs in their order, makes its whole text in memory, and then writes it: so a run that is
-//! refused has written nothing. Each refusal has one line and one status.
+//! A run reads its inputs in their order, makes its whole text in memory, and then writes it: so a run that
+//! is refused has written nothing. Each refusal has one line and one status.
 #![tactic(auto)]
 
 mod ballots_table;
 mod counted_election;
 mod counting;
+pub mod demand;
 mod export_text;
 mod inputs;
 pub mod laws;
@@ -27,8 +29,9 @@ mod voters_table;
 pub mod what_if_rows;
 
 pub use counted_election::{CountedElection, count_inputs};
-pub use counting::{Counting, counted};
+pub use counting::Counting;
+pub use demand::Demand;
 pub use inputs::{Inputs, election_of};
-pub use pb_faults::{AppFault, BAD_ARGUMENTS, write_out};
+pub use pb_faults::{AppFault, BAD_ARGUMENTS, rows_status, write_out};
 pub use table::Table;
 pub use what_if_rows::{Changes, WhatIfFault, what_if_text};

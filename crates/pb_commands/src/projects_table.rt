@@ -1,8 +1,10 @@
 //! The table of projects: who won and why, who lost and by how much.
 
-ghost use Rattle.std.specs.Prelude.{◌≡◌, ◌++◌, ◌∷◌, ℕ, List, [], OnOk, decimal, if◌then◌else◌, length, take, map, string_bytes};
+ghost use Rattle.std.specs.Prelude.{◌≡◌, ◌++◌, ◌∷◌, ℕ, List, [], OnOk, decimal, if◌then◌else◌, length, take};
+ghost use Rattle.std.specs.Prelude.{map, string_bytes};
 ghost use Rattle.std.specs.List.{range_with_len};
 ghost use Rattle.pb_core.specs.MoneyText.{money_text};
+ghost use Rattle.pb_rounds.specs.RuleNames.{fills_up};
 ghost use Rattle.pb_rows.specs.Reading.{Fields};
 ghost use Rattle.pb_rows.specs.Writing.{text_of_row, text_of_rows};
 ghost use Rattle.pb_reasons.specs.Counted.{IsCounted};
@@ -14,6 +16,7 @@ use pb_core::election::Election;
 use pb_core::no_memory::NoMemory;
 use pb_core::project::Project;
 use pb_reasons::{Added, Counted, Ending, Lost, ProjectReason, ProjectTeller, Won};
+use pb_rounds::rule::FillUp;
 use pb_rows::RowsWriter;
 use std::alloc::Global;
 
@@ -36,19 +39,21 @@ pub(crate) fn put_projects(
 ) -> Result<(), NoMemory>
     requires { IsCounted election.now counted.now }
     ensures { OnOk result (rows.new.text ≡ rows.old.text
-        ++ text_of_rows (project_columns counted.now.fills_up
-        ∷ map (project_table_row election.now counted.now) (range_with_len 0 (length election.now.projects)))) }
+        ++ text_of_rows (project_columns counted.now.fill_up
+        ∷ map (project_table_row election.now counted.now)
+        (range_with_len 0 (length election.now.projects)))) }
 {
-    put_columns(rows, counted.fills_up)?;
+    let fill_up = counted.fill_up();
+    put_columns(rows, fill_up)?;
     let teller = ProjectTeller::of(alloc, election, counted)?;
-    let put = put_each(rows, alloc, counted.fills_up, election, &teller);
+    let put = put_each(rows, alloc, fill_up, election, &teller);
     drop(teller);
     put
 }
 
 /// Writes the columns.
-fn put_columns(rows: &mut RowsWriter, fills_up: bool) -> Result<(), NoMemory>
-    ensures { OnOk result (rows.new.text ≡ rows.old.text ++ text_of_row (project_columns fills_up)) }
+fn put_columns(rows: &mut RowsWriter, fill_up: FillUp) -> Result<(), NoMemory>
+    ensures { OnOk result (rows.new.text ≡ rows.old.text ++ text_of_row (project_columns fill_up)) }
 {
     let opening = Opening {
         place: "place",
@@ -66,22 +71,24 @@ fn put_columns(rows: &mut RowsWriter, fills_up: bool) -> Result<(), NoMemory>
         missing: "missing",
         added: "added",
     };
-    put_texts(rows, fills_up, opening, texts)
+    put_texts(rows, fill_up, opening, texts)
 }
 
 /// Writes a row for each of the election's projects after the columns.
 fn put_each(
     rows: &mut RowsWriter,
     alloc: Global,
-    fills_up: bool,
+    fill_up: FillUp,
     election: &Election,
     teller: &ProjectTeller,
 ) -> Result<(), NoMemory>
     requires own { teller.now.0 ≡ election.now }
-    requires fills_up { fills_up ≡ teller.now.1.fills_up }
-    ensures { OnOk result ((old : List ℕ) → rows.old.text ≡ old ++ text_of_row (project_columns fills_up) → rows.new.text ≡ old
-        ++ text_of_rows (project_columns fills_up
-        ∷ map (project_table_row election.now teller.now.1) (range_with_len 0 (length election.now.projects)))) }
+    requires fill_up { fill_up ≡ teller.now.1.fill_up }
+    ensures { OnOk result ((old : List ℕ) → rows.old.text ≡ old ++ text_of_row (project_columns fill_up)
+        → rows.new.text ≡ old
+        ++ text_of_rows (project_columns fill_up
+        ∷ map (project_table_row election.now teller.now.1)
+        (range_with_len 0 (length election.now.projects)))) }
 {
     let projects = election.projects();
     for place in 0..projects.len() {
@@ -91,7 +98,7 @@ fn put_each(
             project: &projects[place],
             reason: &reason,
         };
-        put_ended(rows, alloc, fills_up, ended)?;
+        put_ended(rows, alloc, fill_up, ended)?;
     }
     Ok(())
 }
@@ -108,11 +115,12 @@ struct EndedProject<'a> {
 fn put_ended(
     rows: &mut RowsWriter,
     alloc: Global,
-    fills_up: bool,
+    fill_up: FillUp,
     ended: EndedProject,
 ) -> Result<(), NoMemory>
     ensures { OnOk result (rows.new.text ≡ rows.old.text
-        ++ text_of_row (take (if fills_up then 12 else 11) (decimal ended.entry.place ∷ ended.entry.project.now.id
+        ++ text_of_row (take (if fills_up fill_up then 12 else 11)
+        (decimal ended.entry.place ∷ ended.entry.project.now.id
         ∷ ended.entry.project.now.name ∷ money_text ended.entry.project.now.cost
         ∷ decimal ended.entry.reason.now.votes ∷ ending_fields ended.entry.reason.now.ending))) }
 {
@@ -126,26 +134,27 @@ fn put_ended(
         cost: cost.as_str(),
         votes: vote_digits.format(ended.reason.votes),
     };
-    put_project(rows, alloc, fills_up, opening, &ended.reason.ending)
+    put_project(rows, alloc, fill_up, opening, &ended.reason.ending)
 }
 
 /// Writes the row of a project that begins and ended so.
 fn put_project(
     rows: &mut RowsWriter,
     alloc: Global,
-    fills_up: bool,
+    fill_up: FillUp,
     opening: Opening,
     ending: &Ending,
 ) -> Result<(), NoMemory>
     ensures { OnOk result (rows.new.text ≡ rows.old.text
-        ++ text_of_row (take (if fills_up then 12 else 11) (opening.entry.place.now ∷ opening.entry.id.now ∷ opening.entry.name.now
+        ++ text_of_row (take (if fills_up fill_up then 12 else 11)
+        (opening.entry.place.now ∷ opening.entry.id.now ∷ opening.entry.name.now
         ∷ opening.entry.cost.now ∷ opening.entry.votes.now
         ∷ ending_fields ending.now))) }
 {
     match ending {
-        Ending::Won(won) => put_won(rows, alloc, fills_up, opening, won),
-        Ending::Added(added) => put_added(rows, fills_up, opening, added),
-        Ending::Lost(lost) => put_lost(rows, alloc, fills_up, opening, lost),
+        Ending::Won(won) => put_won(rows, alloc, fill_up, opening, won),
+        Ending::Added(added) => put_added(rows, fill_up, opening, added),
+        Ending::Lost(lost) => put_lost(rows, alloc, fill_up, opening, lost),
     }
 }
 
@@ -153,12 +162,13 @@ fn put_project(
 fn put_won(
     rows: &mut RowsWriter,
     alloc: Global,
-    fills_up: bool,
+    fill_up: FillUp,
     opening: Opening,
     won: &Won,
 ) -> Result<(), NoMemory>
     ensures { OnOk result (rows.new.text ≡ rows.old.text
-        ++ text_of_row (take (if fills_up then 12 else 11) (opening.entry.place.now ∷ opening.entry.id.now ∷ opening.entry.name.now
+        ++ text_of_row (take (if fills_up fill_up then 12 else 11)
+        (opening.entry.place.now ∷ opening.entry.id.now ∷ opening.entry.name.now
         ∷ opening.entry.cost.now ∷ opening.entry.votes.now
         ∷ decimal won.now.round ∷ money_text won.now.price ∷ money_text won.now.collected
         ∷ decimal won.now.in_full ∷ [] ∷ [] ∷ [] ∷ []))) }
@@ -174,18 +184,19 @@ fn put_won(
         in_full: full_digits.format(won.in_full),
         ..EMPTY
     };
-    put_texts(rows, fills_up, opening, texts)
+    put_texts(rows, fill_up, opening, texts)
 }
 
 /// Writes the row of an added project.
 fn put_added(
     rows: &mut RowsWriter,
-    fills_up: bool,
+    fill_up: FillUp,
     opening: Opening,
     added: &Added,
 ) -> Result<(), NoMemory>
     ensures { OnOk result (rows.new.text ≡ rows.old.text
-        ++ text_of_row (take (if fills_up then 12 else 11) (opening.entry.place.now ∷ opening.entry.id.now ∷ opening.entry.name.now
+        ++ text_of_row (take (if fills_up fill_up then 12 else 11)
+        (opening.entry.place.now ∷ opening.entry.id.now ∷ opening.entry.name.now
         ∷ opening.entry.cost.now ∷ opening.entry.votes.now
         ∷ [] ∷ [] ∷ [] ∷ [] ∷ [] ∷ [] ∷ decimal added.now.number ∷ []))) }
 {
@@ -194,19 +205,20 @@ fn put_added(
         added: digits.format(added.number),
         ..EMPTY
     };
-    put_texts(rows, fills_up, opening, texts)
+    put_texts(rows, fill_up, opening, texts)
 }
 
 /// Writes the row of a project that is neither elected nor added.
 fn put_lost(
     rows: &mut RowsWriter,
     alloc: Global,
-    fills_up: bool,
+    fill_up: FillUp,
     opening: Opening,
     lost: &Lost,
 ) -> Result<(), NoMemory>
     ensures { OnOk result (rows.new.text ≡ rows.old.text
-        ++ text_of_row (take (if fills_up then 12 else 11) (opening.entry.place.now ∷ opening.entry.id.now ∷ opening.entry.name.now
+        ++ text_of_row (take (if fills_up fill_up then 12 else 11)
+        (opening.entry.place.now ∷ opening.entry.id.now ∷ opening.entry.name.now
         ∷ opening.entry.cost.now ∷ opening.entry.votes.now
         ∷ [] ∷ [] ∷ [] ∷ [] ∷ money_text lost.now.left ∷ money_text lost.now.missing ∷ [] ∷ []))) }
 {
@@ -217,7 +229,7 @@ fn put_lost(
         missing: missing.as_str(),
         ..EMPTY
     };
-    put_texts(rows, fills_up, opening, texts)
+    put_texts(rows, fill_up, opening, texts)
 }
 
 /// The fields on how a project ended; those of another ending are empty.
@@ -247,12 +259,13 @@ const EMPTY: EndingTexts<'static> = EndingTexts {
 /// Writes a row of these fields, the last of them where an outcome is filled up.
 fn put_texts(
     rows: &mut RowsWriter,
-    fills_up: bool,
+    fill_up: FillUp,
     opening: Opening,
     texts: EndingTexts,
 ) -> Result<(), NoMemory>
     ensures { OnOk result (rows.new.text ≡ rows.old.text
-        ++ text_of_row (take (if fills_up then 12 else 11) (opening.entry.place.now ∷ opening.entry.id.now ∷ opening.entry.name.now
+        ++ text_of_row (take (if fills_up fill_up then 12 else 11)
+        (opening.entry.place.now ∷ opening.entry.id.now ∷ opening.entry.name.now
         ∷ opening.entry.cost.now ∷ opening.entry.votes.now ∷ texts.entry.round.now ∷ texts.entry.price.now
         ∷ texts.entry.collected.now ∷ texts.entry.in_full.now ∷ texts.entry.left.now ∷ texts.entry.missing.now
         ∷ texts.entry.added.now ∷ []))) }
@@ -271,7 +284,10 @@ fn put_texts(
         texts.missing,
         texts.added,
     ];
-    let width = if fills_up { 12 } else { 11 };
+    let width = match fill_up {
+        FillUp::Nothing => 11,
+        FillUp::MostVotes => 12,
+    };
     rows.put_row(&fields[..width])?;
     Ok(())
 }

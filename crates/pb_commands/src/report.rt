@@ -14,7 +14,7 @@ use pb_core::no_memory::NoMemory;
 use pb_core::project::Project;
 use pb_price::supporters::Supporters;
 use pb_reasons::{Counted, Totals};
-use pb_rounds::outcome::{Elected, Outcome};
+use pb_rounds::outcome::Elected;
 use pb_rows::RowsWriter;
 use std::alloc::Global;
 
@@ -42,10 +42,9 @@ pub(crate) fn put_report(
 {
     // What is true of every election is true of the places of its elected projects.
     let _budget = election.budget();
-    let outcome = &counted.outcome;
-    put_opening(rows, alloc, election, outcome)?;
-    put_elected(rows, alloc, election, outcome.elected.as_slice())?;
-    put_added(rows, alloc, election, counted.added.as_slice())?;
+    put_opening(rows, alloc, election, counted)?;
+    put_elected(rows, alloc, election, counted.elected())?;
+    put_added(rows, alloc, election, counted.added())?;
     put_closing(rows, alloc, Totals::of(election, counted))?;
     Ok(())
 }
@@ -55,15 +54,15 @@ fn put_opening(
     rows: &mut RowsWriter,
     alloc: Global,
     election: &Election,
-    outcome: &Outcome,
+    counted: &Counted,
 ) -> Result<(), NoMemory>
     ensures { OnOk result (rows.new.text ≡ rows.old.text
-        ++ text_of_rows (opening_rows election.now outcome.now)) }
+        ++ text_of_rows (opening_rows election.now counted.now.outcome)) }
 {
     put_amount(rows, alloc, "budget", election.budget())?;
     put_number(rows, "voters", election.voters().len() as u64)?;
-    put_amount(rows, alloc, "share", outcome.share)?;
-    put_number(rows, "raises", u64::from(outcome.raised))?;
+    put_amount(rows, alloc, "share", counted.share())?;
+    put_number(rows, "raises", u64::from(counted.raised()))?;
     Ok(())
 }
 
@@ -108,7 +107,7 @@ fn put_added(
     put
 }
 
-/// The same, where these are the supporters.
+/// One row for each added project, which has these supporters.
 fn put_supported(
     rows: &mut RowsWriter,
     alloc: Global,

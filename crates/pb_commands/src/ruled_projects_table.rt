@@ -19,8 +19,8 @@ use pb_reasons::{Counted, Winners, elected_by_votes};
 use pb_rows::RowsWriter;
 use std::alloc::Global;
 
-/// Writes the columns, and a row for each project in file order: whether this count elects or adds it, and whether
-/// most votes first takes it.
+/// Writes the columns, and a row for each project in file order: whether this count elects or adds it, and
+/// whether most votes first takes it.
 pub(crate) fn put_ruled_projects(
     rows: &mut RowsWriter,
     alloc: Global,
@@ -45,8 +45,8 @@ pub(crate) fn put_ruled_projects(
     put_ruled(rows, alloc, election, winners.as_slice(), other.as_slice())
 }
 
-/// Writes a row for each of the election's projects after the columns; these are the places of the winners by both
-/// rules.
+/// Writes a row for each of the election's projects after the columns; these are the places of the winners by
+/// both rules.
 fn put_ruled(
     rows: &mut RowsWriter,
     alloc: Global,
@@ -69,7 +69,7 @@ fn put_ruled(
     put
 }
 
-/// The same, where these are the supporters and the winners.
+/// Puts the rows of the projects, which have these supporters, of which these win.
 fn put_each(
     rows: &mut RowsWriter,
     alloc: Global,
@@ -120,7 +120,8 @@ fn put_project(
     ruled: Ruled,
 ) -> Result<(), NoMemory>
     ensures { OnOk result (rows.new.text ≡ rows.old.text ++ text_of_row (decimal ruled.place
-        ∷ project.now.id ∷ project.now.name ∷ money_text project.now.cost ∷ decimal ruled.votes ∷ decimal (if ruled.wins then 1 else 0)
+        ∷ project.now.id ∷ project.now.name ∷ money_text project.now.cost ∷ decimal ruled.votes
+        ∷ decimal (if ruled.wins then 1 else 0)
         ∷ decimal (if ruled.wins_otherwise then 1 else 0) ∷ [])) }
 {
     let mut place_digits = Buffer::new();

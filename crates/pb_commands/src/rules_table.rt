@@ -67,8 +67,8 @@ fn put_rule(rows: &mut RowsWriter, alloc: Global, rule: &str, row: RuleRow) -> R
     Ok(())
 }
 
-/// An amount in hundredths as text, which may be larger than those that are read: whole units, a point and two
-/// decimals, as `12.30`.
+/// An amount in hundredths as text, which may be larger than those that are read: whole units, a point and
+/// two decimals, as `12.30`.
 fn amount_text(alloc: Global, amount: u128) -> Result<String, NoMemory>
     ensures { IfOk result (λ text. string_bytes text ≡ money_text amount) }
 {

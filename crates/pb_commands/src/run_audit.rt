@@ -1,14 +1,18 @@
 //! The command `audit`: what a journal says of a file.
 
-ghost use Rattle.std.specs.Prelude.{◌≡◌, ◌++◌, ℕ, List, IfErr, IfOk, OnOk, None, Some, false};
+ghost use Rattle.std.specs.Prelude.{◌≡◌, ◌++◌, ℕ, List, IfErr, IfOk, OnOk, None, Some, false, true};
+ghost use Rattle.pb_desk.specs.Desk.{standing_of};
 ghost use Rattle.pb_rounds.specs.declared.count_fault.CountFault.TheVariants as count;
+ghost use Rattle.pb_rounds.specs.declared.rule.FillUp.TheVariants.{Nothing};
 ghost use Rattle.pb_commands.specs.Audited.{AuditWrites, IsTextOf};
-ghost use Rattle.pb_commands.specs.Closed.{CountRefuses, MayBeOpen};
+ghost use Rattle.pb_commands.specs.Closed.{CountRefuses, Demanding};
+ghost use Rattle.pb_commands.specs.declared.demand.Demand.TheVariants.{Any, Shut};
 ghost use Rattle.pb_commands.specs.Ends.{Runs};
 ghost use Rattle.pb_commands.specs.Inner.Audited.{IsRefusedDesk};
 
 use crate::counted_election::desk_count;
 use crate::counting::Counting;
+use crate::demand::Demand;
 use crate::inputs::audited_desk;
 use crate::report::put_report;
 use pb_core::gate::{Gate, NoGate};
@@ -17,10 +21,22 @@ use pb_faults::{AppFault, put_entries, write_out};
 use pb_read::{Heed, NoWatch};
 use pb_rounds::count_fault::CountFault;
 use pb_rounds::options::CountOptions;
+use pb_rounds::rule::{FillUp, Rule};
 use pb_rows::RowsWriter;
+use pb_script::{NoNotice, Notice};
 use std::alloc::Global;
 use std::io::{Read, Write};
 use std::thread::Threads;
+
+/// What is read for an audit, and what is demanded of it.
+#[derive(Drop)]
+pub struct AuditInputs<P, J> {
+    /// The .pb file.
+    pub file: P,
+    pub journal: J,
+    /// What is demanded of the desk after the journal's last entry.
+    pub demand: Demand,
+}
 
 /// Reads a .pb file and a journal, audits the journal, and writes how many entries it has and whether
 /// its desk is shut. Where it is shut, the ballots that it leaves are counted with these options, and
@@ -37,45 +53,88 @@ pub fn run_audit<T: Threads + Sync, P: Read + Drop, J: Read + Drop, W: Write>(
     writer: &mut W,
     options: &CountOptions,
 ) -> Result<(), AppFault>
-    ensures { Runs (λ bytes rows. AuditWrites bytes rows options.now false) (λ bytes rows. MayBeOpen (CountRefuses options.now bytes (Some rows)))
+    ensures { Runs (AuditWrites Any (record { options = options.now; fill_up = Nothing }))
+        (λ bytes rows. Demanding Any (CountRefuses options.now bytes (Some rows)))
         (P.remaining file) (J.remaining journal) None W.contents writer.old writer.new result }
 {
+    let rule = Rule {
+        options: *options,
+        fill_up: FillUp::Nothing,
+    };
     let counting = Counting {
         rt,
         alloc,
         gate: &NoGate,
-        options,
-        fills_up: false,
+        rule: &rule,
     };
-    run_audit_watched(&counting, file, journal, &mut NoWatch, writer)
+    let inputs = AuditInputs {
+        file,
+        journal,
+        demand: Demand::Any,
+    };
+    run_audit_watched(&counting, inputs, &NoNotice, &mut NoWatch, writer)
 }
 
-/// Audits as `run_audit` does, and tells the gate of raises before they are tried. Who looks on while the file is read may
-/// refuse it for a warning, before the journal is judged.
+/// Audits as `run_audit` does, by this rule, and tells the gate of raises before they are tried. The notice
+/// hears of the answer of each entry, in their order, once the journal is accepted and before the ballots are
+/// counted. Where a shut desk is demanded an open one is refused, before the options. Who looks on while the
+/// file is read may refuse it for a warning, before the journal is judged.
 pub fn run_audit_watched<
     T: Threads + Sync,
     P: Read + Drop,
     J: Read + Drop,
     G: Gate,
+    N: Notice,
     H: Heed,
     W: Write,
 >(
     counting: &Counting<T, G>,
-    file: P,
-    journal: J,
+    inputs: AuditInputs<P, J>,
+    notice: &N,
     watch: &mut H,
     writer: &mut W,
 ) -> Result<(), AppFault>
-    ensures { Runs (λ bytes rows. AuditWrites bytes rows counting.now.options.now counting.now.fills_up)
-        (λ bytes rows. MayBeOpen (CountRefuses counting.now.options.now bytes (Some rows))) (P.remaining file) (J.remaining journal)
-        (H.refused_for watch.new) W.contents writer.old writer.new result }
+    ensures { Runs (AuditWrites inputs.demand counting.now.rule.now)
+        (λ bytes rows. Demanding inputs.demand (CountRefuses counting.now.rule.now.options bytes (Some rows)))
+        (P.remaining inputs.file) (J.remaining inputs.journal) (H.refused_for watch.new)
+        W.contents writer.old writer.new result }
 {
+    let AuditInputs {
+        file,
+        journal,
+        demand,
+    } = inputs;
     let desk = match audited_desk(counting.alloc, file, journal, watch) {
         Ok(desk) => desk,
         Err(fault) => return Err(fault),
     };
+    tell_answers(notice, &desk);
+    if is_refused(&desk, demand) {
+        drop(desk);
+        return Err(AppFault::OpenDesk);
+    }
     let text = desk_text(counting, desk)?;
     write_out(writer, text.as_slice(), AppFault::Write)
+}
+
+/// Tells the answers of a desk's entries, in their order.
+fn tell_answers<N: Notice>(notice: &N, desk: &Desk) {
+    for index in 0..desk.entries() {
+        if let Some(entry) = desk.entry(index + 1) {
+            notice.answered(entry.answer);
+        }
+    }
+}
+
+/// Whether a desk is open, and a shut one is demanded.
+fn is_refused(desk: &Desk, demand: Demand) -> bool
+    ensures refused { result ≡ true → (demand ≡ Shut) × ((standing_of desk.now).is_shut ≡ false) }
+    ensures passed { result ≡ false → demand ≡ Shut → (standing_of desk.now).is_shut ≡ true }
+{
+    match demand {
+        Demand::Any => false,
+        Demand::Shut => !desk.is_shut(),
+    }
 }
 
 /// What is said of a desk.
@@ -83,8 +142,8 @@ fn desk_text<T: Threads + Sync, G: Gate>(
     counting: &Counting<T, G>,
     desk: Desk,
 ) -> Result<Vec<u8>, CountFault>
-    ensures ok { IfOk result (λ text. IsTextOf desk counting.now.options.now counting.now.fills_up text.items) }
-    ensures fault { IfErr result (IsRefusedDesk desk counting.now.options.now) }
+    ensures ok { IfOk result (λ text. IsTextOf counting.now.rule.now desk text.items) }
+    ensures fault { IfErr result (IsRefusedDesk desk counting.now.rule.now.options) }
 {
     let mut rows = RowsWriter::start(counting.alloc);
     match put_desk(counting, &mut rows, desk) {
@@ -103,8 +162,8 @@ fn put_desk<T: Threads + Sync, G: Gate>(
     desk: Desk,
 ) -> Result<(), CountFault>
     ensures ok { OnOk result ((text : List ℕ)
-        × IsTextOf desk counting.now.options.now counting.now.fills_up text × (rows.new.text ≡ rows.old.text ++ text)) }
-    ensures fault { IfErr result (IsRefusedDesk desk counting.now.options.now) }
+        × IsTextOf counting.now.rule.now desk text × (rows.new.text ≡ rows.old.text ++ text)) }
+    ensures fault { IfErr result (IsRefusedDesk desk counting.now.rule.now.options) }
 {
     match put_entries(rows, &desk) {
         Ok(()) => {}

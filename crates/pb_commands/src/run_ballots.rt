@@ -3,7 +3,8 @@
 ghost use Rattle.std.specs.Prelude.{None, Some};
 ghost use Rattle.std.specs.Option.{option_copied};
 ghost use Rattle.pb_commands.specs.Ballots.{BallotsWrites};
-ghost use Rattle.pb_commands.specs.Closed.{LeavesNone, MayBeOpen};
+ghost use Rattle.pb_commands.specs.Closed.{Demanding, LeavesNone};
+ghost use Rattle.pb_commands.specs.declared.demand.Demand.TheVariants.{Any};
 ghost use Rattle.pb_commands.specs.Ends.{Runs};
 
 use crate::ballots_table::ballots_text;
@@ -17,7 +18,8 @@ use std::io::{Read, Write};
 /// last entry: a row for each, or for that of this voter alone. The desk may be open.
 ///
 /// The file is refused before the journal, and nothing is written but the whole table. Where the fault is
-/// `Write` some of it may have gone out; on any other fault the writer is as it was. No warning refuses the file.
+/// `Write` some of it may have gone out; on any other fault the writer is as it was. No warning refuses the
+/// file.
 pub fn run_ballots<P: Read + Drop, J: Read + Drop, W: Write>(
     alloc: Global,
     file: P,
@@ -25,7 +27,8 @@ pub fn run_ballots<P: Read + Drop, J: Read + Drop, W: Write>(
     voter: Option<&str>,
     writer: &mut W,
 ) -> Result<(), AppFault>
-    ensures { Runs (BallotsWrites (option_copied voter.entry)) (λ bytes rows. MayBeOpen (LeavesNone bytes (Some rows)))
+    ensures { Runs (BallotsWrites (option_copied voter.entry))
+        (λ bytes rows. Demanding Any (LeavesNone bytes (Some rows)))
         (P.remaining file) (J.remaining journal) None W.contents writer.old writer.new result }
 {
     let desk = match audited_desk(alloc, file, journal, &mut NoWatch) {

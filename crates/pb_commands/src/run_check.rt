@@ -2,9 +2,8 @@
 
 ghost use Rattle.std.specs.Prelude.{◌≡◌, ◌≢◌, ◌++◌, ℕ, List, [], Some, IfErr, IfOk, IfSome, OnOk, map};
 ghost use Rattle.pb_core.specs.Election.{ElectionView};
-ghost use Rattle.pb_reasons.specs.Counted.{counted, winners_of};
-ghost use Rattle.pb_rounds.specs.Counted.{IsCountFault, IsCountOf};
-ghost use Rattle.pb_rounds.specs.Outcome.{OutcomeView};
+ghost use Rattle.pb_reasons.specs.Counted.{CountedView, IsCountBy, winners_of};
+ghost use Rattle.pb_rounds.specs.Counted.{IsCountFault};
 ghost use Rattle.pb_rows.specs.Reading.{records_of};
 ghost use Rattle.pb_rows.specs.Writing.{text_of_row, text_of_rows};
 ghost use Rattle.pb_read.specs.Listed.{AreListed};
@@ -38,7 +37,8 @@ pub fn run_check<R: Read + Drop, W: Write, N: Warn>(
     writer: &mut W,
     notes: &mut N,
 ) -> Result<Vec<ReadFault>, AppFault>
-    // Where the reader's bytes are known, the faults that are answered are theirs, and the rows are those of the faults.
+    // Where the reader's bytes are known, the faults that are answered are theirs, and the rows are those of
+    // the faults.
     ensures faults { IfSome (R.remaining reader) (λ bytes.
         IfOk result (λ faults. AreListed 0 (records_of bytes) faults.items)) }
     ensures written { IfOk result (λ faults.
@@ -58,30 +58,34 @@ pub fn run_check<R: Read + Drop, W: Write, N: Warn>(
     }
 }
 
-/// The same. A file without a fault is also counted, and what it claims is compared with the winners.
+/// Checks as `run_check` does. A file without a fault is also counted, and what it claims is compared with
+/// the winners.
 ///
-/// A file with a fault is not counted. If the count is refused, its fault is the answer, and nothing is written.
+/// A file with a fault is not counted. If the count is refused, its fault is the answer, and nothing is
+/// written.
 pub fn run_check_against<T: Threads + Sync, R: Read + Drop, G: Gate, W: Write, N: Compare>(
     counting: &Counting<T, G>,
     reader: R,
     writer: &mut W,
     notes: &mut N,
 ) -> Result<Vec<ReadFault>, AppFault>
-    // Where the reader's bytes are known, the faults that are answered are theirs, and the rows are those of the faults.
+    // Where the reader's bytes are known, the faults that are answered are theirs, and the rows are those of
+    // the faults.
     ensures faults { IfSome (R.remaining reader) (λ bytes.
         IfOk result (λ faults. AreListed 0 (records_of bytes) faults.items)) }
     ensures written { IfOk result (λ faults.
         HasWritten (IsTextOfCheck faults.items) (W.contents writer.old) (W.contents writer.new)) }
 
-    // Where there is no fault, what the file claims was compared with the winners of its count by these options.
+    // Where there is no fault, what the file claims was compared with the winners of its count by the rule.
     ensures compared { IfSome (R.remaining reader) (λ bytes. IfOk result (λ faults. faults.items ≡ [] →
         (e : ElectionView) × StandsFor (records_of bytes) e
-        × (o : OutcomeView) × IsCountOf e counting.now.options.now o
-        × N.has_compared notes.new (winners_of (counted e counting.now.fills_up o)))) }
+        × (c : CountedView) × IsCountBy counting.now.rule.now e c × N.has_compared notes.new
+        (winners_of c))) }
 
-    // A fault of the run is that of the count or comes from outside. It writes nothing, unless it is the writer's.
+    // A fault of the run is that of the count or comes from outside. It writes nothing, unless it is the
+    // writer's.
     ensures fault { IfErr result (λ fault. IfSome (R.remaining reader) (λ bytes.
-        CheckFails (StandsFor (records_of bytes)) counting.now.options.now fault)) }
+        CheckFails (StandsFor (records_of bytes)) counting.now.rule.now.options fault)) }
     ensures unchanged { IfErr result (λ fault. fault ≢ AppFault.Write → writer.new ≡ writer.old) }
 {
     let checked = check_pb(counting.alloc, reader, notes)?;
@@ -102,11 +106,12 @@ fn put_checked<T: Threads + Sync, G: Gate, W: Write, N: Compare>(
     notes: &mut N,
 ) -> Result<(), AppFault>
     ensures written { OnOk result
-        (HasWritten (IsTextOfCheck checked.now.faults.items) (W.contents writer.old) (W.contents writer.new)) }
+        (HasWritten (IsTextOfCheck checked.now.faults.items) (W.contents writer.old)
+        (W.contents writer.new)) }
     ensures compared { OnOk result (IfSome checked.now.election (λ e.
-        (o : OutcomeView) × IsCountOf e counting.now.options.now o
-        × N.has_compared notes.new (winners_of (counted e counting.now.fills_up o)))) }
-    ensures fault { IfErr result (CheckFails (λ e. checked.now.election ≡ Some e) counting.now.options.now) }
+        (c : CountedView) × IsCountBy counting.now.rule.now e c × N.has_compared notes.new (winners_of c))) }
+    ensures fault { IfErr result (CheckFails
+        (λ e. checked.now.election ≡ Some e) counting.now.rule.now.options) }
     ensures unchanged { IfErr result (λ fault. fault ≢ AppFault.Write → writer.new ≡ writer.old) }
 {
     let warnings = warnings_against(counting, &checked.election, notes)?;
@@ -123,9 +128,8 @@ fn warnings_against<T: Threads + Sync, G: Gate, N: Compare>(
     notes: &mut N,
 ) -> Result<Vec<WarningRow>, AppFault>
     ensures compared { OnOk result (IfSome election.now (λ e.
-        (o : OutcomeView) × IsCountOf e counting.now.options.now o
-        × N.has_compared notes.new (winners_of (counted e counting.now.fills_up o)))) }
-    ensures fault { IfErr result (CheckFails (λ e. election.now ≡ Some e) counting.now.options.now) }
+        (c : CountedView) × IsCountBy counting.now.rule.now e c × N.has_compared notes.new (winners_of c))) }
+    ensures fault { IfErr result (CheckFails (λ e. election.now ≡ Some e) counting.now.rule.now.options) }
 {
     let Some(election) = election else {
         return Ok(notes.warnings()?);
@@ -141,9 +145,9 @@ fn counted_winners<T: Threads + Sync, G: Gate>(
     counting: &Counting<T, G>,
     election: &Election,
 ) -> Result<Vec<u32>, CountFault>
-    ensures ok { IfOk result (λ winners. (o : OutcomeView) × IsCountOf election.now counting.now.options.now o
-        × (winners.items ≡ winners_of (counted election.now counting.now.fills_up o))) }
-    ensures fault { IfErr result (IsCountFault election.now counting.now.options.now) }
+    ensures ok { IfOk result (λ winners. (c : CountedView) × IsCountBy counting.now.rule.now election.now c
+        × (winners.items ≡ winners_of c)) }
+    ensures fault { IfErr result (IsCountFault election.now counting.now.rule.now.options) }
 {
     let counted = counted(counting, election)?;
     let winners = counted.winners(counting.alloc);
@@ -158,7 +162,8 @@ fn put_out<W: Write, N: Warn>(
     faults: &[ReadFault],
     notes: &mut N,
 ) -> Result<(), AppFault>
-    ensures ok { OnOk result (HasWritten (IsTextOfCheck faults.now) (W.contents writer.old) (W.contents writer.new)) }
+    ensures ok { OnOk result (HasWritten (IsTextOfCheck faults.now) (W.contents writer.old)
+        (W.contents writer.new)) }
     ensures fault { IfErr result IsOutsideFault }
     ensures unchanged { IfErr result (λ fault. fault ≢ AppFault.Write → writer.new ≡ writer.old) }
 {
@@ -175,7 +180,8 @@ fn put_rows<W: Write>(
     faults: &[ReadFault],
     warnings: &[WarningRow],
 ) -> Result<(), AppFault>
-    ensures ok { OnOk result (HasWritten (IsTextOfCheck faults.now) (W.contents writer.old) (W.contents writer.new)) }
+    ensures ok { OnOk result (HasWritten (IsTextOfCheck faults.now) (W.contents writer.old)
+        (W.contents writer.new)) }
     ensures fault { IfErr result IsOutsideFault }
     ensures unchanged { IfErr result (λ fault. fault ≢ AppFault.Write → writer.new ≡ writer.old) }
 {

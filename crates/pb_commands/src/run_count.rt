@@ -1,7 +1,8 @@
 //! The command `count`: a file's report.
 
-ghost use Rattle.std.specs.Prelude.{◌≡◌, IfOk, None, Some, false};
+ghost use Rattle.std.specs.Prelude.{◌≡◌, IfOk, None, Some};
 ghost use Rattle.pb_reasons.specs.Counted.{IsCounted};
+ghost use Rattle.pb_rounds.specs.declared.rule.FillUp.TheVariants.{Nothing};
 ghost use Rattle.pb_commands.specs.Closed.{CountRefuses, WritesOf};
 ghost use Rattle.pb_commands.specs.Counted.{IsReportOf};
 ghost use Rattle.pb_commands.specs.Ends.{Runs};
@@ -17,6 +18,7 @@ use pb_faults::{AppFault, write_out};
 use pb_read::{Heed, NoWatch};
 use pb_reasons::Counted;
 use pb_rounds::options::CountOptions;
+use pb_rounds::rule::{FillUp, Rule};
 use pb_rows::RowsWriter;
 use std::alloc::Global;
 use std::io::{Read, Write};
@@ -34,29 +36,34 @@ pub fn run_count<T: Threads + Sync, R: Read + Drop, W: Write>(
     writer: &mut W,
     options: &CountOptions,
 ) -> Result<(), AppFault>
-    ensures { Runs (WritesOf (λ e. IsReportOf e options.now false)) (CountRefuses options.now)
+    ensures { Runs (WritesOf (IsReportOf (record { options = options.now; fill_up = Nothing })))
+        (CountRefuses options.now)
         (R.remaining reader) (Some None) None W.contents writer.old writer.new result }
 {
+    let rule = Rule {
+        options: *options,
+        fill_up: FillUp::Nothing,
+    };
     let counting = Counting {
         rt,
         alloc,
         gate: &NoGate,
-        options,
-        fills_up: false,
+        rule: &rule,
     };
     run_count_watched(&counting, reader, &mut NoWatch, writer)
 }
 
-/// Counts as `run_count` does, and tells the gate of raises before they are tried. Who looks on while the file is read may
-/// refuse it for a warning.
+/// Counts as `run_count` does, and tells the gate of raises before they are tried. Who looks on while the
+/// file is read may refuse it for a warning.
 pub fn run_count_watched<T: Threads + Sync, R: Read + Drop, G: Gate, H: Heed, W: Write>(
     counting: &Counting<T, G>,
     reader: R,
     watch: &mut H,
     writer: &mut W,
 ) -> Result<(), AppFault>
-    ensures { Runs (WritesOf (λ e. IsReportOf e counting.now.options.now counting.now.fills_up))
-        (CountRefuses counting.now.options.now) (R.remaining reader) (Some None) (H.refused_for watch.new)
+    ensures { Runs (WritesOf (IsReportOf counting.now.rule.now))
+        (CountRefuses counting.now.rule.now.options) (R.remaining reader) (Some None)
+        (H.refused_for watch.new)
         W.contents writer.old writer.new result }
 {
     let count = match count_own(counting, reader, watch) {

@@ -30,15 +30,15 @@ pub struct Rules {
 /// Reads a .pb file and a script, lets this many clerks serve the script's requests on one desk, side by
 /// side, and writes the desk's journal.
 ///
-/// Each clerk serves its own rows in their order, by at most 100,000 tries of the lock for each. One who finds
-/// the desk busy all that time stops; what the clerks leave over is served after all of them have stopped,
-/// clerks in rising number. Where the run `shuts` the desk, clerk 0 asks for that in one last entry, after all of
-/// these, so that nobody's ballot comes after it. Before the first try of a row the gate is called with the clerk's
-/// number and the row's place among the clerk's own rows, from 0.
+/// Each clerk serves its own rows in their order, by at most 100,000 tries of the lock for each. One who
+/// finds the desk busy all that time stops; what the clerks leave over is served after all of them have
+/// stopped, clerks in rising number. Where the run `shuts` the desk, clerk 0 asks for that in one last entry,
+/// after all of these, so that nobody's ballot comes after it. Before the first try of a row the gate is
+/// called with the clerk's number and the row's place among the clerk's own rows, from 0.
 ///
 /// The file is refused before the script, and the script before the number of clerks, 1 to 64. Nothing is
-/// written but the whole journal. Where the fault is `Write` some of it may have gone out; on any other fault the
-/// writer is as it was. No warning refuses the file.
+/// written but the whole journal. Where the fault is `Write` some of it may have gone out; on any other fault
+/// the writer is as it was. No warning refuses the file.
 pub fn run_desk<T: Threads + Sync, P: Read + Drop, S: Read + Drop, G: Gate, W: Write>(
     rt: &T,
     alloc: Global,
@@ -49,7 +49,8 @@ pub fn run_desk<T: Threads + Sync, P: Read + Drop, S: Read + Drop, G: Gate, W: W
     gate: &G,
     writer: &mut W,
 ) -> Result<(), AppFault>
-    ensures { Runs (λ bytes rows. DeskWrites (record { by_id = false; admission = open_to_all }) bytes rows clerks shuts)
+    ensures { Runs (λ bytes rows. DeskWrites
+        (record { by_id = false; admission = open_to_all }) bytes rows clerks shuts)
         (λ _ rows. DeskRefuses (record { by_id = false; admission = open_to_all }) rows clerks)
         (P.remaining file) (S.remaining script) None W.contents writer.old writer.new result }
 {
@@ -62,8 +63,8 @@ pub fn run_desk<T: Threads + Sync, P: Read + Drop, S: Read + Drop, G: Gate, W: W
     )
 }
 
-/// Serves as `run_desk` does, the requests that these rules admit. A row that they refuse refuses the script, and is told
-/// to `notice`.
+/// Serves as `run_desk` does, the requests that these rules admit. A row that they refuse refuses the script,
+/// and is told to `notice`.
 pub fn run_admitted_desk<
     T: Threads + Sync,
     P: Read + Drop,
@@ -83,7 +84,8 @@ pub fn run_admitted_desk<
     notice: &N,
     writer: &mut W,
 ) -> Result<(), AppFault>
-    ensures { Runs (λ bytes rows. DeskWrites rules bytes rows clerks shuts) (λ _ rows. DeskRefuses rules rows clerks)
+    ensures { Runs (λ bytes rows. DeskWrites rules bytes rows clerks shuts)
+        (λ _ rows. DeskRefuses rules rows clerks)
         (P.remaining file) (S.remaining script) None W.contents writer.old writer.new result }
 {
     let election = match own_election(alloc, file, &mut NoWatch) {

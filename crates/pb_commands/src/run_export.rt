@@ -17,14 +17,14 @@ use pb_read::Heed;
 use std::io::{Read, Write};
 use std::thread::Threads;
 
-/// Reads an election, counts it with these options, and writes the file of the election with what the count came to: it is
-/// read back as the same election. It also has the comment, further keys and further columns that `watch` keeps of the file
-/// that is read.
+/// Reads an election, counts it by the rule, and writes the file of the election with what the count came to:
+/// it is read back as the same election. It also has the comment, further keys and further columns that
+/// `watch` keeps of the file that is read.
 ///
-/// The file is refused before the journal, the journal before an open desk, that before the options, and then an election
-/// that no file would be read back as. Nothing is written but the whole file. Where the fault is `Write` some of the file
-/// may have gone out; on any other fault the writer is as it was. Who looks on while the file is read may refuse it for a
-/// warning, before the journal is judged.
+/// The file is refused before the journal, the journal before an open desk, that before the options, and then
+/// an election that no file would be read back as. Nothing is written but the whole file. Where the fault is
+/// `Write` some of the file may have gone out; on any other fault the writer is as it was. Who looks on while
+/// the file is read may refuse it for a warning, before the journal is judged.
 pub fn run_export<
     T: Threads + Sync,
     P: Read + Drop,
@@ -38,15 +38,17 @@ pub fn run_export<
     watch: &mut H,
     writer: &mut W,
 ) -> Result<(), AppFault>
-    ensures runs { Runs (WritesOf (IsExportOf counting.now.options.now counting.now.fills_up (H.keeps watch.new)))
-        (ExportRefuses counting.now.options.now) (P.remaining inputs.file) (known J.remaining inputs.journal)
+    ensures runs { Runs (WritesOf (IsExportOf counting.now.rule.now (H.keeps watch.new)))
+        (ExportRefuses counting.now.rule.now.options) (P.remaining inputs.file)
+        (known J.remaining inputs.journal)
         (H.refused_for watch.new) W.contents writer.old writer.new result }
 
-    // What can be exported with whatever further keys and columns is, unless a fault comes from outside, or a warning.
+    // What can be exported with whatever further keys and columns is, unless a fault comes from outside, or a
+    // warning.
     ensures accepts { H.refused_for watch.new ≡ None → IfErr result (λ fault.
         IfBothKnown (P.remaining inputs.file) (known J.remaining inputs.journal) (λ bytes journal.
         (kept : Further) (text : List ℕ)
-        → WritesOf (IsExportOf counting.now.options.now counting.now.fills_up kept) bytes journal text
+        → WritesOf (IsExportOf counting.now.rule.now kept) bytes journal text
         → IsOutsideFault fault)) }
 {
     let count = match count_inputs(counting, inputs, watch) {

@@ -1,4 +1,5 @@
-//! Runs that write a table: who won and why, who lost and by how much, who paid, and what another rule elects.
+//! Runs that write a table: who won and why, who lost and by how much, who paid, and what another rule
+//! elects.
 
 ghost use Rattle.std.specs.Prelude.{◌≡◌, ◌++◌, IfOk, OnOk};
 ghost use Rattle.pb_reasons.specs.Counted.{IsCounted};
@@ -27,11 +28,12 @@ use std::alloc::Global;
 use std::io::{Read, Write};
 use std::thread::Threads;
 
-/// Reads an election, counts it with these options, and writes this table of the outcome.
+/// Reads an election, counts it by the rule, and writes this table of the count.
 ///
-/// The file is refused before the journal, the journal before an open desk, and that before the options. Nothing is
-/// written but the whole table. Where the fault is `Write` some of the table may have gone out; on any other fault the
-/// writer is as it was. Who looks on while the file is read may refuse it for a warning, before the journal is judged.
+/// The file is refused before the journal, the journal before an open desk, and that before the options.
+/// Nothing is written but the whole table. Where the fault is `Write` some of the table may have gone out; on
+/// any other fault the writer is as it was. Who looks on while the file is read may refuse it for a warning,
+/// before the journal is judged.
 pub fn run_table<T: Threads + Sync, P: Read + Drop, J: Read + Drop, G: Gate, H: Heed, W: Write>(
     counting: &Counting<T, G>,
     inputs: Inputs<P, J>,
@@ -39,8 +41,9 @@ pub fn run_table<T: Threads + Sync, P: Read + Drop, J: Read + Drop, G: Gate, H: 
     writer: &mut W,
     table: Table,
 ) -> Result<(), AppFault>
-    ensures { Runs (WritesOf (IsTableOf table counting.now.options.now counting.now.fills_up))
-        (CountRefuses counting.now.options.now) (P.remaining inputs.file) (known J.remaining inputs.journal)
+    ensures { Runs (WritesOf (IsTableOf table counting.now.rule.now))
+        (CountRefuses counting.now.rule.now.options) (P.remaining inputs.file)
+        (known J.remaining inputs.journal)
         (H.refused_for watch.new) W.contents writer.old writer.new result }
 {
     let count = match count_inputs(counting, inputs, watch) {

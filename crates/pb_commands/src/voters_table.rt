@@ -43,7 +43,8 @@ fn put_each(
     teller: &mut VoterTeller,
 ) -> Result<(), NoMemory>
     requires { teller.old.0 ≡ election.now }
-    ensures { OnOk result ((old : List ℕ) → rows.old.text ≡ old ++ text_of_row voter_columns → rows.new.text ≡ old
+    ensures { OnOk result ((old : List ℕ) → rows.old.text ≡ old ++ text_of_row voter_columns
+        → rows.new.text ≡ old
         ++ text_of_rows (voter_columns
         ∷ map (voter_table_row election.now teller.old.1) (range_with_len 0 (length election.now.voters)))) }
 {

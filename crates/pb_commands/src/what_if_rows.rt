@@ -1,12 +1,14 @@
 //! What would have made a project win, as text.
 
-ghost use Rattle.std.specs.Prelude.{◌≡◌, ◌≢◌, ◌↔◌, ◌<◌, ◌≤◌, ◌++◌, ◌∷◌, [], ℕ, Contains, IfErr, IfOk, IfSome, IsTrue, List, None, OnOk, Some, length, slice_get, string_bytes};
+ghost use Rattle.std.specs.Prelude.{◌≡◌, ◌≢◌, ◌↔◌, ◌<◌, ◌≤◌, ◌++◌, ◌∷◌, [], ℕ, Contains, IfErr, IfOk, IfSome};
+ghost use Rattle.std.specs.Prelude.{IsTrue, List, None, OnOk, Some, length, slice_get, string_bytes};
 ghost use Rattle.pb_core.specs.Election.{most_voters, project_ids};
 ghost use Rattle.pb_rounds.specs.Counted.{IsCountFault};
 ghost use Rattle.pb_rounds.specs.CountFault.{refusal_of};
 ghost use Rattle.pb_rounds.specs.declared.count_fault.CountFault.TheVariants.{NoMemory};
 ghost use Rattle.pb_rows.specs.Writing.{text_of_row, text_of_rows};
-ghost use Rattle.pb_commands.specs.WhatIf.{IsWhatIfText, WhatIfRefuses, found_rows, verdict_text, what_if_row, what_if_text};
+ghost use Rattle.pb_commands.specs.WhatIf.{IsWhatIfText, WhatIfRefuses, found_rows, verdict_text};
+ghost use Rattle.pb_commands.specs.WhatIf.{what_if_row, what_if_text};
 ghost use Rattle.pb_commands.specs.Inner.WhatIf.{change_text, most_of, value_text, what_if_columns};
 ghost use Rattle.pb_commands.specs.declared.what_if_rows.Changes.TheVariants.{Searched, One};
 ghost use Rattle.pb_reasons.specs.WhatIf.{CanBe, seen};
@@ -38,34 +40,33 @@ pub enum Changes {
 pub enum WhatIfFault {
     /// No project has the id that is asked about.
     NoProject,
-    /// The cost is 0, or the value is above this: the largest cost of a file, or how many further voters an election can have.
+    /// The cost is 0, or the value is above this: the largest cost of a file, or how many further voters an
+    /// election can have.
     OutOfRange(u64),
-    /// The count of the election as it is, is refused; or that of a changed one is, for another reason than its raises.
+    /// The count of the election as it is, is refused; or that of a changed one is, for another reason than
+    /// its raises.
     Count(CountFault),
 }
 
-/// What would have made the project with this id win, or lose, as text: each row of a whole count by these options.
+/// What would have made the project with this id win, or lose, as text: each row of a whole count by the
+/// rule.
 pub fn what_if_text<T: Threads + Sync, G: Gate>(
     counting: &Counting<T, G>,
     election: Election,
     project: &str,
     changes: Changes,
 ) -> Result<Vec<u8>, WhatIfFault>
-    ensures ok { IfOk result (λ text. (place : ℕ) × (slice_get (project_ids election) place ≡ Some project.now)
-        × IsWhatIfText election (record {
-          options = counting.now.options.now;
-          fills_up = counting.now.fills_up;
-          place = place;
-        }) changes text.items) }
-    ensures fault { IfErr result (WhatIfRefuses election counting.now.options.now project.now changes) }
+    ensures ok { IfOk result (λ text. (place : ℕ)
+        × (slice_get (project_ids election) place ≡ Some project.now)
+        × IsWhatIfText election (record { rule = counting.now.rule.now; place = place }) changes text.items) }
+    ensures fault { IfErr result (WhatIfRefuses election counting.now.rule.now.options project.now changes) }
 {
     let Some(place) = place_of(&election, project) else {
         drop(election);
         return Err(WhatIfFault::NoProject);
     };
     let question = Question {
-        options: *counting.options,
-        fills_up: counting.fills_up,
+        rule: *counting.rule,
         place,
     };
     let recount = Recount {
@@ -87,7 +88,8 @@ fn searched_text<T: Threads + Sync, G: Gate>(
 ) -> Result<Vec<u8>, WhatIfFault>
     requires known { recount.now.question.place < length election.projects }
     ensures ok { IfOk result (λ text. IsWhatIfText election recount.now.question Searched text.items) }
-    ensures fault { (id : List ℕ) → IfErr result (WhatIfRefuses election recount.now.question.options id Searched) }
+    ensures fault { (id : List ℕ)
+        → IfErr result (WhatIfRefuses election recount.now.question.rule.options id Searched) }
 {
     let alloc = recount.alloc;
     let found = match what_if(recount, election) {
@@ -108,9 +110,10 @@ fn one_text<T: Threads + Sync, G: Gate>(
     value: u64,
 ) -> Result<Vec<u8>, WhatIfFault>
     requires known { recount.now.question.place < length election.projects }
-    ensures ok { IfOk result (λ text. IsWhatIfText election recount.now.question (One change value) text.items) }
+    ensures ok { IfOk result (λ text. IsWhatIfText election recount.now.question
+        (One change value) text.items) }
     ensures fault { (id : List ℕ)
-        → IfErr result (WhatIfRefuses election recount.now.question.options id (One change value)) }
+        → IfErr result (WhatIfRefuses election recount.now.question.rule.options id (One change value)) }
 {
     let alloc = recount.alloc;
     if !can_be(&election, change, value) {

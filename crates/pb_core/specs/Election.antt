@@ -38,7 +38,8 @@ pub record IsProject (p : ProjectView) : Type 0 where
   pub costs : 0 < p.cost
   pub affordable : p.cost ≤ largest_money
 
--- a voter approves some of this many projects; a ballot is a list of places that rises, so that none stands twice
+-- a voter approves some of this many projects; a ballot is a list of places that rises, so that none stands
+-- twice
 pub record IsVoter (projects : ℕ) (v : VoterView) : Type 0 where
   pub has_id : IsVoterId v.id
   pub ballot_rises : IsStrictlyIncreasing v.ballot

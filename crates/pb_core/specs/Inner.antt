@@ -1,2 +1,3 @@
--- Words that only private contracts and the invariants of private fields speak of: nobody has to believe them.
+-- Words that only private contracts and the invariants of private fields speak of: nobody has to believe
+-- them.
 pub mod Ids

@@ -6,8 +6,9 @@ ghost use Rattle.pb_core.specs.MoneyText.{IsMoneyText, IsWorth, money_text};
 
 use crate::money_fault::MoneyFault;
 
-/// What is written of an amount of 64 bits is a number, a point and two digits, worth just this amount; a zero
-/// begins the number only where it is the whole of it. An amount that can be read reads back as the same amount.
+/// What is written of an amount of 64 bits is a number, a point and two digits, worth just this amount; a
+/// zero begins the number only where it is the whole of it. An amount that can be read reads back as the same
+/// amount.
 pub fn money_reads_back()
     ensures back { (h : ℕ) → h ≤ largest_money → money_of (money_text h) ≡ Ok h }
     ensures spelled { (h : ℕ) → h < 2 ^ 64 → (whole : List ℕ) × (decimals : List ℕ)

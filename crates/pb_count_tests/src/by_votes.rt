@@ -12,7 +12,8 @@ use std::process::Abort;
 const FOUR: &str =
     "META\nkey;value\nbudget;100\nvote_type;approval\nPROJECTS\nproject_id;cost\na;30\nb;60\nc;20\nd;25\nVOTES\nvoter_id;vote\nv1;a,c\nv2;a,b,d\nv3;b\n";
 
-/// Projects by place: a costs 50.00, b and c 20.00 each, and each of them has one vote; d costs 5.00 and has none.
+/// Projects by place: a costs 50.00, b and c 20.00 each, and each of them has one vote; d costs 5.00 and has
+/// none.
 const TIES: &str =
     "META\nkey;value\nbudget;90\nvote_type;approval\nPROJECTS\nproject_id;cost\na;50\nb;20\nc;20\nd;5\nVOTES\nvoter_id;vote\nv1;a\nv2;b\nv3;c\nv4;\n";
 

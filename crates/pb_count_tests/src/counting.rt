@@ -1,5 +1,5 @@
-//! Counts worked by hand, with what is left to each voter and how many prices each round computed. What a count's
-//! report shows as well stands in the cases of the program.
+//! Counts worked by hand, with what is left to each voter and how many prices each round computed. What a
+//! count's report shows as well stands in the cases of the program.
 
 use crate::checks;
 use crate::checks::{holds, same};
@@ -40,8 +40,8 @@ const RISING: &str =
 const FALLING: &str =
     "META\nkey;value\nbudget;60\nvote_type;approval\nPROJECTS\nproject_id;cost\ny;20\nx;10\nVOTES\nvoter_id;vote\nv1;x,y\nv2;x,y\n";
 
-/// What a count has to tell: the share, each elected project's place, price and what it collected, what is left to each
-/// voter, and how many prices each round computed; amounts in hundredths.
+/// What a count has to tell: the share, each elected project's place, price and what it collected, what is
+/// left to each voter, and how many prices each round computed; amounts in hundredths.
 struct Told {
     share: u64,
     elected: &'static [(u32, u64, u64)],

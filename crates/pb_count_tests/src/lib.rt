@@ -1,9 +1,9 @@
-//! Tests of all that a count needs: values, the rows of texts, the `.pb` reader, prices, counts and most votes first. They
-//! show what no contract says, and each public call once with ample memory.
+//! Tests of all that a count needs: values, the rows of texts, the `.pb` reader, prices, counts and most
+//! votes first. They show what no contract says, and each public call once with ample memory.
 //!
-//! They stand apart, since a crate that has tests is proved a second time with them, and need not wait for the desk's
-//! proof. A test is a table and a short body, which compares by `checks`: an assertion in a body takes the prover
-//! seconds, a call next to nothing.
+//! They stand apart, since a crate that has tests is proved a second time with them, and need not wait for
+//! the desk's proof. A test is a table and a short body, which compares by `checks`: an assertion in a body
+//! takes the prover seconds, a call next to nothing.
 #![tactic(auto)]
 
 #[cfg(test)]

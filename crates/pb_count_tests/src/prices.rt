@@ -29,7 +29,8 @@ fn supporters(rt: &impl Abort, alloc: Global, file: &str) -> Supporters {
     supporters
 }
 
-/// Whether there is a rest for each voter, none above the largest share, and a project at each of these places.
+/// Whether there is a rest for each voter, none above the largest share, and a project at each of these
+/// places.
 fn can_price(supporters: &Supporters, rests: &[Money], projects: &[u32]) -> bool
     ensures rests { OnTrue result (AreRests supporters.now.voters rests.now) }
     ensures known { OnTrue result (All (λ place. place < length supporters.now.costs) projects.now) }
@@ -86,7 +87,8 @@ fn add_voters(rt: &impl Abort, file: &mut String, numbers: &[u32]) {
 const BEFORE_COST: &str =
     "META\nkey;value\nbudget;0\nvote_type;approval\nPROJECTS\nproject_id;cost\np;";
 
-/// The supporters of one project of this cost: of as many voters as there are numbers, those whose number is not 0.
+/// The supporters of one project of this cost: of as many voters as there are numbers, those whose number is
+/// not 0.
 fn some_support(rt: &impl Abort, alloc: Global, cost: u64, numbers: &[u32]) -> Supporters {
     let mut file = String::from_str(alloc, BEFORE_COST).expect(rt, "memory");
     push_amount(rt, alloc, &mut file, cost);
@@ -194,8 +196,8 @@ fn rests_of(rt: &impl Abort, alloc: Global, parts: &[u32], part: u64) -> Vec<Mon
     rests
 }
 
-/// The price where these parts of 1 are left is the one found by trial. With as many large parts left, the sorted
-/// rests and the steps still agree.
+/// The price where these parts of 1 are left is the one found by trial. With as many large parts left, the
+/// sorted rests and the steps still agree.
 fn agrees_with_a_trial(rt: &impl Abort, alloc: Global, cost: u64, support: &[u32], parts: &[u32]) {
     let supporters = some_support(rt, alloc, cost, support);
     let small = rests_of(rt, alloc, parts, 1);
@@ -233,8 +235,8 @@ fn found(rt: &impl Abort, alloc: Global, hundredths: &[u64]) -> Vec<Option<Money
     prices
 }
 
-/// The prices of these projects of the three voters by this many workers, where this share is left to each, or the
-/// fault; and how far the tally grew.
+/// The prices of these projects of the three voters by this many workers, where this share is left to each,
+/// or the fault; and how far the tally grew.
 fn priced_by<R: Threads + Abort + Sync, G: Gate>(
     rt: &R,
     alloc: Global,
@@ -273,7 +275,8 @@ fn prices_as<R: Threads + Abort + Sync, G: Gate>(
     same(rt, tally, projects.len() as u64, "the tally");
 }
 
-/// How often each piece came to the gate, in digits: piece 0 has the last, piece 1 the one before it, and so on.
+/// How often each piece came to the gate, in digits: piece 0 has the last, piece 1 the one before it, and so
+/// on.
 #[derive(Drop)]
 struct Visits {
     digits: AtomicU32,
@@ -341,8 +344,8 @@ const IN_TURN: [u32; 64] = [
     0, 1, 0, 1, 0, 1, 0, 1, 0, 1, 0, 1, 0, 1, 0, 1, 0, 1, 0, 1, 0, 1, 0, 1, 0, 1, 0, 1, 0, 1, 0, 1,
 ];
 
-/// This many workers meet at as many pieces, each at one, and no worker comes twice: so none was priced before each of the
-/// others was drawn by a worker of its own.
+/// This many workers meet at as many pieces, each at one, and no worker comes twice: so none was priced
+/// before each of the others was drawn by a worker of its own.
 fn meet(rt: &(impl Threads + Abort + Sync), alloc: Global, workers: u32, numbers: u64) {
     let gate = Crowd::of(workers);
     let projects = IN_TURN.get(..workers as usize).expect(rt, "projects");

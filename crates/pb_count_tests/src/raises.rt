@@ -1,5 +1,5 @@
-//! Counts of made elections, by groups of raises and with raises left out, beside the rule alone: one raise after the
-//! other.
+//! Counts of made elections, by groups of raises and with raises left out, beside the rule alone: one raise
+//! after the other.
 
 use crate::checks::{holds, same};
 use crate::elections::{push_amount, read};
@@ -152,7 +152,8 @@ fn end_at(
     end
 }
 
-/// The rule alone: the share of the first outcome that is exhausted, or of the last one before the first that is over.
+/// The rule alone: the share of the first outcome that is exhausted, or of the last one before the first that
+/// is over.
 fn share_by_rule(
     rt: &(impl Abort + Threads + Sync),
     alloc: Global,

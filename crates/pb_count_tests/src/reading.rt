@@ -1,5 +1,5 @@
-//! Files as the library shows them: names, limits, and the largest files. What else a file may say, and its faults, the
-//! cases of `crates/pb_app` show.
+//! Files as the library shows them: names, limits, and the largest files. What else a file may say, and its
+//! faults, the cases of `crates/pb_app` show.
 
 use crate::checks::{same, tells};
 use crate::elections::{read, shown, ten_thousand};
@@ -44,7 +44,8 @@ const COLUMNS: &str =
 const RARE: &str =
     "META\nkey;value\nbudget;0\nvote_type;approval\nPROJECTS\nproject_id;cost\na;10000000000000.00\nb;60\n\"x,y\";7\nc;8\nVOTES\nvoter_id;vote\nv1;a\nv2;\nv3;b,c\nv4;\" , \"\n";
 
-/// A column that is not the name, though it is one elsewhere; then rows that end before the name, and after it.
+/// A column that is not the name, though it is one elsewhere; then rows that end before the name, and after
+/// it.
 const TITLES: &str =
     "META\nk;v\nbudget;1\nvote_type;approval\nPROJECTS\nproject_id;cost;title\na;1;A\nVOTES\nvoter_id;vote\nv;a\n";
 

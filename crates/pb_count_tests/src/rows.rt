@@ -34,8 +34,8 @@ fn show_read(
     }
 }
 
-/// What this many reads give, one after the other: each record's fields in brackets, and a bar; a point at the end, where
-/// the record is empty; and the fault of a read that fails.
+/// What this many reads give, one after the other: each record's fields in brackets, and a bar; a point at
+/// the end, where the record is empty; and the fault of a read that fails.
 fn shown<R: Read + Drop>(rt: &impl Abort, alloc: Global, reader: R, reads: u32) -> String {
     let mut records = Records::new(alloc, reader);
     let mut row = StringRecord::new(alloc);

@@ -15,8 +15,8 @@
 //!
 //! Every answer stands in the journal. Its text has a row for each entry, with six fields and `;` between
 //! two, after the row `journal;2` where the desk has version 2: the number, from 1; the clerk, 0 to 63;
-//! `cast`, `replace`, `withdraw` or `shut`; the voter's id; the places of the ballot, rising, with `,` between
-//! two; and the answer, as `done` or `unknown-place 2`. A field is quoted only where it has to be.
+//! `cast`, `replace`, `withdraw` or `shut`; the voter's id; the places of the ballot, rising, with `,`
+//! between two; and the answer, as `done` or `unknown-place 2`. A field is quoted only where it has to be.
 //!
 //! Who has the election and the journal replays it, and must come to the same ballots: an audit accepts
 //! exactly the rows of a legal journal that fits the room. It can't tell a journal that was cut at a
@@ -24,6 +24,7 @@
 #![tactic(auto)]
 
 pub mod audit_fault;
+pub mod audit_refused;
 mod audit_watch;
 mod ballot_box;
 mod ballot_list;
@@ -44,11 +45,12 @@ mod version;
 pub mod write_fault;
 
 pub use audit_fault::AuditFault;
+pub use audit_refused::AuditRefused;
 pub use audit_watch::{AuditWatch, NoAuditWatch};
 pub use desk::{Desk, MOST_CLERKS};
 pub use desk_fault::DeskFault;
 pub use into_fault::IntoFault;
-pub use journal_audit::{audit, audit_watched};
+pub use journal_audit::{audit, audit_or_hand_back, audit_watched};
 pub use request_fields::{RequestFields, Strictness, read_request};
 pub use standing_ballots::StandingBallots;
 pub use start_fault::StartFault;

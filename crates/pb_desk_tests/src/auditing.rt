@@ -1,12 +1,13 @@
-//! Audits as the library shows them: the room, a reader that fails, and what an audited desk says and answers. Which
-//! journals are accepted, and the faults of the others, the cases of `crates/pb_app` show.
+//! Audits as the library shows them: the room, a reader that fails, and what an audited desk says and
+//! answers. Which journals are accepted, and the faults of the others, the cases of `crates/pb_app` show.
 
 use crate::checks::same;
-use crate::elections::{add_limit, three_voters};
+use crate::elections::{add_limit, shown, three_voters};
 use crate::serving::{Row, asks, has_text};
 use pb_core::answer::Answer;
 use pb_core::devices::FailsAfter;
-use pb_desk::{AuditFault, Version, audit};
+use pb_core::election::Election;
+use pb_desk::{AuditFault, AuditRefused, Version, audit, audit_or_hand_back};
 use std::alloc::Global;
 use std::io::Read;
 use std::process::Abort;
@@ -74,8 +75,8 @@ const TOO_LONG: &[Row] = &[Row("cast", "eve", &[0, 1], Answer::TooLong)];
 const AT_MOST_ONE: &str =
     "journal;2\n1;0;cast;ann;0,1;too-long\n2;0;cast;ann;0,5;unknown-place 5\n3;0;cast;v1;0,1;too-long\n4;0;cast;v1;0;already-cast\n";
 
-/// A text that an audit accepts where the limit is one place, which version 1 does not know; what its desk then has, and
-/// what it answers.
+/// A text that an audit accepts where the limit is one place, which version 1 does not know; what its desk
+/// then has, and what it answers.
 struct Accepted {
     text: &'static str,
     version: Version,
@@ -139,4 +140,41 @@ fn an_audited_desk_goes_on(rt: HostRuntime) {
     for accepted in ACCEPTED {
         goes_on(&rt, rt.alloc(), accepted);
     }
+}
+
+/// A journal that withdraws a ballot.
+const WITHDRAWN: &str = "1;0;withdraw;v1;;done\n";
+
+/// The same, and a row more, whose answer is wrong.
+const WITHDRAWN_TWICE: &str = "1;0;withdraw;v1;;done\n2;0;withdraw;v1;;done\n";
+
+/// The three voters and their ballots, as `shown` shows them.
+const AS_OPENED: &str = "10000;a,,3000;b,,6000;|v1 0;v2 0 1;v3 1;";
+
+/// It is the election of the three voters.
+fn is_as_opened(rt: &impl Abort, alloc: Global, election: &Election) {
+    let found = shown(rt, alloc, election);
+    same(rt, found.as_str(), AS_OPENED, "the election");
+    drop(found);
+}
+
+#[test]
+fn a_refused_audit_hands_the_election_back(rt: HostRuntime) {
+    let election = three_voters(&rt, rt.alloc());
+    let audited = audit_or_hand_back(rt.alloc(), election, 10, WITHDRAWN_TWICE.as_bytes());
+    let AuditRefused { fault, election } = audited.err().expect(&rt, "refused");
+    same(&rt, fault, AuditFault::WrongAnswer(2), WITHDRAWN_TWICE);
+    is_as_opened(&rt, rt.alloc(), &election);
+    drop(election);
+}
+
+#[test]
+fn a_desk_hands_its_opening_back(rt: HostRuntime) {
+    let election = three_voters(&rt, rt.alloc());
+    let audited = audit_or_hand_back(rt.alloc(), election, 10, WITHDRAWN.as_bytes());
+    let desk = audited.expect(&rt, "accepted");
+    same(&rt, desk.ballots(), 2, WITHDRAWN);
+    let election = desk.into_opening();
+    is_as_opened(&rt, rt.alloc(), &election);
+    drop(election);
 }

@@ -3,11 +3,11 @@
 use crate::checks::tells;
 use crate::elections::three_voters;
 use crate::serving::desk_with_room;
-use pb_desk::IntoFault;
 use pb_desk::audit_fault::AuditFault;
 use pb_desk::desk_fault::DeskFault;
 use pb_desk::start_fault::StartFault;
 use pb_desk::write_fault::WriteFault;
+use pb_desk::{AuditRefused, IntoFault};
 
 const DESK_FAULTS: &[(DeskFault, &str)] = &[
     (DeskFault::JournalFull, "1 JournalFull: the journal is full"),
@@ -83,4 +83,17 @@ fn what_is_handed_back_comes_with_its_fault(rt: HostRuntime) {
     let named = (into.number(), into.name());
     tells(&rt, alloc, named, &into, "2 NoMemory: out of memory");
     drop(into);
+    let audit = AuditRefused {
+        fault: AuditFault::JournalFull(7),
+        election: three_voters(&rt, alloc),
+    };
+    let named = (audit.fault.number(), audit.fault.name());
+    tells(
+        &rt,
+        alloc,
+        named,
+        &audit,
+        "4 JournalFull: there is no room for row 7",
+    );
+    drop(audit);
 }

@@ -1,8 +1,8 @@
-//! Tests of the desk, of its journal and of the shared desk: what no contract says, and each public call once with
-//! ample memory.
+//! Tests of the desk, of its journal and of the shared desk: what no contract says, and each public call once
+//! with ample memory.
 //!
-//! A test is a table and a short body, which compares by `checks`: an assertion in a body takes the prover seconds, a
-//! call next to nothing.
+//! A test is a table and a short body, which compares by `checks`: an assertion in a body takes the prover
+//! seconds, a call next to nothing.
 #![tactic(auto)]
 
 #[cfg(test)]

@@ -240,8 +240,8 @@ fn answer_of(desk: &Desk, number: u32) -> Option<Answer> {
     }
 }
 
-/// The desk has an entry for each row and this room, its entries have the numbers from one, and where it is full it
-/// serves nothing more.
+/// The desk has an entry for each row and this room, its entries have the numbers from one, and where it is
+/// full it serves nothing more.
 fn has_entries(rt: &impl Abort, desk: &mut Desk, rows: &[Row], room: u32) {
     let entries = desk.entries();
     same(
@@ -261,6 +261,8 @@ fn has_entries(rt: &impl Abort, desk: &mut Desk, rows: &[Row], room: u32) {
     );
     if entries == room {
         is_served(rt, desk, 0, &Request::Shut, Err(DeskFault::JournalFull));
+        let taken = desk.take(0, Request::Shut);
+        same(rt, taken, Err(DeskFault::JournalFull), "a request");
     }
 }
 
@@ -311,6 +313,26 @@ fn serves(rt: &impl Abort, alloc: Global, served: &Served) {
 fn serves_requests(rt: HostRuntime) {
     for served in SERVED {
         serves(&rt, rt.alloc(), served);
+    }
+}
+
+/// A desk that takes the requests answers the same, and has the same journal.
+fn takes(rt: &impl Abort, alloc: Global, served: &Served) {
+    let election = add_limit(three_voters(rt, alloc), served.limit);
+    let mut desk = Desk::start(alloc, election, served.room).expect(rt, "a desk");
+    for Row(word, id, places, answer) in served.rows {
+        let taken = desk.take(0, request(rt, alloc, word, id, places));
+        same(rt, taken, Ok(*answer), "a request");
+    }
+    has_ballots(rt, alloc, &desk, served.ballots);
+    has_text(rt, alloc, &desk, served.journal);
+    drop(desk);
+}
+
+#[test]
+fn takes_requests(rt: HostRuntime) {
+    for served in SERVED {
+        takes(&rt, rt.alloc(), served);
     }
 }
 

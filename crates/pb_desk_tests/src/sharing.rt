@@ -186,8 +186,8 @@ const NO_ROOM: &[Step<'static>] = &[
     Step(0, &Row("withdraw", "ann", &[], 1, IS_FULL)),
 ];
 
-/// The room of a desk, what two clerks ask, the number of entries that each then reads from the front word, and the
-/// journal.
+/// The room of a desk, what two clerks ask, the number of entries that each then reads from the front word,
+/// and the journal.
 struct Served(u32, &'static [Step<'static>], u32, &'static str);
 
 const SERVED: &[Served] = &[
@@ -345,8 +345,8 @@ fn a_note_is_met(rt: &impl Abort, shared: &SharedDesk, clerks: &mut Vec<Clerk>)
     drop(shared.note(&mut clerks[1]));
 }
 
-/// A note that another clerk meets takes nothing away, and one that nobody met may be dropped. A look that answers an
-/// error leaves the lock free.
+/// A note that another clerk meets takes nothing away, and one that nobody met may be dropped. A look that
+/// answers an error leaves the lock free.
 #[test]
 fn a_note_may_be_met_or_dropped(rt: HostRuntime) {
     let alloc = rt.alloc();
@@ -419,7 +419,8 @@ fn each_clerk_is_served_alone(rt: HostRuntime) {
     drop(shared);
 }
 
-/// What one clerk wrote another reads, by the desk and by the front word, also one that has made no call before.
+/// What one clerk wrote another reads, by the desk and by the front word, also one that has made no call
+/// before.
 #[test]
 fn clerks_read_what_others_wrote(rt: HostRuntime) {
     let alloc = rt.alloc();
@@ -460,8 +461,8 @@ fn is_not_shared(rt: &impl Abort, alloc: Global, desk: Desk, clerks: u32) -> Des
     desk
 }
 
-/// A desk is shared among 1 to 64. Clerks need not be handed back: where none holds the lock, `finish` gives the
-/// desk. It isn't shut.
+/// A desk is shared among 1 to 64. Clerks need not be handed back: where none holds the lock, `finish` gives
+/// the desk. It isn't shut.
 #[test]
 fn a_desk_comes_back_without_its_clerks(rt: HostRuntime) {
     let alloc = rt.alloc();

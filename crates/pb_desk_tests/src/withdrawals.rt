@@ -32,8 +32,8 @@ fn change(plain: &mut Plain, number: u32, place: Option<u32>) {
 /// A word, the number of a voter, and the place of a project.
 struct Asked(&'static str, u32, u32);
 
-/// The voter with this number casts a ballot for the project of this place, replaces the ballot by one for it, or
-/// withdraws the ballot.
+/// The voter with this number casts a ballot for the project of this place, replaces the ballot by one for
+/// it, or withdraws the ballot.
 fn ask(rt: &impl Abort, alloc: Global, desk: &mut Desk, plain: &mut Plain, asked: Asked) {
     let Asked(word, number, place) = asked;
     let id = format!(in alloc; "v{number}").expect(rt, "memory");
@@ -94,8 +94,8 @@ fn most_withdraw(rt: &impl Abort, alloc: Global, desk: &mut Desk, plain: &mut Pl
     }
 }
 
-/// 64 voters cast. All but each eighth withdraw, from the front. Those who withdrew and are odd cast again, now last,
-/// and voters 8 and 9 replace.
+/// 64 voters cast. All but each eighth withdraw, from the front. Those who withdrew and are odd cast again,
+/// now last, and voters 8 and 9 replace.
 #[test]
 fn ballots_keep_their_order_where_many_withdraw(rt: HostRuntime) {
     let alloc = rt.alloc();

@@ -1,15 +1,17 @@
 -- Which elections a file can be written of.
-use Rattle.std.specs.Prelude.{◌≡◌, ◌==◌, ◌&&◌, ℕ, Bool, true, false, ⊤, List, [], ◌∷◌, ◌++◌, is_some, nat_le, slice_index_or}
+use Rattle.std.specs.Prelude.{◌≡◌, ◌==◌, ◌&&◌, ℕ, Bool, true, false, ⊤, List, [], ◌∷◌, ◌++◌, is_some, nat_le}
+use Rattle.std.specs.Prelude.{slice_index_or}
 use Rattle.std.specs.List.{list_all, list_any}
 use Rattle.std.specs.Option.{option_map_or}
 use Rattle.std.specs.Str.{bytes_eq, trim}
 use Rattle.pb_core.specs.Election.{ElectionView, most_projects, project_ids, voter_ids}
 use Rattle.pb_read.specs.Rows.{head_of}
 use Rattle.pb_export.specs.declared.export_fault.ExportFault.{ExportFault}
-use Rattle.pb_export.specs.declared.export_fault.ExportFault.TheVariants.{SectionWord, CommaInId, OfNoFile, NoMemory}
+use Rattle.pb_export.specs.declared.export_fault.ExportFault.TheVariants.{SectionWord, CommaInId, OfNoFile}
+use Rattle.pb_export.specs.declared.export_fault.ExportFault.TheVariants.{NoMemory}
 
--- projects' ids and names have no white space at their ends, and a limit on a ballot's length is one that a file can
--- name, as in every election that a file stands for
+-- projects' ids and names have no white space at their ends, and a limit on a ballot's length is one that a
+-- file can name, as in every election that a file stands for
 abbrev pub is_of_file : ElectionView → Bool
 is_of_file e =
     list_all (λ p. bytes_eq (trim p.id) p.id && bytes_eq (trim p.name) p.name) e.projects

@@ -1,5 +1,6 @@
 -- The rows of an exported file.
-use Rattle.std.specs.Prelude.{ℕ, ◌/◌, ◌%◌, ◌==◌, ◌&&◌, ◌||◌, Bool, false, not, if◌then◌else◌, List, [], ◌∷◌, ◌++◌, codes, decimal, filter, is_some, length, map, slice_index, slice_index_or}
+use Rattle.std.specs.Prelude.{ℕ, ◌/◌, ◌%◌, ◌==◌, ◌&&◌, ◌||◌, Bool, false, not, if◌then◌else◌, List, [], ◌∷◌}
+use Rattle.std.specs.Prelude.{◌++◌, codes, decimal, filter, is_some, length, map, slice_index, slice_index_or}
 use Rattle.std.specs.List.{enumerate_from, join_with_byte, list_any}
 use Rattle.std.specs.Option.{option_to_list}
 use Rattle.std.specs.Str.{trim}
@@ -66,7 +67,8 @@ votes_rows ids further voters =
     (codes "VOTES" ∷ []) ∷ (codes "voter_id" ∷ codes "vote" ∷ further.voter_names)
     ∷ map (λ v. v.id ∷ join_with_byte 44 (map (λ place. slice_index_or ids place []) v.ballot) ∷ of_voter further v.id) voters
 
--- an exported file: the election, and beside it the rule, each project's votes and whether it is elected, and what is further
+-- an exported file: the election, and beside it the rule, each project's votes and whether it is elected, and
+-- what is further
 abbrev pub file_rows : ElectionView → (rule comment votes : List ℕ) → List Bool → Further → List Fields
 file_rows e rule comment votes selected further =
     (meta_rows e rule comment further.keys ++ projects_rows votes selected further e.projects)

@@ -60,13 +60,13 @@ pub trait Carry {
     /// What it keeps of that file.
     ghost keeps: { Self → Further };
 
-    /// The same.
+    /// What it keeps of that file.
     fn carried(&self) -> &Carried
         ensures { result.now.further ≡ keeps self.now };
 }
 
-/// Looks on while a .pb file is read, and keeps what the count does not use: further keys of META, and further columns. Of a
-/// name that an export writes itself, or that came before, nothing is kept.
+/// Looks on while a .pb file is read, and keeps what the count does not use: further keys of META, and
+/// further columns. Of a name that an export writes itself, or that came before, nothing is kept.
 #[derive(Drop)]
 pub struct Carried {
     alloc: Global,

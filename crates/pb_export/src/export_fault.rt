@@ -4,7 +4,7 @@ use pb_core::names::name_at;
 use thiserror::Error;
 
 /// The names of `ExportFault`, in the order of its variants.
-pub(crate) const NAMES: [&str; 4] = ["SectionWord", "CommaInId", "OfNoFile", "NoMemory"];
+pub const NAMES: [&str; 4] = ["SectionWord", "CommaInId", "OfNoFile", "NoMemory"];
 
 /// Why an election is not exported: no `.pb` file would be read back as it.
 #[derive(Clone, Copy, Debug, PartialEq, Eq, Error)]
@@ -15,8 +15,8 @@ pub enum ExportFault {
     /// A ballot approves a project whose id has a comma, which no vote can name.
     #[error("a ballot approves a project whose id has a comma")]
     CommaInId,
-    /// A project's id or name has white space at its ends, or the limit on a ballot's length is above 10,000. No file
-    /// stands for such an election.
+    /// A project's id or name has white space at its ends, or the limit on a ballot's length is above 10,000.
+    /// No file stands for such an election.
     #[error("no file stands for such an election")]
     OfNoFile,
     /// Out of memory.

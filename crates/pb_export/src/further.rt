@@ -5,8 +5,9 @@ use crate::text_row::TextRow;
 use pb_ids::IdTable;
 use std::alloc::Global;
 
-/// What a file has that the count does not use: its comment, further keys of META with their values, and further columns of
-/// PROJECTS and VOTES. The fields of a project are at its place, those of a voter are found by the voter's id.
+/// What a file has that the count does not use: its comment, further keys of META with their values, and
+/// further columns of PROJECTS and VOTES. The fields of a project are at its place, those of a voter are
+/// found by the voter's id.
 #[derive(Drop)]
 pub struct Further {
     /// The value of META's `comment`; empty if there is none.

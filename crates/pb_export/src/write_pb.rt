@@ -9,7 +9,8 @@ ghost use Rattle.pb_rows.specs.Writing.{text_of_row, text_of_rows};
 ghost use Rattle.pb_export.specs.Export.{CanBeWritten, IsExportFault};
 ghost use Rattle.pb_export.specs.Inner.Growing.{Grows};
 ghost use Rattle.pb_export.specs.Inner.Parts.{key_row, limit_rows, vote_text};
-ghost use Rattle.pb_export.specs.FileRows.{file_rows, key_rows, meta_rows, project_row, projects_rows, terms_rows, votes_rows};
+ghost use Rattle.pb_export.specs.FileRows.{file_rows, key_rows, meta_rows, project_row, projects_rows};
+ghost use Rattle.pb_export.specs.FileRows.{terms_rows, votes_rows};
 
 use crate::amount::amount_text;
 use crate::export_fault::ExportFault;
@@ -27,24 +28,26 @@ use pb_read::MetaKey;
 use pb_rows::{RowsWriter, rows_come_back};
 use std::alloc::Global;
 
-/// Writes an election as a .pb file: META, PROJECTS and VOTES, each with its header row, projects and voters in their
-/// order. Readers pass over what `told` has: the rows `rule` and `comment` of META, the columns `votes` and `selected` of
-/// PROJECTS, and further keys and columns. A further key whose name the file has of its own, or that is a section's head, is
-/// left out.
+/// Writes an election as a .pb file: META, PROJECTS and VOTES, each with its header row, projects and voters
+/// in their order. Readers pass over what `told` has: the rows `rule` and `comment` of META, the columns
+/// `votes` and `selected` of PROJECTS, and further keys and columns. A further key whose name the file has of
+/// its own, or that is a section's head, is left out.
 ///
-/// The file is read back as this election. An election that can't be is refused: a section's name as an id first, then a
-/// comma in the id of a project that a ballot approves, then what no file's election has.
+/// The file is read back as this election. An election that can't be is refused: a section's name as an id
+/// first, then a comma in the id of a project that a ballot approves, then what no file's election has.
 pub fn write_pb(alloc: Global, election: &Election, told: &Told<'_>) -> Result<Vec<u8>, ExportFault>
     requires votes { length told.now.votes.now ≡ length election.now.projects }
     requires selected { length told.now.selected.now ≡ length election.now.projects }
     ensures reads_back { IfOk result (λ text. StandsFor (records_of text.items) election.now) }
     ensures text { IfOk result (λ text. text.items ≡ text_of_rows
-        (file_rows election.now told.now.rule.now told.now.comment.now told.now.votes.now told.now.selected.now
+        (file_rows election.now told.now.rule.now told.now.comment.now told.now.votes.now
+        told.now.selected.now
         told.now.further.now)) }
     ensures ok { OnOk result (CanBeWritten election.now) }
     ensures fault { IfErr result (IsExportFault election.now) }
 {
-    // Rows and amounts that are written are read back; and what is true of every election holds of what is read back.
+    // Rows and amounts that are written are read back; and what is true of every election holds of what is
+    // read back.
     rows_come_back();
     money_reads_back();
     let _budget = election.budget();
@@ -81,7 +84,8 @@ fn put_file(
     requires votes { length told.now.votes.now ≡ length election.now.projects }
     requires selected { length told.now.selected.now ≡ length election.now.projects }
     ensures { OnOk result (Grows
-        (file_rows election.now told.now.rule.now told.now.comment.now told.now.votes.now told.now.selected.now
+        (file_rows election.now told.now.rule.now told.now.comment.now told.now.votes.now
+        told.now.selected.now
         told.now.further.now) rows.old.text rows.new.text) }
 {
     put_meta(rows, alloc, election, told.rule, told.comment)?;
@@ -99,7 +103,8 @@ fn put_meta(
     rule: &str,
     comment: &str,
 ) -> Result<(), NoMemory>
-    ensures { OnOk result (Grows (meta_rows election.now rule.now comment.now []) rows.old.text rows.new.text) }
+    ensures { OnOk result (Grows (meta_rows election.now rule.now comment.now []) rows.old.text
+        rows.new.text) }
 {
     let mut project_digits = Buffer::new();
     let mut voter_digits = Buffer::new();

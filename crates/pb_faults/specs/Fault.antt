@@ -1,5 +1,6 @@
 -- What the program says of a fault: one line, and the status that it then ends with.
-use Rattle.std.specs.Prelude.{ℕ, List, [], ◌∷◌, ◌++◌, ◌==◌, codes, decimal, flat_map, if◌then◌else◌, unwrap_or}
+use Rattle.std.specs.Prelude.{ℕ, List, [], ◌∷◌, ◌++◌, ◌==◌, codes, decimal, flat_map, if◌then◌else◌}
+use Rattle.std.specs.Prelude.{unwrap_or}
 use Rattle.pb_desk.specs.AuditFault.{numbered_name as of_audit, at_row as audited_row}
 use Rattle.pb_desk.specs.declared.audit_fault.AuditFault.TheVariants as audit
 use Rattle.pb_export.specs.ExportFault.{numbered_name as of_export}
@@ -14,7 +15,9 @@ use Rattle.pb_script.specs.declared.roll.RollFault.TheVariants as roll
 use Rattle.pb_script.specs.ScriptFault.{numbered_name as of_script, at_row as script_row}
 use Rattle.pb_script.specs.declared.script_fault.ScriptFault.TheVariants as script
 use Rattle.pb_faults.specs.declared.fault.AppFault.{AppFault}
-use Rattle.pb_faults.specs.declared.fault.AppFault.TheVariants.{Read, Script, ClerkCount, Audit, OtherFile, OpenDesk, Count, Export, Open, Write, Memory, Warned, Roll}
+use Rattle.pb_faults.specs.declared.fault.AppFault.TheVariants.{Read, Script, ClerkCount, Audit, OtherFile}
+use Rattle.pb_faults.specs.declared.fault.AppFault.TheVariants.{OpenDesk, Count, Export, Open, Write, Memory}
+use Rattle.pb_faults.specs.declared.fault.AppFault.TheVariants.{Warned, Roll, Spelling, Moved, Locked, Output}
 
 -- the same fault, in which out of memory is one case, whichever crate met it
 abbrev pub merged : AppFault → AppFault
@@ -30,14 +33,15 @@ merged (Export export.NoMemory) = Memory
 merged (Roll roll.NoMemory) = Memory
 merged fault = fault
 
--- what is told of a file, a script or a journal that has the fault with this number and name in this record or
--- row; fault 1 is a reader that failed
+-- what is told of a file, a script or a journal that has the fault with this number and name in this record
+-- or row; fault 1 is a reader that failed
 abbrev pub told_at : List ℕ → ℕ → List ℕ → ℕ → ℕ × List (List ℕ)
 told_at what number name at = (if number == 1 then 3 else 1, what ∷ decimal number ∷ name ∷ decimal at ∷ [])
 
--- What is told of a merged fault: the status that the program ends with, and the fields of its line. The status
--- is 3 where a device failed or memory was refused; 2 where the arguments are refused, the options of a count
--- among them; 1 where what was read is, or its count. Options in range can still be too few raises for a file.
+-- What is told of a merged fault: the status that the program ends with, and the fields of its line. The
+-- status is 3 where a device failed, memory was refused, or the journal is not this run's; 2 where the
+-- arguments are refused, the options of a count among them; 1 where what was read is, or its count. Options
+-- in range can still be too few raises for a file.
 abbrev pub told : AppFault → ℕ × List (List ℕ)
 told (Read fault) = told_at (codes "read") (of_read fault.kind).0 (of_read fault.kind).1 fault.at
 told (Script fault) = told_at (codes "script") (of_script fault).0 (of_script fault).1 (script_row fault)
@@ -57,7 +61,16 @@ told (Roll (roll.ReadFailed row)) = (3, codes "roll" ∷ codes "ReadFailed" ∷ 
 told (Roll (roll.NotText row)) = (1, codes "roll" ∷ codes "NotText" ∷ decimal row ∷ [])
 told (Roll (roll.TooManyIds row)) = (1, codes "roll" ∷ codes "TooManyIds" ∷ decimal row ∷ [])
 told (Roll roll.NoMemory) = (3, codes "memory" ∷ [])
+told Spelling = (1, codes "spelling" ∷ [])
+told Moved = (3, codes "moved" ∷ codes "2" ∷ [])
+told (Locked number) = (3, codes "locked" ∷ decimal number ∷ [])
+told Output = (3, codes "write" ∷ [])
 
 -- the line of these fields: a `;` stands before each
 abbrev pub line : List (List ℕ) → List ℕ
 line fields = codes "fault" ++ (flat_map (λ field. codes ";" ++ field) fields ++ codes "\n")
+
+-- the status of a run that has answered all its rows, of which so many were refused: each of these has its
+-- line already
+abbrev pub rows_status : ℕ → ℕ
+rows_status refused = if refused == 0 then 0 else 1

@@ -1,7 +1,8 @@
 //! Why a run ends without what it was to write.
 
 use pb_core::no_memory::NoMemory;
-use pb_desk::AuditFault;
+use pb_desk::{AuditFault, DeskFault};
+use pb_durable::{DeviceFault, DurableFault, OpenFault};
 use pb_export::ExportFault;
 use pb_read::{ReadFault, ReadKind, Warning};
 use pb_rounds::count_fault::CountFault;
@@ -39,7 +40,7 @@ pub enum AppFault {
     /// The file with this number on the command line, from 1, could not be opened.
     #[error("file {0} could not be opened")]
     Open(u32),
-    /// The writer failed. Some of the text may have gone out.
+    /// The writer failed, and some of the text may have gone out; or a durable journal was not written.
     #[error("the writer failed")]
     Write,
     /// Out of memory.
@@ -51,6 +52,18 @@ pub enum AppFault {
     /// The voters' roll is refused, or could not be read.
     #[error("roll: {0}")]
     Roll(RollFault),
+    /// The journal is legal, and spelled otherwise than a desk spells it. The file is as it was.
+    #[error("the journal is not spelled as a desk spells it")]
+    Spelling,
+    /// The journal's name leads to another file than the one that is written, or nowhere.
+    #[error("the journal was moved")]
+    Moved,
+    /// Another run serves the journal at the path with this number on the command line, from 1.
+    #[error("another run serves file {0}")]
+    Locked(u32),
+    /// The answers could not be written. What was served stands.
+    #[error("the answers could not be written")]
+    Output,
 }
 
 impl AppFault {
@@ -157,5 +170,49 @@ impl From<AllocError> for AppFault {
 
     fn from(_refused: AllocError) -> AppFault {
         AppFault::Memory
+    }
+}
+
+impl From<OpenFault> for AppFault {
+    ghost use Rattle.std.specs.Prelude.{◌≡◌};
+    ghost use Rattle.pb_faults.specs.Durable.{of_opening};
+
+    ghost from_gives = { λ fault app. app ≡ of_opening fault };
+
+    fn from(fault: OpenFault) -> AppFault {
+        match fault {
+            OpenFault::Audit(fault) => AppFault::from(fault),
+            OpenFault::Spelling => AppFault::Spelling,
+            OpenFault::Device(why) | OpenFault::Beside(why) => AppFault::from(why),
+        }
+    }
+}
+
+impl From<DeviceFault> for AppFault {
+    ghost use Rattle.std.specs.Prelude.{◌≡◌};
+    ghost use Rattle.pb_faults.specs.Durable.{of_device};
+
+    ghost from_gives = { λ fault app. app ≡ of_device fault };
+
+    fn from(why: DeviceFault) -> AppFault {
+        match why {
+            DeviceFault::NoMemory => AppFault::Memory,
+            DeviceFault::Failed | DeviceFault::Full => AppFault::Write,
+        }
+    }
+}
+
+impl From<DurableFault> for AppFault {
+    ghost use Rattle.std.specs.Prelude.{◌≡◌};
+    ghost use Rattle.pb_faults.specs.Durable.{of_durable};
+
+    ghost from_gives = { λ fault app. app ≡ of_durable fault };
+
+    fn from(fault: DurableFault) -> AppFault {
+        match fault {
+            DurableFault::Desk(DeskFault::NoMemory) => AppFault::Memory,
+            DurableFault::Desk(DeskFault::JournalFull) => AppFault::Write,
+            DurableFault::Device(why) => AppFault::from(why),
+        }
     }
 }

@@ -2,7 +2,7 @@
 
 ghost use Rattle.std.specs.Prelude.{◌≡◌, ◌++◌, ◌∷◌, ◌==◌, [], OnOk, codes, decimal, if◌then◌else◌, map};
 ghost use Rattle.std.specs.Io.KnownBytes.{Appends};
-ghost use Rattle.pb_faults.specs.Fault.{line, merged, told, told_at};
+ghost use Rattle.pb_faults.specs.Fault.{line, merged, rows_status, told, told_at};
 ghost use Rattle.pb_script.specs.ScriptReading.{fault_of_row};
 
 use crate::fault::AppFault;
@@ -16,7 +16,7 @@ use std::io::Write;
 const REFUSED: u8 = 1;
 /// The arguments of the command line are refused.
 pub const BAD_ARGUMENTS: u8 = 2;
-/// A device failed, or memory was refused.
+/// A device failed, memory was refused, or another run has the journal.
 const NO_DEVICE: u8 = 3;
 
 impl AppFault {
@@ -48,13 +48,16 @@ impl AppFault {
             AppFault::Export(fault) => {
                 write_numbered(writer, "export", fault.number(), fault.name())
             }
-            AppFault::Open(number) => write_open(writer, number),
-            AppFault::Write => write_fields(writer, &["write"]),
+            AppFault::Open(number) => write_of_file(writer, "open", number),
+            AppFault::Write | AppFault::Output => write_fields(writer, &["write"]),
             AppFault::Memory => write_fields(writer, &["memory"]),
             AppFault::Warned(warning) => {
                 write_named(writer, "warning", warning.oddity.name(), warning.at)
             }
             AppFault::Roll(fault) => write_roll(writer, fault),
+            AppFault::Spelling => write_fields(writer, &["spelling"]),
+            AppFault::Moved => write_fields(writer, &["moved", "2"]),
+            AppFault::Locked(number) => write_of_file(writer, "locked", number),
         }
     }
 
@@ -72,10 +75,17 @@ impl AppFault {
             | AppFault::OpenDesk
             | AppFault::Count(CountFault::RaisesSpent)
             | AppFault::Export(_)
-            | AppFault::Warned(_) => REFUSED,
+            | AppFault::Warned(_)
+            | AppFault::Spelling => REFUSED,
             AppFault::Count(_) => BAD_ARGUMENTS,
             AppFault::Roll(RollFault::NotText(_) | RollFault::TooManyIds(_)) => REFUSED,
-            AppFault::Roll(_) | AppFault::Open(_) | AppFault::Write | AppFault::Memory => NO_DEVICE,
+            AppFault::Roll(_)
+            | AppFault::Open(_)
+            | AppFault::Write
+            | AppFault::Memory
+            | AppFault::Moved
+            | AppFault::Locked(_)
+            | AppFault::Output => NO_DEVICE,
         }
     }
 }
@@ -85,6 +95,13 @@ fn read_status(number: u32) -> u8
     ensures { result ≡ (if number == 1 then 3 else 1) }
 {
     if number == 1 { NO_DEVICE } else { REFUSED }
+}
+
+/// The status of a run that has answered all its rows, of which so many were refused.
+pub fn rows_status(refused: u64) -> u8
+    ensures { result ≡ rows_status refused }
+{
+    if refused == 0 { 0 } else { REFUSED }
 }
 
 /// Writes the line of a row of a script that is refused for this. The rows have their numbers from 1.
@@ -139,13 +156,13 @@ fn write_roll<W: Write>(writer: &mut W, fault: RollFault) -> io::Result<()>
     }
 }
 
-/// Writes the line of the file with this number on the command line, which could not be opened.
-fn write_open<W: Write>(writer: &mut W, number: u32) -> io::Result<()>
+/// Writes the line of what befell the file with this number on the command line.
+fn write_of_file<W: Write>(writer: &mut W, what: &str, number: u32) -> io::Result<()>
     ensures { OnOk result (Appends (W.contents writer.old) (W.contents writer.new)
-        (line (told (AppFault.Open number)).1)) }
+        (line (what.now ∷ decimal number ∷ []))) }
 {
     let mut digits = Buffer::new();
-    write_fields(writer, &["open", digits.format(number)])
+    write_fields(writer, &[what, digits.format(number)])
 }
 
 /// Writes the line of what has this name, in this record.

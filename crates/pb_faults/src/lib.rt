@@ -1,13 +1,14 @@
-//! What several commands say alike: the line of each fault, with the status that the program then ends with, the row of a
-//! desk, and how a text goes out.
+//! What several commands say alike: the line of each fault, with the status that the program then ends with,
+//! the row of a desk, and how a text goes out.
 #![tactic(auto)]
 
 mod desk_row;
 pub mod fault;
 mod fault_line;
+pub mod laws;
 mod writing;
 
 pub use desk_row::put_entries;
 pub use fault::AppFault;
-pub use fault_line::{BAD_ARGUMENTS, write_refused_row};
+pub use fault_line::{BAD_ARGUMENTS, rows_status, write_refused_row};
 pub use writing::write_out;

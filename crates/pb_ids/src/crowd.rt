@@ -40,8 +40,8 @@ impl<A: Allocator> Crowd<A> {
         }
     }
 
-    /// Whether a table of `len` entries has room for an entry whose search starts here: its region has, and the
-    /// table has fewer than 1,179,648 entries.
+    /// Whether a table of `len` entries has room for an entry whose search starts here: its region has, and
+    /// the table has fewer than 1,179,648 entries.
     pub(crate) fn has_room(&mut self, start: usize, len: usize) -> Result<bool, AllocError>
         ensures few { IfOk result (λ room. room ≡ true → len < most_hashed) }
         ensures room { IfOk result (λ room. (bits : ℕ) → IsTable bits len
@@ -66,8 +66,8 @@ impl<A: Allocator> Crowd<A> {
         }
     }
 
-    /// Counts an entry whose search starts here for a table of `len` entries, and for each larger one; not again
-    /// where it had a place before.
+    /// Counts an entry whose search starts here for a table of `len` entries, and for each larger one; not
+    /// again where it had a place before.
     pub(crate) fn count(&mut self, start: usize, len: usize, before: Option<u32>) {
         if before.is_some() {
             return;

@@ -1,10 +1,10 @@
 -- The lemmas that the proofs of this crate share.
 mod Grown
+mod CountIs
 mod RaisePlaces
 mod Rows
 mod Sums
 mod WinnerPlaces
-mod WholePage
 mod Characters
 mod Texts
 mod Delimiters

@@ -1,5 +1,6 @@
 -- Amounts of money as people write them.
-use Rattle.std.specs.Prelude.{ℕ, ◌/◌, ◌%◌, ◌&&◌, ◌==◌, List, [], ◌∷◌, ◌++◌, codes, decimal, if◌then◌else◌, length, nat_lt}
+use Rattle.std.specs.Prelude.{ℕ, ◌/◌, ◌%◌, ◌&&◌, ◌==◌, List, [], ◌∷◌, ◌++◌, codes, decimal, if◌then◌else◌}
+use Rattle.std.specs.Prelude.{length, nat_lt}
 use Rattle.pb_page.specs.declared.markup.form.Form.{Form}
 
 -- the digits of a number in groups of three: a sign behind each third from the end, but not behind the last

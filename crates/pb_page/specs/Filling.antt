@@ -1,5 +1,6 @@
 -- Pieces of markup, filled with texts.
-use Rattle.std.specs.Prelude.{ℕ, ◌==◌, List, [], ◌∷◌, ◌++◌, decimal, drop, filter, flat_map, if◌then◌else◌, slice_index_or}
+use Rattle.std.specs.Prelude.{ℕ, ◌==◌, List, [], ◌∷◌, ◌++◌, decimal, drop, filter, flat_map, if◌then◌else◌}
+use Rattle.std.specs.Prelude.{slice_index_or}
 use Rattle.pb_core.specs.MoneyText.{money_text}
 use Rattle.pb_page.specs.Amount.{shown}
 use Rattle.pb_page.specs.Markup.{is_delimiter, written}
@@ -13,8 +14,8 @@ text_of (Number n) = decimal n
 text_of (Amount hundredths) = money_text hundredths
 text_of (Shown hundredths form) = shown form hundredths
 
--- a piece of markup in which texts, as they stand in a page, take the places of `~`, one after the other; `^` is the
--- text of the next `~` as well
+-- a piece of markup in which texts, as they stand in a page, take the places of `~`, one after the other; `^`
+-- is the text of the next `~` as well
 abbrev pub filled : List ℕ → List (List ℕ) → List ℕ
 filled [] texts = []
 filled (c ∷ cs) texts =

@@ -1,5 +1,7 @@
 -- The page of a result: which number stands where.
-use Rattle.std.specs.Prelude.{◌≡◌, ℕ, Bool, ◌+◌, ◌-◌, ◌*◌, ◌/◌, ◌==◌, List, [], ◌∷◌, ◌++◌, codes, count_by, decimal, filter, flat_map, if◌then◌else◌, length, map, max, min, nat_le, slice_get, slice_index_or, sum_by}
+use Rattle.std.specs.Prelude.{◌≡◌, ℕ, ◌+◌, ◌-◌, ◌*◌, ◌/◌, ◌==◌, List, [], ◌∷◌, ◌++◌, codes, count_by, decimal}
+use Rattle.std.specs.Prelude.{filter, flat_map, if◌then◌else◌, length, map, max, min, nat_le, slice_get}
+use Rattle.std.specs.Prelude.{slice_index_or, sum_by}
 use Rattle.std.specs.List.{range_with_len}
 use Rattle.std.specs.Option.{option_map_or}
 use Rattle.pb_core.specs.Election.{ElectionView, ProjectView}
@@ -11,7 +13,7 @@ use Rattle.pb_page.specs.Words.{noun, sentence}
 use Rattle.pb_page.specs.declared.markup.form.Form.{Form}
 use Rattle.pb_price.specs.Supporters.{cost_at, support_of}
 use Rattle.pb_reasons.specs.BesideVotes.{beside_votes}
-use Rattle.pb_reasons.specs.Counted.{CountedView, counted, winners_of}
+use Rattle.pb_reasons.specs.Counted.{CountedView, IsCountBy, winners_of}
 use Rattle.pb_reasons.specs.RaiseEnd.{IsRaiseEnd}
 use Rattle.pb_reasons.specs.Reasons.{project_reason, voter_reason}
 use Rattle.pb_reasons.specs.Ties.{ties_of}
@@ -23,19 +25,36 @@ use Rattle.pb_reasons.specs.declared.rule_row.RuleRow.{RuleRow}
 use Rattle.pb_reasons.specs.declared.project_reason.Ending.{Ending}
 use Rattle.pb_reasons.specs.declared.project_reason.Ending.TheVariants.{Won, Added, Lost}
 use Rattle.pb_reasons.specs.declared.tie.Tie.{Tie}
-use Rattle.pb_rounds.specs.Counted.{IsCountOf}
-use Rattle.pb_rounds.specs.Outcome.{OutcomeView}
+use Rattle.pb_rounds.specs.RuleNames.{completion_name, fills_up, measure_name}
 use Rattle.pb_rounds.specs.declared.measure.Measure.{Measure}
 use Rattle.pb_rounds.specs.declared.measure.Measure.TheVariants as measure
 use Rattle.pb_rounds.specs.declared.options.Completion.{Completion}
 use Rattle.pb_rounds.specs.declared.options.Completion.TheVariants as completion
-use Rattle.pb_rounds.specs.declared.options.CountOptions.{CountOptions}
+use Rattle.pb_rounds.specs.declared.rule.FillUp.{FillUp}
+use Rattle.pb_rounds.specs.declared.rule.FillUp.TheVariants as fill
+use Rattle.pb_rounds.specs.declared.rule.Rule.{Rule}
 use Rattle.pb_page.specs.declared.categories.Categories.{Categories}
 use Rattle.pb_page.specs.declared.facts.Facts.{Facts}
 use Rattle.pb_page.specs.declared.keys.TheConstants as key
 use Rattle.pb_page.specs.declared.language.Language.{Language}
 use Rattle.pb_page.specs.declared.style.TheConstants.{HEAD}
-use Rattle.pb_page.specs.declared.templates.TheConstants.{TEXT, NUMBER, AMOUNT, NAMELESS, LEAD_NEXT, NOTHING, BUDGET_OPENING, BLOCKS_OPENING, BUDGET_PART, BLOCKS_CLOSING, BUDGET_CLOSING, HEAD_CATEGORY, HEAD_CLOSING, ROW_CATEGORY, ROW_CLOSING, WINNERS_OPENING, WINNER, NONE_WON, ADDED_OPENING, ADDED, OTHERS_OPENING, OTHER, OTHER_CLOSING, NONE_LOST, TABLE_CLOSING, CATEGORIES_OPENING, CATEGORY, VOTERS_OPENING, VOTERS_TABLE, VOTERS_ROW, VOTERS_ROW_CLOSING, COMPARED_OPENING, COMPARED_ROW, RULE_OPENING, RULE_NEXT, ITEM, ITEM_OPENING, ONLY_THEN_OPENING, ONLY_THEN, LIST_CLOSING, CALLED, TIES_OPENING, ITEM_CLOSING, CHECK_OPENING, CHECK_FILE, CHECK_JOURNAL, RECOUNT_OPENING, RECOUNT_LINK, RECOUNT_CLOSING, NO_RECOUNT, COUNT, AUDIT, OPTION_COST, OPTION_PLAIN, OPTION_UTILITARIAN, OPTION_ADD1U, COMMAND_CLOSING, MADE_BY_OPENING, CLOSING}
+use Rattle.pb_page.specs.declared.templates.TheConstants.{TEXT, NUMBER, AMOUNT, NAMELESS, LEAD_NEXT, NOTHING}
+use Rattle.pb_page.specs.declared.templates.TheConstants.{BUDGET_OPENING, BLOCKS_OPENING, BUDGET_PART}
+use Rattle.pb_page.specs.declared.templates.TheConstants.{BLOCKS_CLOSING, BUDGET_CLOSING, HEAD_CATEGORY}
+use Rattle.pb_page.specs.declared.templates.TheConstants.{HEAD_CLOSING, ROW_CATEGORY, ROW_CLOSING}
+use Rattle.pb_page.specs.declared.templates.TheConstants.{WINNERS_OPENING, WINNER, NONE_WON, ADDED_OPENING}
+use Rattle.pb_page.specs.declared.templates.TheConstants.{ADDED, OTHERS_OPENING, OTHER, OTHER_CLOSING}
+use Rattle.pb_page.specs.declared.templates.TheConstants.{NONE_LOST, TABLE_CLOSING, CATEGORIES_OPENING}
+use Rattle.pb_page.specs.declared.templates.TheConstants.{CATEGORY, VOTERS_OPENING, VOTERS_TABLE, VOTERS_ROW}
+use Rattle.pb_page.specs.declared.templates.TheConstants.{VOTERS_ROW_CLOSING, COMPARED_OPENING, COMPARED_ROW}
+use Rattle.pb_page.specs.declared.templates.TheConstants.{RULE_OPENING, RULE_NEXT, ITEM, ITEM_OPENING}
+use Rattle.pb_page.specs.declared.templates.TheConstants.{ONLY_THEN_OPENING, ONLY_THEN, LIST_CLOSING, CALLED}
+use Rattle.pb_page.specs.declared.templates.TheConstants.{TIES_OPENING, ITEM_CLOSING, CHECK_OPENING}
+use Rattle.pb_page.specs.declared.templates.TheConstants.{CHECK_FILE, CHECK_JOURNAL, RECOUNT_OPENING}
+use Rattle.pb_page.specs.declared.templates.TheConstants.{RECOUNT_LINK, RECOUNT_CLOSING, NO_RECOUNT, COUNT}
+use Rattle.pb_page.specs.declared.templates.TheConstants.{AUDIT, OPTION_COST, OPTION_PLAIN}
+use Rattle.pb_page.specs.declared.templates.TheConstants.{OPTION_UTILITARIAN, OPTION_ADD1U, COMMAND_CLOSING}
+use Rattle.pb_page.specs.declared.templates.TheConstants.{MADE_BY_OPENING, CLOSING}
 
 -- one of the program's own pieces of markup, and what stands in its places
 abbrev pub filling : List ℕ → List (List ℕ) → Filling
@@ -55,8 +74,8 @@ say l k places = said places (at l k)
 abbrev pub between : (before after : Filling) → Language → ℕ → List Filling → List Filling
 between before after l k places = before ∷ (say l k places ++ after ∷ [])
 
--- what stands at places: a text; the noun for a number; a number by its name; an amount by its name, for programs and as
--- it is shown
+-- what stands at places: a text; the noun for a number; a number by its name; an amount by its name, for
+-- programs and as it is shown
 abbrev pub text : List ℕ → Filling
 text t = filling TEXT.now (t ∷ [])
 
@@ -73,14 +92,16 @@ amount form name h = filling AMOUNT.now (name ∷ money_text h ∷ shown form h 
 abbrev pub width : ℕ → ℕ → ℕ
 width amount whole = min (amount * 10000 / max whole 1) 10000
 
--- one thing for each measure, and for each completion
+-- one thing for each measure; and one for each completion, in the order of their names
 abbrev pub by_measure : {A : Type 0} → Measure → (votes cost : A) → A
 by_measure measure.Votes votes cost = votes
 by_measure measure.Cost votes cost = cost
 
-abbrev pub by_completion : {A : Type 0} → Completion → (plain add1 : A) → A
-by_completion completion.Plain plain add1 = plain
-by_completion completion.Add1 plain add1 = add1
+abbrev pub by_completion : {A : Type 0} → Completion → FillUp → (none add1 utilitarian add1u : A) → A
+by_completion completion.Plain fill.Nothing none add1 utilitarian add1u = none
+by_completion completion.Add1 fill.Nothing none add1 utilitarian add1u = add1
+by_completion completion.Plain fill.MostVotes none add1 utilitarian add1u = utilitarian
+by_completion completion.Add1 fill.MostVotes none add1 utilitarian add1u = add1u
 
 -- the project at this place
 abbrev pub project_at : ElectionView → ℕ → ProjectView
@@ -97,7 +118,8 @@ blocks form e before (place ∷ winners) = let p = project_at e place in filling
     (decimal (width before e.budget) ∷ decimal (width p.cost e.budget) ∷ called p ∷ shown form p.cost ∷ p.id ∷ [])
     ∷ blocks form e (before + cost_at (support_of e) place) winners
 
--- what was voted on, who voted, how many won and what was spent; or that no project won, with the numbers for programs
+-- what was voted on, who voted, how many won and what was spent; or that no project won, with the numbers for
+-- programs
 abbrev pub summary : Language → List ℕ → ElectionView → CountedView → List Filling
 summary l title e c = let totals = totals_of e c in let won = length (winners_of c) in
     let left = amount l.costs (codes "left") (e.budget - totals.spent) in
@@ -111,7 +133,7 @@ summary l title e c = let totals = totals_of e c in let won = length (winners_of
     ∷ noun_at l key.WINNERS won ∷ []))))
 
 -- that, and the picture of the budget, with what it says to those who can't see it, and what is said below it
-abbrev pub budget : Language → List ℕ → ElectionView → CountedView → List Filling
+unfoldable pub budget : Language → List ℕ → ElectionView → CountedView → List Filling
 budget l title e c = let totals = totals_of e c in let left = e.budget - totals.spent in summary l title e c
     ++ (between (labels l BUDGET_OPENING.now (key.BUDGET_HEADING ∷ [])) (filling BLOCKS_OPENING.now []) l key.PICTURE
     (text (shown l.costs e.budget) ∷ text (shown l.costs totals.spent) ∷ text (shown l.costs left) ∷ [])
@@ -162,22 +184,22 @@ lost_row facts place p votes (Lost lost) = let l = facts.language in between (fi
 abbrev pub row_of : (ℕ → ProjectView → ℕ → Ending → List Filling) → ElectionView → CountedView → ℕ → List Filling
 row_of row e c place = let r = project_reason e c place in row place (project_at e place) r.votes r.ending
 
--- the elected, in order of election; the added, in their order; and the other projects, in the order of the file: each
--- behind a heading, a caption and the heads of the columns
-abbrev pub winners : Facts → ElectionView → CountedView → List Filling
+-- the elected, in order of election; the added, in their order; and the other projects, in the order of the
+-- file: each behind a heading, a caption and the heads of the columns
+unfoldable pub winners : Facts → ElectionView → CountedView → List Filling
 winners facts e c = let l = facts.language in if length c.outcome.elected == 0
-    then labels l NONE_WON.now (key.WINNERS_HEADING ∷ (if c.fills_up then key.NO_ELECTED else key.NO_WINNERS) ∷ []) ∷ []
+    then labels l NONE_WON.now (key.WINNERS_HEADING ∷ (if fills_up c.fill_up then key.NO_ELECTED else key.NO_WINNERS) ∷ []) ∷ []
     else labels l WINNERS_OPENING.now (key.WINNERS_HEADING ∷ key.WINNERS_CAPTION
     ∷ key.ROUND ∷ key.PROJECT ∷ key.COST ∷ key.VOTES ∷ key.PRICE ∷ key.IN_FULL ∷ [])
     ∷ (head_end facts ++ (flat_map (λ w. row_of (won_row facts e.budget) e c w.place) c.outcome.elected
     ++ filling TABLE_CLOSING.now [] ∷ []))
 
-abbrev pub added : Facts → ElectionView → CountedView → List Filling
+unfoldable pub added : Facts → ElectionView → CountedView → List Filling
 added facts e c = let l = facts.language in if length c.added == 0 then [] else labels l ADDED_OPENING.now (key.ADDED_HEADING ∷ key.ADDED_CAPTION
     ∷ key.NUMBER ∷ key.PROJECT ∷ key.COST ∷ key.VOTES ∷ [])
     ∷ (head_end facts ++ (flat_map (row_of (won_row facts e.budget) e c) c.added ++ filling TABLE_CLOSING.now [] ∷ []))
 
-abbrev pub others : Facts → ElectionView → CountedView → List Filling
+unfoldable pub others : Facts → ElectionView → CountedView → List Filling
 others facts e c = let l = facts.language in if length (winners_of c) == length e.projects
     then labels l NONE_LOST.now (key.OTHERS_HEADING ∷ key.NO_OTHERS ∷ []) ∷ [] else labels l OTHERS_OPENING.now
     (key.OTHERS_HEADING ∷ key.OTHERS_CAPTION ∷ key.PROJECT ∷ key.COST ∷ key.VOTES ∷ key.LEFT ∷ key.MISSING ∷ [])
@@ -210,13 +232,14 @@ exactly n won = count_by (λ k. k == n) won
 abbrev pub at_least : ℕ → List ℕ → ℕ
 at_least n won = count_by (λ k. nat_le n k) won
 
--- the row of so many winners, by what is said of them, on that many ballots; none where no ballot has so many or more
+-- the row of so many winners, by what is said of them, on that many ballots; none where no ballot has so many
+-- or more
 abbrev pub ballots_row : Language → (k n ballots : ℕ) → List ℕ → List Filling
 ballots_row l k n ballots won = if at_least n won == 0 then [] else between (filling VOTERS_ROW.now (decimal n ∷ []))
     (filling VOTERS_ROW_CLOSING.now (decimal (width ballots (length won)) ∷ decimal ballots ∷ [])) l k (text (decimal n) ∷ [])
 
 -- how many voters have a winner among their choices, and how many winners each has
-abbrev pub voters : Language → List ℕ → List Filling
+unfoldable pub voters : Language → List ℕ → List Filling
 voters l won = between (labels l VOTERS_OPENING.now (key.VOTERS_HEADING ∷ []))
     (labels l VOTERS_TABLE.now (key.VOTERS_CAPTION ∷ key.CHOSEN ∷ key.VOTERS ∷ [])) l key.GOT
     (text (decimal (at_least 1 won)) ∷ number (codes "voters") (length won) ∷ text (decimal (exactly 0 won))
@@ -247,18 +270,17 @@ raises_ended l e (Over next) = between (filling ITEM_OPENING.now []) (labels l O
     ++ (map (λ place. let p = project_at e place in filling ONLY_THEN.now (p.id ∷ p.name ∷ money_text p.cost ∷ shown l.costs p.cost ∷ []))
     next.only_then.items ++ filling LIST_CLOSING.now [] ∷ [])
 
--- how the share came about, which project is elected first, whether shares were raised and why that ended, and how the rest
--- was filled up
-abbrev pub rule : Language → ElectionView → CountOptions → RaiseEnd → (fills_up : Bool) → (share raised : ℕ) → List Filling
-rule l e options end fills_up share raised = (between (labels l RULE_OPENING.now (key.RULE_HEADING ∷ []))
-    (labels l RULE_NEXT.now (key.SUPPORTERS ∷ [])) l key.SHARE
-    (amount l.amounts (codes "share") share ∷ number (codes "raises") raised
-    ∷ filling NAMELESS.now (money_text options.step ∷ shown l.amounts options.step ∷ []) ∷ noun_at l key.TIMES raised ∷ [])
-    ++ map (λ k. labels l ITEM.now (k ∷ [])) (by_measure options.measure key.BY_VOTES key.BY_COST
-    ∷ by_completion options.completion (if fills_up then key.UNUSED else key.PLAIN)
-    (if raised == 0 then key.UNRAISED else key.RAISED) ∷ [])) ++ (raises_ended l e end ++ (labels l ITEM.now
-    (by_completion options.completion (if fills_up then key.METHOD_FILLED else key.METHOD_PLAIN) key.METHOD_ADD1 ∷ [])
-    ∷ (if fills_up then labels l ITEM.now (key.FILLED_UP ∷ []) ∷ [] else [])))
+-- how the share came about, which project is elected first, whether shares were raised and why that ended,
+-- and how the rest was filled up
+unfoldable pub rule : Language → ElectionView → Rule → RaiseEnd → (share raised : ℕ) → List Filling
+rule l e r end share raised = let o = r.options in let raises = if raised == 0 then key.UNRAISED else key.RAISED in
+    (between (labels l RULE_OPENING.now (key.RULE_HEADING ∷ [])) (labels l RULE_NEXT.now (key.SUPPORTERS ∷ []))
+    l key.SHARE (amount l.amounts (codes "share") share ∷ number (codes "raises") raised ∷ filling NAMELESS.now
+    (money_text o.step ∷ shown l.amounts o.step ∷ []) ∷ noun_at l key.TIMES raised ∷ [])
+    ++ map (λ k. labels l ITEM.now (k ∷ [])) (by_measure o.measure key.BY_VOTES key.BY_COST
+    ∷ by_completion o.completion r.fill_up key.PLAIN raises key.UNUSED raises ∷ [])) ++ (raises_ended l e end
+    ++ (labels l ITEM.now (by_completion o.completion r.fill_up key.METHOD_PLAIN key.METHOD_ADD1 key.METHOD_FILLED
+    key.METHOD_ADD1 ∷ []) ∷ (if fills_up r.fill_up then labels l ITEM.now (key.FILLED_UP ∷ []) ∷ [] else [])))
 
 -- a tie: its round, the project that it elected, and the other
 unfoldable pub tie : Language → Measure → ElectionView → Tie → List Filling
@@ -273,36 +295,36 @@ ties l m e all = if length all == 0 then []
 
 -- the end of the command that recounts, the options in words, and the program that made the page
 abbrev pub made : Language → Facts → List Filling
-made l facts = let o = facts.options in
+made l facts = let o = facts.rule.options in
     between (filling COMMAND_CLOSING.now (decimal o.step ∷ decimal o.max_raises ∷ [])) (filling MADE_BY_OPENING.now []) l
-    key.OPTIONS (text (by_measure o.measure (codes "votes") (codes "cost")) ∷ text (by_completion o.completion
-    (if facts.fills_up then codes "utilitarian" else codes "none") (if facts.fills_up then codes "add1u" else codes "add1"))
+    key.OPTIONS (text (measure_name o.measure) ∷ text (completion_name o.completion facts.rule.fill_up)
     ∷ amount l.amounts (codes "step") o.step ∷ number (codes "limit") o.max_raises ∷ [])
     ++ (say l key.MADE_BY (text facts.program.now ∷ []) ++ filling CLOSING.now [] ∷ [])
 
--- what was counted, where a page recounts it, the command that does, with its options, and these again in words
-abbrev pub check : Language → Facts → List Filling
-check l facts = let options = facts.options in
+-- what was counted, where a page recounts it, the command that does, with its options, and these again in
+-- words
+unfoldable pub check : Language → Facts → List Filling
+check l facts = let o = facts.rule.options in
     (labels l CHECK_OPENING.now (key.CHECK_HEADING ∷ key.CHECK_BYTES ∷ [])
     ∷ filling CHECK_FILE.now (facts.file.name.now ∷ facts.file.digest.now ∷ []) ∷ option_map_or
     (λ j. filling CHECK_JOURNAL.now (j.name.now ∷ j.digest.now ∷ []) ∷ []) facts.journal []) ++ (option_map_or
     (λ address. between (filling RECOUNT_OPENING.now []) (labels l RECOUNT_CLOSING.now (key.PROGRAM_TOO ∷ [])) l key.RECOUNT
     (filling RECOUNT_LINK.now (address.now ∷ at l key.LINK ∷ []) ∷ [])) facts.recount (labels l NO_RECOUNT.now (key.PROGRAM ∷ []) ∷ [])
     ++ (filling (option_map_or (λ j. AUDIT.now) facts.journal COUNT.now) []
-    ∷ (by_measure options.measure [] (filling OPTION_COST.now [] ∷ []) ++ (by_completion options.completion
-    (filling (if facts.fills_up then OPTION_UTILITARIAN.now else OPTION_PLAIN.now) [] ∷ [])
-    (if facts.fills_up then filling OPTION_ADD1U.now [] ∷ [] else []) ++ made l facts))))
+    ∷ (by_measure o.measure [] (filling OPTION_COST.now [] ∷ []) ++ (by_completion o.completion facts.rule.fill_up
+    (filling OPTION_PLAIN.now [] ∷ []) [] (filling OPTION_UTILITARIAN.now [] ∷ []) (filling OPTION_ADD1U.now [] ∷ [])
+    ++ made l facts))))
 
 -- the parts of the page, one after the other
 unfoldable pub parts : ElectionView → CountedView → Facts → RaiseEnd → List Filling
-parts e c facts end = let l = facts.language in
+parts e c facts end = let l = facts.language in let m = facts.rule.options.measure in
     budget l facts.title.now e c ++ ((winners facts e c ++ (added facts e c ++ others facts e c)) ++ (categories e c facts
     ++ (voters l (won_by_voter e c) ++ (besides e c facts
-    ++ (rule l e facts.options end c.fills_up c.outcome.share c.outcome.raised
-    ++ (ties l facts.options.measure e (ties_of facts.options.measure e c.outcome) ++ check l facts))))))
+    ++ (rule l e facts.rule end c.outcome.share c.outcome.raised
+    ++ (ties l m e (ties_of m e c.outcome) ++ check l facts))))))
 
--- the page of a count of this election, by the options of these facts, in their language, and filled up by votes where
--- they say so; it says why the raises of this count ended
+-- the page of a count of this election by the rule of these facts, in their language; it says why the raises
+-- of this count ended
 abbrev pub IsPage : ElectionView → Facts → List ℕ → Type 0
-IsPage e facts page = (o : OutcomeView) × IsCountOf e facts.options o × (end : RaiseEnd)
-    × IsRaiseEnd e facts.options o end × (page ≡ page_of (parts e (counted e facts.fills_up o) facts end))
+IsPage e facts page = (c : CountedView) × IsCountBy facts.rule e c × (end : RaiseEnd)
+    × IsRaiseEnd e facts.rule.options c.outcome end × (page ≡ page_of (parts e c facts end))

@@ -1,5 +1,6 @@
 -- What a page says, in a language.
-use Rattle.std.specs.Prelude.{ℕ, ◌+◌, ◌/◌, ◌%◌, Bool, ◌&&◌, ◌==◌, List, [], if◌then◌else◌, nat_le, nat_lt, not, slice_get}
+use Rattle.std.specs.Prelude.{ℕ, ◌+◌, ◌/◌, ◌%◌, Bool, ◌&&◌, ◌==◌, List, [], if◌then◌else◌, nat_le, nat_lt}
+use Rattle.std.specs.Prelude.{not, slice_get}
 use Rattle.std.specs.Option.{option_map_or}
 use Rattle.pb_page.specs.declared.markup.plural.Plural.{Plural}
 use Rattle.pb_page.specs.declared.markup.plural.Plural.TheVariants.{Same, English, French, Polish}

@@ -19,7 +19,7 @@ use pb_reasons::{Counted, ProjectTeller};
 use std::alloc::Global;
 
 /// The added projects, in their order; nothing where there are none.
-#[tactic(auto, using(crate::proofs::Grown::none))]
+#[tactic(auto, using(crate::proofs::Grown::none), unfolding(crate::specs::Page::added))]
 pub(crate) fn put_added(
     page: &mut Vec<u8>,
     alloc: Global,
@@ -32,7 +32,7 @@ pub(crate) fn put_added(
     requires known { All (λ place. place < length election.now.projects) counted.now.added }
     ensures { OnOk result (Grows page.old.items page.new.items (added facts.now election.now counted.now)) }
 {
-    let places = counted.added.as_slice();
+    let places = counted.added();
     if places.is_empty() {
         return Ok(());
     }
@@ -70,7 +70,8 @@ fn put_table(
     requires own { teller.now.0 ≡ election.now }
     requires added { teller.now.1.added ≡ places.now }
     requires known { All (λ place. place < length election.now.projects) places.now }
-    ensures { OnOk result (Grows page.old.items page.new.items (added_table facts.now election.now teller.now.1)) }
+    ensures { OnOk result (Grows page.old.items page.new.items
+        (added_table facts.now election.now teller.now.1)) }
 {
     put_table_head(page, alloc, &facts.language)?;
     put_head_end(page, alloc, facts)?;
@@ -89,7 +90,8 @@ fn put_rows(
 ) -> Result<(), NoMemory>
     requires own { teller.now.0 ≡ election.now }
     requires known { All (λ place. place < length election.now.projects) places.now }
-    ensures { OnOk result (Grows page.old.items page.new.items (flat_map (won_rows facts.now election.now teller.now.1) places.now)) }
+    ensures { OnOk result (Grows page.old.items page.new.items
+        (flat_map (won_rows facts.now election.now teller.now.1) places.now)) }
 {
     let projects = election.projects();
     for place in places {

@@ -3,7 +3,8 @@
 ghost use Rattle.std.specs.Prelude.{◌≡◌, ◌<◌, ◌^◌, [], ◌∷◌, All, IfOk, OnOk, length, map, sum_by};
 ghost use Rattle.std.specs.List.{range_with_len};
 ghost use Rattle.pb_page.specs.Inner.Grown.{Grows};
-ghost use Rattle.pb_page.specs.Inner.Pieces.{categories_head, category_said, category_table, in_category, sum_rows, sums_table};
+ghost use Rattle.pb_page.specs.Inner.Pieces.{categories_head, category_said, category_table, in_category};
+ghost use Rattle.pb_page.specs.Inner.Pieces.{sum_rows, sums_table};
 ghost use Rattle.pb_page.specs.Page.{categories};
 ghost use Rattle.pb_price.specs.Supporters.{cost_at, support_of};
 ghost use Rattle.pb_reasons.specs.Counted.{IsCounted, winners_of};
@@ -33,7 +34,8 @@ pub(crate) fn put_categories(
     facts: &Facts,
 ) -> Result<(), NoMemory>
     requires { IsCounted election.now counted.now }
-    ensures { OnOk result (Grows page.old.items page.new.items (categories election.now counted.now facts.now)) }
+    ensures { OnOk result (Grows page.old.items page.new.items
+        (categories election.now counted.now facts.now)) }
 {
     match &facts.categories {
         Some(categories) => {
@@ -72,7 +74,8 @@ fn sums_of(
 ) -> Result<Vec<InCategory>, NoMemory>
     requires { IsCounted election.now counted.now }
     ensures { IfOk result (λ sums. sums.items ≡
-        map (in_category election.now categories.now (winners_of counted.now)) (range_with_len 0 (length categories.now.names.now))) }
+        map (in_category election.now categories.now (winners_of counted.now))
+        (range_with_len 0 (length categories.now.names.now))) }
 {
     // What is true of every election is true of the places of its winners.
     let _budget = election.budget();
@@ -93,7 +96,8 @@ fn add_up(
     requires few { length winners.now < 2 ^ 64 }
     requires fits { sum_by (cost_at (support_of election.now)) winners.now < 2 ^ 64 }
     ensures { IfOk result (λ sums. sums.items ≡
-        map (in_category election.now categories.now winners.now) (range_with_len 0 (length categories.now.names.now))) }
+        map (in_category election.now categories.now winners.now)
+        (range_with_len 0 (length categories.now.names.now))) }
 {
     let projects = election.projects();
     let nothing = InCategory {
@@ -122,7 +126,8 @@ fn put_table(
     categories: &Categories,
     sums: &[InCategory],
 ) -> Result<(), NoMemory>
-    ensures { OnOk result (Grows page.old.items page.new.items (sums_table language.now budget categories.now sums.now)) }
+    ensures { OnOk result (Grows page.old.items page.new.items
+        (sums_table language.now budget categories.now sums.now)) }
 {
     put_head(page, alloc, language)?;
     put_rows(page, alloc, language, budget, categories, sums)?;
@@ -156,7 +161,8 @@ fn put_rows(
     categories: &Categories,
     sums: &[InCategory],
 ) -> Result<(), NoMemory>
-    ensures { OnOk result (Grows page.old.items page.new.items (sum_rows language.now budget categories.now sums.now (length sums.now))) }
+    ensures { OnOk result (Grows page.old.items page.new.items
+        (sum_rows language.now budget categories.now sums.now (length sums.now))) }
 {
     for number in 0..sums.len() {
         put_row(
@@ -180,7 +186,8 @@ fn put_row<'a>(
     name: &'a str,
     sum: &InCategory,
 ) -> Result<(), NoMemory>
-    ensures { OnOk result (Grows page.old.items page.new.items (category_said language.now budget name.now sum.now ∷ [])) }
+    ensures { OnOk result (Grows page.old.items page.new.items
+        (category_said language.now budget name.now sum.now ∷ [])) }
 {
     let shown = if name.is_empty() {
         language.text(keys::NO_CATEGORY)

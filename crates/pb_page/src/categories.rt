@@ -8,7 +8,8 @@ ghost use Rattle.pb_page.specs.Page.{category_name, category_of};
 pub struct Categories<'a> {
     /// The texts of the categories; the empty text is that of projects whose category is empty.
     pub names: &'a [&'a str],
-    /// For each project, in file order, which of these texts is its category, from 0. A project with no such text is in none.
+    /// For each project, in file order, which of these texts is its category, from 0. A project with no such
+    /// text is in none.
     pub of_project: &'a [u32],
 }
 
@@ -24,7 +25,8 @@ impl<'a> Categories<'a> {
         }
     }
 
-    /// The number of the category of the project at this place; as many as there are categories where it has none.
+    /// The number of the category of the project at this place; as many as there are categories where it has
+    /// none.
     pub(crate) fn of(&self, place: u32) -> usize
         ensures { result ≡ category_of self.now place }
     {

@@ -2,10 +2,12 @@
 
 ghost use Rattle.std.specs.Prelude.{◌≡◌, [], ◌∷◌, OnOk};
 ghost use Rattle.pb_page.specs.Inner.Grown.{Grows};
-ghost use Rattle.pb_page.specs.Inner.Pieces.{command, command_closing, completion_name, completion_option, journal_source, link, measure_name, measure_option, named, option_places, options_said, recount, recounting, sources, the_check};
+ghost use Rattle.pb_page.specs.Inner.Pieces.{command, command_closing, completion_option, journal_source};
+ghost use Rattle.pb_page.specs.Inner.Pieces.{link, measure_option, named, option_places, options_said};
+ghost use Rattle.pb_page.specs.Inner.Pieces.{recount, recounting, sources};
 ghost use Rattle.pb_page.specs.declared.keys.TheConstants as key;
 ghost use Rattle.pb_page.specs.declared.templates.TheConstants.{CHECK_OPENING, RECOUNT_LINK};
-ghost use Rattle.pb_page.specs.Page.{at, filling, made, say, text};
+ghost use Rattle.pb_page.specs.Page.{at, check, filling, made, say, text};
 
 use crate::facts::{Facts, ReadText};
 use crate::keys;
@@ -20,6 +22,8 @@ use crate::templates::{
 use pb_core::no_memory::NoMemory;
 use pb_rounds::measure::Measure;
 use pb_rounds::options::{Completion, CountOptions};
+use pb_rounds::rule::{FillUp, Rule};
+use pb_rounds::rule_names::{completion_name, measure_name};
 use std::alloc::Global;
 
 /// What was counted, where a page recounts it, and the command that does.
@@ -29,7 +33,7 @@ pub(crate) fn put_check(
     language: &Language,
     facts: &Facts,
 ) -> Result<(), NoMemory>
-    ensures { OnOk result (Grows page.old.items page.new.items (the_check language.now facts.now)) }
+    ensures { OnOk result (Grows page.old.items page.new.items (check language.now facts.now)) }
 {
     put_sources(page, alloc, language, facts.file, facts.journal)?;
     put_link(page, alloc, language, facts.recount)?;
@@ -44,7 +48,8 @@ fn put_sources(
     file: ReadText<'_>,
     journal: Option<ReadText<'_>>,
 ) -> Result<(), NoMemory>
-    ensures { OnOk result (Grows page.old.items page.new.items (sources language.now file.entry journal.entry)) }
+    ensures { OnOk result (Grows page.old.items page.new.items
+        (sources language.now file.entry journal.entry)) }
 {
     put_heading(page, alloc, language)?;
     put_source(page, alloc, CHECK_FILE, file)?;
@@ -54,7 +59,8 @@ fn put_sources(
 /// The heading.
 fn put_heading(page: &mut Vec<u8>, alloc: Global, language: &Language) -> Result<(), NoMemory>
     ensures { OnOk result (Grows page.old.items page.new.items
-        (filling CHECK_OPENING.now (at language.now key.CHECK_HEADING ∷ at language.now key.CHECK_BYTES ∷ []) ∷ [])) }
+        (filling CHECK_OPENING.now (at language.now key.CHECK_HEADING ∷ at language.now key.CHECK_BYTES
+        ∷ []) ∷ [])) }
 {
     put(
         page,
@@ -159,7 +165,8 @@ fn put_command_head(
     piece: &'static str,
     key: u16,
 ) -> Result<(), NoMemory>
-    ensures { OnOk result (Grows page.old.items page.new.items (filling piece.now (at language.now key ∷ []) ∷ [])) }
+    ensures { OnOk result (Grows page.old.items page.new.items
+        (filling piece.now (at language.now key ∷ []) ∷ [])) }
 {
     put(page, alloc, piece, &[Value::Text(language.text(key))])
 }
@@ -174,8 +181,9 @@ fn put_command(
     ensures { OnOk result (Grows page.old.items page.new.items (command language.now facts.now)) }
 {
     put_program(page, alloc, facts.journal)?;
-    put_measure(page, alloc, facts.options.measure)?;
-    put_completion(page, alloc, facts.options.completion, facts.fills_up)?;
+    let rule = &facts.rule;
+    put_measure(page, alloc, rule.options.measure)?;
+    put_completion(page, alloc, rule.options.completion, rule.fill_up)?;
     put_made(page, alloc, language, facts)
 }
 
@@ -210,15 +218,15 @@ fn put_completion(
     page: &mut Vec<u8>,
     alloc: Global,
     completion: Completion,
-    fills_up: bool,
+    fill_up: FillUp,
 ) -> Result<(), NoMemory>
-    ensures { OnOk result (Grows page.old.items page.new.items (completion_option completion fills_up)) }
+    ensures { OnOk result (Grows page.old.items page.new.items (completion_option completion fill_up)) }
 {
-    match completion {
-        Completion::Plain if fills_up => put(page, alloc, OPTION_UTILITARIAN, &[]),
-        Completion::Plain => put(page, alloc, OPTION_PLAIN, &[]),
-        Completion::Add1 if fills_up => put(page, alloc, OPTION_ADD1U, &[]),
-        Completion::Add1 => Ok(()),
+    match (completion, fill_up) {
+        (Completion::Plain, FillUp::Nothing) => put(page, alloc, OPTION_PLAIN, &[]),
+        (Completion::Add1, FillUp::Nothing) => Ok(()),
+        (Completion::Plain, FillUp::MostVotes) => put(page, alloc, OPTION_UTILITARIAN, &[]),
+        (Completion::Add1, FillUp::MostVotes) => put(page, alloc, OPTION_ADD1U, &[]),
     }
 }
 
@@ -231,7 +239,7 @@ fn put_made(
 ) -> Result<(), NoMemory>
     ensures { OnOk result (Grows page.old.items page.new.items (made language.now facts.now)) }
 {
-    put_options(page, alloc, language, &facts.options, facts.fills_up)?;
+    put_options(page, alloc, language, &facts.rule)?;
     say_made_by(page, alloc, language, facts.program)?;
     put(page, alloc, CLOSING, &[])
 }
@@ -241,13 +249,12 @@ fn put_options(
     page: &mut Vec<u8>,
     alloc: Global,
     language: &Language,
-    options: &CountOptions,
-    fills_up: bool,
+    rule: &Rule,
 ) -> Result<(), NoMemory>
-    ensures { OnOk result (Grows page.old.items page.new.items (options_said language.now options.now fills_up)) }
+    ensures { OnOk result (Grows page.old.items page.new.items (options_said language.now rule.now)) }
 {
-    put_command_closing(page, alloc, options)?;
-    say_options(page, alloc, language, options, fills_up)?;
+    put_command_closing(page, alloc, &rule.options)?;
+    say_options(page, alloc, language, rule)?;
     put(page, alloc, MADE_BY_OPENING, &[])
 }
 
@@ -275,14 +282,15 @@ fn say_options(
     page: &mut Vec<u8>,
     alloc: Global,
     language: &Language,
-    options: &CountOptions,
-    fills_up: bool,
+    rule: &Rule,
 ) -> Result<(), NoMemory>
-    ensures { OnOk result (Grows page.old.items page.new.items (say language.now key.OPTIONS (option_places language.now options.now fills_up))) }
+    ensures { OnOk result (Grows page.old.items page.new.items
+        (say language.now key.OPTIONS (option_places language.now rule.now))) }
 {
+    let options = &rule.options;
     let values: &[Value] = &[
         Value::Text(measure_name(options.measure)),
-        Value::Text(completion_name(options.completion, fills_up)),
+        Value::Text(completion_name(options.completion, rule.fill_up)),
         Value::Text("step"),
         Value::Amount(options.step),
         Value::Shown(options.step, language.amounts),
@@ -315,28 +323,6 @@ fn say_options(
     )
 }
 
-/// A measure, as the command line names it.
-fn measure_name(measure: Measure) -> &'static str
-    ensures { result.now ≡ measure_name measure }
-{
-    match measure {
-        Measure::Votes => "votes",
-        Measure::Cost => "cost",
-    }
-}
-
-/// A completion, as the command line names it.
-fn completion_name(completion: Completion, fills_up: bool) -> &'static str
-    ensures { result.now ≡ completion_name completion fills_up }
-{
-    match completion {
-        Completion::Plain if fills_up => "utilitarian",
-        Completion::Plain => "none",
-        Completion::Add1 if fills_up => "add1u",
-        Completion::Add1 => "add1",
-    }
-}
-
 /// Which program made the page.
 fn say_made_by<'a>(
     page: &mut Vec<u8>,
@@ -344,7 +330,8 @@ fn say_made_by<'a>(
     language: &Language<'a>,
     program: &'a str,
 ) -> Result<(), NoMemory>
-    ensures { OnOk result (Grows page.old.items page.new.items (say language.now key.MADE_BY (text program.now ∷ []))) }
+    ensures { OnOk result (Grows page.old.items page.new.items
+        (say language.now key.MADE_BY (text program.now ∷ []))) }
 {
     let program = [Value::Text(program)];
     say(

@@ -76,7 +76,8 @@ fn put_row(
     rule: u16,
     row: &RuleRow,
 ) -> Result<(), NoMemory>
-    ensures { OnOk result (Grows page.old.items page.new.items (compared_row language.now rule row.now ∷ [])) }
+    ensures { OnOk result (Grows page.old.items page.new.items
+        (compared_row language.now rule row.now ∷ [])) }
 {
     put(
         page,

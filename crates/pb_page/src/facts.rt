@@ -2,7 +2,7 @@
 
 use crate::categories::Categories;
 use crate::language::Language;
-use pb_rounds::options::CountOptions;
+use pb_rounds::rule::Rule;
 
 /// A text that was read.
 #[derive(Clone, Copy)]
@@ -24,10 +24,8 @@ pub struct Facts<'a> {
     pub journal: Option<ReadText<'a>>,
     /// Where a page lies that recounts in a browser, if one does.
     pub recount: Option<&'a str>,
-    /// How it was counted.
-    pub options: CountOptions,
-    /// What the elected left of the budget was filled up by votes.
-    pub fills_up: bool,
+    /// By which rule it was counted.
+    pub rule: Rule,
     /// The page also has the comparison with most votes first.
     pub compares: bool,
     /// The categories of the projects, if they have any.

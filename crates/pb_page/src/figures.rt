@@ -34,7 +34,7 @@ impl Figures {
         Figures {
             voters: election.voters().len() as u64,
             projects: election.projects().len() as u64,
-            won: (counted.outcome.elected.len() + counted.added.len()) as u64,
+            won: (counted.elected().len() + counted.added().len()) as u64,
             budget,
             spent: totals.spent,
             left: Money(budget.0.saturating_sub(totals.spent.0)),

@@ -31,7 +31,8 @@ pub(crate) fn won_by_voter(
 
 /// How many of each voter's choices are among these places, voters in the order of the file.
 fn choices_among(alloc: Global, election: &Election, places: &[u32]) -> Result<Vec<u32>, NoMemory>
-    ensures { IfOk result (λ won. won.items ≡ map (λ voter. choices_of places.now (ballot_at election.now voter))
+    ensures { IfOk result (λ won. won.items
+        ≡ map (λ voter. choices_of places.now (ballot_at election.now voter))
         (range_with_len 0 (length election.now.voters))) }
 {
     let winners = Winners::of(alloc, election, places)?;

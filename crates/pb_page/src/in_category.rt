@@ -14,7 +14,7 @@ pub struct InCategory {
 }
 
 impl InCategory {
-    /// The same with one winner more, of this cost.
+    /// These winners and one more, of this cost.
     pub(crate) fn with(self, cost: Money) -> InCategory
         requires winners { self.winners + 1 < 2 ^ 64 }
         requires cost { self.cost + cost < 2 ^ 64 }

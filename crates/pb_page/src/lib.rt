@@ -1,5 +1,6 @@
-//! The page of a result, which people look at: who won, who did not and by how much, what the voters got, how it was
-//! counted, and how to check it. What it says is in a table of sentences, which another language can have.
+//! The page of a result, which people look at: who won, who did not and by how much, what the voters got, how
+//! it was counted, and how to check it. What it says is in a table of sentences, which another language can
+//! have.
 #![tactic(auto)]
 
 mod added;

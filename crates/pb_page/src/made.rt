@@ -2,12 +2,10 @@
 
 ghost use Rattle.std.specs.Prelude.{◌≡◌, ◌<◌, ◌++◌, All, IfOk, OnOk, length};
 ghost use Rattle.pb_page.specs.Inner.Grown.{Grows};
-ghost use Rattle.pb_page.specs.Inner.Pieces.{KnowsPlaces, the_budget, the_parts, the_projects};
-ghost use Rattle.pb_page.specs.Page.{IsPage, added, blocks, others, winners};
-ghost use Rattle.pb_reasons.specs.Counted as counting;
-ghost use Rattle.pb_reasons.specs.Counted.{IsCounted, winners_of};
+ghost use Rattle.pb_page.specs.Inner.Pieces.{KnowsPlaces};
+ghost use Rattle.pb_page.specs.Page.{IsPage, added, blocks, budget, others, parts, winners};
+ghost use Rattle.pb_reasons.specs.Counted.{IsCountBy, IsCounted, winners_of};
 ghost use Rattle.pb_reasons.specs.RaiseEnd.{IsRaiseEnd};
-ghost use Rattle.pb_rounds.specs.Counted.{IsCountOf};
 
 use crate::added::put_added;
 use crate::by_category::put_categories;
@@ -24,25 +22,46 @@ use crate::top::{put_blocks, put_caption, put_picture, put_summary};
 use crate::voters::put_voters;
 use crate::winners::put_winners;
 use pb_core::election::Election;
+use pb_core::gate::Gate;
 use pb_core::no_memory::NoMemory;
 use pb_reasons::{Counted, ProjectTeller, RaiseEnd};
 use std::alloc::Global;
+use std::thread::Threads;
 
-/// The page of what a count of this election comes to, with the options of these facts, whose raises ended so: an HTML
-/// document that needs no other file, and runs no script.
+/// The page of what a count of this election comes to by the rule of these facts: an HTML document that needs
+/// no other file, and runs no script.
 ///
-/// Each number on it is one of the count's. Nothing in it is markup but the program's own pieces, whatever texts the
-/// election and the facts have.
-pub fn page_of(
+/// Each number on it is one of the count's. Nothing in it is markup but the program's own pieces, whatever
+/// texts the election and the facts have. Where the raises ended before the outcome was exhausted, the method
+/// is run once more, by as many workers as count: the page says what one raise more would elect.
+pub fn page_of<R: Threads + Sync, G: Gate>(
+    rt: &R,
+    alloc: Global,
+    gate: &G,
+    election: &Election,
+    counted: &Counted,
+    facts: &Facts,
+) -> Result<Vec<u8>, NoMemory>
+    requires { IsCountBy facts.now.rule election.now counted.now }
+    ensures { IfOk result (λ text. IsPage election.now facts.now text.items) }
+{
+    let options = &facts.rule.options;
+    let end = RaiseEnd::of(rt, alloc, election, options, counted, gate)?;
+    let page = page_ended(alloc, election, counted, facts, &end);
+    drop(end);
+    page
+}
+
+/// The page of a count whose raises ended so.
+fn page_ended(
     alloc: Global,
     election: &Election,
     counted: &Counted,
     facts: &Facts,
     end: &RaiseEnd,
 ) -> Result<Vec<u8>, NoMemory>
-    requires counted { IsCountOf election.now facts.now.options counted.now.outcome }
-    requires filled { counted.now ≡ counting.counted election.now facts.now.fills_up counted.now.outcome }
-    requires ended { IsRaiseEnd election.now facts.now.options counted.now.outcome end.now }
+    requires counted { IsCountBy facts.now.rule election.now counted.now }
+    requires ended { IsRaiseEnd election.now facts.now.rule.options counted.now.outcome end.now }
     ensures { IfOk result (λ text. IsPage election.now facts.now text.items) }
 {
     let teller = ProjectTeller::of(alloc, election, counted)?;
@@ -51,7 +70,7 @@ pub fn page_of(
     page
 }
 
-/// The same, by what tells of the projects. It also lends their supporters to whatever needs them.
+/// The page, by what tells of the projects. It also lends their supporters to whatever needs them.
 fn page_with(
     alloc: Global,
     election: &Election,
@@ -60,9 +79,8 @@ fn page_with(
     end: &RaiseEnd,
     teller: &ProjectTeller,
 ) -> Result<Vec<u8>, NoMemory>
-    requires counted { IsCountOf election.now facts.now.options counted.now.outcome }
-    requires filled { counted.now ≡ counting.counted election.now facts.now.fills_up counted.now.outcome }
-    requires ended { IsRaiseEnd election.now facts.now.options counted.now.outcome end.now }
+    requires counted { IsCountBy facts.now.rule election.now counted.now }
+    requires ended { IsRaiseEnd election.now facts.now.rule.options counted.now.outcome end.now }
     requires own { teller.now ≡ (election.now, counted.now) }
     ensures { IfOk result (λ text. IsPage election.now facts.now text.items) }
 {
@@ -84,7 +102,8 @@ fn put_all(
     requires counted { IsCounted election.now counted.now }
     requires ended { KnowsPlaces election.now end.now }
     requires own { teller.now ≡ (election.now, counted.now) }
-    ensures { OnOk result (Grows page.old.items page.new.items (the_parts election.now counted.now facts.now end.now)) }
+    ensures { OnOk result (Grows page.old.items page.new.items
+        (parts election.now counted.now facts.now end.now)) }
 {
     let language = &facts.language;
     put_budget(page, alloc, language, election, counted, facts.title)?;
@@ -93,14 +112,10 @@ fn put_all(
     put_voters(page, alloc, language, election, counted)?;
     put_besides(page, alloc, election, counted, facts)?;
     put_rule(page, alloc, election, facts, counted, end)?;
+    let measure = facts.rule.options.measure;
+    let supporters = teller.supporters();
     put_ties(
-        page,
-        alloc,
-        language,
-        facts.options.measure,
-        election,
-        teller.supporters(),
-        counted,
+        page, alloc, language, measure, election, supporters, counted,
     )?;
     put_check(page, alloc, language, facts)
 }
@@ -115,7 +130,8 @@ fn put_budget(
     title: &str,
 ) -> Result<(), NoMemory>
     requires { IsCounted election.now counted.now }
-    ensures { OnOk result (Grows page.old.items page.new.items (the_budget language.now title.now election.now counted.now)) }
+    ensures { OnOk result (Grows page.old.items page.new.items
+        (budget language.now title.now election.now counted.now)) }
 {
     // What is true of every election is true of the places of its elected projects.
     let _budget = election.budget();
@@ -138,14 +154,15 @@ fn put_projects(
     requires counted { IsCounted election.now counted.now }
     requires own { teller.now ≡ (election.now, counted.now) }
     ensures { OnOk result (Grows page.old.items page.new.items
-        (the_projects facts.now election.now counted.now)) }
+        (winners facts.now election.now counted.now
+        ++ (added facts.now election.now counted.now ++ others facts.now election.now counted.now))) }
 {
     // What is true of every election is true of the places of its elected projects.
     let _budget = election.budget();
     put_told(page, alloc, facts, election, teller, counted)
 }
 
-/// The same, where the places of the elected and of the added are known.
+/// The rows of the winners and of the others, where the places of the elected and of the added are known.
 fn put_told(
     page: &mut Vec<u8>,
     alloc: Global,
@@ -163,7 +180,7 @@ fn put_told(
 {
     put_winners(page, alloc, facts, election, teller, counted)?;
     put_added(page, alloc, facts, election, teller, counted)?;
-    let won = counted.outcome.elected.len() + counted.added.len();
+    let won = counted.elected().len() + counted.added().len();
     put_others(page, alloc, facts, election, teller, won)
 }
 
@@ -176,7 +193,8 @@ fn put_winners_blocks(
     counted: &Counted,
 ) -> Result<(), NoMemory>
     requires { IsCounted election.now counted.now }
-    ensures { OnOk result (Grows page.old.items page.new.items (blocks costs.now election.now 0 (winners_of counted.now))) }
+    ensures { OnOk result (Grows page.old.items page.new.items
+        (blocks costs.now election.now 0 (winners_of counted.now))) }
 {
     // What is true of every election is true of the places of its winners.
     let _budget = election.budget();

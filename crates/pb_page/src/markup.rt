@@ -1,4 +1,5 @@
-//! Pages of markup: pieces of the program's own, filled with texts from outside, none of which becomes markup.
+//! Pages of markup: pieces of the program's own, filled with texts from outside, none of which becomes
+//! markup.
 
 mod amounts;
 pub mod form;

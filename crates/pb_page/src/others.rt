@@ -26,6 +26,7 @@ use pb_reasons::{Ending, Lost, ProjectReason, ProjectTeller};
 use std::alloc::Global;
 
 /// The projects that did not win, in the order of the file; so many won.
+#[tactic(auto, unfolding(crate::specs::Page::others))]
 pub(crate) fn put_others(
     page: &mut Vec<u8>,
     alloc: Global,
@@ -47,7 +48,8 @@ pub(crate) fn put_others(
 /// That there are none.
 fn put_none(page: &mut Vec<u8>, alloc: Global, language: &Language) -> Result<(), NoMemory>
     ensures { OnOk result (Grows page.old.items page.new.items
-        (filling NONE_LOST.now (at language.now key.OTHERS_HEADING ∷ at language.now key.NO_OTHERS ∷ []) ∷ [])) }
+        (filling NONE_LOST.now (at language.now key.OTHERS_HEADING ∷ at language.now key.NO_OTHERS
+        ∷ []) ∷ [])) }
 {
     put(
         page,
@@ -89,7 +91,8 @@ fn put_table(
     teller: &ProjectTeller,
 ) -> Result<(), NoMemory>
     requires { teller.now.0 ≡ election.now }
-    ensures { OnOk result (Grows page.old.items page.new.items (other_table facts.now election.now teller.now.1)) }
+    ensures { OnOk result (Grows page.old.items page.new.items
+        (other_table facts.now election.now teller.now.1)) }
 {
     put_table_head(page, alloc, &facts.language)?;
     put_head_end(page, alloc, facts)?;
@@ -107,7 +110,8 @@ fn put_rows(
 ) -> Result<(), NoMemory>
     requires { teller.now.0 ≡ election.now }
     ensures { OnOk result (Grows page.old.items page.new.items
-        (flat_map (lost_rows facts.now election.now teller.now.1) (range_with_len 0 (length election.now.projects)))) }
+        (flat_map (lost_rows facts.now election.now teller.now.1)
+        (range_with_len 0 (length election.now.projects)))) }
 {
     let projects = election.projects();
     for place in 0..projects.len() {
@@ -127,7 +131,8 @@ fn put_row(
     project: &Project,
     reason: &ProjectReason,
 ) -> Result<(), NoMemory>
-    ensures { OnOk result (Grows page.old.items page.new.items (lost_row facts.now place project.now reason.now.votes reason.now.ending)) }
+    ensures { OnOk result (Grows page.old.items page.new.items
+        (lost_row facts.now place project.now reason.now.votes reason.now.ending)) }
 {
     match &reason.ending {
         Ending::Won(_) | Ending::Added(_) => Ok(()),
@@ -145,7 +150,8 @@ fn put_lost(
     votes: u32,
     lost: &Lost,
 ) -> Result<(), NoMemory>
-    ensures { OnOk result (Grows page.old.items page.new.items (lost_row facts.now place project.now votes (Ending.Lost lost.now))) }
+    ensures { OnOk result (Grows page.old.items page.new.items
+        (lost_row facts.now place project.now votes (Ending.Lost lost.now))) }
 {
     put_lost_cells(page, alloc, &facts.language, project, votes, lost)?;
     put_row_end(page, alloc, facts, place)
@@ -160,7 +166,8 @@ fn put_lost_cells(
     votes: u32,
     lost: &Lost,
 ) -> Result<(), NoMemory>
-    ensures { OnOk result (Grows page.old.items page.new.items (lost_cells language.now project.now votes lost.now)) }
+    ensures { OnOk result (Grows page.old.items page.new.items
+        (lost_cells language.now project.now votes lost.now)) }
 {
     put_figures(page, alloc, language, project, votes, lost)?;
     put_missing(page, alloc, language, lost.missing)?;
@@ -176,7 +183,8 @@ fn put_figures<'a>(
     votes: u32,
     lost: &Lost,
 ) -> Result<(), NoMemory>
-    ensures { OnOk result (Grows page.old.items page.new.items (lost_figures language.now project.now votes lost.now ∷ [])) }
+    ensures { OnOk result (Grows page.old.items page.new.items
+        (lost_figures language.now project.now votes lost.now ∷ [])) }
 {
     put(
         page,

@@ -18,7 +18,8 @@ pub(crate) fn put(
     piece: &'static str,
     values: &[Value],
 ) -> Result<(), NoMemory>
-    ensures { OnOk result (Grows page.old.items page.new.items (filling piece.now (map text_of values.now) ∷ [])) }
+    ensures { OnOk result (Grows page.old.items page.new.items
+        (filling piece.now (map text_of values.now) ∷ [])) }
 {
     fill(page, alloc, piece, values)?;
     Ok(())
@@ -32,7 +33,8 @@ pub(crate) fn say(
     key: u16,
     places: &[Place],
 ) -> Result<(), NoMemory>
-    ensures { OnOk result (Grows page.old.items page.new.items (say language.now key (map at_place places.now))) }
+    ensures { OnOk result (Grows page.old.items page.new.items
+        (say language.now key (map at_place places.now))) }
 {
     crate::markup::say(page, alloc, language.text(key), places)?;
     Ok(())

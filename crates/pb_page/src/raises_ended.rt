@@ -30,7 +30,8 @@ pub(crate) fn put_end(
     end: &RaiseEnd,
 ) -> Result<(), NoMemory>
     requires { KnowsPlaces election.now end.now }
-    ensures { OnOk result (Grows page.old.items page.new.items (raises_ended language.now election.now end.now)) }
+    ensures { OnOk result (Grows page.old.items page.new.items
+        (raises_ended language.now election.now end.now)) }
 {
     match end {
         RaiseEnd::Plain => Ok(()),
@@ -48,7 +49,8 @@ fn put_over(
     next: &NextRaise,
 ) -> Result<(), NoMemory>
     requires { All (λ place. place < length election.now.projects) next.now.only_then.items }
-    ensures { OnOk result (Grows page.old.items page.new.items (raises_ended language.now election.now (RaiseEnd.Over next.now))) }
+    ensures { OnOk result (Grows page.old.items page.new.items
+        (raises_ended language.now election.now (RaiseEnd.Over next.now))) }
 {
     put_sentence(page, alloc, language, next.share, next.cost)?;
     put_projects(page, alloc, language, election, next.only_then.as_slice())?;
@@ -79,7 +81,8 @@ fn say_over(
     cost: Money,
 ) -> Result<(), NoMemory>
     ensures { OnOk result (Grows page.old.items page.new.items (say language.now key.OVER
-        (amount language.now.amounts (codes "next_share") share ∷ amount language.now.costs (codes "next_cost") cost ∷ []))) }
+        (amount language.now.amounts (codes "next_share") share ∷ amount language.now.costs
+        (codes "next_cost") cost ∷ []))) }
 {
     let values: &[Value] = &[
         Value::Text("next_share"),

@@ -4,8 +4,9 @@ ghost use Rattle.std.specs.Prelude.{◌≡◌, [], ◌∷◌, OnOk, codes};
 ghost use Rattle.pb_core.specs.MoneyText.{money_text};
 ghost use Rattle.pb_page.specs.Amount.{shown};
 ghost use Rattle.pb_page.specs.Inner.Grown.{Grows};
-ghost use Rattle.pb_page.specs.Inner.Pieces.{KnowsPlaces, filled_up, item, method, method_said, order, raises, rounds_said, share_rule, the_rule};
-ghost use Rattle.pb_page.specs.Page.{amount, at, filling, noun_at, number, say};
+ghost use Rattle.pb_page.specs.Inner.Pieces.{KnowsPlaces, filled_up, item, method_key, method_said, order};
+ghost use Rattle.pb_page.specs.Inner.Pieces.{raises_key, rounds_said, share_rule};
+ghost use Rattle.pb_page.specs.Page.{amount, at, filling, noun_at, number, rule, say};
 ghost use Rattle.pb_page.specs.declared.keys.TheConstants as key;
 ghost use Rattle.pb_page.specs.declared.templates.TheConstants.{NAMELESS, RULE_NEXT, RULE_OPENING};
 
@@ -21,10 +22,11 @@ use pb_core::money::Money;
 use pb_core::no_memory::NoMemory;
 use pb_reasons::{Counted, RaiseEnd};
 use pb_rounds::measure::Measure;
-use pb_rounds::options::{Completion, CountOptions};
+use pb_rounds::options::Completion;
+use pb_rounds::rule::{FillUp, Rule};
 use std::alloc::Global;
 
-/// How it was counted, with the options of these facts, and why the raises ended.
+/// How it was counted, by the rule of these facts, and why the raises ended.
 pub(crate) fn put_rule(
     page: &mut Vec<u8>,
     alloc: Global,
@@ -35,13 +37,13 @@ pub(crate) fn put_rule(
 ) -> Result<(), NoMemory>
     requires { KnowsPlaces election.now end.now }
     ensures { OnOk result (Grows page.old.items page.new.items
-        (the_rule facts.now.language election.now facts.now.options end.now counted.now.fills_up counted.now.outcome.share counted.now.outcome.raised)) }
+        (rule facts.now.language election.now facts.now.rule end.now counted.now.outcome.share
+        counted.now.outcome.raised)) }
 {
     let language = &facts.language;
-    put_counted(page, alloc, language, &facts.options, counted)?;
+    put_counted(page, alloc, language, &facts.rule, counted)?;
     put_end(page, alloc, language, election, end)?;
-    let fills = fills_up(counted);
-    put_last(page, alloc, language, facts.options.completion, fills)
+    put_last(page, alloc, language, &facts.rule)
 }
 
 /// How the rounds were held.
@@ -49,37 +51,15 @@ fn put_counted(
     page: &mut Vec<u8>,
     alloc: Global,
     language: &Language,
-    options: &CountOptions,
+    rule: &Rule,
     counted: &Counted,
 ) -> Result<(), NoMemory>
     ensures { OnOk result (Grows page.old.items page.new.items
-        (rounds_said language.now options.now counted.now.fills_up counted.now.outcome.share counted.now.outcome.raised)) }
+        (rounds_said language.now rule.now counted.now.outcome.share counted.now.outcome.raised)) }
 {
-    let share = share_of(counted);
-    let raised = raised_of(counted);
-    let fills = fills_up(counted);
-    put_rounds(page, alloc, language, options, fills, share, raised)
-}
-
-/// The share at which the raises ended.
-fn share_of(counted: &Counted) -> Money
-    ensures { result ≡ counted.now.outcome.share }
-{
-    counted.outcome.share
-}
-
-/// How often the share was raised.
-fn raised_of(counted: &Counted) -> u32
-    ensures { result ≡ counted.now.outcome.raised }
-{
-    counted.outcome.raised
-}
-
-/// Whether what was left was filled up by votes.
-fn fills_up(counted: &Counted) -> bool
-    ensures { result ≡ counted.now.fills_up }
-{
-    counted.fills_up
+    let share = counted.share();
+    let raised = counted.raised();
+    put_rounds(page, alloc, language, rule, share, raised)
 }
 
 /// The sentences on the rounds of a count with this share, after so many raises.
@@ -87,30 +67,29 @@ fn put_rounds(
     page: &mut Vec<u8>,
     alloc: Global,
     language: &Language,
-    options: &CountOptions,
-    fills_up: bool,
+    rule: &Rule,
     share: Money,
     raised: u32,
 ) -> Result<(), NoMemory>
-    ensures { OnOk result (Grows page.old.items page.new.items (rounds_said language.now options.now fills_up share raised)) }
+    ensures { OnOk result (Grows page.old.items page.new.items
+        (rounds_said language.now rule.now share raised)) }
 {
-    put_share(page, alloc, language, options.step, share, raised)?;
-    put_order(page, alloc, language, options.measure)?;
-    put_raises(page, alloc, language, options.completion, fills_up, raised)
+    put_share(page, alloc, language, rule.options.step, share, raised)?;
+    put_order(page, alloc, language, rule.options.measure)?;
+    put_item(page, alloc, language, raises_key(rule, raised))
 }
 
-/// What that is called, and how what was left was filled up.
+/// What the rule is called, and how what was left was filled up.
 fn put_last(
     page: &mut Vec<u8>,
     alloc: Global,
     language: &Language,
-    completion: Completion,
-    fills_up: bool,
+    rule: &Rule,
 ) -> Result<(), NoMemory>
-    ensures { OnOk result (Grows page.old.items page.new.items (method_said language.now completion fills_up)) }
+    ensures { OnOk result (Grows page.old.items page.new.items (method_said language.now rule.now)) }
 {
-    put_method(page, alloc, language, completion, fills_up)?;
-    put_filled_up(page, alloc, language, fills_up)
+    put_item(page, alloc, language, method_key(rule))?;
+    put_filled_up(page, alloc, language, rule.fill_up)
 }
 
 /// How the share came about, and who can be paid.
@@ -153,7 +132,8 @@ fn say_share(
 ) -> Result<(), NoMemory>
     ensures { OnOk result (Grows page.old.items page.new.items (say language.now key.SHARE
         (amount language.now.amounts (codes "share") share ∷ number (codes "raises") raises
-        ∷ filling NAMELESS.now (money_text step ∷ shown language.now.amounts step ∷ []) ∷ noun_at language.now key.TIMES raises ∷ []))) }
+        ∷ filling NAMELESS.now (money_text step ∷ shown language.now.amounts step ∷ [])
+        ∷ noun_at language.now key.TIMES raises ∷ []))) }
 {
     let values: &[Value] = &[
         Value::Text("share"),
@@ -231,39 +211,31 @@ fn put_order(
     }
 }
 
-/// Whether shares were raised.
-fn put_raises(
-    page: &mut Vec<u8>,
-    alloc: Global,
-    language: &Language,
-    completion: Completion,
-    fills_up: bool,
-    raised: u32,
-) -> Result<(), NoMemory>
-    ensures { OnOk result (Grows page.old.items page.new.items (raises language.now completion fills_up raised ∷ [])) }
+/// The key of the sentence on the raises.
+fn raises_key(rule: &Rule, raised: u32) -> u16
+    ensures { result ≡ raises_key rule.now raised }
 {
-    match completion {
-        Completion::Plain if fills_up => put_item(page, alloc, language, keys::UNUSED),
-        Completion::Plain => put_item(page, alloc, language, keys::PLAIN),
-        Completion::Add1 if raised == 0 => put_item(page, alloc, language, keys::UNRAISED),
-        Completion::Add1 => put_item(page, alloc, language, keys::RAISED),
+    match (rule.options.completion, rule.fill_up) {
+        (Completion::Plain, FillUp::Nothing) => keys::PLAIN,
+        (Completion::Plain, FillUp::MostVotes) => keys::UNUSED,
+        (Completion::Add1, FillUp::Nothing | FillUp::MostVotes) => {
+            if raised == 0 {
+                keys::UNRAISED
+            } else {
+                keys::RAISED
+            }
+        }
     }
 }
 
-/// What that is called.
-fn put_method(
-    page: &mut Vec<u8>,
-    alloc: Global,
-    language: &Language,
-    completion: Completion,
-    fills_up: bool,
-) -> Result<(), NoMemory>
-    ensures { OnOk result (Grows page.old.items page.new.items (method language.now completion fills_up ∷ [])) }
+/// The key of the sentence on what the rule is called.
+fn method_key(rule: &Rule) -> u16
+    ensures { result ≡ method_key rule.now }
 {
-    match completion {
-        Completion::Plain if fills_up => put_item(page, alloc, language, keys::METHOD_FILLED),
-        Completion::Plain => put_item(page, alloc, language, keys::METHOD_PLAIN),
-        Completion::Add1 => put_item(page, alloc, language, keys::METHOD_ADD1),
+    match (rule.options.completion, rule.fill_up) {
+        (Completion::Plain, FillUp::Nothing) => keys::METHOD_PLAIN,
+        (Completion::Plain, FillUp::MostVotes) => keys::METHOD_FILLED,
+        (Completion::Add1, FillUp::Nothing | FillUp::MostVotes) => keys::METHOD_ADD1,
     }
 }
 
@@ -273,11 +245,11 @@ fn put_filled_up(
     page: &mut Vec<u8>,
     alloc: Global,
     language: &Language,
-    fills_up: bool,
+    fill_up: FillUp,
 ) -> Result<(), NoMemory>
-    ensures { OnOk result (Grows page.old.items page.new.items (filled_up language.now fills_up)) }
+    ensures { OnOk result (Grows page.old.items page.new.items (filled_up language.now fill_up)) }
 {
-    if fills_up {
+    if fill_up.fills_up() {
         put_item(page, alloc, language, keys::FILLED_UP)
     } else {
         Ok(())

@@ -7,7 +7,8 @@ use std::alloc::Global;
 /// The most places that a sentence has.
 const MOST_PLACES: usize = 32;
 
-/// The sentence of a line with a byte in the place of each name in braces: 0 for the first place, 1 for the second, and so on.
+/// The sentence of a line with a byte in the place of each name in braces: 0 for the first place, 1 for the
+/// second, and so on.
 pub(crate) fn with_places(
     alloc: Global,
     text: &str,

@@ -57,8 +57,8 @@ impl Speech {
         Ok(speech)
     }
 
-    /// The language of a file of words. Its first fault decides: those of its lines in their order, and then the keys that are
-    /// not there, and those that should not be.
+    /// The language of a file of words. Its first fault decides: those of its lines in their order, and then
+    /// the keys that are not there, and those that should not be.
     pub fn read(alloc: Global, text: &[u8]) -> Result<Speech, WordsFault> {
         let mut speech = Speech::empty(alloc)?;
         let mut line: u32 = 0;
@@ -261,7 +261,8 @@ fn set<T: Copy>(
     Err(WordsFault::BadValue(line))
 }
 
-/// Whether this can be the value of the key at this index: a language is letters, digits and hyphens, a direction one of two.
+/// Whether this can be the value of the key at this index: a language is letters, digits and hyphens, a
+/// direction one of two.
 fn is_value(index: usize, text: &str) -> bool {
     if index == usize::from(keys::LANG) {
         text.as_bytes()

@@ -1,7 +1,7 @@
 //! The head of a page, with how it looks.
 
-/// The head, and what the page is about, up to the first sentence. Values: the language, its direction, and the title, in two
-/// places.
+/// The head, and what the page is about, up to the first sentence. Values: the language, its direction, and
+/// the title, in two places.
 pub(crate) const HEAD: &str = "<!DOCTYPE html>
 <html lang='~' dir='~'>
 <head>

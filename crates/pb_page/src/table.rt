@@ -51,7 +51,8 @@ pub(crate) fn entry_of(key: &str) -> Option<(usize, Entry)> {
     None
 }
 
-// The sentences are in two lists, each with a function of its own, since a proof writes out all texts of a constant.
+// The sentences are in two lists, each with a function of its own, since a proof writes out all texts of a
+// constant.
 
 fn first() -> &'static [Entry] {
     FIRST

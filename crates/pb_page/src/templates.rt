@@ -1,6 +1,6 @@
-//! The pieces of a page. Values stand in the places of `~`; a `^` is the value of the next `~` as well. Each number that the
-//! report or a table has stands in a `<data>` with its text as `value`, and its name there as `class`. What is said between
-//! them is in the table of sentences.
+//! The pieces of a page. Values stand in the places of `~`; a `^` is the value of the next `~` as well. Each
+//! number that the report or a table has stands in a `<data>` with its text as `value`, and its name there as
+//! `class`. What is said between them is in the table of sentences.
 
 /// A text alone. Value: the text.
 pub(crate) const TEXT: &str = "~";
@@ -18,8 +18,8 @@ pub(crate) const NAMELESS: &str = "<data value='~'>~</data>";
 pub(crate) const LEAD_NEXT: &str = "</p>
 <p class='lead'>";
 
-/// What programs read of a page on which no project won, before the sentence on that. Values: how many won; what was spent;
-/// what was paid beyond that.
+/// What programs read of a page on which no project won, before the sentence on that. Values: how many won;
+/// what was spent; what was paid beyond that.
 pub(crate) const NOTHING: &str =
     "<data class='won' value='~'></data><data class='spent' value='~'></data><data class='surplus' value='~'></data>";
 
@@ -36,8 +36,8 @@ pub(crate) const BUDGET_OPENING: &str = "</p>
 pub(crate) const BLOCKS_OPENING: &str = "'>
 ";
 
-/// A winner's part of the budget. Values: where it begins and how wide it is, in ten thousandths; what it is called, its cost,
-/// and its id.
+/// A winner's part of the budget. Values: where it begins and how wide it is, in ten thousandths; what it is
+/// called, its cost, and its id.
 pub(crate) const BUDGET_PART: &str =
     "<span style='--from:~;--wide:~' title='~: ~'><bdi dir='auto'>~</bdi></span>
 ";
@@ -68,16 +68,17 @@ pub(crate) const ROW_CATEGORY: &str = "<td role='cell' data-label='~'><bdi dir='
 pub(crate) const ROW_CLOSING: &str = "</tr>
 ";
 
-/// The head of the table of winners, up to its last column. Values: its heading and caption, and the heads of its
-/// columns.
+/// The head of the table of winners, up to its last column. Values: its heading and caption, and the heads of
+/// its columns.
 pub(crate) const WINNERS_OPENING: &str = "<section class='won' aria-labelledby='winners'>
 <h2 id='winners'>~</h2>
 <table class='wide' role='table'>
 <caption role='caption'>~</caption>
 <thead role='rowgroup'><tr role='row'><th role='columnheader' scope='col' class='n round'>~</th><th role='columnheader' scope='col'>~</th><th role='columnheader' scope='col' class='n'>~</th><th role='columnheader' scope='col' class='n'>~</th><th role='columnheader' scope='col' class='n'>~</th><th role='columnheader' scope='col' class='n'>~</th>";
 
-/// A winner, up to the end of the row. Values: id, round with its label, id again, name, width of its bar, cost, votes,
-/// price, how many paid it in full, each of these with its label before it, and an amount also as it is shown.
+/// A winner, up to the end of the row. Values: id, round with its label, id again, name, width of its bar,
+/// cost, votes, price, how many paid it in full, each of these with its label before it, and an amount also
+/// as it is shown.
 pub(crate) const WINNER: &str =
     "<tr role='row' data-project='~'><td role='cell' class='n' data-label='~'><data class='round' value='^'>~</data></td><th role='rowheader' scope='row'><span class='id' dir='auto'>~</span> <bdi dir='auto'>~</bdi><svg class='bar' viewBox='0 0 10000 1' preserveAspectRatio='none' aria-hidden='true'><rect width='~' height='1'/></svg></th><td role='cell' class='n' data-label='~'><data class='cost' value='~'>~</data></td><td role='cell' class='n' data-label='~'><data class='votes' value='^'>~</data></td><td role='cell' class='n' data-label='~'><data class='price' value='~'>~</data></td><td role='cell' class='n' data-label='~'><data class='in_full' value='^'>~</data></td>";
 
@@ -88,29 +89,30 @@ pub(crate) const NONE_WON: &str = "<section aria-labelledby='winners'>
 </section>
 ";
 
-/// The head of the table of the added, up to its last column. Values: its heading and caption, and the heads of its
-/// columns.
+/// The head of the table of the added, up to its last column. Values: its heading and caption, and the heads
+/// of its columns.
 pub(crate) const ADDED_OPENING: &str = "<section class='won' aria-labelledby='added'>
 <h2 id='added'>~</h2>
 <table class='wide' role='table'>
 <caption role='caption'>~</caption>
 <thead role='rowgroup'><tr role='row'><th role='columnheader' scope='col' class='n round'>~</th><th role='columnheader' scope='col'>~</th><th role='columnheader' scope='col' class='n'>~</th><th role='columnheader' scope='col' class='n'>~</th>";
 
-/// An added project, up to the end of the row. Values: id, number with its label, id again, name, width of its bar, cost
-/// and votes with their labels.
+/// An added project, up to the end of the row. Values: id, number with its label, id again, name, width of
+/// its bar, cost and votes with their labels.
 pub(crate) const ADDED: &str =
     "<tr role='row' data-project='~'><td role='cell' class='n' data-label='~'><data class='added' value='^'>~</data></td><th role='rowheader' scope='row'><span class='id' dir='auto'>~</span> <bdi dir='auto'>~</bdi><svg class='bar' viewBox='0 0 10000 1' preserveAspectRatio='none' aria-hidden='true'><rect width='~' height='1'/></svg></th><td role='cell' class='n' data-label='~'><data class='cost' value='~'>~</data></td><td role='cell' class='n' data-label='~'><data class='votes' value='^'>~</data></td>";
 
-/// The head of the table of the others, up to its last column. Values: its heading and caption, and the heads of its
-/// columns.
+/// The head of the table of the others, up to its last column. Values: its heading and caption, and the heads
+/// of its columns.
 pub(crate) const OTHERS_OPENING: &str = "<section class='lost' aria-labelledby='others'>
 <h2 id='others'>~</h2>
 <table class='wide' role='table'>
 <caption role='caption'>~</caption>
 <thead role='rowgroup'><tr role='row'><th role='columnheader' scope='col'>~</th><th role='columnheader' scope='col' class='n'>~</th><th role='columnheader' scope='col' class='n'>~</th><th role='columnheader' scope='col' class='n'>~</th><th role='columnheader' scope='col' class='n'>~</th>";
 
-/// A project that did not win, up to what is said of what is missing. Values: id, name, width of its bar; cost, votes and what
-/// its supporters have left, with their labels; the label of what is missing, and that for programs.
+/// A project that did not win, up to what is said of what is missing. Values: id, name, width of its bar;
+/// cost, votes and what its supporters have left, with their labels; the label of what is missing, and that
+/// for programs.
 pub(crate) const OTHER: &str =
     "<tr role='row' data-project='^'><th role='rowheader' scope='row'><span class='id' dir='auto'>~</span> <bdi dir='auto'>~</bdi><svg class='bar' viewBox='0 0 10000 1' preserveAspectRatio='none' aria-hidden='true'><rect width='~' height='1'/></svg></th><td role='cell' class='n' data-label='~'><data class='cost' value='~'>~</data></td><td role='cell' class='n' data-label='~'><data class='votes' value='^'>~</data></td><td role='cell' class='n' data-label='~'><data class='left' value='~'>~</data></td><td role='cell' class='n' data-label='~'><data class='missing' value='~'>";
 
@@ -140,8 +142,8 @@ pub(crate) const CATEGORIES_OPENING: &str =
 <tbody role='rowgroup'>
 ";
 
-/// A category. Values: what it is called, width of its bar, how many winners are of it and what these cost, each of these two
-/// with its label before it, and the amount also as it is shown.
+/// A category. Values: what it is called, width of its bar, how many winners are of it and what these cost,
+/// each of these two with its label before it, and the amount also as it is shown.
 pub(crate) const CATEGORY: &str =
     "<tr role='row'><th role='rowheader' scope='row'><bdi dir='auto'>~</bdi><svg class='bar' viewBox='0 0 10000 1' preserveAspectRatio='none' aria-hidden='true'><rect width='~' height='1'/></svg></th><td role='cell' class='n' data-label='~'><data class='category_won' value='^'>~</data></td><td role='cell' class='n' data-label='~'><data class='category_cost' value='~'>~</data></td></tr>
 ";
@@ -177,8 +179,8 @@ pub(crate) const COMPARED_OPENING: &str = "<section class='many' aria-labelledby
 <tbody role='rowgroup'>
 ";
 
-/// A rule. Values: what it is called; how many projects win, how many voters have no winner, and how many have more winners
-/// than by the other rule, each behind its label.
+/// A rule. Values: what it is called; how many projects win, how many voters have no winner, and how many
+/// have more winners than by the other rule, each behind its label.
 pub(crate) const COMPARED_ROW: &str =
     "<tr role='row'><th role='rowheader' scope='row'>~</th><td role='cell' class='n' data-label='~'><data class='rule_projects' value='^'>~</data></td><td role='cell' class='n' data-label='~'><data class='without' value='^'>~</data></td><td role='cell' class='n' data-label='~'><data class='more_choices' value='^'>~</data></td></tr>
 ";
@@ -259,7 +261,7 @@ pub(crate) const RECOUNT_CLOSING: &str = "</p>
 <p>~</p>
 <pre><code>";
 
-/// The same without such a page. Value: what stands above the command.
+/// The end of the sources, where no page recounts them. Value: what stands above the command.
 pub(crate) const NO_RECOUNT: &str = "</dl>
 <p>~</p>
 <pre><code>";

@@ -38,7 +38,7 @@ pub(crate) fn put_ties(
     ensures { OnOk result (Grows page.old.items page.new.items
         (ties language.now measure election.now (ties_of measure election.now counted.now.outcome))) }
 {
-    let told = ties_of(alloc, election, supporters, measure, &counted.outcome)?;
+    let told = ties_of(alloc, election, supporters, measure, counted)?;
     let put = put_list(page, alloc, language, measure, election, told.as_slice());
     drop(told);
     put
@@ -54,7 +54,8 @@ fn put_list(
     election: &Election,
     told: &[Tie],
 ) -> Result<(), NoMemory>
-    ensures { OnOk result (Grows page.old.items page.new.items (ties language.now measure election.now told.now)) }
+    ensures { OnOk result (Grows page.old.items page.new.items
+        (ties language.now measure election.now told.now)) }
 {
     if told.is_empty() {
         return Ok(());
@@ -71,7 +72,8 @@ fn put_some(
     election: &Election,
     told: &[Tie],
 ) -> Result<(), NoMemory>
-    ensures { OnOk result (Grows page.old.items page.new.items (tie_list language.now measure election.now told.now)) }
+    ensures { OnOk result (Grows page.old.items page.new.items
+        (tie_list language.now measure election.now told.now)) }
 {
     put_heading(page, alloc, language)?;
     put_each(page, alloc, language, measure, election, told)?;
@@ -100,7 +102,8 @@ fn put_each(
     election: &Election,
     told: &[Tie],
 ) -> Result<(), NoMemory>
-    ensures { OnOk result (Grows page.old.items page.new.items (flat_map (tie language.now measure election.now) told.now)) }
+    ensures { OnOk result (Grows page.old.items page.new.items
+        (flat_map (tie language.now measure election.now) told.now)) }
 {
     for tie in told {
         put_tie(page, alloc, language, measure, election, tie)?;
@@ -117,7 +120,8 @@ fn put_tie(
     election: &Election,
     told: &Tie,
 ) -> Result<(), NoMemory>
-    ensures { OnOk result (Grows page.old.items page.new.items (tie language.now measure election.now told.now)) }
+    ensures { OnOk result (Grows page.old.items page.new.items
+        (tie language.now measure election.now told.now)) }
 {
     let winner = called_at(election, told.winner);
     let other = called_at(election, told.other);
@@ -144,7 +148,8 @@ fn say_tie<'a>(
     winner: &'a str,
     other: &'a str,
 ) -> Result<(), NoMemory>
-    ensures { OnOk result (Grows page.old.items page.new.items (tie_said language.now measure round winner.now other.now)) }
+    ensures { OnOk result (Grows page.old.items page.new.items
+        (tie_said language.now measure round winner.now other.now)) }
 {
     let values: &[Value] = &[
         Value::Text("round"),

@@ -3,7 +3,8 @@
 ghost use Rattle.std.specs.Prelude.{◌≡◌, [], ◌∷◌, ◌<◌, ◌^◌, All, OnOk, codes, length, sum_by};
 ghost use Rattle.pb_page.specs.Amount.{shown};
 ghost use Rattle.pb_page.specs.Inner.Grown.{Grows};
-ghost use Rattle.pb_page.specs.Inner.Pieces.{block, caption, caption_key, none_said, nothing, picture, result_said, whole_said};
+ghost use Rattle.pb_page.specs.Inner.Pieces.{block, caption, caption_key, none_said, nothing, picture};
+ghost use Rattle.pb_page.specs.Inner.Pieces.{result_said, whole_said};
 ghost use Rattle.pb_page.specs.Page.{amount, at, blocks, filling, noun_at, number, say, text};
 ghost use Rattle.pb_page.specs.declared.keys.TheConstants as key;
 ghost use Rattle.pb_page.specs.declared.style.TheConstants.{HEAD};
@@ -35,7 +36,8 @@ pub(crate) fn put_summary(
     title: &str,
     figures: &Figures,
 ) -> Result<(), NoMemory>
-    ensures { OnOk result (Grows page.old.items page.new.items (whole_said language.now title.now figures.now)) }
+    ensures { OnOk result (Grows page.old.items page.new.items
+        (whole_said language.now title.now figures.now)) }
 {
     put_head(page, alloc, language, title)?;
     put_voted(page, alloc, language, figures)?;
@@ -74,7 +76,8 @@ fn put_voted(
 ) -> Result<(), NoMemory>
     ensures { OnOk result (Grows page.old.items page.new.items (say language.now key.VOTED
         (number (codes "voters") figures.now.voters ∷ number (codes "projects") figures.now.projects
-        ∷ amount language.now.costs (codes "budget") figures.now.budget ∷ noun_at language.now key.PEOPLE figures.now.voters
+        ∷ amount language.now.costs (codes "budget") figures.now.budget
+        ∷ noun_at language.now key.PEOPLE figures.now.voters
         ∷ noun_at language.now key.TOPICS figures.now.projects ∷ []))) }
 {
     let values: &[Value] = &[
@@ -199,7 +202,8 @@ fn put_won(
 ) -> Result<(), NoMemory>
     ensures { OnOk result (Grows page.old.items page.new.items (say language.now key.WON
         (number (codes "won") figures.now.won ∷ amount language.now.costs (codes "spent") figures.now.spent
-        ∷ amount language.now.costs (codes "left") figures.now.left ∷ noun_at language.now key.WINNERS figures.now.won ∷ []))) }
+        ∷ amount language.now.costs (codes "left") figures.now.left
+        ∷ noun_at language.now key.WINNERS figures.now.won ∷ []))) }
 {
     let values: &[Value] = &[
         Value::Text("won"),
@@ -273,7 +277,8 @@ fn put_description(
     figures: &Figures,
 ) -> Result<(), NoMemory>
     ensures { OnOk result (Grows page.old.items page.new.items (say language.now key.PICTURE
-        (text (shown language.now.costs figures.now.budget) ∷ text (shown language.now.costs figures.now.spent)
+        (text (shown language.now.costs figures.now.budget)
+        ∷ text (shown language.now.costs figures.now.spent)
         ∷ text (shown language.now.costs figures.now.left) ∷ []))) }
 {
     let values: &[Value] = &[
@@ -325,7 +330,8 @@ fn put_spent(
     figures: &Figures,
 ) -> Result<(), NoMemory>
     ensures { OnOk result (Grows page.old.items page.new.items (say language.now (caption_key figures.now)
-        (amount language.now.costs (codes "spent") figures.now.spent ∷ amount language.now.costs (codes "left") figures.now.left
+        (amount language.now.costs (codes "spent") figures.now.spent ∷ amount language.now.costs
+        (codes "left") figures.now.left
         ∷ amount language.now.amounts (codes "surplus") figures.now.surplus ∷ []))) }
 {
     let values: &[Value] = &[
@@ -382,7 +388,8 @@ pub(crate) fn put_blocks(
 ) -> Result<(), NoMemory>
     requires known { All (λ place. place < length election.now.projects) winners.now }
     requires fits { sum_by (cost_at (support_of election.now)) winners.now < 2 ^ 64 }
-    ensures { OnOk result (Grows page.old.items page.new.items (blocks costs.now election.now 0 winners.now)) }
+    ensures { OnOk result (Grows page.old.items page.new.items
+        (blocks costs.now election.now 0 winners.now)) }
 {
     let budget = election.budget();
     let projects = election.projects();
@@ -405,7 +412,8 @@ fn put_block<'a>(
     before: u64,
     budget: Money,
 ) -> Result<(), NoMemory>
-    ensures { OnOk result (Grows page.old.items page.new.items (block costs.now budget before project.now ∷ [])) }
+    ensures { OnOk result (Grows page.old.items page.new.items
+        (block costs.now budget before project.now ∷ [])) }
 {
     put(
         page,

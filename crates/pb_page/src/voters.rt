@@ -3,8 +3,8 @@
 ghost use Rattle.std.specs.Prelude.{[], ◌∷◌, ◌<◌, ◌^◌, OnOk, decimal, flat_map, length};
 ghost use Rattle.std.specs.List.{range_with_len};
 ghost use Rattle.pb_page.specs.Inner.Grown.{Grows};
-ghost use Rattle.pb_page.specs.Inner.Pieces.{exact_row, got, got_said, row_closing, shown_row, the_voters, voters_table};
-ghost use Rattle.pb_page.specs.Page.{at, ballots_row, filling, say, text, won_by_voter};
+ghost use Rattle.pb_page.specs.Inner.Pieces.{exact_row, got, got_said, row_closing, shown_row, voters_table};
+ghost use Rattle.pb_page.specs.Page.{at, ballots_row, filling, say, text, voters, won_by_voter};
 ghost use Rattle.pb_page.specs.declared.keys.TheConstants as key;
 ghost use Rattle.pb_page.specs.declared.templates.TheConstants.{VOTERS_OPENING};
 ghost use Rattle.pb_reasons.specs.Counted.{IsCounted};
@@ -36,7 +36,7 @@ pub(crate) fn put_voters(
 ) -> Result<(), NoMemory>
     requires { IsCounted election.now counted.now }
     ensures { OnOk result (Grows page.old.items page.new.items
-        (the_voters language.now (won_by_voter election.now counted.now))) }
+        (voters language.now (won_by_voter election.now counted.now))) }
 {
     let won = won_by_voter(alloc, election, counted)?;
     let put = put_won(page, alloc, language, won.as_slice());
@@ -44,7 +44,7 @@ pub(crate) fn put_voters(
     put
 }
 
-/// The same, where so many choices of each voter won.
+/// How many voters have a winner among their choices, where so many choices of each voter won.
 fn put_won(
     page: &mut Vec<u8>,
     alloc: Global,
@@ -52,7 +52,7 @@ fn put_won(
     won: &[u32],
 ) -> Result<(), NoMemory>
     requires { length won.now < 2 ^ 64 }
-    ensures { OnOk result (Grows page.old.items page.new.items (the_voters language.now won.now)) }
+    ensures { OnOk result (Grows page.old.items page.new.items (voters language.now won.now)) }
 {
     put_got(page, alloc, language, won)?;
     put_rows(page, alloc, language, won)?;
@@ -169,7 +169,8 @@ fn put_rows(
     won: &[u32],
 ) -> Result<(), NoMemory>
     requires { length won.now < 2 ^ 64 }
-    ensures { OnOk result (Grows page.old.items page.new.items (flat_map (exact_row language.now won.now) (range_with_len 0 9))) }
+    ensures { OnOk result (Grows page.old.items page.new.items
+        (flat_map (exact_row language.now won.now) (range_with_len 0 9))) }
 {
     for number in 0..MOST {
         let ballots = exactly(number, won);
@@ -178,7 +179,8 @@ fn put_rows(
     Ok(())
 }
 
-/// The row of so many winners, of which a sentence says how many, on this many ballots, where a ballot has so many or more.
+/// The row of so many winners, of which a sentence says how many, on this many ballots, where a ballot has so
+/// many or more.
 #[tactic(auto, using(crate::proofs::Grown::none))]
 fn put_row(
     page: &mut Vec<u8>,
@@ -190,7 +192,8 @@ fn put_row(
     won: &[u32],
 ) -> Result<(), NoMemory>
     requires { length won.now < 2 ^ 64 }
-    ensures { OnOk result (Grows page.old.items page.new.items (ballots_row language.now said number ballots won.now)) }
+    ensures { OnOk result (Grows page.old.items page.new.items
+        (ballots_row language.now said number ballots won.now)) }
 {
     if at_least(number, won) == 0 {
         return Ok(());
@@ -209,7 +212,8 @@ fn put_shown_row(
     won: &[u32],
 ) -> Result<(), NoMemory>
     requires { length won.now < 2 ^ 64 }
-    ensures { OnOk result (Grows page.old.items page.new.items (shown_row language.now said number ballots won.now)) }
+    ensures { OnOk result (Grows page.old.items page.new.items
+        (shown_row language.now said number ballots won.now)) }
 {
     put(page, alloc, VOTERS_ROW, &[Value::Number(u64::from(number))])?;
     say_number(page, alloc, language, said, number)?;
@@ -224,7 +228,8 @@ fn say_number(
     said: u16,
     number: u32,
 ) -> Result<(), NoMemory>
-    ensures { OnOk result (Grows page.old.items page.new.items (say language.now said (text (decimal number) ∷ []))) }
+    ensures { OnOk result (Grows page.old.items page.new.items
+        (say language.now said (text (decimal number) ∷ []))) }
 {
     let shown = [Value::Number(u64::from(number))];
     say(

@@ -6,6 +6,7 @@ ghost use Rattle.pb_page.specs.Inner.Pieces.{added_cells, winner_cells, winner_t
 ghost use Rattle.pb_page.specs.declared.keys.TheConstants as key;
 ghost use Rattle.pb_page.specs.declared.templates.TheConstants.{NONE_WON};
 ghost use Rattle.pb_page.specs.Page.{at, filling, winners, won_row};
+ghost use Rattle.pb_rounds.specs.RuleNames.{fills_up};
 
 use crate::facts::Facts;
 use crate::forms::width;
@@ -21,9 +22,11 @@ use pb_core::no_memory::NoMemory;
 use pb_core::project::Project;
 use pb_reasons::{Added, Counted, Ending, ProjectReason, ProjectTeller, Won};
 use pb_rounds::outcome::Elected;
+use pb_rounds::rule::FillUp;
 use std::alloc::Global;
 
 /// The elected, in order of election.
+#[tactic(auto, unfolding(crate::specs::Page::winners))]
 pub(crate) fn put_winners(
     page: &mut Vec<u8>,
     alloc: Global,
@@ -36,9 +39,9 @@ pub(crate) fn put_winners(
     requires known { All (λ w. w.place < length election.now.projects) counted.now.outcome.elected }
     ensures { OnOk result (Grows page.old.items page.new.items (winners facts.now election.now counted.now)) }
 {
-    let elected = counted.outcome.elected.as_slice();
+    let elected = counted.elected();
     if elected.is_empty() {
-        return put_none(page, alloc, &facts.language, counted.fills_up);
+        return put_none(page, alloc, &facts.language, counted.fill_up());
     }
     put_table(page, alloc, facts, election, teller, elected)
 }
@@ -48,12 +51,13 @@ fn put_none(
     page: &mut Vec<u8>,
     alloc: Global,
     language: &Language,
-    fills_up: bool,
+    fill_up: FillUp,
 ) -> Result<(), NoMemory>
     ensures { OnOk result (Grows page.old.items page.new.items (filling NONE_WON.now
-        (at language.now key.WINNERS_HEADING ∷ at language.now (if fills_up then key.NO_ELECTED else key.NO_WINNERS) ∷ []) ∷ [])) }
+        (at language.now key.WINNERS_HEADING ∷ at language.now
+        (if fills_up fill_up then key.NO_ELECTED else key.NO_WINNERS) ∷ []) ∷ [])) }
 {
-    let none = if fills_up {
+    let none = if fill_up.fills_up() {
         keys::NO_ELECTED
     } else {
         keys::NO_WINNERS
@@ -102,7 +106,8 @@ fn put_table(
     requires own { teller.now.0 ≡ election.now }
     requires elected { teller.now.1.outcome.elected ≡ elected.now }
     requires known { All (λ w. w.place < length election.now.projects) elected.now }
-    ensures { OnOk result (Grows page.old.items page.new.items (winner_table facts.now election.now teller.now.1)) }
+    ensures { OnOk result (Grows page.old.items page.new.items
+        (winner_table facts.now election.now teller.now.1)) }
 {
     put_table_head(page, alloc, &facts.language)?;
     put_head_end(page, alloc, facts)?;
@@ -152,7 +157,8 @@ pub(crate) fn put_row(
     reason: &ProjectReason,
     budget: Money,
 ) -> Result<(), NoMemory>
-    ensures { OnOk result (Grows page.old.items page.new.items (won_row facts.now budget place project.now reason.now.votes reason.now.ending)) }
+    ensures { OnOk result (Grows page.old.items page.new.items
+        (won_row facts.now budget place project.now reason.now.votes reason.now.ending)) }
 {
     match &reason.ending {
         Ending::Won(won) => put_won(
@@ -207,7 +213,8 @@ fn put_won_cells<'a>(
     won: &Won,
     budget: Money,
 ) -> Result<(), NoMemory>
-    ensures { OnOk result (Grows page.old.items page.new.items (winner_cells language.now budget project.now votes won.now ∷ [])) }
+    ensures { OnOk result (Grows page.old.items page.new.items
+        (winner_cells language.now budget project.now votes won.now ∷ [])) }
 {
     put(
         page,
@@ -262,7 +269,8 @@ fn put_one_added_cells<'a>(
     added: &Added,
     budget: Money,
 ) -> Result<(), NoMemory>
-    ensures { OnOk result (Grows page.old.items page.new.items (added_cells language.now budget project.now votes added.now ∷ [])) }
+    ensures { OnOk result (Grows page.old.items page.new.items
+        (added_cells language.now budget project.now votes added.now ∷ [])) }
 {
     put(
         page,

@@ -1,5 +1,5 @@
--- The claims on the pieces of a batch, as plain data: one word, the next number, and in the view of each claim the
--- numbers that were drawn with it.
+-- The claims on the pieces of a batch, as plain data: one word, the next number, and in the view of each
+-- claim the numbers that were drawn with it.
 use Rattle.std.specs.Prelude.{◌≡◌, ℕ, ◌+◌, ◌<◌, ◌≤◌, ◌^◌, [], length, sum_by, count_by, nat_le, slice_index}
 use Rattle.std.specs.List.{range_with_len}
 use mathlib.Core.Option.{some}
@@ -7,13 +7,14 @@ use lib.ListN.{get_elem?}
 use Rattle.atomic_table.specs.Table.{State}
 use Rattle.pb_price.specs.declared.claims.drawn.Drawn.{Drawn}
 
--- at most as many of a view's numbers are no piece as worker seats went into it, and one without a seat has no numbers
+-- at most as many of a view's numbers are no piece as worker seats went into it, and one without a seat has
+-- no numbers
 pub record IsView (pieces : ℕ) (v : Drawn) : Type 0 where
   pub few_past_end : count_by (λ number. nat_le pieces number) v.numbers ≤ v.seats
   pub none_spent : v.seats ≡ 0 → v.numbers ≡ []
 
--- The state of the claims between any two steps. The numbers in all views together are those below the word, each once:
--- whatever weight each number has, both weigh the same.
+-- The state of the claims between any two steps. The numbers in all views together are those below the word,
+-- each once: whatever weight each number has, both weigh the same.
 pub record AreClaims {S : Type 0} (pieces workers : ℕ) (s : State S Drawn) : Type 0 where
   pub one_word : length s.words ≡ 1
   pub each_once : (weight : ℕ → ℕ) → sum_by (λ v. sum_by weight v.numbers) s.views

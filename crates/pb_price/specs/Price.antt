@@ -1,5 +1,6 @@
 -- The price of a project: what its supporters pay, and when they cover its cost.
-use Rattle.std.specs.Prelude.{◌≡◌, ℕ, ◌+◌, ◌-◌, ◌*◌, ◌^◌, ◌<◌, ◌≤◌, min, List, length, All, Option, MatchOption, nat_le, find, sum_by, slice_index}
+use Rattle.std.specs.Prelude.{◌≡◌, ℕ, ◌+◌, ◌-◌, ◌*◌, ◌^◌, ◌<◌, ◌≤◌, min, List, length, All, Option}
+use Rattle.std.specs.Prelude.{MatchOption, nat_le, find, sum_by, slice_index}
 use Rattle.std.specs.List.{range_with_len}
 use Rattle.pb_core.specs.Money.{largest_money}
 use Rattle.pb_price.specs.Supporters.{SupportView, supporters_at, cost_at}
@@ -17,8 +18,8 @@ pub record IsLeastPayment (supporters rests : List ℕ) (cost p : ℕ) : Type 0 
   pub covers : cost ≤ paid_at supporters rests p
   pub least : (q : ℕ) → q < p → paid_at supporters rests q < cost
 
--- the price of the project at this place: the least payment that covers its cost; there is none just where all that is left
--- to its supporters together is below the cost
+-- the price of the project at this place: the least payment that covers its cost; there is none just where
+-- all that is left to its supporters together is below the cost
 abbrev pub IsPrice : SupportView → (rests : List ℕ) → (place : ℕ) → Option ℕ → Type 0
 IsPrice s rests place answer =
     MatchOption answer (total_rest (supporters_at s place) rests < cost_at s place)

@@ -13,7 +13,8 @@ unfoldable pub supporters_of : ElectionView → ℕ → List ℕ
 supporters_of e place =
     filter (λ voter. approves (ballot_at e voter) place) (range_with_len 0 (length e.voters))
 
--- what a count needs of an election: the number of voters, and for each project its cost, in hundredths, and its supporters
+-- what a count needs of an election: the number of voters, and for each project its cost, in hundredths, and
+-- its supporters
 pub record SupportView : Type 0 where
   pub voters : ℕ
   pub costs : List ℕ

@@ -1,6 +1,7 @@
 //! The prices of a list of projects, by several workers.
 
-ghost use Rattle.std.specs.Prelude.{◌≡◌, ◌+◌, ◌<◌, ◌≤◌, [], All, length, map, max, min, true, Err, IfOk, OnOk, OnErr, MatchBool, IsOkUnless};
+ghost use Rattle.std.specs.Prelude.{◌≡◌, ◌+◌, ◌<◌, ◌≤◌, [], All, length, map, max, min, true, Err, IfOk};
+ghost use Rattle.std.specs.Prelude.{OnOk, OnErr, MatchBool, IsOkUnless};
 ghost use Rattle.std.specs.List.{AllZip};
 ghost use Rattle.pb_core.specs.Election.{most_projects};
 ghost use Rattle.pb_price.specs.Inner.Claims.{drawn};
@@ -29,15 +30,16 @@ pub fn is_worker_count(workers: u32) -> bool
     (1..=64).contains(&workers)
 }
 
-/// The prices of these projects, in the order of the list: answer i is the price of `projects[i]`, as `price` gives it,
-/// for every number of workers. The list has at most 10,000 places, which may repeat, or none.
+/// The prices of these projects, in the order of the list: answer i is the price of `projects[i]`, as `price`
+/// gives it, for every number of workers. The list has at most 10,000 places, which may repeat, or none.
 ///
-/// Pricing the i-th project of the list is piece i. As many workers as were asked for, but at most one for each piece, draw
-/// the pieces one by one and price them side by side, and each calls `gate` with its own number and the piece's before it
-/// prices the piece. Where it is one worker, that is the caller.
+/// Pricing the i-th project of the list is piece i. As many workers as were asked for, but at most one for
+/// each piece, draw the pieces one by one and price them side by side, and each calls `gate` with its own
+/// number and the piece's before it prices the piece. Where it is one worker, that is the caller.
 ///
-/// The answer is WorkerCount where the number of workers is not 1 to 64, and NoMemory where an allocation was refused.
-/// Otherwise the tally grows by the number of pieces, and of workers who priced them; a refusal leaves it.
+/// The answer is WorkerCount where the number of workers is not 1 to 64, and NoMemory where an allocation was
+/// refused. Otherwise the tally grows by the number of pieces, and of workers who priced them; a refusal
+/// leaves it.
 pub fn price_all<
     R: Threads + Sync,
     A: Allocator + Copy + Send + Sync,
@@ -60,7 +62,8 @@ pub fn price_all<
     ensures workers { MatchBool (is_worker_count workers) (IsOkUnless result PriceFault.NoMemory)
         (result ≡ Err PriceFault.WorkerCount) }
     // what is answered
-    ensures prices { IfOk result (λ answers. AllZip (IsPrice supporters.now rests.now) projects.now answers.items) }
+    ensures prices { IfOk result (λ answers. AllZip
+        (IsPrice supporters.now rests.now) projects.now answers.items) }
     // what becomes of the tally
     ensures counted { OnOk result (tally.new ≡ record {
       prices = min (tally.old.prices + length projects.now) largest_count;
@@ -81,7 +84,7 @@ pub fn price_all<
     Ok(prices)
 }
 
-/// The same, where the number of workers has been looked at: the prices of the projects of these pieces, in their order.
+/// The prices of the projects of these pieces, in their order.
 /// Only memory can be refused.
 pub fn price_pieces<
     R: Threads + Sync,
@@ -116,7 +119,8 @@ pub fn price_pieces<
     Ok(gathered.into_prices(tally))
 }
 
-/// How many workers price this many pieces: as many as were asked for, but at most one for each piece, and at least one.
+/// How many workers price this many pieces: as many as were asked for, but at most one for each piece, and at
+/// least one.
 fn workers_for(workers: u32, pieces: usize) -> u32
     requires { pieces ≤ most_projects }
     ensures { result ≡ max 1 (min workers pieces) }
@@ -124,8 +128,8 @@ fn workers_for(workers: u32, pieces: usize) -> u32
     workers.min(pieces as u32).max(1)
 }
 
-/// The prices by this many workers side by side, who draw the pieces by claims. After the join each piece was drawn, by
-/// one worker.
+/// The prices by this many workers side by side, who draw the pieces by claims. After the join each piece was
+/// drawn, by one worker.
 fn price_side_by_side<
     R: Threads + Sync,
     A: Allocator + Copy + Send + Sync,
@@ -154,7 +158,8 @@ fn price_side_by_side<
     }
 }
 
-/// Lets the workers of the batch work, and gathers their answers; all their seats and numbers are then in `stock`.
+/// Lets the workers of the batch work, and gathers their answers; all their seats and numbers are then in
+/// `stock`.
 fn draw_and_gather<
     R: Threads + Sync,
     A: Allocator + Copy + Send + Sync,

@@ -1,4 +1,5 @@
-//! The claims on the pieces of a batch: each worker draws its next number from one word, so that each piece is drawn once.
+//! The claims on the pieces of a batch: each worker draws its next number from one word, so that each piece
+//! is drawn once.
 
 ghost use Rattle.std.specs.Prelude.{◌≡◌, ◌+◌, ◌-◌, ◌<◌, ◌≤◌, ◌^◌, [], ◌∷◌, ◌++◌, ℕ, IfOk, sum_by};
 ghost use Rattle.std.specs.List.{range_with_len};
@@ -83,7 +84,8 @@ impl<A: Allocator> Claims<A> {
             .join_seat::<Together>(&mut claim.seat, seat);
     }
 
-    /// Ends the claims. A claim into which all workers' seats were joined has all numbers that were drawn, each once.
+    /// Ends the claims. A claim into which all workers' seats were joined has all numbers that were drawn,
+    /// each once.
     pub(crate) fn close(self, claim: Claim)
         requires same { claim.seat.table_id ≡ self.table.shared.table_id }
         requires all { claim.seat.me.0.seats ≡ self.batch.workers }

@@ -8,8 +8,9 @@ use crate::supporters::Supporters;
 use pb_core::money::Money;
 use std::alloc::Allocator;
 
-/// The rest that all voters have, where it was found to be one. Only for a list of as many pieces as there are projects, as
-/// a first round has it, are the rests looked at: for a few projects a look would take longer than their prices.
+/// The rest that all voters have, where it was found to be one. Only for a list of as many pieces as there
+/// are projects, as a first round has it, are the rests looked at: for a few projects a look would take
+/// longer than their prices.
 pub(crate) fn common_rest<A: Allocator>(
     supporters: &Supporters<A>,
     rests: &[Money],
@@ -47,8 +48,8 @@ pub(crate) fn price_by<A: Allocator>(
     }
 }
 
-/// The price where each voter has this share left: the cost divided by the number of supporters, rounded up, unless that
-/// is more than the share.
+/// The price where each voter has this share left: the cost divided by the number of supporters, rounded up,
+/// unless that is more than the share.
 pub fn price_at_share<A: Allocator>(
     supporters: &Supporters<A>,
     share: Money,

@@ -1,6 +1,7 @@
 //! How the workers' answers become the prices, after all workers have stopped.
 
-ghost use Rattle.std.specs.Prelude.{◌≡◌, ◌+◌, ◌<◌, ◌≤◌, None, All, length, map, min, replicate, IfOk, OnOk, sum_by};
+ghost use Rattle.std.specs.Prelude.{◌≡◌, ◌+◌, ◌<◌, ◌≤◌, None, All, length, map, min, replicate, IfOk, OnOk};
+ghost use Rattle.std.specs.Prelude.{sum_by};
 ghost use Rattle.pb_core.specs.Election.{most_projects};
 ghost use Rattle.pb_price.specs.Inner.Claims.{all_joined, joined};
 ghost use Rattle.pb_price.specs.Price.{price_at, largest_count};
@@ -17,7 +18,8 @@ use pb_core::money::Money;
 use pb_core::no_memory::NoMemory;
 use std::alloc::Allocator;
 
-/// The price of each piece, how many prices were computed, and by how many workers. It is made in this file alone.
+/// The price of each piece, how many prices were computed, and by how many workers. It is made in this file
+/// alone.
 #[derive(Drop)]
 pub(crate) struct Gathered<A: Allocator> {
     prices: Vec<Option<Money>, A>,
@@ -104,7 +106,8 @@ pub(crate) fn gather<A: Allocator>(
     })
 }
 
-/// Joins the claim of a worker that is done, puts its answers in the places of their pieces, and says how many they are.
+/// Joins the claim of a worker that is done, puts its answers in the places of their pieces, and says how
+/// many they are.
 fn take_in<A: Allocator>(
     claims: &Claims<A>,
     stock: &mut Claim,

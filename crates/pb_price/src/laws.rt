@@ -10,8 +10,8 @@ ghost use Rattle.pb_price.specs.Price.{price_at, IsPrice, NoRestRises};
 ghost use Rattle.pb_price.specs.Supporters.{SupportView};
 ghost use Rattle.pb_price.specs.declared.claims.drawn.Drawn.{Drawn};
 
-/// The price that is computed is the one of which the words of its rule hold: the least payment by which the supporters
-/// cover the cost, and none where all that is left to them together is below the cost.
+/// The price that is computed is the one of which the words of its rule hold: the least payment by which the
+/// supporters cover the cost, and none where all that is left to them together is below the cost.
 pub fn price_is_least_payment()
     ensures { (s : SupportView) (rests : List ℕ) (place : ℕ) (answer : Option ℕ)
         → (answer ≡ price_at s rests place) ↔ IsPrice s rests place answer }
@@ -25,9 +25,9 @@ pub fn no_price_falls()
         → IsPrice s before place None → IsPrice s after place None }
 {}
 
-/// What the rule of the claims says of an atomic step, of whatever kind it is: the numbers in the view of the worker who
-/// makes it grow by those that the word passes, each once, and by no others. So a worker has drawn a number only where its
-/// own step took the word past it.
+/// What the rule of the claims says of an atomic step, of whatever kind it is: the numbers in the view of the
+/// worker who makes it grow by those that the word passes, each once, and by no others. So a worker has drawn
+/// a number only where its own step took the word past it.
 pub fn a_step_draws_what_the_word_passes()
     ensures { (pieces workers id next : ℕ) (s : State (Unit {0}) Drawn) (old new : Drawn)
         → AreClaims pieces workers s → get_elem? s.views id ≡ some old

@@ -4,8 +4,8 @@ ghost use Rattle.std.specs.Prelude.{◌<◌, ◌≤◌, sum};
 ghost use Rattle.std.specs.List.Sorted.{IsNonDecreasing};
 ghost use Rattle.pb_price.specs.Inner.Payment.{IsLeastFrom};
 
-/// The least payment by which people with these rests, the smallest first, cover the cost: the poorer pay all that
-/// they have, and the others share what is then missing, rounded up.
+/// The least payment by which people with these rests, the smallest first, cover the cost: the poorer pay all
+/// that they have, and the others share what is then missing, rounded up.
 pub(crate) fn least_payment(rests: &[u64], cost: u64) -> u64
     requires ordered { IsNonDecreasing rests.now }
     requires positive { 0 < cost }

@@ -1,6 +1,7 @@
 //! The price of one project.
 
-ghost use Rattle.std.specs.Prelude.{◌≡◌, ◌+◌, ◌<◌, ◌≤◌, All, length, map, min, sum, slice_index, IfOk, OnOk, OnErr};
+ghost use Rattle.std.specs.Prelude.{◌≡◌, ◌+◌, ◌<◌, ◌≤◌, All, length, map, min, sum, slice_index, IfOk, OnOk};
+ghost use Rattle.std.specs.Prelude.{OnErr};
 ghost use Rattle.pb_price.specs.Price.{AreRests, IsPrice, largest_share, largest_count};
 
 use crate::least_payment::least_payment;
@@ -10,12 +11,13 @@ use pb_core::money::Money;
 use pb_core::no_memory::NoMemory;
 use std::alloc::Allocator;
 
-/// The price of the project at this place, in hundredths: the least payment by which its supporters cover its cost,
-/// where each pays this amount, or all that is left to them where that is less. There is none where all that is left
-/// to them together is below the cost. (Peters, Pierczynski and Skowron 2021, with whole payments.)
+/// The price of the project at this place, in hundredths: the least payment by which its supporters cover its
+/// cost, where each pays this amount, or all that is left to them where that is less. There is none where all
+/// that is left to them together is below the cost. (Peters, Pierczynski and Skowron 2021, with whole
+/// payments.)
 ///
-/// `rests` has what is left to each voter. A price that was computed counts one in the tally. Where memory was refused
-/// none was computed, and the tally stays.
+/// `rests` has what is left to each voter. A price that was computed counts one in the tally. Where memory
+/// was refused none was computed, and the tally stays.
 pub fn price<A: Allocator, B: Allocator>(
     alloc: A,
     supporters: &Supporters<B>,
@@ -34,8 +36,8 @@ pub fn price<A: Allocator, B: Allocator>(
     price_with(&mut buffer, supporters, rests, place, tally)
 }
 
-/// As `price`, with a buffer that is used again from one price to the next. What it holds before does not matter, and
-/// nothing is said of what it holds afterwards.
+/// As `price`, with a buffer that is used again from one price to the next. What it holds before does not
+/// matter, and nothing is said of what it holds afterwards.
 pub fn price_with<A: Allocator, B: Allocator>(
     buffer: &mut Vec<u64, A>,
     supporters: &Supporters<B>,

@@ -9,8 +9,8 @@ use crate::supporters::Supporters;
 use pb_core::money::Money;
 use std::alloc::Allocator;
 
-/// What supporters pay together at a payment, in hundredths, how many of them could pay more, and what is left to all of
-/// them together before they pay.
+/// What supporters pay together at a payment, in hundredths, how many of them could pay more, and what is
+/// left to all of them together before they pay.
 #[derive(Clone, Copy)]
 struct Collected {
     total: u64,
@@ -18,7 +18,8 @@ struct Collected {
     rests: u128,
 }
 
-/// The price of the project at this place, in hundredths: the answer of `price`, without memory and without sorting.
+/// The price of the project at this place, in hundredths: the answer of `price`, without memory and without
+/// sorting.
 ///
 /// It starts at the cost divided by the number of supporters, and goes on from bound to bound.
 pub fn price_in_steps<A: Allocator>(
@@ -45,12 +46,13 @@ pub fn price_in_steps<A: Allocator>(
     }
 }
 
-/// From a lower bound of the price of the project at this place, in hundredths, to a better one: the same bound, where it is
-/// the price; else a higher one, at most the cost; and none where the project has no price.
+/// From a lower bound of the price of the project at this place, in hundredths, to a better one: the same
+/// bound, where it is the price; else a higher one, at most the cost; and none where the project has no
+/// price.
 ///
-/// It takes one look at each supporter. While they pay less than the cost, each who could pay more has to pay an equal part
-/// of what is missing, rounded up. No step passes the price, because the others have nothing more to give: so the first
-/// bound that covers the cost is the least payment that does.
+/// It takes one look at each supporter. While they pay less than the cost, each who could pay more has to pay
+/// an equal part of what is missing, rounded up. No step passes the price, because the others have nothing
+/// more to give: so the first bound that covers the cost is the least payment that does.
 pub fn next_bound<A: Allocator>(
     supporters: &Supporters<A>,
     rests: &[Money],
@@ -62,7 +64,8 @@ pub fn next_bound<A: Allocator>(
     requires bound { (price : ℕ) → IsPrice supporters.now rests.now place (Some price) → bound ≤ price }
     ensures none { result ≡ None → IsPrice supporters.now rests.now place None }
     ensures rises { IfSome result (λ next. bound ≤ next) }
-    ensures price { IfSome result (λ next. next ≡ bound → IsPrice supporters.now rests.now place (Some bound)) }
+    ensures price { IfSome result
+        (λ next. next ≡ bound → IsPrice supporters.now rests.now place (Some bound)) }
     ensures bound { IfSome result (λ next. (price : ℕ)
         → IsPrice supporters.now rests.now place (Some price) → next ≤ price) }
     ensures small { IfSome result (λ next. bound < next → next ≤ cost_at supporters.now place) }

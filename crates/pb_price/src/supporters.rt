@@ -142,7 +142,8 @@ where
     Ok(lists)
 }
 
-/// The supporters of each project, in file order: the voters one after the other, each to the projects of their ballot.
+/// The supporters of each project, in file order: the voters one after the other, each to the projects of
+/// their ballot.
 fn lists_of<A: Allocator, B: Allocator>(
     alloc: A,
     election: &Election<B>,

@@ -5,7 +5,8 @@ ghost use Rattle.pb_price.specs.Price.{largest_count};
 
 use std::marker::Model;
 
-/// How many prices were computed, and how many workers computed them, list by list. At the largest `u64` either stays there.
+/// How many prices were computed, and how many workers computed them, list by list. At the largest `u64`
+/// either stays there.
 #[derive(Debug, Drop)]
 pub struct Tally {
     prices: u64,

@@ -1,5 +1,6 @@
 -- Which faults apply where a file has come so far.
-use Rattle.std.specs.Prelude.{ℕ, Bool, true, false, not, ◌||◌, ◌==◌, nat_le, List, [], ◌∷◌, length, map, Result, Ok, Err, is_none, unwrap_or}
+use Rattle.std.specs.Prelude.{ℕ, Bool, true, false, not, ◌||◌, ◌==◌, nat_le, List, [], ◌∷◌, length, map}
+use Rattle.std.specs.Prelude.{Result, Ok, Err, is_none, unwrap_or}
 use Rattle.std.specs.Option.{option_map_or}
 use Rattle.std.specs.List.{list_all}
 use Rattle.std.specs.Result.{is_err, result_unwrap_or}
@@ -15,7 +16,12 @@ use Rattle.pb_read.specs.Rows.{field, is_empty}
 use Rattle.pb_read.specs.StandsFor.{most_records}
 use Rattle.pb_read.specs.Voting.{is_among, names_only}
 use Rattle.pb_read.specs.declared.fault.ReadKind.{ReadKind}
-use Rattle.pb_read.specs.declared.fault.ReadKind.TheVariants.{NotText, TooManyRecords, NoSection, SectionOrder, NoHeader, MissingColumn, MissingField, MissingKey, VoteType, BadMoney, MoneyTooFine, MoneyTooLarge, ZeroCost, EmptyId, RepeatedProject, RepeatedVoter, UnknownProject, TooManyProjects, TooManyVoters, BadLength}
+use Rattle.pb_read.specs.declared.fault.ReadKind.TheVariants.{NotText, TooManyRecords, NoSection}
+use Rattle.pb_read.specs.declared.fault.ReadKind.TheVariants.{SectionOrder, NoHeader, MissingColumn}
+use Rattle.pb_read.specs.declared.fault.ReadKind.TheVariants.{MissingField, MissingKey, VoteType, BadMoney}
+use Rattle.pb_read.specs.declared.fault.ReadKind.TheVariants.{MoneyTooFine, MoneyTooLarge, ZeroCost, EmptyId}
+use Rattle.pb_read.specs.declared.fault.ReadKind.TheVariants.{RepeatedProject, RepeatedVoter, UnknownProject}
+use Rattle.pb_read.specs.declared.fault.ReadKind.TheVariants.{TooManyProjects, TooManyVoters, BadLength}
 use Rattle.pb_read.specs.declared.progress.Stage.{Stage}
 use Rattle.pb_read.specs.declared.progress.Stage.TheVariants.{Start, Header, InMeta, InProjects, InVotes}
 use Rattle.pb_read.specs.declared.section.Section.TheVariants.{Meta, Projects, Votes}

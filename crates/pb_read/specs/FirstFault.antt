@@ -16,8 +16,8 @@ abbrev pub HasNoFault : List Fields → Type 0
 HasNoFault records =
     (length records ≤ most_records) × (end : List Fields) × (e : ElectionView) × Describes (records ++ end) e
 
--- the first of the records that are left, or the end of the file, is at fault by this kind: no kind of a lower number
--- applies to it
+-- the first of the records that are left, or the end of the file, is at fault by this kind: no kind of a
+-- lower number applies to it
 pub record IsFirstFault (done left : List Fields) (kind : ReadKind) : Type 0 where
   pub stage : Stage × ElectionView
   pub so_far : IsAt (rows_of done) stage
@@ -29,8 +29,8 @@ pub record IsFirstFault (done left : List Fields) (kind : ReadKind) : Type 0 whe
 abbrev pub IsFromOutside : ReadKind → Type 0
 IsFromOutside kind = (kind ≡ ReadFailed) ⊎ (kind ≡ NoMemory)
 
--- a fault of records, which are numbered from 1, as is the end of the file: those before that number have no fault,
--- and it is the first one; of one from outside no clause can say at which record it came
+-- a fault of records, which are numbered from 1, as is the end of the file: those before that number have no
+-- fault, and it is the first one; of one from outside no clause can say at which record it came
 abbrev pub IsFaultAt : List Fields → ReadKind → ℕ → Type 0
 IsFaultAt records kind at =
     (done : List Fields) × (left : List Fields) × (records ≡ done ++ left) × (at ≡ length done + 1)

@@ -1,5 +1,6 @@
 -- The faults that a check of a whole file lists.
-use Rattle.std.specs.Prelude.{◌≡◌, ◌<◌, ◌+◌, ◌-◌, ◌⊎◌, ◌==◌, ◌||◌, ◌&&◌, nat_le, ℕ, ⊤, Bool, true, false, List, [], ◌∷◌, remove, take, Option, Some, None}
+use Rattle.std.specs.Prelude.{◌≡◌, ◌<◌, ◌+◌, ◌-◌, ◌⊎◌, ◌==◌, ◌||◌, ◌&&◌, nat_le, ℕ, ⊤, Bool, true, false}
+use Rattle.std.specs.Prelude.{List, [], ◌∷◌, remove, take, Option, Some, None}
 use Rattle.pb_core.specs.Election.{ElectionView}
 use Rattle.pb_rows.specs.Reading.{Fields}
 use Rattle.pb_read.specs.FirstFault.{IsFaultAt}
@@ -26,14 +27,15 @@ is_of_row kind = number_of kind == 2 || number_of kind == 8 || (nat_le 11 (numbe
 abbrev pub leaves_out : Stage → ReadKind → Bool
 leaves_out stage kind = is_of_row kind && is_in_rows stage
 
--- whether the record with this number, from 1, is left out for a fault of this kind, by what the rows before it come to
+-- whether the record with this number, from 1, is left out for a fault of this kind, by what the rows before
+-- it come to
 abbrev pub IsLeftOut : Bool → List Fields → ReadKind → ℕ → Type 0
 IsLeftOut is_left_out records kind at =
     (p : Stage × ElectionView) × IsAt (rows_of (take (at - 1) records)) p × (leaves_out p.0 kind ≡ is_left_out)
 
 -- a check lists these faults of records, of which so many were taken out before: none where they stand for an
--- election; else their first fault, and then what it lists of them without the faulty one. It ends where that record is
--- not left out, and at the 1,000th fault, and nowhere else
+-- election; else their first fault, and then what it lists of them without the faulty one. It ends where that
+-- record is not left out, and at the 1,000th fault, and nowhere else
 abbrev pub AreListed : ℕ → List Fields → List ReadFault → Type 0
 AreListed out records [] = (e : ElectionView) × StandsFor records e
 AreListed out records (fault ∷ more) =
@@ -42,7 +44,8 @@ AreListed out records (fault ∷ more) =
     ⊎ ((out < 999) × IsLeftOut true records fault.kind (fault.at - out)
     × AreListed (out + 1) (remove records (fault.at - out - 1)) more))
 
--- what a check that lists these faults hands out: where there is none the election that the records stand for, else nothing
+-- what a check that lists these faults hands out: where there is none the election that the records stand
+-- for, else nothing
 abbrev pub IsHandedOut : List Fields → List ReadFault → Option ElectionView → Type 0
 IsHandedOut records [] (Some e) = StandsFor records e
 IsHandedOut records [] None = ⊥

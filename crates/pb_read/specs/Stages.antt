@@ -9,8 +9,8 @@ use Rattle.pb_read.specs.declared.progress.Stage.{Stage}
 use Rattle.pb_read.specs.declared.progress.Stage.TheVariants.{Start, Header, InMeta, InProjects, InVotes}
 use Rattle.pb_read.specs.declared.section.Section.{Section}
 
--- the rows have come so far: nothing was read yet, or they end in a section's head, or in its rows; where these are of
--- PROJECTS or VOTES, the election has the budget, projects and voters of the rows up to here
+-- the rows have come so far: nothing was read yet, or they end in a section's head, or in its rows; where
+-- these are of PROJECTS or VOTES, the election has the budget, projects and voters of the rows up to here
 abbrev pub IsAt : List Fields → Stage × ElectionView → Type 0
 IsAt rows (Start, e) = rows ≡ []
 IsAt rows (Header name, e) = EndsIn (λ front. Unit {0}) name [] rows

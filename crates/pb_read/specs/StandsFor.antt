@@ -16,7 +16,8 @@ use Rattle.pb_read.specs.declared.meta.Meta.{Meta}
 use Rattle.pb_read.specs.declared.section.Section.{Section}
 use Rattle.pb_read.specs.declared.section.Section.TheVariants as section
 
--- a row of PROJECTS gives a project; its name is empty where there is no such column, or the row ends before it
+-- a row of PROJECTS gives a project; its name is empty where there is no such column, or the row ends before
+-- it
 pub record GivesProject (columns : ProjectColumns) (row : Fields) (project : ProjectView) : Type 0 where
   pub whole : has_fields columns.id columns.cost row ≡ true
   pub id : project.id ≡ field row columns.id

@@ -45,12 +45,14 @@ impl Checked {
     }
 }
 
-/// Lists what is wrong with a .pb file: a fault for each row of PROJECTS and VOTES that is refused, up to 1,000.
+/// Lists what is wrong with a .pb file: a fault for each row of PROJECTS and VOTES that is refused, up to
+/// 1,000.
 ///
-/// A row that is refused is left out, and the rows after it are read as if it were not there; votes for a project
-/// that was left out are `UnknownProject`. Any other fault ends the reading. After the 1,000th fault none is listed,
-/// and reading goes on for who looks on. Within the rows that are left out the reader is `read_pb`'s: where there is no
-/// fault it would answer an election, and otherwise the first of these. A reader that fails is the last fault.
+/// A row that is refused is left out, and the rows after it are read as if it were not there; votes for a
+/// project that was left out are `UnknownProject`. Any other fault ends the reading. After the 1,000th fault
+/// none is listed, and reading goes on for who looks on. Within the rows that are left out the reader is
+/// `read_pb`'s: where there is no fault it would answer an election, and otherwise the first of these. A
+/// reader that fails is the last fault.
 pub fn list_faults<R: Read + Drop, W: Watch>(
     alloc: Global,
     reader: R,
@@ -62,7 +64,8 @@ pub fn list_faults<R: Read + Drop, W: Watch>(
     Ok(check_pb(alloc, reader, watch)?.into_faults())
 }
 
-/// The same, and hands out the election where there is no fault: the one that `read_pb` would answer.
+/// Lists faults as `list_faults` does, and hands out the election where there is no fault: the one that
+/// `read_pb` would answer.
 pub fn check_pb<R: Read + Drop, W: Watch>(
     alloc: Global,
     reader: R,
@@ -77,7 +80,7 @@ pub fn check_pb<R: Read + Drop, W: Watch>(
     check_records(alloc, &mut records, watch)
 }
 
-/// The same of these records.
+/// Checks these records.
 fn check_records<R: Read, W: Watch>(
     alloc: Global,
     records: &mut Records<R>,

@@ -5,7 +5,8 @@ ghost use Rattle.pb_core.specs.Election.{opening, project_ids, voter_ids};
 ghost use Rattle.pb_core.specs.Money.{largest_money};
 ghost use Rattle.pb_read.specs.Inner.Drafts.{HasVoter, IsAsBefore, IsTied};
 ghost use Rattle.pb_read.specs.Inner.Ids.{Finds};
-ghost use Rattle.pb_read.specs.Inner.Machine.{Explains, project_row_checks, vote_row_checks, with_project, with_voter};
+ghost use Rattle.pb_read.specs.Inner.Machine.{Explains, project_row_checks, vote_row_checks, with_project};
+ghost use Rattle.pb_read.specs.Inner.Machine.{with_voter};
 ghost use Rattle.pb_read.specs.Rows.{field};
 ghost use Rattle.pb_read.specs.Voting.{ballot_of};
 

@@ -10,7 +10,7 @@ use std::alloc::AllocError;
 use thiserror::Error;
 
 /// The names of `ReadKind`, in the order of its variants.
-pub(crate) const NAMES: [&str; 22] = [
+pub const NAMES: [&str; 22] = [
     "ReadFailed",
     "NotText",
     "TooManyRecords",

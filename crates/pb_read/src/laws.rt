@@ -32,18 +32,19 @@ pub fn one_answer()
         ¬ HasNoFault (take at records) }
 {}
 
-/// What a check lists of records begins with their first fault, and is nothing where they stand for an election, a failed
-/// reader aside.
+/// What a check lists of records begins with their first fault, and is nothing where they stand for an
+/// election, a failed reader aside.
 pub fn first_listed()
-    ensures none { (records : List Fields) → AreListed 0 records [] ↔ ((e : ElectionView) × StandsFor records e) }
+    ensures none { (records : List Fields) → AreListed 0 records []
+        ↔ ((e : ElectionView) × StandsFor records e) }
     ensures first { (records : List Fields) (fault : ReadFault) (more : List ReadFault) →
         AreListed 0 records (fault ∷ more) → IsFaultAt records fault.kind fault.at }
     ensures accepts { (records : List Fields) (fault : ReadFault) (more : List ReadFault) (e : ElectionView) →
         AreListed 0 records (fault ∷ more) → StandsFor records e → IsFromOutside fault.kind }
 {}
 
-/// The limit that a value of `max_length` names is the whole number of its digits. There is none where the value is
-/// empty, or the number is above the most projects; and a value that names no whole number is bad.
+/// The limit that a value of `max_length` names is the whole number of its digits. There is none where the
+/// value is empty, or the number is above the most projects; and a value that names no whole number is bad.
 pub fn max_length_is_what_its_text_names()
     ensures limit { (text : List ℕ) → (n : ℕ) → max_length_of text ≡ Ok (Some n)
         ↔ ((whole : List ℕ) × (decimals : List ℕ)

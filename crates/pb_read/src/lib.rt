@@ -4,7 +4,7 @@
 mod check;
 mod columns;
 mod draft;
-mod fault;
+pub mod fault;
 mod laws;
 mod length;
 mod meta;
@@ -15,7 +15,7 @@ mod read;
 mod row;
 mod section;
 mod vote;
-mod warning;
+pub mod warning;
 mod watch;
 
 pub use check::{Checked, MOST_FAULTS, check_pb, list_faults};

@@ -5,8 +5,8 @@ ghost use Rattle.pb_read.specs.MetaKeys.{key_of, key_text};
 
 use crate::row::is_word;
 
-/// A key of META that the desk or the count uses; readers pass over all others. This is the one table of these
-/// keys: whoever needs one of them, or its text, asks here.
+/// A key of META that the desk or the count uses; readers pass over all others. This is the one table of
+/// these keys: whoever needs one of them, or its text, asks here.
 #[derive(Clone, Copy, PartialEq, Eq)]
 pub enum MetaKey {
     /// The budget.

@@ -46,8 +46,8 @@ impl ProjectIds {
         Ok(ProjectIds { ids, table })
     }
 
-    /// Puts the places of the projects that a vote names into `places`, and answers whether it names nothing else. They
-    /// may stand in any order, and with repeats.
+    /// Puts the places of the projects that a vote names into `places`, and answers whether it names nothing
+    /// else. They may stand in any order, and with repeats.
     pub fn find_places(&self, vote: &str, places: &mut Vec<u32>) -> Result<bool, NoMemory>
         ensures known { IfOk result (λ all. all ≡ names_only self.now vote.now) }
         ensures places { IfOk result (λ all. all ≡ true

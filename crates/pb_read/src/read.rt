@@ -6,7 +6,8 @@ ghost use Rattle.pb_rows.specs.Reading.{records_of};
 ghost use Rattle.pb_rows.specs.Inner.Reading.{HasReadAtMost};
 ghost use Rattle.pb_read.specs.Stages.{next_row, the_end};
 ghost use Rattle.pb_read.specs.FirstFault.{IsFaultAt, IsFromOutside};
-ghost use Rattle.pb_read.specs.Inner.Progresses.{Advances, BlamesReader, EndsWith, IsReady, Refuses, StopsReading, place_of};
+ghost use Rattle.pb_read.specs.Inner.Progresses.{Advances, BlamesReader, EndsWith, IsReady, Refuses};
+ghost use Rattle.pb_read.specs.Inner.Progresses.{StopsReading, place_of};
 ghost use Rattle.pb_read.specs.Inner.Opening.{empty};
 ghost use Rattle.pb_read.specs.StandsFor.{StandsFor};
 ghost use Rattle.pb_read.specs.Inner.Tracking.{HasEnded, IsNextRow};
@@ -47,8 +48,8 @@ pub fn read_pb<R: Read + Drop>(alloc: Global, reader: R) -> Result<Election, Rea
     read_pb_watched(alloc, reader, &mut NoWatch)
 }
 
-/// The same, and who looks on is shown each record that has passed, and then what is refused, or that the file has ended
-/// and stands for an election.
+/// Reads as `read_pb` does. Who looks on is shown each record that has passed, and then what is refused, or
+/// that the file has ended and stands for an election.
 pub fn read_pb_watched<R: Read + Drop, W: Watch>(
     alloc: Global,
     reader: R,
@@ -89,7 +90,7 @@ fn read_records<R: Read, W: Watch>(
     answer
 }
 
-/// The same, where nothing was read yet.
+/// Reads the election of these records, of which none was read yet.
 fn read_election<R: Read, W: Watch>(
     records: &mut Records<R>,
     row: &mut Row,

@@ -6,7 +6,7 @@ ghost use Rattle.pb_read.specs.Oddities.{name_of};
 use pb_core::names::name_at;
 
 /// The names of `Oddity`, in the order of its variants.
-pub(crate) const NAMES: [&str; 14] = [
+pub const NAMES: [&str; 14] = [
     "VotesMissing",
     "ProjectsMissing",
     "SurplusFields",

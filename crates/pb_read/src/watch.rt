@@ -30,11 +30,12 @@ pub enum Part {
 
 /// Who looks on while a file is read. It is only shown what the reader reads, so it changes nothing of it.
 pub trait Watch {
-    /// Sees the record with this number, from 1, as it stands in the file, and what it is. The reader has accepted it.
+    /// Sees the record with this number, from 1, as it stands in the file, and what it is. The reader has
+    /// accepted it.
     fn see(&mut self, record: &ByteRecord, at: u32, part: Part);
 
-    /// Sees the record that the reader refuses, why, and how far the file was read before it. The record has no field
-    /// where there is none: the file ends, or `read_pb` met a field that is no text.
+    /// Sees the record that the reader refuses, why, and how far the file was read before it. The record has
+    /// no field where there is none: the file ends, or `read_pb` met a field that is no text.
     fn refuse(&mut self, record: &ByteRecord, fault: ReadFault, stage: &Stage);
 
     /// Learns that the file has ended, and may end there: all of its rows were shown.
@@ -52,8 +53,9 @@ pub trait Compare: Warn {
     /// It has compared what the file claims with these winners: places of projects, from 0.
     ghost has_compared: { Self → List ℕ → Type 0 };
 
-    /// The warnings of what was seen, and of each claim that differs from these winners, in the order in which they are
-    /// written. The winners are the places of the elected, in order of election, and then of the added in theirs.
+    /// The warnings of what was seen, and of each claim that differs from these winners, in the order in
+    /// which they are written. The winners are the places of the elected, in order of election, and then of
+    /// the added in theirs.
     fn warnings_beside(&mut self, winners: &[u32]) -> Result<Vec<WarningRow>, NoMemory>
         ensures { OnOk result (has_compared self.new winners.now) };
 }
@@ -63,7 +65,7 @@ pub trait Heed: Watch {
     /// The warning for which it refuses what it saw, if there is one.
     ghost refused_for: { Self → Option Warning };
 
-    /// The same.
+    /// The warning for which it refuses what it saw, if there is one.
     fn refusal(&self) -> Option<Warning>
         ensures { result ≡ refused_for self.now };
 }

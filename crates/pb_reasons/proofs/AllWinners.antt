@@ -13,6 +13,8 @@ use Rattle.pb_price.specs.Supporters.{cost_at, support_of}
 use Rattle.pb_rounds.specs.Count.{spent_on}
 use Rattle.pb_rounds.specs.Outcome.{OutcomeView}
 use Rattle.pb_rounds.specs.Run.{ElectedView, is_elected}
+use Rattle.pb_rounds.specs.declared.rule.FillUp.{FillUp}
+use Rattle.pb_rounds.specs.declared.rule.FillUp.TheVariants.{Nothing, MostVotes}
 use Rattle.pb_reasons.specs.Counted.{CountedView, IsCounted, added_to, counted, is_selected, winners_of}
 use Rattle.pb_reasons.specs.Totals.{totals_of}
 use Rattle.pb_reasons.specs.Inner.Told.{AreApart}
@@ -44,29 +46,29 @@ differ (w ∷ elected) added apart once free =
     (All-weaker (λ place. is_taken (w.place ∷ map later elected) place ≡ false) (λ place. is_taken (map later elected) place ≡ false) (λ place none. (parts place none).1) added free))
 
 module _ (e : ElectionView) (h : IsElection e) where
-  filled_differ : (o : OutcomeView) (fills_up : Bool) → AllPairs AreApart o.elected
-      → AllPairs (λ place other. place ≢ other) (map (λ w. w.place) o.elected ++ (counted e fills_up o).added)
-  filled_differ o true apart =
+  filled_differ : (o : OutcomeView) (fill_up : FillUp) → AllPairs AreApart o.elected
+      → AllPairs (λ place other. place ≢ other) (map (λ w. w.place) o.elected ++ (counted e fill_up o).added)
+  filled_differ o MostVotes apart =
       let taken = map (λ (w : ElectedView). w.place) o.elected in
       let left = e.budget - spent_on (support_of e) o.elected in
       let filled = election_is_filled e taken left h in
       differ o.elected _ apart (added_differ (support_of e) taken left _ filled) (added_were_not_taken (support_of e) taken left _ filled)
-  filled_differ o false apart = differ o.elected [] apart (λ i j d before below. absurd (omega (arith, below))) (λ k d below. absurd (omega (arith, below)))
+  filled_differ o Nothing apart = differ o.elected [] apart (λ i j d before below. absurd (omega (arith, below))) (λ k d below. absurd (omega (arith, below)))
 
   pub winners_differ : (c : CountedView) → IsCounted e c → AllPairs (λ place other. place ≢ other) (winners_of c)
   winners_differ c result =
       let told = count_can_be_told e result.0 c.outcome h result.1 in
-      let added : c.added ≡ (counted e c.fills_up c.outcome).added = ap (λ (v : CountedView). v.added) result.2 in
+      let added : c.added ≡ (counted e c.fill_up c.outcome).added = ap (λ (v : CountedView). v.added) result.2 in
       subst (λ (l : List ℕ). AllPairs (λ place other. place ≢ other) (map (λ w. w.place) c.outcome.elected ++ l)) (sym added)
-      (filled_differ c.outcome c.fills_up told.apart)
+      (filled_differ c.outcome c.fill_up told.apart)
 
-  pub none_fits_at_the_end : (c : CountedView) (place : ℕ) → IsCounted e c → c.fills_up ≡ true
+  pub none_fits_at_the_end : (c : CountedView) (place : ℕ) → IsCounted e c → c.fill_up ≡ MostVotes
       → fits (support_of e) (winners_of c) (e.budget - (totals_of e c).spent) place ≡ false
   none_fits_at_the_end c place result fills =
       let s = support_of e in
       let taken = map (λ (w : ElectedView). w.place) c.outcome.elected in
       let left = e.budget - spent_on s c.outcome.elected in
-      let rule : IsMostVotesFirst s taken left (added_to e c.outcome) = rule_from_filled s taken left _ (election_is_filled e taken left h) in
-      let added : c.added ≡ added_to e c.outcome = ap (λ (v : CountedView). v.added) result.2 ∙ ap (λ b. (counted e b c.outcome).added) fills in
+      let rule : IsMostVotesFirst s taken left (added_to e MostVotes c.outcome) = rule_from_filled s taken left _ (election_is_filled e taken left h) in
+      let added : c.added ≡ added_to e MostVotes c.outcome = ap (λ (v : CountedView). v.added) result.2 ∙ ap (λ b. (counted e b c.outcome).added) fills in
       let rest : e.budget - (spent_on s c.outcome.elected + sum_by (cost_at s) c.added) ≡ left_after s left c.added = omega arith in
       rw rest (subst (λ (l : List ℕ). fits s (taken ++ l) (left_after s left l) place ≡ false) (sym added) (rule.none_fits place))

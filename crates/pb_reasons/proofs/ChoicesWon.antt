@@ -13,6 +13,8 @@ use Rattle.pb_rounds.specs.MostVotes.{is_taken}
 use Rattle.pb_rounds.specs.Outcome.{OutcomeView}
 use Rattle.pb_rounds.specs.Run.{ElectedView, is_elected}
 use Rattle.pb_reasons.specs.Comparison.{choices_of}
+use Rattle.pb_rounds.specs.declared.rule.FillUp.{FillUp}
+use Rattle.pb_rounds.specs.declared.rule.FillUp.TheVariants.{Nothing, MostVotes}
 use Rattle.pb_reasons.specs.Counted.{CountedView, IsCounted, counted, is_selected, winners_of}
 use Rattle.pb_reasons.specs.Reasons.{voter_reason}
 use Rattle.pb_reasons.proofs.AllWinners.{elected_are_taken, selected_are_winners}
@@ -44,13 +46,13 @@ not_both (t ∷ added) taken free place is = elim (cases_Bool (t == place)) [
       (sym (ap (λ (b : Bool). b || is_taken added place) other) ∙ is)
 ]
 
-added_are_others : (e : ElectionView) (o : OutcomeView) (fills_up : Bool) → IsElection e
-    → All (λ place. is_taken (map (λ w. w.place) o.elected) place ≡ false) (counted e fills_up o).added
-added_are_others e o true h =
+added_are_others : (e : ElectionView) (o : OutcomeView) (fill_up : FillUp) → IsElection e
+    → All (λ place. is_taken (map (λ w. w.place) o.elected) place ≡ false) (counted e fill_up o).added
+added_are_others e o MostVotes h =
     let taken = map (λ (w : ElectedView). w.place) o.elected in
     let left = e.budget - spent_on (support_of e) o.elected in
     added_were_not_taken (support_of e) taken left _ (election_is_filled e taken left h)
-added_are_others e o false h = All-nil (λ place. is_taken (map (λ w. w.place) o.elected) place ≡ false)
+added_are_others e o Nothing h = All-nil (λ place. is_taken (map (λ w. w.place) o.elected) place ≡ false)
 
 -- the choices of a voter that won
 pub choices_won : (e : ElectionView) (c : CountedView) → IsElection e → IsCounted e c → (voter : ℕ)
@@ -58,7 +60,7 @@ pub choices_won : (e : ElectionView) (c : CountedView) → IsElection e → IsCo
 choices_won e c h result voter =
     let taken = map (λ (w : ElectedView). w.place) c.outcome.elected in
     let free : All (λ place. is_taken taken place ≡ false) c.added =
-    subst (λ (l : List ℕ). All (λ place. is_taken taken place ≡ false) l) (sym (ap (λ (v : CountedView). v.added) result.2)) (added_are_others e c.outcome c.fills_up h) in
+    subst (λ (l : List ℕ). All (λ place. is_taken taken place ≡ false) l) (sym (ap (λ (v : CountedView). v.added) result.2)) (added_are_others e c.outcome c.fill_up h) in
     count_either (is_elected c.outcome.elected) (is_taken c.added) (is_taken (winners_of c)) (λ place. sym (selected_are_winners c place))
     (λ place elected. false_from_ne_true _ (λ is. false≢true (sym (not_both c.added taken free place is) ∙ sym (elected_are_taken c.outcome.elected place) ∙ elected)))
     (ballot_at e voter)

@@ -10,11 +10,12 @@ use Rattle.pb_rounds.proofs.Added.{added_are_paid, added_have_votes, election_is
 use Rattle.pb_rounds.specs.MostVotes.{votes_at}
 use Rattle.pb_price.specs.Supporters.{cost_at, support_of, supporters_at, supporters_of}
 use Rattle.pb_rounds.specs.Count.{spent_on}
-use Rattle.pb_rounds.specs.Counted.{IsCountOf}
 use Rattle.pb_rounds.specs.Outcome.{OutcomeView}
-use Rattle.pb_rounds.specs.declared.options.CountOptions.{CountOptions}
+use Rattle.pb_rounds.specs.declared.rule.Rule.{Rule}
 use Rattle.pb_rounds.specs.Run.{ElectedView}
-use Rattle.pb_reasons.specs.Counted.{CountedView, IsCounted, counted}
+use Rattle.pb_rounds.specs.declared.rule.FillUp.{FillUp}
+use Rattle.pb_rounds.specs.declared.rule.FillUp.TheVariants.{Nothing, MostVotes}
+use Rattle.pb_reasons.specs.Counted.{CountedView, IsCountBy, IsCounted, counted}
 use Rattle.pb_reasons.specs.Reasons.{ending_of, project_reason, round_of}
 use Rattle.pb_reasons.specs.Inner.Numbers.{AreNumbers}
 use Rattle.pb_reasons.specs.Inner.OfOutcome.{ending_as, ending_with, outcome_ending, outcome_reason}
@@ -24,11 +25,10 @@ use Rattle.pb_reasons.specs.declared.project_reason.ProjectReason.{ProjectReason
 use Rattle.pb_reasons.proofs.Numbering.{added_has_number}
 
 -- what a count comes to is a result
-pub result_of : (e : ElectionView) (options : CountOptions) (fills_up : Bool) (c : CountedView) (o : OutcomeView)
-    → IsCountOf e options o → c ≡ counted e fills_up o → IsCounted e c
-result_of e options fills_up c o is_count is =
+pub result_of : (rule : Rule) (e : ElectionView) (c : CountedView) → IsCountBy rule e c → IsCounted e c
+result_of rule e c count =
     let P : CountedView → Type 0 = IsCounted e in
-    subst P (sym is) (options, is_count, refl)
+    subst P (sym count.2) (rule.options, count.1, refl)
 
 voted_is_known : (e : ElectionView) (place : ℕ) → 0 < votes_at (support_of e) place → place < length e.projects
 voted_is_known e place voted = elim (cases_lt place (length e.projects)) [
@@ -45,9 +45,9 @@ pub record AreAdded (e : ElectionView) (o : OutcomeView) (added : List ℕ) : Ty
   pub known : All (λ place. place < length e.projects) added
   pub paid : spent_on (support_of e) o.elected + sum_by (cost_at (support_of e)) added ≤ e.budget
 
-are_added : (e : ElectionView) (o : OutcomeView) (fills_up : Bool) → IsElection e → spent_on (support_of e) o.elected ≤ e.budget
-    → AreAdded e o (counted e fills_up o).added
-are_added e o true h within =
+are_added : (e : ElectionView) (o : OutcomeView) (fill_up : FillUp) → IsElection e → spent_on (support_of e) o.elected ≤ e.budget
+    → AreAdded e o (counted e fill_up o).added
+are_added e o MostVotes h within =
     let taken = map (λ w. w.place) o.elected in
     let left = e.budget - spent_on (support_of e) o.elected in
     let filled = election_is_filled e taken left h in
@@ -57,11 +57,11 @@ are_added e o true h within =
           (added_have_votes (support_of e) taken left _ filled);
       paid = omega (arith, within, paid);
     }
-are_added e o false h within = record { known = All-nil (λ place. place < length e.projects); paid = omega (arith, within) }
+are_added e o Nothing h within = record { known = All-nil (λ place. place < length e.projects); paid = omega (arith, within) }
 
 pub result_is_added : (e : ElectionView) (c : CountedView) → IsElection e → IsCounted e c → AreAdded e c.outcome c.added
 result_is_added e c h result =
-    subst (AreAdded e c.outcome) (sym (ap (λ (v : CountedView). v.added) result.2)) (are_added e c.outcome c.fills_up h result.1.within_budget)
+    subst (AreAdded e c.outcome) (sym (ap (λ (v : CountedView). v.added) result.2)) (are_added e c.outcome c.fill_up h result.1.within_budget)
 
 -- the reasons of the outcome, and with them what is added
 pub ending_filled : (e : ElectionView) (c : CountedView) (place : ℕ) (w : Option ElectedView)

@@ -114,14 +114,14 @@ found_refused s q change low high a b a_is b_is from ordered to lost refused = r
 }
 
 -- a count's fault ends a search, but for raises that are spent; and what ends one is a count's fault
-pub stop_by : (e : ElectionView) (q : Question) (fault : CountFault) → fault ≢ RaisesSpent → IsCountFault e q.options fault → IsStop q fault
+pub stop_by : (e : ElectionView) (q : Question) (fault : CountFault) → fault ≢ RaisesSpent → IsCountFault e q.rule.options fault → IsStop q fault
 stop_by e q WorkerCount apart is = record { out_of_range = λ unlike. is; not_spent = apart }
 stop_by e q StepRange apart is = record { out_of_range = λ unlike. is; not_spent = apart }
 stop_by e q RaisesRange apart is = record { out_of_range = λ unlike. is; not_spent = apart }
 stop_by e q RaisesSpent apart is = absurd (apart refl)
 stop_by e q NoMemory apart is = record { out_of_range = λ unlike. absurd (unlike refl); not_spent = apart }
 
-pub fault_of_stop : (e : ElectionView) (q : Question) (fault : CountFault) → IsStop q fault → fault ≢ NoMemory → IsCountFault e q.options fault
+pub fault_of_stop : (e : ElectionView) (q : Question) (fault : CountFault) → IsStop q fault → fault ≢ NoMemory → IsCountFault e q.rule.options fault
 fault_of_stop e q WorkerCount stop unlike = stop.out_of_range unlike
 fault_of_stop e q StepRange stop unlike = stop.out_of_range unlike
 fault_of_stop e q RaisesRange stop unlike = stop.out_of_range unlike

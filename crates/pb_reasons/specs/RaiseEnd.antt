@@ -11,9 +11,9 @@ use Rattle.pb_rounds.specs.declared.options.CountOptions.{CountOptions}
 use Rattle.pb_reasons.specs.declared.raise_end.RaiseEnd.{RaiseEnd}
 use Rattle.pb_reasons.specs.declared.raise_end.RaiseEnd.TheVariants.{Plain, Exhausted, Over}
 
--- Why the raises ended of a count by these options that has this outcome: a plain count has none; with Add1 the outcome is
--- exhausted; or it is not, and one raise more, to this share, elects projects that cost this much together, more than the
--- budget, of which the outcome does not elect these.
+-- Why the raises ended of a count by these options that has this outcome: a plain count has none; with Add1
+-- the outcome is exhausted; or it is not, and one raise more, to this share, elects projects that cost this
+-- much together, more than the budget, of which the outcome does not elect these.
 abbrev pub IsRaiseEnd : ElectionView → CountOptions → OutcomeView → RaiseEnd → Type 0
 IsRaiseEnd e options o Plain = options.completion ≡ completion.Plain
 IsRaiseEnd e options o Exhausted = (options.completion ≡ completion.Add1) × IsExhausted (support_of e) e.budget o.elected

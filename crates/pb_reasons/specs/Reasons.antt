@@ -1,5 +1,7 @@
 -- Why a count comes to what it does, project by project and voter by voter.
-use Rattle.std.specs.Prelude.{ℕ, ◌+◌, ◌-◌, ◌==◌, List, [], Option, Some, None, count_by, filter, if◌then◌else◌, length, map, nat_lt, replicate, slice_get, slice_index, slice_index_or, sum_by}
+use Rattle.std.specs.Prelude.{ℕ, ◌+◌, ◌-◌, ◌==◌, List, [], Option, Some, None, count_by, filter}
+use Rattle.std.specs.Prelude.{if◌then◌else◌, length, map, nat_lt, replicate, slice_get, slice_index}
+use Rattle.std.specs.Prelude.{slice_index_or, sum_by}
 use Rattle.std.specs.List.{position_or_len}
 use Rattle.pb_core.specs.Election.{ElectionView}
 use Rattle.pb_rounds.specs.MostVotes.{is_taken}

@@ -1,5 +1,6 @@
 -- The ties of a count that the order of the file decided.
-use Rattle.std.specs.Prelude.{ℕ, ◌+◌, ◌*◌, ◌==◌, ◌&&◌, Bool, false, List, [], filter, flat_map, length, map, not, replicate, slice_get, take}
+use Rattle.std.specs.Prelude.{ℕ, ◌+◌, ◌*◌, ◌==◌, ◌&&◌, Bool, false, List, [], filter, flat_map, length, map}
+use Rattle.std.specs.Prelude.{not, replicate, slice_get, take}
 use Rattle.std.specs.List.{range_with_len}
 use Rattle.std.specs.Option.{option_map_or}
 use Rattle.pb_core.specs.Election.{ElectionView}
@@ -12,8 +13,8 @@ use Rattle.pb_rounds.specs.declared.measure.Measure.{Measure}
 use Rattle.pb_rounds.specs.declared.measure.Measure.TheVariants.{Votes, Cost}
 use Rattle.pb_reasons.specs.declared.tie.Tie.{Tie}
 
--- this price of the project at this place is as good as the winner's: the same, or under measure cost the same for its cost,
--- compared by cross products
+-- this price of the project at this place is as good as the winner's: the same, or under measure cost the
+-- same for its cost, compared by cross products
 abbrev pub is_as_good : Measure → SupportView → (winner : ElectedView) → (place price : ℕ) → Bool
 is_as_good Votes s winner place price = price == winner.price
 is_as_good Cost s winner place price = price * cost_at s winner.place == winner.price * cost_at s place

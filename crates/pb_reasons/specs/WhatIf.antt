@@ -1,5 +1,6 @@
 -- What the counts of a changed election say of a project, and what a search of such changes finds.
-use Rattle.std.specs.Prelude.{◌≡◌, ◌≢◌, ℕ, ◌+◌, ◌-◌, ◌*◌, ◌<◌, ◌≤◌, ◌⊎◌, List, [], ◌∷◌, ◌++◌, if◌then◌else◌, length, map, min, replicate, slice_set}
+use Rattle.std.specs.Prelude.{◌≡◌, ◌≢◌, ℕ, ◌+◌, ◌-◌, ◌*◌, ◌<◌, ◌≤◌, ◌⊎◌, List, [], ◌∷◌, ◌++◌, if◌then◌else◌}
+use Rattle.std.specs.Prelude.{length, map, min, replicate, slice_set}
 use Rattle.pb_core.specs.Election.{ElectionView, IsElection, most_voters}
 use Rattle.pb_core.specs.Money.{largest_money}
 use Rattle.pb_reasons.specs.Counted.{counted, is_selected}
@@ -35,17 +36,17 @@ CanBe s Voters value = length s.ballots + value ≤ most_voters
 
 -- what the count of an election says of the project that is asked about: whether it elects or adds it
 abbrev pub Says : ElectionView → Question → Verdict → Type 0
-Says e q Refused = IsCountFault e q.options RaisesSpent
-Says e q verdict = (o : OutcomeView) × IsCountOf e q.options o
-    × (verdict ≡ (if is_selected (counted e q.fills_up o) q.place then Won else Lost))
+Says e q Refused = IsCountFault e q.rule.options RaisesSpent
+Says e q verdict = (o : OutcomeView) × IsCountOf e q.rule.options o
+    × (verdict ≡ (if is_selected (counted e q.rule.fill_up o) q.place then Won else Lost))
 
 -- the row says what the count of an election says in which a count reads what is so changed
 unfoldable pub IsTrue : Seen → Question → Change → Row → Type 0
 IsTrue s q change row =
     (e : ElectionView) × IsElection e × (seen e ≡ changed change q.place row.value s) × Says e q row.verdict
 
--- What a search of a change from one value to another finds: two true rows, which say the same at its two ends, or of which
--- one wins and one loses, one step apart, or one is refused.
+-- What a search of a change from one value to another finds: two true rows, which say the same at its two
+-- ends, or of which one wins and one loses, one step apart, or one is refused.
 pub record IsFound (s : Seen) (q : Question) (change : Change) (low high : ℕ) (a b : Row) : Type 0 where
   pub first_is : IsTrue s q change a
   pub second_is : IsTrue s q change b
@@ -53,8 +54,8 @@ pub record IsFound (s : Seen) (q : Question) (change : Change) (low high : ℕ) 
   pub differ : a.verdict ≢ b.verdict → (low ≤ a.value) × (a.value < b.value) × (b.value ≤ high)
   pub step : a.verdict ≢ b.verdict → a.verdict ≢ Refused → b.verdict ≢ Refused → b.value ≡ a.value + 1
 
--- What is found for a project of this cost: for a winner a higher cost, up to ten times it, and for a loser a lower one, or
--- further voters, up to as many again.
+-- What is found for a project of this cost: for a winner a higher cost, up to ten times it, and for a loser a
+-- lower one, or further voters, up to as many again.
 abbrev pub IsWhatIf : ElectionView → Question → (cost : ℕ) → WhatIf → Type 0
 IsWhatIf e q cost w =
     Says e q Won × IsFound (seen e) q Cost cost (min (10 * cost) largest_money) w.cost.first w.cost.second

@@ -1,4 +1,5 @@
-//! Counts of an election that is changed: what a project had to cost, or how many further voters it needed, to win.
+//! Counts of an election that is changed: what a project had to cost, or how many further voters it needed,
+//! to win.
 
 pub mod answer;
 pub mod change;

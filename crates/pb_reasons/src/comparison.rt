@@ -18,8 +18,8 @@ pub struct Comparison {
     pub other: RuleRow,
 }
 
-/// Compares the winners by a rule with those by another, both by place: what they cost, and what they are to the voters. The
-/// order in which they stand says nothing, and a place that no project has costs nothing.
+/// Compares the winners by a rule with those by another, both by place: what they cost, and what they are to
+/// the voters. The order in which they stand says nothing, and a place that no project has costs nothing.
 ///
 /// Each approval is looked at once for each rule.
 pub fn compare(
@@ -38,7 +38,7 @@ pub fn compare(
     Ok(compared)
 }
 
-/// The same, once it is known which projects are winners.
+/// Compares two rules, once it is known which projects are winners.
 fn compared(election: &Election, winners: &Winners, other: &Winners) -> Comparison
     requires winners { winners.now.0 ≡ election.now }
     requires other { other.now.0 ≡ election.now }

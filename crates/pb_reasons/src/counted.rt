@@ -6,6 +6,7 @@ ghost use Rattle.pb_reasons.specs.Counted.{added_to, counted, winners_of};
 ghost use Rattle.pb_reasons.specs.Inner.OfOutcome.{IsOutcome};
 ghost use Rattle.pb_rounds.specs.Counted.{IsCountOf};
 ghost use Rattle.pb_rounds.specs.declared.options.CountOptions.{CountOptions};
+ghost use Rattle.pb_rounds.specs.declared.rule.FillUp.TheVariants.{MostVotes};
 
 use crate::totals::spent_for;
 use pb_core::election::Election;
@@ -14,18 +15,16 @@ use pb_core::no_memory::NoMemory;
 use pb_price::supporters::Supporters;
 use pb_rounds::most_votes_first;
 use pb_rounds::outcome::{Elected, Outcome};
+use pb_rounds::rule::FillUp;
 use std::alloc::Global;
 use std::marker::Model;
 
-/// What a count comes to: its outcome, and what is added to that by votes.
+/// What a count comes to: its outcome, and what is added to that.
 #[derive(Drop)]
 pub struct Counted {
-    /// The outcome of Equal Shares.
-    pub outcome: Outcome,
-    /// Whether what the elected leave of the budget is filled up by votes.
-    pub fills_up: bool,
-    /// The projects that are added, by place, in the order in which they are added.
-    pub added: Vec<u32>,
+    pub(crate) outcome: Outcome,
+    fill_up: FillUp,
+    pub(crate) added: Vec<u32>,
 }
 
 impl Model for Counted {
@@ -33,30 +32,25 @@ impl Model for Counted {
 
     ghost Value = { CountedView };
 
-    ghost view = { λ c. record { outcome = c.outcome; fills_up = c.fills_up; added = c.added.items } };
+    ghost view = { λ c. record { outcome = c.outcome; fill_up = c.fill_up; added = c.added.items } };
 }
 
 impl Counted {
-    /// The outcome of a count of this election; and where it is to be filled up, what most votes first adds to the elected
-    /// out of what they leave of the budget.
+    /// The outcome of a count of this election, and what is added to its elected out of what they leave of
+    /// the budget.
     pub fn of(
         alloc: Global,
         election: &Election,
         outcome: Outcome,
-        fills_up: bool,
+        fill_up: FillUp,
     ) -> Result<Counted, NoMemory>
         requires { (options : CountOptions) × IsCountOf election.now options outcome }
-        ensures { IfOk result (λ c. c ≡ counted election.now fills_up outcome) }
+        ensures { IfOk result (λ c. c ≡ counted election.now fill_up outcome) }
     {
-        let made = if fills_up {
-            added_to(alloc, election, &outcome)
-        } else {
-            Ok(Vec::new(alloc))
-        };
-        match made {
+        match added_to(alloc, election, fill_up, &outcome) {
             Ok(added) => Ok(Counted {
                 outcome,
-                fills_up,
+                fill_up,
                 added,
             }),
             Err(refused) => {
@@ -64,6 +58,41 @@ impl Counted {
                 Err(refused)
             }
         }
+    }
+
+    /// Everyone's share of the budget, in hundredths.
+    pub fn share(&self) -> Money
+        ensures { result ≡ self.now.outcome.share }
+    {
+        self.outcome.share
+    }
+
+    /// How many times the share was raised.
+    pub fn raised(&self) -> u32
+        ensures { result ≡ self.now.outcome.raised }
+    {
+        self.outcome.raised
+    }
+
+    /// The elected, in order of election.
+    pub fn elected(&self) -> &[Elected]
+        ensures { result.now ≡ self.now.outcome.elected }
+    {
+        self.outcome.elected.as_slice()
+    }
+
+    /// How what the elected leave of the budget is filled up.
+    pub fn fill_up(&self) -> FillUp
+        ensures { result ≡ self.now.fill_up }
+    {
+        self.fill_up
+    }
+
+    /// The projects that are added, by place, in the order in which they are added.
+    pub fn added(&self) -> &[u32]
+        ensures { result.now ≡ self.now.added }
+    {
+        self.added.as_slice()
     }
 
     /// The places of the elected, in order of election, and then of the added in theirs.
@@ -76,10 +105,30 @@ impl Counted {
     }
 }
 
-/// What most votes first adds to the elected of an outcome.
-fn added_to(alloc: Global, election: &Election, outcome: &Outcome) -> Result<Vec<u32>, NoMemory>
+/// What is added to the elected of an outcome.
+fn added_to(
+    alloc: Global,
+    election: &Election,
+    fill_up: FillUp,
+    outcome: &Outcome,
+) -> Result<Vec<u32>, NoMemory>
     requires { IsOutcome election.now outcome.now }
-    ensures { IfOk result (λ added. added.items ≡ added_to election.now outcome.now) }
+    ensures { IfOk result (λ added. added.items ≡ added_to election.now fill_up outcome.now) }
+{
+    match fill_up {
+        FillUp::Nothing => Ok(Vec::new(alloc)),
+        FillUp::MostVotes => most_votes_added(alloc, election, outcome),
+    }
+}
+
+/// What most votes first adds to the elected of an outcome.
+fn most_votes_added(
+    alloc: Global,
+    election: &Election,
+    outcome: &Outcome,
+) -> Result<Vec<u32>, NoMemory>
+    requires { IsOutcome election.now outcome.now }
+    ensures { IfOk result (λ added. added.items ≡ added_to election.now MostVotes outcome.now) }
 {
     let budget = election.budget();
     let elected = outcome.elected.as_slice();

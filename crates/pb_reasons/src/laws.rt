@@ -1,6 +1,6 @@
 //! Laws over what a count comes to, each as the contract of a function that does nothing.
 
-ghost use Rattle.std.specs.Prelude.{◌≡◌, ◌≢◌, ◌-◌, ◌<◌, ◌≤◌, ℕ, All, AllPairs, false, true};
+ghost use Rattle.std.specs.Prelude.{◌≡◌, ◌≢◌, ◌-◌, ◌<◌, ◌≤◌, ℕ, All, AllPairs, false};
 ghost use Rattle.pb_core.specs.Election.{ElectionView, IsElection};
 ghost use Rattle.pb_rounds.specs.MostVotes.{fits, is_taken};
 ghost use Rattle.pb_price.specs.Supporters.{support_of};
@@ -11,16 +11,19 @@ ghost use Rattle.pb_reasons.specs.declared.tie.Tie.{Tie};
 ghost use Rattle.pb_rounds.specs.Counted.{IsCountOf};
 ghost use Rattle.pb_rounds.specs.Outcome.{OutcomeView};
 ghost use Rattle.pb_rounds.specs.declared.options.CountOptions.{CountOptions};
+ghost use Rattle.pb_rounds.specs.declared.rule.FillUp.TheVariants.{MostVotes};
 
-/// The winners of a count are its elected and its added projects, each once, and together they cost at most the budget. Where
-/// a count is filled up, no other project that has a supporter costs at most what the winners leave of the budget.
+/// The winners of a count are its elected and its added projects, each once, and together they cost at most
+/// the budget. Where a count is filled up, no other project that has a supporter costs at most what the
+/// winners leave of the budget.
 pub fn winners_share_the_budget()
     ensures selected { (c : CountedView) (place : ℕ) → is_selected c place ≡ is_taken (winners_of c) place }
     ensures once { (e : ElectionView) (c : CountedView) → IsElection e → IsCounted e c
         → AllPairs (λ place other. place ≢ other) (winners_of c) }
     ensures paid { (e : ElectionView) (c : CountedView) → IsElection e → IsCounted e c
         → (totals_of e c).spent ≤ e.budget }
-    ensures none_fits { (e : ElectionView) (c : CountedView) (place : ℕ) → IsElection e → IsCounted e c → c.fills_up ≡ true
+    ensures none_fits { (e : ElectionView) (c : CountedView) (place : ℕ) → IsElection e → IsCounted e c
+        → c.fill_up ≡ MostVotes
         → fits (support_of e) (winners_of c) (e.budget - (totals_of e c).spent) place ≡ false }
 {}
 

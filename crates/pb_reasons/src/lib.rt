@@ -1,5 +1,5 @@
-//! Why an outcome is as it is: project by project who won and by which round, or how much was missing, and voter by voter
-//! who paid what.
+//! Why an outcome is as it is: project by project who won and by which round, or how much was missing, and
+//! voter by voter who paid what.
 #![tactic(auto)]
 
 mod beside_votes;

@@ -6,7 +6,8 @@ ghost use Rattle.pb_reasons.specs.Inner.Numbers.{AreNumbers};
 use pb_core::no_memory::NoMemory;
 use std::alloc::Global;
 
-/// For each of this many projects its number among the added ones, from 0; as many as there are where it is none of them.
+/// For each of this many projects its number among the added ones, from 0; as many as there are where it is
+/// none of them.
 pub(crate) fn numbers_of(
     alloc: Global,
     added: &[u32],

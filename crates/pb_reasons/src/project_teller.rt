@@ -72,7 +72,8 @@ struct Filled<'a> {
     kept: Kept<'a>,
     election: &'a Election,
     counted: &'a Counted,
-    /// The number of each project among the added ones, from 0; as many as there are where it is none of them.
+    /// The number of each project among the added ones, from 0; as many as there are where it is none of
+    /// them.
     numbers: Vec<usize>,
 }
 
@@ -130,7 +131,8 @@ impl<'a> Filled<'a> {
     }
 }
 
-/// How a project ended that ended so in the outcome, and has this number among so many added ones, from 0, if below that.
+/// How a project ended that ended so in the outcome, and has this number among so many added ones, from 0, if
+/// below that.
 fn ending_with(ending: Ending, number: usize, added: usize) -> Ending
     ensures { result ≡ ending_as ending number added }
 {

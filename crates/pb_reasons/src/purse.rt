@@ -1,6 +1,7 @@
 //! What one voter pays out of the share, round by round.
 
-ghost use Rattle.std.specs.Prelude.{◌≡◌, ℕ, ◌<◌, List, All, AllPairs, IfOk, OnOk, filter, length, map, nat_lt, slice_index};
+ghost use Rattle.std.specs.Prelude.{◌≡◌, ℕ, ◌<◌, List, All, AllPairs, IfOk, OnOk, filter, length, map};
+ghost use Rattle.std.specs.Prelude.{nat_lt, slice_index};
 ghost use Rattle.std.specs.List.Sorted.{IsStrictlyIncreasing};
 ghost use Rattle.pb_core.specs.Ballot.{HasSameMembers};
 ghost use Rattle.pb_reasons.specs.Inner.Kept.{AreRounds};
@@ -47,8 +48,8 @@ impl Purse {
         self.amounts.as_slice()
     }
 
-    /// Pays for the elected that this ballot approves, in order of election, out of this share; `rounds` says which round
-    /// elected which project.
+    /// Pays for the elected that this ballot approves, in order of election, out of this share; `rounds` says
+    /// which round elected which project.
     pub(crate) fn pay(
         &mut self,
         rounds: &[u32],
@@ -69,7 +70,8 @@ impl Purse {
     }
 }
 
-/// Puts the rounds of the ballot's places that are below this number into the list, rising, in place of what it held.
+/// Puts the rounds of the ballot's places that are below this number into the list, rising, in place of what
+/// it held.
 fn gather(
     rounds: &[u32],
     elected: usize,
@@ -79,7 +81,8 @@ fn gather(
     requires { All (λ place. place < length rounds.now) ballot.now }
     ensures rise { OnOk result (IsStrictlyIncreasing due.new.items) }
     ensures members { OnOk result (HasSameMembers
-        (filter (λ round. nat_lt round elected) (map (λ place. slice_index rounds.now place) ballot.now)) due.new.items) }
+        (filter (λ round. nat_lt round elected)
+        (map (λ place. slice_index rounds.now place) ballot.now)) due.new.items) }
 {
     due.clear();
     for place in ballot {
@@ -93,7 +96,8 @@ fn gather(
     Ok(())
 }
 
-/// Pays for the elected of these rounds out of this share, each its price, or all that is left where that is less.
+/// Pays for the elected of these rounds out of this share, each its price, or all that is left where that is
+/// less.
 fn pay_due(due: &[u32], elected: &[Elected], share: Money, amounts: &mut Vec<Money>)
     requires one_each { length amounts.old.items ≡ length elected.now }
     requires known { All (λ round. round < length elected.now) due.now }

@@ -12,7 +12,7 @@ ghost use Rattle.pb_reasons.specs.RaiseEnd.{IsRaiseEnd};
 ghost use Rattle.pb_reasons.specs.Inner.OfOutcome.{IsOutcome};
 ghost use Rattle.pb_reasons.specs.Inner.Raises.{TellsExhausted};
 
-use crate::counted::places_of;
+use crate::counted::{Counted, places_of};
 use crate::room::{leave_room_for_any_project, leave_room_for_any_voter};
 use crate::totals::spent_for;
 use crate::winners::Winners;
@@ -42,29 +42,32 @@ pub struct NextRaise {
 pub enum RaiseEnd {
     /// A plain count raises no share.
     Plain,
-    /// The outcome is exhausted: each other project that has a supporter costs more than what is left of the budget.
+    /// The outcome is exhausted: each other project that has a supporter costs more than what is left of the
+    /// budget.
     Exhausted,
     /// The outcome is not exhausted, and one raise more would elect projects that cost more than the budget.
     Over(NextRaise),
 }
 
 impl RaiseEnd {
-    /// Why the raises ended of a count by these options that has this outcome. Where it is not exhausted, the method is run
-    /// once more, at the share after one raise more, by as many workers as count.
+    /// Why the raises of a count by these options, which came to this, ended. Where it is not exhausted, the
+    /// method is run once more, at the share after one raise more, by as many workers as count.
     pub fn of<R: Threads + Sync, G: Gate>(
         rt: &R,
         alloc: Global,
         election: &Election,
         options: &CountOptions,
-        outcome: &Outcome,
+        counted: &Counted,
         gate: &G,
     ) -> Result<RaiseEnd, NoMemory>
-        requires { IsCountOf election.now options.now outcome.now }
-        ensures { IfOk result (IsRaiseEnd election.now options.now outcome.now) }
+        requires { IsCountOf election.now options.now counted.now.outcome }
+        ensures { IfOk result (IsRaiseEnd election.now options.now counted.now.outcome) }
     {
         match options.completion {
             Completion::Plain => Ok(RaiseEnd::Plain),
-            Completion::Add1 => completed_end(rt, alloc, election, options, outcome, gate),
+            Completion::Add1 => {
+                completed_end(rt, alloc, election, options, &counted.outcome, gate)
+            }
         }
     }
 }
@@ -137,7 +140,8 @@ fn next_raise(
     requires fits { spent_on (support_of election.now) next.now.elected < 2 ^ 64 }
     ensures { IfOk result (λ raise. (raise.share ≡ next.now.share)
         × (raise.cost ≡ spent_on (support_of election.now) next.now.elected)
-        × (raise.only_then.items ≡ map (λ w. w.place) (filter (λ w. not (is_elected outcome.now.elected w.place)) next.now.elected))) }
+        × (raise.only_then.items ≡ map (λ w. w.place)
+        (filter (λ w. not (is_elected outcome.now.elected w.place)) next.now.elected))) }
 {
     let elected = next.elected.as_slice();
     let cost = spent_for(election, elected);

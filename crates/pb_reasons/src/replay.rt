@@ -12,7 +12,8 @@ use pb_price::supporters::Supporters;
 use pb_rounds::outcome::Elected;
 use std::alloc::Global;
 
-/// Takes the price from the rest of each of these supporters, or the whole rest where that is less: what each paid.
+/// Takes the price from the rest of each of these supporters, or the whole rest where that is less: what each
+/// paid.
 pub(crate) fn pay(
     alloc: Global,
     supporters: &[u32],

@@ -8,7 +8,8 @@ use crate::winners::Winners;
 use pb_core::money::Money;
 use pb_core::voter::Voter;
 
-/// Whether one of the first so many projects of the file is not among the winners and costs at most what is left.
+/// Whether one of the first so many projects of the file is not among the winners and costs at most what is
+/// left.
 pub(crate) fn leave_room_for_any_project(winners: &Winners, projects: u32, left: Money) -> bool
     requires { projects ≤ length winners.now.0.projects }
     ensures { result ≡ list_any (leave_room_for winners.now left) (range_with_len 0 projects) }
@@ -21,8 +22,8 @@ pub(crate) fn leave_room_for_any_project(winners: &Winners, projects: u32, left:
     false
 }
 
-/// Whether one of these voters approves a project that is not among the winners and costs at most what is left. It looks at
-/// no ballot after the first that approves one.
+/// Whether one of these voters approves a project that is not among the winners and costs at most what is
+/// left. It looks at no ballot after the first that approves one.
 pub(crate) fn leave_room_for_any_voter(winners: &Winners, voters: &[Voter], left: Money) -> bool
     requires { All (λ v. All (λ place. place < length winners.now.0.projects) v.ballot) voters.now }
     ensures { result ≡ list_any (λ v. list_any (leave_room_for winners.now left) v.ballot) voters.now }

@@ -7,7 +7,8 @@ use pb_core::no_memory::NoMemory;
 use pb_rounds::outcome::Elected;
 use std::alloc::Global;
 
-/// For each of this many projects the number of its round, from 0; as many as there are elected where it has none.
+/// For each of this many projects the number of its round, from 0; as many as there are elected where it has
+/// none.
 pub(crate) fn rounds_of(
     alloc: Global,
     elected: &[Elected],

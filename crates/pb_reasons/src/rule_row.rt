@@ -28,7 +28,8 @@ pub struct RuleRow {
 }
 
 impl RuleRow {
-    /// The row with one voter more, whose ballot has so much of the winners by this rule, and so much of those by the other.
+    /// The row with one voter more, whose ballot has so much of the winners by this rule, and so much of
+    /// those by the other.
     pub(crate) fn with(self, own: Content, other: Content) -> RuleRow
         requires room { (voters : ℕ) × (voters < most_voters) × IsSmall voters self }
         requires small { own.worth ≤ 2 ^ 96 }

@@ -1,7 +1,7 @@
 //! A tie.
 
-/// A tie that the order of the file decided: two projects whose prices were as good as each other in a round, of which the
-/// round elected one, and no later round the other.
+/// A tie that the order of the file decided: two projects whose prices were as good as each other in a round,
+/// of which the round elected one, and no later round the other.
 #[derive(Clone, Copy, Debug, PartialEq, Eq)]
 pub struct Tie {
     /// The number of the round, from 1.

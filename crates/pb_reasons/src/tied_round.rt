@@ -98,12 +98,13 @@ impl<'a> TiedRound<'a> {
         }
     }
 
-    /// The same from a lower bound up: from bound to bound, as long as they leave room for a tie.
+    /// Looks from a lower bound up, from bound to bound, as long as they leave room for a tie.
     fn look_from(&self, rests: &[Money], place: u32, least: Money) -> Look
         requires winner { self.now.winner.place < length self.now.supporters.now.costs }
         requires known { place < length self.now.supporters.now.costs }
         requires rests { AreRests self.now.supporters.now.voters rests.now }
-        requires bound { IsTieBound self.now.supporters.now self.now.elected.now rests.now place (Some least) }
+        requires bound { IsTieBound self.now.supporters.now self.now.elected.now rests.now place
+            (Some least) }
         ensures tied { result.is_tied ≡ is_tied self.now.measure self.now.supporters.now self.now.elected.now
             rests.now self.now.winner place }
         ensures bound { IsTieBound self.now.supporters.now self.now.elected.now rests.now place result.bound }
@@ -145,8 +146,8 @@ impl<'a> TiedRound<'a> {
         }
     }
 
-    /// Puts the ties of this round behind those of the rounds before it, as far as so many are told, and makes the lower
-    /// bounds better.
+    /// Puts the ties of this round behind those of the rounds before it, as far as so many are told, and
+    /// makes the lower bounds better.
     pub(crate) fn find(
         &self,
         rests: &[Money],
@@ -155,12 +156,14 @@ impl<'a> TiedRound<'a> {
     ) -> Result<(), NoMemory>
         requires winner { self.now.winner.place < length self.now.supporters.now.costs }
         requires rests { AreRests self.now.supporters.now.voters rests.now }
-        requires bounds { AreTieBounds self.now.supporters.now self.now.elected.now rests.now bounds.old.items }
+        requires bounds { AreTieBounds self.now.supporters.now self.now.elected.now rests.now
+            bounds.old.items }
         requires few { length ties.old.items ≤ 100 }
         ensures bounds { OnOk result
             (AreTieBounds self.now.supporters.now self.now.elected.now rests.now bounds.new.items) }
         ensures ties { OnOk result (ties.new.items ≡ take 100 (ties.old.items
-            ++ ties_with self.now.measure self.now.supporters.now self.now.elected.now rests.now self.now.winner
+            ++ ties_with self.now.measure self.now.supporters.now self.now.elected.now rests.now
+            self.now.winner
             self.now.number (length self.now.supporters.now.costs))) }
     {
         if ties.len() == MOST_TIES {

@@ -4,11 +4,11 @@ ghost use Rattle.std.specs.Prelude.{◌≡◌, ◌<◌, ◌≤◌, All, IfOk, fl
 ghost use Rattle.std.specs.List.{range_with_len};
 ghost use Rattle.pb_price.specs.Price.{largest_share};
 ghost use Rattle.pb_price.specs.Supporters.{support_of};
+ghost use Rattle.pb_reasons.specs.Counted.{IsCounted};
 ghost use Rattle.pb_reasons.specs.Inner.Rounds.{AreOpeningBounds};
 ghost use Rattle.pb_reasons.specs.Ties.{ties_in, ties_of};
-ghost use Rattle.pb_rounds.specs.Counted.{IsCountOf};
-ghost use Rattle.pb_rounds.specs.declared.options.CountOptions.{CountOptions};
 
+use crate::counted::Counted;
 use crate::replay::pay;
 use crate::tie::Tie;
 use crate::tied_round::TiedRound;
@@ -17,30 +17,30 @@ use pb_core::money::Money;
 use pb_core::no_memory::NoMemory;
 use pb_price::supporters::Supporters;
 use pb_rounds::measure::Measure;
-use pb_rounds::outcome::{Elected, Outcome};
+use pb_rounds::outcome::Elected;
 use std::alloc::Global;
 
-/// The ties of a count by this measure, with these supporters of its projects, that the order of the file decided, in order of the rounds and then of the file: where
-/// a project that is not elected in the end had a price in a round as good as that of the project that the round elected.
-/// The first hundred are told.
+/// The ties of a count by this measure, with these supporters of its projects, that the order of the file
+/// decided, in order of the rounds and then of the file: where a project that is not elected in the end had a
+/// price in a round as good as that of the project that the round elected. The first hundred are told.
 ///
-/// It replays the rounds. A project is priced in a round only where its last known price, which never falls, is not already
-/// above a tie.
+/// It replays the rounds. A project is priced in a round only where its last known price, which never falls,
+/// is not already above a tie.
 pub fn ties_of(
     alloc: Global,
     election: &Election,
     supporters: &Supporters,
     measure: Measure,
-    outcome: &Outcome,
+    counted: &Counted,
 ) -> Result<Vec<Tie>, NoMemory>
     requires supporters { supporters.now ≡ support_of election.now }
-    requires counted { (options : CountOptions) × IsCountOf election.now options outcome.now }
-    ensures { IfOk result (λ ties. ties.items ≡ ties_of measure election.now outcome.now) }
+    requires counted { IsCounted election.now counted.now }
+    ensures { IfOk result (λ ties. ties.items ≡ ties_of measure election.now counted.now.outcome) }
 {
     // What is true of every election is true of its outcomes.
     let _budget = election.budget();
-    let elected = outcome.elected.as_slice();
-    replay_ties(alloc, supporters, measure, outcome.share, elected)
+    let (share, elected) = (counted.share(), counted.elected());
+    replay_ties(alloc, supporters, measure, share, elected)
 }
 
 /// The ties of a run at this share that elected these.

@@ -1,6 +1,7 @@
 //! What the ballots came to, told voter by voter.
 
-ghost use Rattle.std.specs.Prelude.{◌≡◌, ◌<◌, All, ◌^◌, IfOk, OnOk, count_by, filter, length, map, nat_lt, slice_index};
+ghost use Rattle.std.specs.Prelude.{◌≡◌, ◌<◌, All, ◌^◌, IfOk, OnOk, count_by, filter, length, map, nat_lt};
+ghost use Rattle.std.specs.Prelude.{slice_index};
 ghost use Rattle.pb_reasons.specs.Counted.{IsCounted};
 ghost use Rattle.pb_reasons.specs.Inner.OfOutcome.{IsOutcome, outcome_voter};
 ghost use Rattle.pb_reasons.specs.Inner.Told.{CanBeTold};
@@ -51,11 +52,13 @@ impl<'a> VoterTeller<'a> {
         Ok(VoterTeller { filled })
     }
 
-    /// What the ballot of the voter at this position came to; the payments come into the list, in place of what it held.
+    /// What the ballot of the voter at this position came to; the payments come into the list, in place of
+    /// what it held.
     pub fn tell(&mut self, voter: u32, payments: &mut Vec<Payment>) -> Result<VoterReason, NoMemory>
         requires { voter < length self.old.0.voters }
         ensures reason { IfOk result (λ reason. reason ≡ voter_reason self.old.0 self.old.1 voter) }
-        ensures payments { OnOk result (payments.new.items ≡ voter_payments self.old.0 self.old.1.outcome voter) }
+        ensures payments { OnOk result
+            (payments.new.items ≡ voter_payments self.old.0 self.old.1.outcome voter) }
         ensures same { self.new ≡ self.old }
     {
         self.filled.tell(voter, payments)
@@ -68,7 +71,8 @@ struct Filled<'a> {
     kept: Kept<'a>,
     election: &'a Election,
     counted: &'a Counted,
-    /// The number of each project among the added ones, from 0; as many as there are where it is none of them.
+    /// The number of each project among the added ones, from 0; as many as there are where it is none of
+    /// them.
     numbers: Vec<usize>,
 }
 
@@ -108,7 +112,8 @@ impl<'a> Filled<'a> {
     fn tell(&mut self, voter: u32, payments: &mut Vec<Payment>) -> Result<VoterReason, NoMemory>
         requires { voter < length self.old.0.voters }
         ensures reason { IfOk result (λ reason. reason ≡ voter_reason self.old.0 self.old.1 voter) }
-        ensures payments { OnOk result (payments.new.items ≡ voter_payments self.old.0 self.old.1.outcome voter) }
+        ensures payments { OnOk result
+            (payments.new.items ≡ voter_payments self.old.0 self.old.1.outcome voter) }
         ensures same { self.new ≡ self.old }
     {
         let reason = self.kept.tell(voter, payments)?;
@@ -208,7 +213,8 @@ impl<'a> Kept<'a> {
     }
 }
 
-/// Lists the payments above 0 for the ballot's places, in place of what the list held; how many of them have a round.
+/// Lists the payments above 0 for the ballot's places, in place of what the list held; how many of them have
+/// a round.
 fn list_payments(
     rounds: &[u32],
     amounts: &[Money],
@@ -220,7 +226,11 @@ fn list_payments(
     ensures elected { IfOk result (λ elected.
         elected ≡ count_by (λ place. nat_lt (slice_index rounds.now place) (length amounts.now)) ballot.now) }
     ensures listed { OnOk result (payments.new.items ≡ filter (λ p. nat_lt 0 p.amount)
-        (map (λ place. record { place = place; amount = amount_at rounds.now amounts.now place }) ballot.now)) }
+        (map (λ place. record {
+          place = place;
+          amount =
+              amount_at rounds.now amounts.now place;
+        }) ballot.now)) }
 {
     payments.clear();
     let mut elected = 0;

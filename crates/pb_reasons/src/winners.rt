@@ -1,6 +1,7 @@
 //! The winners by a rule.
 
-ghost use Rattle.std.specs.Prelude.{◌≡◌, ◌^◌, ◌<◌, ◌≤◌, All, List, [], IfOk, ℕ, length, map, slice_index, sum_by};
+ghost use Rattle.std.specs.Prelude.{◌≡◌, ◌^◌, ◌<◌, ◌≤◌, All, List, [], IfOk, ℕ, length, map, slice_index};
+ghost use Rattle.std.specs.Prelude.{sum_by};
 ghost use Rattle.std.specs.List.{range_with_len};
 ghost use Rattle.pb_rounds.specs.MostVotes.{is_taken};
 ghost use Rattle.pb_price.specs.Supporters.{ballot_at, cost_at, support_of};
@@ -68,7 +69,8 @@ impl<'a> Winners<'a> {
     /// How many choices of each voter are among them, voters in the order of the file.
     pub fn choices_by_voter(&self, alloc: Global) -> Result<Vec<u32>, NoMemory>
         ensures { IfOk result (λ choices. choices.items ≡
-            map (λ voter. choices_of self.now.1 (ballot_at self.now.0 voter)) (range_with_len 0 (length self.now.0.voters))) }
+            map (λ voter. choices_of self.now.1 (ballot_at self.now.0 voter))
+            (range_with_len 0 (length self.now.0.voters))) }
     {
         let voters = self.election.voters();
         let mut choices = Vec::with_capacity(alloc, voters.len())?;

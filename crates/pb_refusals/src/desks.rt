@@ -14,6 +14,7 @@ enum DeskCall {
     Replace,
     Withdraw,
     Unknown,
+    Take,
     Leave,
 }
 
@@ -25,6 +26,7 @@ impl Call for DeskCall {
             DeskCall::Replace => served(rt, heap, nth, replace(rt, heap), REPLACED),
             DeskCall::Withdraw => served(rt, heap, nth, withdraw(rt, heap), WITHDRAWN),
             DeskCall::Unknown => served(rt, heap, nth, cast(rt, heap, 9), UNKNOWN),
+            DeskCall::Take => taken(rt, heap, nth),
             DeskCall::Leave => left(rt, heap, nth),
         }
     }
@@ -119,8 +121,8 @@ fn served<'a>(
     answer
 }
 
-/// Whether the desk answers so and has an entry; or memory is refused, the desk is as it was opened, and then answers
-/// so.
+/// Whether the desk answers so and has an entry; or memory is refused, the desk is as it was opened, and then
+/// answers so.
 fn is_served<'a>(
     desk: &mut Desk<Heap<'a>>,
     request: &Request<Heap<'a>>,
@@ -133,6 +135,25 @@ fn is_served<'a>(
         return refused(was_as_opened && again == wanted);
     }
     Ok(said == wanted && desk.entries() == 1)
+}
+
+/// A ballot is cast by value; or memory is refused, the desk is as it was opened, and then takes another
+/// request.
+fn taken(rt: &impl Abort, heap: Heap<'_>, nth: u64) -> Result<bool, NoMemory> {
+    let mut desk = desk(rt, heap);
+    let request = cast(rt, heap, 0);
+    heap.refuse(nth);
+    let answer = desk.take(0, request);
+    let is_as_ever = (answer, desk.ballots()) == CAST && desk.entries() == 1;
+    let was_as_opened = is_as_opened(&desk);
+    if answer == Err(DeskFault::NoMemory) {
+        let again = desk.take(0, cast(rt, heap, 0));
+        let said = (again, desk.ballots());
+        drop(desk);
+        return refused(was_as_opened && said == CAST);
+    }
+    drop(desk);
+    Ok(is_as_ever)
 }
 
 /// What clerk 0 is answered.
@@ -193,8 +214,8 @@ fn leaves_one_voter(desk: Desk<Heap<'_>>) -> bool {
     }
 }
 
-/// A desk that was handed back, since memory was refused, still has its ballot and its entry, and then leaves its
-/// election.
+/// A desk that was handed back, since memory was refused, still has its ballot and its entry, and then leaves
+/// its election.
 fn left_again(fault: IntoFault<Heap<'_>>) -> Result<bool, NoMemory> {
     let is_memory = fault.number() == 2;
     let desk = handed_back(fault);
@@ -209,6 +230,7 @@ const CALLS: &[DeskCall] = &[
     DeskCall::Replace,
     DeskCall::Withdraw,
     DeskCall::Unknown,
+    DeskCall::Take,
     DeskCall::Leave,
 ];
 

@@ -72,7 +72,8 @@ fn audited<R: Read + Drop>(rt: &impl Abort, alloc: Global, reader: R) -> Result<
     answer
 }
 
-/// What an audit answers to the first bytes of the five rows, this many: the rows so far, or the row that is cut.
+/// What an audit answers to the first bytes of the five rows, this many: the rows so far, or the row that is
+/// cut.
 fn cut_at(bytes: &[u8], size: usize) -> Result<u32, AuditFault> {
     let lines = whole_lines(bytes);
     if bytes.is_empty() || bytes.ends_with(b"\n") {

@@ -1,5 +1,6 @@
 -- That each elected project was the cheapest of its round.
-use Rattle.std.specs.Prelude.{◌≡◌, ◌≢◌, ℕ, ◌*◌, ◌<◌, ◌⊎◌, List, [], ◌∷◌, ◌++◌, All, Some, None, length, replicate}
+use Rattle.std.specs.Prelude.{◌≡◌, ◌≢◌, ℕ, ◌*◌, ◌<◌, ◌⊎◌, List, [], ◌∷◌, ◌++◌, All, Some, None, length}
+use Rattle.std.specs.Prelude.{replicate}
 use Rattle.pb_price.specs.Supporters.{SupportView, IsSupport, supporters_at, cost_at}
 use Rattle.pb_price.specs.Price.{paid_at, IsPrice}
 use Rattle.pb_rounds.specs.Run.{ElectedView, charged}
@@ -10,9 +11,9 @@ use Rattle.pb_rounds.specs.declared.measure.Measure.TheVariants.{Votes, Cost}
 abbrev pub ComesFirst : (number other place other_place : ℕ) → Type 0
 ComesFirst number other place other_place = (number < other) ⊎ ((number ≡ other) × place < other_place)
 
--- A project is cheaper than another, each at its price, where its price is less for each unit of utility that a supporter
--- has of it, or as much, and it is earlier in the file. An approval is worth 1 under measure votes, and under measure cost
--- the project's cost: price over cost, compared by cross products.
+-- A project is cheaper than another, each at its price, where its price is less for each unit of utility that
+-- a supporter has of it, or as much, and it is earlier in the file. An approval is worth 1 under measure
+-- votes, and under measure cost the project's cost: price over cost, compared by cross products.
 abbrev pub IsCheaper : Measure → SupportView → (place price other other_price : ℕ) → Type 0
 IsCheaper Votes s place price other other_price = ComesFirst price other_price place other
 IsCheaper Cost s place price other other_price =
@@ -27,8 +28,8 @@ rests_after s rests (w ∷ elected) = rests_after s (charged (supporters_at s w.
 abbrev pub IsLeft : SupportView → List ElectedView → ℕ → Type 0
 IsLeft s elected place = (place < length s.costs) × All (λ w. w.place ≢ place) elected
 
--- w was elected at these rests, after those before it, at its price, and collected what its supporters could pay of it; it
--- was cheaper than each other project that was left and could be paid
+-- w was elected at these rests, after those before it, at its price, and collected what its supporters could
+-- pay of it; it was cheaper than each other project that was left and could be paid
 pub record WasCheapest (m : Measure) (s : SupportView) (rests : List ℕ) (before : List ElectedView)
     (w : ElectedView) : Type 0 where
   pub was_left : IsLeft s before w.place
@@ -37,9 +38,9 @@ pub record WasCheapest (m : Measure) (s : SupportView) (rests : List ℕ) (befor
   pub cheapest : (other price : ℕ) → IsLeft s before other → other ≢ w.place → IsPrice s rests other (Some price)
       → IsCheaper m s w.place w.price other price
 
--- A run at this share elects these, in this order, and leaves these rests: each of the elected was the cheapest of its
--- round, the rests are what all their payments left, and no project that is left has a price. The supporters are those
--- of an election.
+-- A run at this share elects these, in this order, and leaves these rests: each of the elected was the
+-- cheapest of its round, the rests are what all their payments left, and no project that is left has a price.
+-- The supporters are those of an election.
 pub record IsRun (m : Measure) (s : SupportView) (share : ℕ) (elected : List ElectedView) (rests : List ℕ) : Type 0 where
   pub cheapest : (before : List ElectedView) (w : ElectedView) (later : List ElectedView) → elected ≡ before ++ w ∷ later
       → WasCheapest m s (rests_after s (replicate s.voters share) before) before w

@@ -23,8 +23,8 @@ abbrev pub GoesOn : Measure → ElectionView → (step raises : ℕ) → Type 0
 GoesOn m e step raises = After m e step raises (λ elected.
     (¬ (e.budget < spent_on (support_of e) elected)) × (¬ IsExhausted (support_of e) e.budget elected))
 
--- Completion by raises, up to a limit of them: fewer raises go on, and after these the outcome is exhausted, or it goes on
--- and one raise more, which the limit allows, makes it over the budget.
+-- Completion by raises, up to a limit of them: fewer raises go on, and after these the outcome is exhausted,
+-- or it goes on and one raise more, which the limit allows, makes it over the budget.
 pub record IsCompleted (m : Measure) (e : ElectionView) (step limit raises : ℕ) : Type 0 where
   pub within_limit : raises ≤ limit
   pub fewer_go_on : (fewer : ℕ) → fewer < raises → GoesOn m e step fewer

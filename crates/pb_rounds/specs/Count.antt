@@ -1,5 +1,6 @@
 -- The count: the opening share, the raises, and where they end.
-use Rattle.std.specs.Prelude.{ℕ, Bool, Option, Some, List, ◌+◌, ◌-◌, ◌*◌, ◌/◌, ◌&&◌, ◌||◌, ◌==◌, not, nat_lt, nat_le, find, length, option_map, sum_by, if◌then◌else◌}
+use Rattle.std.specs.Prelude.{ℕ, Bool, Option, Some, List, ◌+◌, ◌-◌, ◌*◌, ◌/◌, ◌&&◌, ◌||◌, ◌==◌, not, nat_lt}
+use Rattle.std.specs.Prelude.{nat_le, find, length, option_map, sum_by, if◌then◌else◌}
 use Rattle.std.specs.List.{list_any, range_with_len}
 use Rattle.pb_core.specs.Election.{ElectionView}
 use Rattle.pb_price.specs.Supporters.{SupportView, support_of, supporters_at, cost_at}
@@ -71,7 +72,8 @@ abbrev pub settled_after : Measure → ElectionView → ℕ → ℕ → Settled
 settled_after m e step raises =
     settled_by (share_after e step raises) raises (outcome_of m e (share_after e step raises))
 
--- the count: the outcome after as many raises as the completion decides on; none where it does not decide within the limit
+-- the count: the outcome after as many raises as the completion decides on; none where it does not decide
+-- within the limit
 abbrev pub count_of : ElectionView → CountOptions → Option Settled
 count_of e options =
     option_map (settled_after options.measure e options.step)

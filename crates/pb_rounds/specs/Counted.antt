@@ -14,9 +14,10 @@ use Rattle.pb_rounds.specs.declared.count_fault.CountFault.TheVariants.{NoMemory
 use Rattle.pb_rounds.specs.declared.options.Completion.TheVariants.{Plain, Add1}
 use Rattle.pb_rounds.specs.declared.options.CountOptions.{CountOptions}
 
--- The outcome is that of a run at its share, which is the opening share raised by so many steps: by none for a plain count,
--- and with Add1 by as many as complete it. So it is one outcome, for any number of workers. What is elected is within the
--- budget, and a price system explains it; and the numbers of prices are the lengths of a pricing record.
+-- The outcome is that of a run at its share, which is the opening share raised by so many steps: by none for
+-- a plain count, and with Add1 by as many as complete it. So it is one outcome, for any number of workers.
+-- What is elected is within the budget, and a price system explains it; and the numbers of prices are the
+-- lengths of a pricing record.
 pub record IsCountOf (e : ElectionView) (options : CountOptions) (o : OutcomeView) : Type 0 where
   pub in_range : refusal_of options ≡ None
   pub share_is : o.share ≡ opening_share e + o.raised * options.step
@@ -29,8 +30,8 @@ pub record IsCountOf (e : ElectionView) (options : CountOptions) (o : OutcomeVie
       × IsPriceSystem (support_of e) o.share o.elected o.rests payments
   pub priced : HasPricing options.measure (support_of e) options.workers o.share o.elected o.priced
 
--- When each fault of a count comes: options that are out of their ranges, and raises of which none up to the limit ends the
--- completion. Out of memory aside, no other count is refused.
+-- When each fault of a count comes: options that are out of their ranges, and raises of which none up to the
+-- limit ends the completion. Out of memory aside, no other count is refused.
 abbrev pub IsCountFault : ElectionView → CountOptions → CountFault → Type 0
 IsCountFault e options RaisesSpent =
     (refusal_of options ≡ None) × (options.completion ≡ Add1)

@@ -4,8 +4,8 @@ use Rattle.std.specs.List.{list_all}
 use Rattle.std.specs.Ordering.{is_lt, nat_cmp, on, then_cmp}
 use Rattle.std.specs.declared.cmp.Ordering.{Ordering}
 
--- what contracts see of a key: a project, by its place, the price that each of its supporters would pay at most, and the
--- weight that the price is divided by
+-- what contracts see of a key: a project, by its place, the price that each of its supporters would pay at
+-- most, and the weight that the price is divided by
 pub record KeyView : Type 0 where
   pub price : ℕ
   pub weight : ℕ
@@ -15,8 +15,8 @@ pub record KeyView : Type 0 where
 abbrev pub ratio_cmp : KeyView → KeyView → Ordering
 ratio_cmp a b = nat_cmp (a.price * max 1 b.weight) (b.price * max 1 a.weight)
 
--- by the price over the weight, then by the place in the file; the weight comes last, so that keys that differ are told
--- apart
+-- by the price over the weight, then by the place in the file; the weight comes last, so that keys that
+-- differ are told apart
 abbrev pub key_cmp : KeyView → KeyView → Ordering
 key_cmp = then_cmp ratio_cmp (then_cmp (on (λ k. k.place) nat_cmp) (on (λ k. k.weight) nat_cmp))
 

@@ -9,6 +9,7 @@ pub mod Outcome
 pub mod Payments
 pub mod PriceSystem
 pub mod PricingRecord
+pub mod RuleNames
 pub mod Run
 pub mod MostVotes
 pub mod Inner

@@ -1,5 +1,6 @@
 -- Most votes first: the rule that cities had before, and that fills up what is left of a budget.
-use Rattle.std.specs.Prelude.{◌≡◌, ◌≢◌, ℕ, zero, suc, ◌-◌, ◌==◌, ◌&&◌, Bool, true, false, not, nat_le, nat_lt, List, [], ◌∷◌, ◌++◌, Option, filter, find, length, sum_by}
+use Rattle.std.specs.Prelude.{◌≡◌, ◌≢◌, ℕ, zero, suc, ◌-◌, ◌==◌, ◌&&◌, Bool, true, false, not, nat_le, nat_lt}
+use Rattle.std.specs.Prelude.{List, [], ◌∷◌, ◌++◌, Option, filter, find, length, sum_by}
 use Rattle.std.specs.List.{list_all, list_any, range_with_len}
 use Rattle.std.specs.Option.{option_map_or}
 use Rattle.std.specs.Ordering.{flip_args, is_lt, nat_cmp, on, then_cmp}
@@ -34,8 +35,8 @@ pub record FitsFirst (s : SupportView) (taken : List ℕ) (left place : ℕ) : T
 abbrev pub left_after : SupportView → (left : ℕ) → (added : List ℕ) → ℕ
 left_after s left added = left - sum_by (cost_at s) added
 
--- Most votes first adds these, in this order: each was, of the projects that then fitted, the first, and in the end no
--- project fits.
+-- Most votes first adds these, in this order: each was, of the projects that then fitted, the first, and in
+-- the end no project fits.
 pub record IsMostVotesFirst (s : SupportView) (taken : List ℕ) (left : ℕ) (added : List ℕ) : Type 0 where
   pub first : (before : List ℕ) (place : ℕ) (later : List ℕ) → added ≡ before ++ place ∷ later
       → FitsFirst s (taken ++ before) (left_after s left before) place

@@ -1,5 +1,6 @@
 -- Price systems: payments that explain an outcome.
-use Rattle.std.specs.Prelude.{◌≡◌, ℕ, List, ◌+◌, ◌<◌, ◌≤◌, ◌≢◌, length, slice_index, sum, sum_by, All, Contains}
+use Rattle.std.specs.Prelude.{◌≡◌, ℕ, List, ◌+◌, ◌<◌, ◌≤◌, ◌≢◌, length, slice_index, sum, sum_by, All}
+use Rattle.std.specs.Prelude.{Contains}
 use Rattle.std.specs.List.{AllZip}
 use Rattle.pb_price.specs.Supporters.{SupportView, supporters_at, cost_at}
 use Rattle.pb_price.specs.Price.{total_rest}
@@ -19,8 +20,9 @@ pub record PaysFor (s : SupportView) (rests : List ℕ) (w : ElectedView) (payme
   pub spent : (v : ℕ) → Contains (supporters_at s w.place) v → slice_index payments v < w.price
       → slice_index rests v ≡ 0
 
--- Priceability (Peters and Skowron 2020; Peters, Pierczynski and Skowron 2021), in whole payments: a list for each elected
--- project, with a payment of each voter, that explain whom an election at this share elected. No round is named.
+-- Priceability (Peters and Skowron 2020; Peters, Pierczynski and Skowron 2021), in whole payments: a list for
+-- each elected project, with a payment of each voter, that explain whom an election at this share elected. No
+-- round is named.
 pub record IsPriceSystem (s : SupportView) (share : ℕ) (elected : List ElectedView) (rests : List ℕ)
     (payments : List (List ℕ)) : Type 0 where
   pub paid : AllZip (PaysFor s rests) elected payments

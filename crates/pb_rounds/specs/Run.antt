@@ -1,5 +1,6 @@
 -- A run of the Method of Equal Shares at one share.
-use Rattle.std.specs.Prelude.{ℕ, zero, suc, Bool, Option, List, [], ◌∷◌, ◌-◌, ◌==◌, not, map, filter, filter_map, length, min, option_map, slice_index, replicate, if◌then◌else◌}
+use Rattle.std.specs.Prelude.{ℕ, zero, suc, Bool, Option, List, [], ◌∷◌, ◌-◌, ◌==◌, not, map, filter}
+use Rattle.std.specs.Prelude.{filter_map, length, min, option_map, slice_index, replicate, if◌then◌else◌}
 use Rattle.std.specs.List.{list_any, range_with_len}
 use Rattle.std.specs.Option.{option_map_or}
 use Rattle.pb_core.specs.Election.{ElectionView}
@@ -37,7 +38,8 @@ key_at m s rests place = option_map (key_of m s place) (price_at s rests place)
 abbrev pub keys_at : Measure → SupportView → List ℕ → List ℕ → List KeyView
 keys_at m s rests left = filter_map (key_at m s rests) left
 
--- the best project of a round: the least price over weight among the projects left, the first in the file among equals
+-- the best project of a round: the least price over weight among the projects left, the first in the file
+-- among equals
 unfoldable pub best_of : Measure → SupportView → List ℕ → List ℕ → Option KeyView
 best_of m s rests left = first_least is_before (keys_at m s rests left)
 

@@ -16,7 +16,8 @@ use pb_price::{next_bound, price_at_share};
 use std::alloc::Allocator;
 use std::collections::BTreeSet;
 
-/// Fills the queue with the projects that can be paid at this share, each at its price there, in place of what it held.
+/// Fills the queue with the projects that can be paid at this share, each at its price there, in place of
+/// what it held.
 pub(crate) fn fill_opening<A: Allocator + Clone, B: Allocator>(
     queue: &mut BTreeSet<Key, A>,
     measure: Measure,
@@ -54,9 +55,9 @@ fn put_opening<A: Allocator + Clone, B: Allocator>(
     Ok(())
 }
 
-/// Takes the best project out of the queue, at its price, unless there is none up to the limit. The head's bound is its
-/// price where its supporters cover its cost by it, and then no other project can come before; else the head goes back with
-/// a higher bound, or is left out where it has no price.
+/// Takes the best project out of the queue, at its price, unless there is none up to the limit. The head's
+/// bound is its price where its supporters cover its cost by it, and then no other project can come before;
+/// else the head goes back with a higher bound, or is left out where it has no price.
 pub(crate) fn next_best<A: Allocator + Clone, B: Allocator>(
     supporters: &Supporters<B>,
     rests: &[Money],
@@ -65,7 +66,8 @@ pub(crate) fn next_best<A: Allocator + Clone, B: Allocator>(
 ) -> Result<Option<Key>, NoMemory>
     requires support { IsSupport supporters.now }
     requires rests { AreRests supporters.now.voters rests.now }
-    requires bounds { (m : Measure) × (left : List ℕ) × HasBounds m supporters.now rests.now left queue.old.keys }
+    requires bounds { (m : Measure) × (left : List ℕ)
+        × HasBounds m supporters.now rests.now left queue.old.keys }
     ensures { (m : Measure) (left : List ℕ) → HasBounds m supporters.now rests.now left queue.old.keys
         → IfOk result (FindsBest m supporters.now rests.now left limit.now queue.new.keys) }
 {

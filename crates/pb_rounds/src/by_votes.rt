@@ -1,4 +1,5 @@
-//! Most votes first: projects in the order of their votes, each where it still fits, from an empty list or after others.
+//! Most votes first: projects in the order of their votes, each where it still fits, from an empty list or
+//! after others.
 
 mod candidate;
 pub mod filling_up;

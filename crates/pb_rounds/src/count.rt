@@ -1,6 +1,7 @@
 //! Counts of elections, plain or completed by raises.
 
-ghost use Rattle.std.specs.Prelude.{◌≡◌, ◌+◌, ◌≤◌, ℕ, List, None, IfOk, IfErr, MatchBool, MatchOption, IsOkUnless, length, ⊤};
+ghost use Rattle.std.specs.Prelude.{◌≡◌, ◌+◌, ◌≤◌, ℕ, List, None, IfOk, IfErr, MatchBool, MatchOption};
+ghost use Rattle.std.specs.Prelude.{IsOkUnless, length, ⊤};
 ghost use Rattle.pb_core.specs.Election.{IsElection};
 ghost use Rattle.pb_core.specs.Money.{largest_money};
 ghost use Rattle.pb_price.specs.Price.{largest_share};
@@ -60,17 +61,17 @@ pub(crate) fn opening_share<B: Allocator>(election: &Election<B>) -> Money
     Money(election.budget().0 / voters)
 }
 
-/// The method of equal shares at one share (Peters, Pierczynski and Skowron 2021, with whole payments): while a project
-/// that is left has a price, the one with the least price is elected, under measure cost the one with the least price over
-/// cost, the earliest in the file among equals, and each of its supporters pays the price, or all that is left to them
-/// where that is less.
+/// The method of equal shares at one share (Peters, Pierczynski and Skowron 2021, with whole payments): while
+/// a project that is left has a price, the one with the least price is elected, under measure cost the one
+/// with the least price over cost, the earliest in the file among equals, and each of its supporters pays the
+/// price, or all that is left to them where that is less.
 ///
-/// The first round prices every project, the later ones those whose last known price could still be the best. The workers
-/// price side by side, each project a piece, and meet the gate before each piece; what is elected is the same for any
-/// number of them.
+/// The first round prices every project, the later ones those whose last known price could still be the best.
+/// The workers price side by side, each project a piece, and meet the gate before each piece; what is elected
+/// is the same for any number of them.
 ///
-/// The share is at most 2 * 10^15 hundredths. WorkerCount is answered where the number of workers is not 1 to 64, and
-/// NoMemory where an allocation was refused.
+/// The share is at most 2 * 10^15 hundredths. WorkerCount is answered where the number of workers is not 1 to
+/// 64, and NoMemory where an allocation was refused.
 pub fn equal_shares<R: Threads + Sync, G: Gate, A: Allocator + Send + Sync, B: Allocator>(
     rt: &R,
     alloc: A,
@@ -111,8 +112,8 @@ where
     Ok(outcome)
 }
 
-/// Counts an election: the outcome at the opening share, or with completion by raises the first one that is exhausted, or
-/// the last one before the first that is over the budget.
+/// Counts an election: the outcome at the opening share, or with completion by raises the first one that is
+/// exhausted, or the last one before the first that is over the budget.
 ///
 /// The options are checked first, workers, step and raises in this order, whatever the completion.
 pub fn count<R: Threads + Sync, A: Allocator + Send + Sync, B: Allocator>(
@@ -132,7 +133,7 @@ where
     count_watched(rt, alloc, election, options, &NoGate)
 }
 
-/// The same, and the gate is told of raises before they are tried.
+/// Counts as `count` does, and tells the gate of raises before they are tried.
 pub fn count_watched<R: Threads + Sync, G: Gate, A: Allocator + Send + Sync, B: Allocator>(
     rt: &R,
     alloc: A,

@@ -9,7 +9,7 @@ use pb_core::no_memory::NoMemory;
 use thiserror::Error;
 
 /// The names of `CountFault`, in the order of its variants.
-pub(crate) const NAMES: [&str; 5] = [
+pub const NAMES: [&str; 5] = [
     "WorkerCount",
     "StepRange",
     "RaisesRange",

@@ -1,6 +1,7 @@
 //! Which projects are elected, and whether another could be added.
 
-ghost use Rattle.std.specs.Prelude.{◌≡◌, ◌<◌, List, OnOk, false, length, nat_le, nat_lt, replicate, slice_set, true, ◌&&◌};
+ghost use Rattle.std.specs.Prelude.{◌≡◌, ◌<◌, List, OnOk, false, length, nat_le, nat_lt, replicate};
+ghost use Rattle.std.specs.Prelude.{slice_set, true, ◌&&◌};
 ghost use Rattle.pb_price.specs.Supporters.{supporters_at, cost_at};
 ghost use Rattle.pb_rounds.specs.Count.{spent_on, is_exhausted};
 ghost use Rattle.pb_rounds.specs.Inner.Queue.{AreMarked};
@@ -41,8 +42,8 @@ fn is_affordable<A: Allocator>(supporters: &Supporters<A>, place: u32, money: u1
     !supporters.of(place).is_empty() && u128::from(supporters.cost(place).0) <= money
 }
 
-/// Whether the elected are within the budget, and no other project could be added to them: the marks say of each project
-/// whether it is elected, and `spent` is what the elected cost together, in hundredths.
+/// Whether the elected are within the budget, and no other project could be added to them: the marks say of
+/// each project whether it is elected, and `spent` is what the elected cost together, in hundredths.
 pub(crate) fn is_exhausted<A: Allocator>(
     supporters: &Supporters<A>,
     budget: Money,

@@ -1,8 +1,11 @@
-//! The front of a completion: the first rounds of its runs, as far as they are the same at every larger share.
+//! The front of a completion: the first rounds of its runs, as far as they are the same at every larger
+//! share.
 
-ghost use Rattle.std.specs.Prelude.{◌≡◌, ◌+◌, ◌-◌, ◌∷◌, ◌<◌, ◌≤◌, All, IfOk, MatchOption, OnOk, length, map, slice_index, true};
+ghost use Rattle.std.specs.Prelude.{◌≡◌, ◌+◌, ◌-◌, ◌∷◌, ◌<◌, ◌≤◌, All, IfOk, MatchOption, OnOk, length, map};
+ghost use Rattle.std.specs.Prelude.{slice_index, true};
 ghost use Rattle.pb_price.specs.Price.{largest_share};
-ghost use Rattle.pb_rounds.specs.Inner.Front.{CanAllPay, IsFront, IsFrontAt, IsCopyUpTo, raised_by, with_next};
+ghost use Rattle.pb_rounds.specs.Inner.Front.{CanAllPay, IsFront, IsFrontAt, IsCopyUpTo, raised_by};
+ghost use Rattle.pb_rounds.specs.Inner.Front.{with_next};
 ghost use Rattle.pb_rounds.specs.Inner.Queue.{IsIn};
 ghost use Rattle.pb_rounds.specs.Key.{KeyView};
 
@@ -23,9 +26,9 @@ use std::marker::Model;
 /// The largest share of the budget that a voter is given.
 const LARGEST_SHARE: Money = Money(2 * Money::LARGEST.0);
 
-/// The first rounds of a run, as far as each elects the next project in the order of the prices that all have where
-/// everybody can pay, and each of its supporters can pay that. They are the same at every larger share: there nobody has
-/// less, and no price falls below those.
+/// The first rounds of a run, as far as each elects the next project in the order of the prices that all have
+/// where everybody can pay, and each of its supporters can pay that. They are the same at every larger share:
+/// there nobody has less, and no price falls below those.
 #[derive(Drop)]
 pub(crate) struct Front<'a, A: Allocator> {
     pub(crate) measure: Measure,
@@ -104,7 +107,8 @@ impl<'a, A: Allocator + Copy> Front<'a, A> {
         requires front { IsFront (with_next head self.old) }
         requires can_pay { CanAllPay self.old.support self.old.outcome.rests head }
         ensures front { OnOk result (IsFront self.new) }
-        ensures of { OnOk result (IsFrontAt self.old.measure self.old.support self.old.outcome.share self.new) }
+        ensures of { OnOk result (IsFrontAt self.old.measure self.old.support self.old.outcome.share
+            self.new) }
         ensures queue { OnOk result (self.new.queue ≡ self.old.queue) }
     {
         let place = head.place();
@@ -114,8 +118,8 @@ impl<'a, A: Allocator + Copy> Front<'a, A> {
         Ok(())
     }
 
-    /// Begins a run at this share, which is no smaller, behind these rounds: the queue has who can be paid of those left,
-    /// and lists are used again. What the elected cost together, in hundredths.
+    /// Begins a run at this share, which is no smaller, behind these rounds: the queue has who can be paid of
+    /// those left, and lists are used again. What the elected cost together, in hundredths.
     pub(crate) fn start(
         &self,
         share: Money,
@@ -129,7 +133,8 @@ impl<'a, A: Allocator + Copy> Front<'a, A> {
         ensures spent { IfOk result (λ spent. spent ≡ self.now.spent) }
         ensures queue { OnOk result (IsCopyUpTo share self.now.queue queue.new.keys) }
         ensures marks { OnOk result (marks.new.items ≡ self.now.marks) }
-        ensures outcome { OnOk result (outcome.new ≡ raised_by (share - self.now.outcome.share) self.now.outcome) }
+        ensures outcome { OnOk result
+            (outcome.new ≡ raised_by (share - self.now.outcome.share) self.now.outcome) }
     {
         copy_up_to(queue, &self.queue, share)?;
         marks.clear();

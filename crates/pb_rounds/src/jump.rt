@@ -22,10 +22,10 @@ use pb_price::supporters::Supporters;
 use std::alloc::Allocator;
 
 impl<A: Allocator + Copy> Trial<A> {
-    /// Whether the projects that a smaller share elects are elected at this share too, and at every share in between: at
-    /// each round of this share the project elected last time is the best, and no other left comes before or beside the
-    /// price that it had at the smaller share; at the end nobody is left who can be paid. Then the outcome
-    /// has whom this share elects.
+    /// Whether the projects that a smaller share elects are elected at this share too, and at every share in
+    /// between: at each round of this share the project elected last time is the best, and no other left
+    /// comes before or beside the price that it had at the smaller share; at the end nobody is left who can
+    /// be paid. Then the outcome has whom this share elects.
     pub(crate) fn keeps(
         &mut self,
         measure: Measure,
@@ -50,7 +50,8 @@ impl<A: Allocator + Copy> Trial<A> {
         Ok(more.is_none())
     }
 
-    /// Begins a run at this share: the queue has who can be paid, nobody is elected, and every rest is the share.
+    /// Begins a run at this share: the queue has who can be paid, nobody is elected, and every rest is the
+    /// share.
     fn start(
         &mut self,
         measure: Measure,
@@ -75,8 +76,8 @@ impl<A: Allocator + Copy> Trial<A> {
         Ok(())
     }
 
-    /// Whether this round elects the project that was elected at a smaller share, while no other comes before or beside its
-    /// price there. Then its supporters pay.
+    /// Whether this round elects the project that was elected at a smaller share, while no other comes before
+    /// or beside its price there. Then its supporters pay.
     fn follows(&mut self, supporters: &Supporters<A>, last: &Elected) -> Result<bool, NoMemory>
         requires support { IsSupport supporters.now }
         requires rests { AreRests supporters.now.voters self.old.outcome.rests }

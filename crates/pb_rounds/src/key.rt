@@ -6,8 +6,9 @@ use pb_core::money::Money;
 use std::cmp::Ordering;
 use std::marker::Model;
 
-/// What a round orders projects by: the smaller price over weight comes first, and among equals the project that stands
-/// earlier in the file. (The place decides before the weight, which only tells apart keys that are made by hand.)
+/// What a round orders projects by: the smaller price over weight comes first, and among equals the project
+/// that stands earlier in the file. (The place decides before the weight, which only tells apart keys that
+/// are made by hand.)
 #[derive(Clone, Copy, Debug, PartialEq, Eq)]
 pub struct Key {
     price: Money,
@@ -29,7 +30,8 @@ impl Model for Key {
 }
 
 impl Key {
-    /// The key of the project at this place, at this price, in hundredths, and this weight, which is at least 1.
+    /// The key of the project at this place, at this price, in hundredths, and this weight, which is at least
+    /// 1.
     pub fn new(price: Money, weight: u64, place: u32) -> Key
         requires { 1 ≤ weight }
         ensures { result ≡ record { price = price; weight = weight; place = place } }

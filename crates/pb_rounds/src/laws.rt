@@ -22,8 +22,8 @@ pub fn opening_share_is_largest()
     ensures nobody { (e : ElectionView) → length e.voters ≡ 0 → opening_share e ≡ 0 }
 {}
 
-/// Completion by raises decides on a number of raises exactly where the words of its rule hold of that number, and on none
-/// exactly where no number of raises up to the limit ends it.
+/// Completion by raises decides on a number of raises exactly where the words of its rule hold of that
+/// number, and on none exactly where no number of raises up to the limit ends it.
 pub fn completion_is_its_rule()
     ensures decided { (m : Measure) (e : ElectionView) (step limit raises : ℕ) → IsElection e
         → (add1_of m e step limit ≡ Some raises) ↔ IsCompleted m e step limit raises }
@@ -31,8 +31,8 @@ pub fn completion_is_its_rule()
         → (add1_of m e step limit ≡ None) ↔ AreSpent m e step limit }
 {}
 
-/// A count has one outcome, up to how many prices were computed, and `count_of` computes it; it computes none exactly
-/// where the raises are spent.
+/// A count has one outcome, up to how many prices were computed, and `count_of` computes it; it computes none
+/// exactly where the raises are spent.
 pub fn count_is_computed()
     ensures one { (e : ElectionView) (options : CountOptions) (first second : OutcomeView)
         → IsCountOf e options first → IsCountOf e options second
@@ -43,8 +43,9 @@ pub fn count_is_computed()
         → (count_of e options ≡ None) ↔ IsCountFault e options RaisesSpent }
 {}
 
-/// The run at a share is the one of which the words of its rule hold: each of the elected was the cheapest of its round and
-/// collected what its supporters could pay of its price, the rests are what is left then, and no project left has a price.
+/// The run at a share is the one of which the words of its rule hold: each of the elected was the cheapest of
+/// its round and collected what its supporters could pay of its price, the rests are what is left then, and
+/// no project left has a price.
 pub fn run_is_its_rule()
     ensures { (m : Measure) (e : ElectionView) (share : ℕ) (run : RunView) → IsElection e
         → (run ≡ outcome_of m e share) ↔ IsRun m (support_of e) share run.elected run.rests }

@@ -1,4 +1,5 @@
-//! The Method of Equal Shares in rounds (Peters, Pierczynski and Skowron 2021), and its completion by raises of the share.
+//! The Method of Equal Shares in rounds (Peters, Pierczynski and Skowron 2021), and its completion by raises
+//! of the share.
 #![tactic(auto)]
 
 mod bounds;
@@ -19,6 +20,9 @@ mod queue;
 mod raise_end;
 mod reach;
 mod round;
+pub mod rule;
+pub mod rule_names;
+mod rule_words;
 mod run;
 mod shortcut_laws;
 mod side_by_side;
@@ -31,3 +35,4 @@ pub use key::Key;
 pub use measure::Measure;
 pub use options::{Completion, CountOptions};
 pub use outcome::{Elected, Outcome};
+pub use rule::{FillUp, Rule};

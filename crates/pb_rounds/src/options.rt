@@ -19,7 +19,8 @@ pub const MOST_RAISES: u32 = 1_000_000;
 pub enum Completion {
     /// Nothing: the outcome at the opening share stands.
     Plain,
-    /// Everyone's share is raised step by step, until the elected cost too much or nothing more could be bought.
+    /// Everyone's share is raised step by step, until the elected cost too much or nothing more could be
+    /// bought.
     Add1,
 }
 

@@ -1,5 +1,5 @@
-//! When a jump over raises is tried, and how far it goes. No outcome depends on it, but the time does: a jump that fails was
-//! in vain, and costs about as much as a trial.
+//! When a jump over raises is tried, and how far it goes. No outcome depends on it, but the time does: a jump
+//! that fails was in vain, and costs about as much as a trial.
 
 ghost use Rattle.std.specs.Prelude.{◌≤◌};
 
@@ -58,7 +58,8 @@ impl Pace {
         self.wait = 1;
     }
 
-    /// After a jump that failed the next one goes a quarter as far. Whether it is tried at once, without another trial.
+    /// After a jump that failed the next one goes a quarter as far. Whether it is tried at once, without
+    /// another trial.
     pub(crate) fn lost(&mut self) -> bool {
         if self.distance >= 8 {
             self.distance /= 4;

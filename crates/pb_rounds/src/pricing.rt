@@ -26,8 +26,8 @@ pub(crate) struct Pricing<'a, R, G, A: Allocator> {
     pub(crate) supporters: &'a Supporters<A>,
 }
 
-/// How many of the workers price these projects: one, and one more for each share of the approvals that is worth a thread,
-/// as far as there are workers.
+/// How many of the workers price these projects: one, and one more for each share of the approvals that is
+/// worth a thread, as far as there are workers.
 pub(crate) fn workers_for<A: Allocator>(
     workers: u32,
     supporters: &Supporters<A>,
@@ -45,7 +45,8 @@ pub(crate) fn workers_for<A: Allocator>(
     threads.min(u64::from(workers)) as u32
 }
 
-/// How many of the workers try raises side by side: all, unless a trial takes no longer than starting a thread.
+/// How many of the workers try raises side by side: all, unless a trial takes no longer than starting a
+/// thread.
 pub(crate) fn workers_for_trials<A: Allocator>(workers: u32, supporters: &Supporters<A>) -> u32
     requires { is_worker_count workers ≡ true }
     ensures { (0 < result) × (result ≤ workers) }

@@ -11,7 +11,8 @@ use pb_price::supporters::Supporters;
 use std::alloc::Allocator;
 use std::collections::BTreeSet;
 
-/// Fills the queue with every project, in place of what it held. Each is known to cost its supporters at least 0.
+/// Fills the queue with every project, in place of what it held. Each is known to cost its supporters at
+/// least 0.
 pub(crate) fn fill<A: Allocator + Clone, B: Allocator>(
     queue: &mut BTreeSet<Key, A>,
     measure: Measure,
@@ -27,7 +28,8 @@ pub(crate) fn fill<A: Allocator + Clone, B: Allocator>(
     Ok(())
 }
 
-/// Takes the head of the queue out, unless there is none, or the best that was priced in this round comes before it.
+/// Takes the head of the queue out, unless there is none, or the best that was priced in this round comes
+/// before it.
 pub(crate) fn take_head<A: Allocator>(
     queue: &mut BTreeSet<Key, A>,
     best: &Option<Key>,
@@ -43,8 +45,8 @@ pub(crate) fn take_head<A: Allocator>(
     }
 }
 
-/// Takes heads of the queue out, at most this many, up to the first that the best of this round comes before, and puts
-/// their places after the others.
+/// Takes heads of the queue out, at most this many, up to the first that the best of this round comes before,
+/// and puts their places after the others.
 pub(crate) fn take_heads<A: Allocator, B: Allocator>(
     queue: &mut BTreeSet<Key, A>,
     best: &Option<Key>,

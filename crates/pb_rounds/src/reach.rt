@@ -31,7 +31,8 @@ fn lesser(least: Option<Money>, cost: Money) -> Option<Money>
     }
 }
 
-/// Whether the projects within reach of this share leave of the budget what some other project with supporters costs.
+/// Whether the projects within reach of this share leave of the budget what some other project with
+/// supporters costs.
 fn leaves_room<A: Allocator>(supporters: &Supporters<A>, budget: Money, share: Money) -> bool
     ensures { result ≡ true → LeavesRoom supporters.now budget share }
 {
@@ -52,8 +53,8 @@ fn leaves_room<A: Allocator>(supporters: &Supporters<A>, budget: Money, share: M
     }
 }
 
-/// How many raises, the unraised share among them, leave room and so decide nothing. They are the first ones, since more
-/// projects are within reach as the share grows.
+/// How many raises, the unraised share among them, leave room and so decide nothing. They are the first ones,
+/// since more projects are within reach as the share grows.
 pub(crate) fn raises_with_room<A: Allocator>(
     supporters: &Supporters<A>,
     budget: Money,

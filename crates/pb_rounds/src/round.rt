@@ -1,6 +1,7 @@
 //! One round: the heads of the queue are priced until the best project is known.
 
-ghost use Rattle.std.specs.Prelude.{◌≡◌, ◌+◌, ◌∷◌, ◌++◌, [], ◌<◌, ◌≤◌, ◌^◌, All, length, max, min, true, IfOk, None, OnOk, Some};
+ghost use Rattle.std.specs.Prelude.{◌≡◌, ◌+◌, ◌∷◌, ◌++◌, [], ◌<◌, ◌≤◌, ◌^◌, All, length, max, min, true};
+ghost use Rattle.std.specs.Prelude.{IfOk, None, OnOk, Some};
 ghost use Rattle.std.specs.List.Sorted.{IsStrictlyIncreasing};
 ghost use Rattle.pb_core.specs.Election.{most_projects};
 ghost use Rattle.pb_price.specs.Price.{paid_at, price_at, AreRests, largest_count};
@@ -76,9 +77,11 @@ fn price_heads<R: Threads + Sync, G: Gate, A: Allocator + Copy + Send + Sync>(
     requires few { length heads.now ≤ most_projects }
     requires best { fresh.old.best ≡ first_least is_before fresh.old.keys.items }
     ensures fresh { OnOk result (fresh.new.keys.items
-        ≡ fresh.old.keys.items ++ keys_at pricing.now.measure pricing.now.supporters.now rests.now heads.now) }
+        ≡ fresh.old.keys.items ++ keys_at pricing.now.measure pricing.now.supporters.now rests.now
+        heads.now) }
     ensures best { OnOk result (fresh.new.best ≡ first_least is_before fresh.new.keys.items) }
-    ensures counted { OnOk result (tally.new.prices ≡ min (tally.old.prices + length heads.now) largest_count) }
+    ensures counted { OnOk result
+        (tally.new.prices ≡ min (tally.old.prices + length heads.now) largest_count) }
     ensures workers { OnOk result (tally.new.workers ≡ min (tally.old.workers + max 1 (min (length heads.now)
         (workers_for pricing.now.workers pricing.now.supporters.now heads.now))) largest_count) }
 {
@@ -102,8 +105,9 @@ fn price_heads<R: Threads + Sync, G: Gate, A: Allocator + Copy + Send + Sync>(
 }
 
 impl<A: Allocator + Copy + Send + Sync> Run<A> {
-    /// Prices the heads of the queue, as far as the best of this round needs, and gives that best. The places that were
-    /// priced and the fresh keys are those of this round alone; the number of prices goes after the outcome's others.
+    /// Prices the heads of the queue, as far as the best of this round needs, and gives that best. The places
+    /// that were priced and the fresh keys are those of this round alone; the number of prices goes after the
+    /// outcome's others.
     pub(crate) fn price_round<R: Threads + Sync, G: Gate>(
         &mut self,
         pricing: &Pricing<R, G, A>,
@@ -113,7 +117,8 @@ impl<A: Allocator + Copy + Send + Sync> Run<A> {
         requires workers { is_worker_count pricing.now.workers ≡ true }
         requires most { 0 < most }
         requires rests { AreRests pricing.now.supporters.now.voters outcome.old.rests }
-        requires known { (k : KeyView) → IsIn k self.old.queue.keys → k.place < length pricing.now.supporters.now.costs }
+        requires known { (k : KeyView) → IsIn k self.old.queue.keys → k.place
+            < length pricing.now.supporters.now.costs }
         requires few { length self.old.queue.keys ≤ most_projects }
         ensures priced { IfOk result
             (PricesHeads pricing.now.measure pricing.now.supporters.now outcome.old.rests most
@@ -131,8 +136,8 @@ impl<A: Allocator + Copy + Send + Sync> Run<A> {
         Ok(best)
     }
 
-    /// Prices the heads of the queue at these rests, in batches of at most this many, until the best that was priced comes
-    /// before the head, and gives that best.
+    /// Prices the heads of the queue at these rests, in batches of at most this many, until the best that was
+    /// priced comes before the head, and gives that best.
     fn price_batches<R: Threads + Sync, G: Gate>(
         &mut self,
         pricing: &Pricing<R, G, A>,
@@ -143,7 +148,8 @@ impl<A: Allocator + Copy + Send + Sync> Run<A> {
         requires workers { is_worker_count pricing.now.workers ≡ true }
         requires most { 0 < most }
         requires rests { AreRests pricing.now.supporters.now.voters rests.now }
-        requires known { (k : KeyView) → IsIn k self.old.queue.keys → k.place < length pricing.now.supporters.now.costs }
+        requires known { (k : KeyView) → IsIn k self.old.queue.keys → k.place
+            < length pricing.now.supporters.now.costs }
         requires few { length self.old.queue.keys ≤ most_projects }
         requires places { self.old.places.items ≡ [] }
         requires fresh { self.old.fresh.keys.items ≡ [] }
@@ -192,7 +198,8 @@ pub(crate) fn elect<A: Allocator>(
     Ok(())
 }
 
-/// Takes the price from the rest of each of these supporters, or the whole rest where that is less: what all paid together.
+/// Takes the price from the rest of each of these supporters, or the whole rest where that is less: what all
+/// paid together.
 fn charge(supporters: &[u32], price: Money, rests: &mut [Money]) -> Money
     requires known { All (λ voter. voter < length rests.old) supporters.now }
     requires rise { IsStrictlyIncreasing supporters.now }

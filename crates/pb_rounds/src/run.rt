@@ -114,7 +114,8 @@ pub(crate) fn whole_run<R: Threads + Sync, G: Gate, A: Allocator + Copy + Send +
     Ok(outcome)
 }
 
-/// Puts the opening of a run in place of what the outcome held: every rest is the share, and nobody is elected.
+/// Puts the opening of a run in place of what the outcome held: every rest is the share, and nobody is
+/// elected.
 pub(crate) fn open<A: Allocator>(
     outcome: &mut Outcome<A>,
     share: Money,

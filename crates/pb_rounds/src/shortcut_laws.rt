@@ -1,5 +1,5 @@
-//! Why the shortcuts of a completion pass over no raise that decides, each as the contract of a function that does nothing.
-//! Nobody has to believe them: what a count promises says nothing of shortcuts.
+//! Why the shortcuts of a completion pass over no raise that decides, each as the contract of a function that
+//! does nothing. Nobody has to believe them: what a count promises says nothing of shortcuts.
 
 ghost use Rattle.std.specs.Prelude.{◌≡◌, ◌<◌, ◌≤◌, ℕ};
 ghost use Rattle.pb_core.specs.Election.{ElectionView};
@@ -11,20 +11,21 @@ ghost use Rattle.pb_rounds.specs.Inner.Reach.{LeavesRoom};
 ghost use Rattle.pb_rounds.specs.Run.{outcome_of};
 ghost use Rattle.pb_rounds.specs.declared.measure.Measure.{Measure};
 
-/// Where the projects within reach of a share leave of the budget what some other project with supporters costs, the
-/// outcome at that share is neither over the budget nor exhausted.
+/// Where the projects within reach of a share leave of the budget what some other project with supporters
+/// costs, the outcome at that share is neither over the budget nor exhausted.
 pub fn room_decides_nothing()
     ensures { (m : Measure) (e : ElectionView) (share : ℕ) → LeavesRoom (support_of e) e.budget share
         → (¬ (e.budget < spent_on (support_of e) (outcome_of m e share).elected))
         × (¬ IsExhausted (support_of e) e.budget (outcome_of m e share).elected) }
 {}
 
-/// Where the projects elected at a smaller share are so from a larger one, each before every other even at its price of the
-/// smaller share, every share in between elects the same projects in the same order. (For the same elected before, rests
-/// grow with the share and prices fall. So in between the elected project's price is at most that of the smaller share, and
-/// the others' prices are at least those of the larger one.)
+/// Where the projects elected at a smaller share are so from a larger one, each before every other even at
+/// its price of the smaller share, every share in between elects the same projects in the same order. (For
+/// the same elected before, rests grow with the share and prices fall. So in between the elected project's
+/// price is at most that of the smaller share, and the others' prices are at least those of the larger one.)
 pub fn same_elected_in_between()
     ensures { (m : Measure) (e : ElectionView) (small share large : ℕ) → small ≤ share → share ≤ large
         → KeepsUpTo m (support_of e) small large
-        → places_of_elected (outcome_of m e share).elected ≡ places_of_elected (outcome_of m e small).elected }
+        → places_of_elected (outcome_of m e share).elected ≡ places_of_elected
+        (outcome_of m e small).elected }
 {}

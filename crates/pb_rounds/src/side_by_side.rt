@@ -1,6 +1,7 @@
 //! Completion by raises that are tried, side by side where there are several workers, until one decides.
 
-ghost use Rattle.std.specs.Prelude.{◌≡◌, ◌+◌, ◌*◌, ◌<◌, ◌≤◌, ℕ, None, length, slice_index_or, Some, IfOk, IfErr, MatchOption, OnOk, ⊤, false, ◌-◌, true};
+ghost use Rattle.std.specs.Prelude.{◌≡◌, ◌+◌, ◌*◌, ◌<◌, ◌≤◌, ℕ, None, length, slice_index_or, Some, IfOk};
+ghost use Rattle.std.specs.Prelude.{IfErr, MatchOption, OnOk, ⊤, false, ◌-◌, true};
 ghost use Rattle.pb_core.specs.Money.{largest_money};
 ghost use Rattle.pb_rounds.specs.Count.{add1_of, elected_after, is_decisive, share_after};
 ghost use Rattle.pb_rounds.specs.Inner.Count.{IsCompletionFault};
@@ -26,7 +27,8 @@ use std::alloc::Allocator;
 use std::mem::swap;
 use std::thread::{self, Threads};
 
-/// The most jumps after one group, so that the loop ends; a count that reaches it goes on with the next group.
+/// The most jumps after one group, so that the loop ends; a count that reaches it goes on with the next
+/// group.
 const MOST_JUMPS: u32 = 1_000;
 
 /// Raises that are tried side by side, from this number of raises on.
@@ -77,11 +79,14 @@ fn try_group<R: Threads + Sync, G: Gate, A: Allocator + Copy + Send + Sync>(
 {
     let try_one = |i: usize, trial: &mut [Trial<A>]|
         requires { (length trial.now ≡ 1) × (group.now.opening ≤ largest_money)
-            × (group.now.step ≤ largest_step) × (group.now.next + i ≤ most_raises) × IsFront group.now.front.now
+            × (group.now.step ≤ largest_step) × (group.now.next + i ≤ most_raises)
+            × IsFront group.now.front.now
             × IsFrontAt group.now.pricing.now.measure group.now.pricing.now.supporters.now
             (group.now.opening + group.now.next * group.now.step) group.now.front.now }
-        ensures { (d : _) → IsFound group.entry.now.pricing.now.measure group.entry.now.pricing.now.supporters.now
-            group.entry.now.budget (group.entry.now.opening + (group.entry.now.next + i) * group.entry.now.step)
+        ensures { (d : _) → IsFound group.entry.now.pricing.now.measure
+            group.entry.now.pricing.now.supporters.now
+            group.entry.now.budget (group.entry.now.opening
+            + (group.entry.now.next + i) * group.entry.now.step)
             (slice_index_or trial.exit.now 0 d).outcome.elected (slice_index_or trial.exit.now 0 d).end }
     { group.try_raise(i, &mut trial[0]) };
     thread::for_each_chunk_mut(group.pricing.rt, trials.as_mut_slice(), 1, &try_one);
@@ -113,10 +118,10 @@ where
     A: Allocator + Copy + Send + Sync,
     B: Allocator,
 {
-    /// Tries raises side by side, one for each trial, from this number of raises on, none before which decides: how many
-    /// raises the completion decides on, where one of these decides. The first of them that does counts, whatever the later
-    /// ones say. Where none does, the last trial has whom the last of these raises elects. The front is that of the first of
-    /// these raises.
+    /// Tries raises side by side, one for each trial, from this number of raises on, none before which
+    /// decides: how many raises the completion decides on, where one of these decides. The first of them that
+    /// does counts, whatever the later ones say. Where none does, the last trial has whom the last of these
+    /// raises elects. The front is that of the first of these raises.
     fn try_raises(
         &self,
         front: &Front<'_, A>,
@@ -166,8 +171,8 @@ where
         Ok(None)
     }
 
-    /// Whether every raise from this number on up to the target elects what the last one tried elected, so that none of
-    /// them decides as that did not. Then the last trial has whom the target elects.
+    /// Whether every raise from this number on up to the target elects what the last one tried elected, so
+    /// that none of them decides as that did not. Then the last trial has whom the target elects.
     fn jump(
         &self,
         last: &mut Trial<A>,
@@ -199,8 +204,8 @@ where
         Ok(keeps)
     }
 
-    /// Jumps ahead from the last raise that was tried, as far as that goes: the number of raises that is tried next, none
-    /// before which decides.
+    /// Jumps ahead from the last raise that was tried, as far as that goes: the number of raises that is
+    /// tried next, none before which decides.
     fn jump_ahead(
         &self,
         last: &mut Trial<A>,
@@ -238,9 +243,9 @@ where
         Ok(next)
     }
 
-    /// How many raises the completion decides on, from this number on, none before which decides. They are tried in groups
-    /// that grow until each worker has a raise, or each processor where those are fewer. After each group raises are jumped
-    /// over, as far as they elect the same.
+    /// How many raises the completion decides on, from this number on, none before which decides. They are
+    /// tried in groups that grow until each worker has a raise, or each processor where those are fewer.
+    /// After each group raises are jumped over, as far as they elect the same.
     fn decide(&self, team: &mut Team<A>, from: u32) -> Result<Option<u32>, NoMemory>
         requires given { CanComplete self.now.election.now self.now.pricing.now.workers
             self.now.pricing.now.supporters.now self.now.step self.now.max_raises }
@@ -249,7 +254,8 @@ where
         requires tried { (raises : ℕ) → raises < from
             → is_decisive self.now.pricing.now.measure self.now.election.now self.now.step raises ≡ false }
         ensures { IfOk result (λ found.
-            (add1_of self.now.pricing.now.measure self.now.election.now self.now.step self.now.max_raises ≡ found)
+            (add1_of self.now.pricing.now.measure self.now.election.now self.now.step
+            self.now.max_raises ≡ found)
             × MatchOption found ⊤ (λ raises. raises ≤ self.now.max_raises)) }
     {
         let pricing = self.pricing;
@@ -291,9 +297,9 @@ fn processors(rt: &impl Threads) -> u32
     }
 }
 
-/// Makes the trials as many as the next group has, of the raises that are left: twice as many as the last one had, and at
-/// least 2, but at most one for each worker and for each processor, since what runs beside others on one processor only
-/// delays them.
+/// Makes the trials as many as the next group has, of the raises that are left: twice as many as the last one
+/// had, and at least 2, but at most one for each worker and for each processor, since what runs beside others
+/// on one processor only delays them.
 fn resize<A: Allocator + Copy>(
     alloc: A,
     trials: &mut Vec<Trial<A>, A>,
@@ -321,8 +327,8 @@ fn tell_pace<A: Allocator>(pace: &mut Pace, trials: &[Trial<A>]) {
     }
 }
 
-/// Completes by raises from this number on, none before which decides. The raise that is answered is run once more, with all
-/// workers.
+/// Completes by raises from this number on, none before which decides. The raise that is answered is run once
+/// more, with all workers.
 pub(crate) fn complete_by_trials<
     R: Threads + Sync,
     G: Gate,

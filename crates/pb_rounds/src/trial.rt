@@ -46,8 +46,8 @@ impl<A: Allocator> Trial<A> {
         }
     }
 
-    /// How a run at this share ends, and whom it elects, unless it is over. It begins behind the front, and goes no further
-    /// once the elected cost more than the budget.
+    /// How a run at this share ends, and whom it elects, unless it is over. It begins behind the front, and
+    /// goes no further once the elected cost more than the budget.
     pub(crate) fn end_of(
         &mut self,
         front: &Front<'_, A>,
@@ -59,7 +59,8 @@ impl<A: Allocator> Trial<A> {
         requires front { IsFront front.now }
         requires from { front.now.outcome.share ≤ share }
         requires small { share ≤ largest_share }
-        ensures { IfOk result (IsTried front.now.measure front.now.support budget share self.new.outcome.elected) }
+        ensures { IfOk result (IsTried front.now.measure front.now.support budget share
+            self.new.outcome.elected) }
     {
         let supporters = front.supporters;
         let most = u128::from(budget.0);

@@ -1,3 +1,4 @@
--- Words that only private contracts and the invariants of private fields speak of: nobody has to believe them.
+-- Words that only private contracts and the invariants of private fields speak of: nobody has to believe
+-- them.
 pub mod Reading
 pub mod Writing

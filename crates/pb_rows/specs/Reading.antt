@@ -1,5 +1,6 @@
 -- The records of a text.
-use Rattle.std.specs.Prelude.{◌≡◌, ◌+◌, ℕ, Bool, true, false, List, [], ◌∷◌, length, Option, Some, None, IfSome, IsSomeAnd, option_map, slice_get, ⊤}
+use Rattle.std.specs.Prelude.{◌≡◌, ◌+◌, ℕ, Bool, true, false, List, [], ◌∷◌, length, Option, Some, None}
+use Rattle.std.specs.Prelude.{IfSome, IsSomeAnd, option_map, slice_get, ⊤}
 use Rattle.csv.specs.Reading.{default_config, reader_state, records, records_from, source_of, strip_bom}
 use Rattle.csv.specs.Records.{AllText}
 use Rattle.csv.specs.declared.parser.Config.{Config}
@@ -36,7 +37,8 @@ IsNext (Some (first ∷ rest)) after found fields = (found ≡ true) × (fields 
 abbrev pub NextIsNoText : Option (List Fields) → Type 0
 NextIsNoText left = IfSome left (λ records. IsSomeAnd (slice_get records 0) (λ next. ¬ AllText next))
 
--- the records that are left: unknown after a fault, none after the end, and else those that a reader of csv still gives
+-- the records that are left: unknown after a fault, none after the end, and else those that a reader of csv
+-- still gives
 abbrev pub left_of : {R : Type 0} → (R → Option (List ℕ)) → Reader R → Option RecordsFault → Bool → Option (List Fields)
 left_of remaining reader (Some fault) has_ended = None
 left_of remaining reader None true = Some []

@@ -62,7 +62,8 @@ fn is_rising(places: &[u32]) -> bool
 
 /// Writes the places at the end of `text`, in decimal with `,` between two.
 ///
-/// It fails only where memory is refused, and then some of them may stand there, after what stood there before.
+/// It fails only where memory is refused, and then some of them may stand there, after what stood there
+/// before.
 pub fn write_places<A: Allocator>(places: &[u32], text: &mut String<A>) -> Result<(), AllocError>
     ensures ok { OnOk result (string_bytes text.new ≡ string_bytes text.old ++ places_text places.now) }
     ensures err { OnErr result ((part : List ℕ) × (string_bytes text.new ≡ string_bytes text.old ++ part)) }

@@ -1,5 +1,6 @@
 -- Which rows a desk admits, and how they name projects.
-use Rattle.std.specs.Prelude.{◌≡◌, ℕ, Bool, true, not, is_some, nat_le, List, [], ◌∷◌, length, Option, Some, None, Result, Ok, Err, if◌then◌else◌}
+use Rattle.std.specs.Prelude.{◌≡◌, ℕ, Bool, true, not, is_some, nat_le, List, [], ◌∷◌, length, Option, Some}
+use Rattle.std.specs.Prelude.{None, Result, Ok, Err, if◌then◌else◌}
 use Rattle.std.specs.FinMap.{get}
 use Rattle.std.specs.Option.{option_map_or}
 use Rattle.csv.specs.Records.{AllText}
@@ -18,9 +19,9 @@ use Rattle.pb_script.specs.declared.admission.RowRefusal.TheVariants.{Bad, Unkno
 abbrev pub open_to_all : Admission
 open_to_all = record { ids = None; roll = None; least = 0 }
 
--- The row by places that a row stands for: itself, or where rows name projects by these ids, that of the places of
--- the ids in its last field, which is read as a vote of a file. Place 0 stands for a field with anything else, so that
--- the rest of its row can be judged.
+-- The row by places that a row stands for: itself, or where rows name projects by these ids, that of the
+-- places of the ids in its last field, which is read as a vote of a file. Place 0 stands for a field with
+-- anything else, so that the rest of its row can be judged.
 abbrev pub by_places : Option (List (List ℕ)) → Fields → Fields
 by_places (Some ids) (clerk ∷ word ∷ voter ∷ vote ∷ []) =
     clerk ∷ word ∷ voter ∷ places_text (if names_only ids vote then ballot_of ids vote else 0 ∷ []) ∷ []

@@ -1,5 +1,6 @@
 -- A voters' roll.
-use Rattle.std.specs.Prelude.{◌≡◌, ℕ, ◌+◌, ◌≤◌, ◌++◌, List, [], ◌∷◌, All, codes, drop, if◌then◌else◌, is_some, length, map, slice_index_or}
+use Rattle.std.specs.Prelude.{◌≡◌, ℕ, ◌+◌, ◌≤◌, ◌++◌, List, [], ◌∷◌, All, codes, drop, if◌then◌else◌, is_some}
+use Rattle.std.specs.Prelude.{length, map, slice_index_or}
 use Rattle.std.specs.Cmp.Lexicographic.{slice_cmp}
 use Rattle.std.specs.FinMap.{FinMap, get}
 use Rattle.std.specs.Ordering.{nat_cmp}
@@ -12,8 +13,8 @@ use Rattle.pb_script.specs.Script.{most_rows}
 use Rattle.pb_script.specs.declared.roll.RollFault.{RollFault}
 use Rattle.pb_script.specs.declared.roll.RollFault.TheVariants.{ReadFailed, NotText, TooManyIds, NoMemory}
 
--- the ids of a roll: the first fields of its records, without white space at their ends; a first one `voter_id` is a
--- header
+-- the ids of a roll: the first fields of its records, without white space at their ends; a first one
+-- `voter_id` is a header
 abbrev pub ids_of : List Fields → List (List ℕ)
 ids_of records = let ids = map (λ row. trim (field row 0)) records in
     if bytes_eq (slice_index_or ids 0 []) (codes "voter_id") then drop 1 ids else ids

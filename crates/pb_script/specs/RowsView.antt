@@ -4,7 +4,8 @@ use Rattle.pb_rows.specs.Reading.{Fields}
 use Rattle.pb_rows.specs.declared.fault.RecordsFault.{RecordsFault}
 use Rattle.pb_rows.specs.declared.fault.RecordsFault.TheVariants.{NoMemory}
 
--- the records that are still to come, where they are known; what stopped the reading; and how many rows were given
+-- the records that are still to come, where they are known; what stopped the reading; and how many rows were
+-- given
 pub record RowsView : Type 0 where
   pub left : Option (List Fields)
   pub fault : Option RecordsFault

@@ -12,8 +12,8 @@ pub record ScriptRowView : Type 0 where
   pub clerk : ℕ
   pub request : RequestView
 
--- The row of a script for this many clerks that says this, all of it text: the clerk, from 0, who is one of them and
--- of 64; and the fields that ask it, read leniently.
+-- The row of a script for this many clerks that says this, all of it text: the clerk, from 0, who is one of
+-- them and of 64; and the fields that ask it, read leniently.
 pub record IsScriptRow (clerks : ℕ) (row : Fields) (x : ScriptRowView) : Type 0 where
   pub is_text : AllText row
   pub by_clerk : (x.clerk < clerks) × (x.clerk < most_clerks)

@@ -4,7 +4,9 @@ use Rattle.pb_core.specs.Numbered.{numbered}
 use Rattle.pb_script.specs.Script.{most_rows}
 use Rattle.pb_script.specs.contracts.script_fault.ScriptFault.{the_type}
 use Rattle.pb_script.specs.declared.script_fault.ScriptFault.{ScriptFault}
-use Rattle.pb_script.specs.declared.script_fault.ScriptFault.TheVariants.{ReadFailed, BadRow, TooManyRows, NoMemory, UnknownId, NotOnRoll, TooFew}
+use Rattle.pb_script.specs.declared.script_fault.ScriptFault.TheVariants.{ReadFailed, BadRow, TooManyRows}
+use Rattle.pb_script.specs.declared.script_fault.ScriptFault.TheVariants.{NoMemory, UnknownId, NotOnRoll}
+use Rattle.pb_script.specs.declared.script_fault.ScriptFault.TheVariants.{TooFew}
 use Rattle.pb_script.specs.declared.script_fault.TheConstants.{NAMES}
 
 -- the fault's number and name

@@ -7,7 +7,9 @@ use Rattle.pb_script.specs.declared.admission.Admission.{Admission}
 use Rattle.pb_script.specs.declared.admission.RowRefusal.{RowRefusal}
 use Rattle.pb_script.specs.declared.admission.RowRefusal.TheVariants as row
 use Rattle.pb_script.specs.declared.script_fault.ScriptFault.{ScriptFault}
-use Rattle.pb_script.specs.declared.script_fault.ScriptFault.TheVariants.{ReadFailed, BadRow, TooManyRows, NoMemory, UnknownId, NotOnRoll, TooFew}
+use Rattle.pb_script.specs.declared.script_fault.ScriptFault.TheVariants.{ReadFailed, BadRow, TooManyRows}
+use Rattle.pb_script.specs.declared.script_fault.ScriptFault.TheVariants.{NoMemory, UnknownId, NotOnRoll}
+use Rattle.pb_script.specs.declared.script_fault.ScriptFault.TheVariants.{TooFew}
 
 -- the fault of a script whose row of this number is refused for this
 abbrev pub fault_of_row : RowRefusal → ℕ → ScriptFault

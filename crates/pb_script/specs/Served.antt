@@ -15,9 +15,9 @@ use Rattle.pb_script.specs.declared.admission.Admission.{Admission}
 use Rattle.pb_script.specs.declared.serve_fault.ServeFault.{ServeFault}
 use Rattle.pb_script.specs.declared.serve_fault.ServeFault.TheVariants.{Script, ClerkCount}
 
--- The records are a script for this many clerks, 1 to 64, whose rows are admitted, and the text is that of a journal
--- that is legal for the election. First each clerk asks in it what its rows say, in their order, and nobody asks
--- anything else; at its end clerk 0 asks to shut the desk, where the run does, and nothing else.
+-- The records are a script for this many clerks, 1 to 64, whose rows are admitted, and the text is that of a
+-- journal that is legal for the election. First each clerk asks in it what its rows say, in their order, and
+-- nobody asks anything else; at its end clerk 0 asks to shut the desk, where the run does, and nothing else.
 pub record IsServed (a : Admission) (e : ElectionView) (clerks : ℕ) (shuts : Bool) (records : List Fields)
     (text : List ℕ) : Type 0 where
   pub script : List ScriptRowView

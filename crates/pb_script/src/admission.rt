@@ -10,6 +10,7 @@ ghost use Rattle.pb_script.specs.ScriptReading.{fault_of_row};
 
 use crate::script_fault::ScriptFault;
 use csv::StringRecord;
+use pb_core::answer::Answer;
 use pb_core::request::Request;
 use pb_ids::IdTable;
 use pb_read::ProjectIds;
@@ -52,18 +53,24 @@ impl RowRefusal {
     }
 }
 
-/// Whoever hears of the rows that are refused.
+/// Whoever hears of the rows that are refused, and of the answers to the others.
 pub trait Notice {
-    /// The row with this number, from 1, is refused; `unknown` is the id that no project has, where that is why.
+    /// The row with this number, from 1, is refused; `unknown` is the id that no project has, where that is
+    /// why.
     fn refused(&self, row: u64, why: RowRefusal, unknown: &str);
+
+    /// An entry of the journal has this answer.
+    fn answered(&self, answer: Answer);
 }
 
-/// Nobody hears of them.
+/// Nobody listens.
 #[derive(Clone, Copy, Debug)]
 pub struct NoNotice;
 
 impl Notice for NoNotice {
     fn refused(&self, _row: u64, _why: RowRefusal, _unknown: &str) {}
+
+    fn answered(&self, _answer: Answer) {}
 }
 
 impl Admission {
@@ -95,7 +102,8 @@ impl Admission {
         }
     }
 
-    /// The first id of a row that no project has; empty where there is none. It is looked up by way of `list`.
+    /// The first id of a row that no project has; empty where there is none. It is looked up by way of
+    /// `list`.
     pub(crate) fn unknown_in<'a>(&self, row: &'a StringRecord, list: &mut Vec<u32>) -> &'a str {
         let (Some(ids), Some(field)) = (&self.ids, row.get(3)) else {
             return "";

@@ -7,8 +7,8 @@ ghost use Rattle.pb_script.specs.Script.{IsScriptRow, ScriptRowView};
 
 use crate::admission::RowRefusal;
 
-/// A desk that is open to all admits just the rows of a script, each as what it says, and refuses every other row, for
-/// its form alone.
+/// A desk that is open to all admits just the rows of a script, each as what it says, and refuses every other
+/// row, for its form alone.
 pub fn open_to_all_admits_all_rows()
     ensures admits { (clerks : ℕ) (row : Fields) (x : ScriptRowView) → IsScriptRow clerks row x
         → Judges open_to_all clerks row (Ok x) }

@@ -1,5 +1,6 @@
-//! A script and its serving: the requests of a run's clerks, read, served side by side on one desk, and written as
-//! the text of its journal. The same rows are read one at a time where they are served as they come in.
+//! A script and its serving: the requests of a run's clerks, read, served side by side on one desk, and
+//! written as the text of its journal. The same rows are read one at a time where they are served as they
+//! come in.
 #![tactic(auto)]
 
 pub mod admission;

@@ -1,6 +1,7 @@
 //! The rows of requests, read one at a time while they come in.
 
-ghost use Rattle.std.specs.Prelude.{◌≡◌, [], None, option_map, true, IfOk, IfSome, IsErrOf, MatchOption, OnErr, OnOk};
+ghost use Rattle.std.specs.Prelude.{◌≡◌, [], None, option_map, true, IfOk, IfSome, IsErrOf, MatchOption};
+ghost use Rattle.std.specs.Prelude.{OnErr, OnOk};
 ghost use Rattle.pb_rows.specs.Reading.{records_of, Fields, IsNext};
 ghost use Rattle.pb_script.specs.RequestRows.{IsRequestRow};
 ghost use Rattle.pb_script.specs.RowsView.{HasFailed, HasGiven};
@@ -49,8 +50,8 @@ impl From<NoMemory> for RowsFault {
 }
 
 /// The rows of requests that a reader gives, for 64 clerks, read one at a time. One that is refused stops
-/// nothing. A contract sees `left`, the records that are still to come, and `fault`, as it does for `Records`; and
-/// `count`, how many rows were given, as far as 64 bits count them.
+/// nothing. A contract sees `left`, the records that are still to come, and `fault`, as it does for
+/// `Records`; and `count`, how many rows were given, as far as 64 bits count them.
 #[derive(Drop)]
 pub struct RequestRows<R: Read> {
     records: Records<R>,

@@ -60,13 +60,14 @@ impl From<AllocError> for RollFault {
     }
 }
 
-/// Reads the ids of a roll, the first field of each row, without white space at its ends. A first row that begins with
-/// `voter_id` is a header.
+/// Reads the ids of a roll, the first field of each row, without white space at its ends. A first row that
+/// begins with `voter_id` is a header.
 ///
-/// The first faulty row decides; within a row a reader that fails comes first, then what is no text, then the limit of
-/// 2,000,000 ids.
+/// The first faulty row decides; within a row a reader that fails comes first, then what is no text, then the
+/// limit of 2,000,000 ids.
 pub fn read_roll<R: Read + Drop>(alloc: Global, reader: R) -> Result<IdTable, RollFault>
-    ensures roll { IfOk result (λ roll. IfSome (R.remaining reader) (λ bytes. IsRoll (records_of bytes) roll)) }
+    ensures roll { IfOk result (λ roll. IfSome (R.remaining reader)
+        (λ bytes. IsRoll (records_of bytes) roll)) }
     ensures fault { IfErr result (λ fault. IfSome (R.remaining reader) (λ bytes.
         IsRollFault (records_of bytes) fault)) }
 {
@@ -121,7 +122,8 @@ fn next_row<R: Read>(
     ensures end { IfOk result (λ found. found ≡ false → records.new.left ≡ Some []) }
     ensures text { OnOk result (AllText (fields_of row.new)) }
     ensures few { IfOk result (λ found. found ≡ true → ids < most_rows) }
-    ensures fault { IfErr result (λ fault. IfSome records.old.left (λ left. IsFaultAfter rows ids left fault)) }
+    ensures fault { IfErr result (λ fault. IfSome records.old.left
+        (λ left. IsFaultAfter rows ids left fault)) }
 {
     match records.read(row) {
         Ok(true) => {}

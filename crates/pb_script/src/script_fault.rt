@@ -10,7 +10,7 @@ use std::alloc::AllocError;
 use thiserror::Error;
 
 /// The names of `ScriptFault`, in the order of its variants.
-pub(crate) const NAMES: [&str; 7] = [
+pub const NAMES: [&str; 7] = [
     "ReadFailed",
     "BadRow",
     "TooManyRows",

@@ -1,6 +1,7 @@
 //! The clerks of a script at work: each serves its own requests, side by side with the others.
 
-ghost use Rattle.std.specs.Prelude.{◌≡◌, ◌+◌, ◌<◌, ◌≤◌, [], None, All, length, map, IfErr, IfOk, IfSome, OnOk};
+ghost use Rattle.std.specs.Prelude.{◌≡◌, ◌+◌, ◌<◌, ◌≤◌, [], None, All, length, map, IfErr, IfOk, IfSome};
+ghost use Rattle.std.specs.Prelude.{OnOk};
 ghost use Rattle.pb_shared.specs.Inner.Desk.{desk_with};
 ghost use Rattle.pb_core.specs.Request.{asked};
 ghost use Rattle.pb_desk.specs.Replay.{IsLegal, most_clerks};
@@ -12,7 +13,9 @@ ghost use Rattle.pb_script.specs.Admission.{open_to_all};
 ghost use Rattle.pb_script.specs.Served.{IsServeFault, IsServed};
 ghost use Rattle.pb_script.specs.Serving.{program_room};
 ghost use Rattle.pb_script.specs.Inner.Script.{clerks_within};
-ghost use Rattle.pb_script.specs.Inner.Serving.{AppendsFor, AreCounts, HasServed, ServesAll, ServesUpTo, AreBack, IsServingFault, list_of, opening_of, unshared, ShutAtEnd};
+ghost use Rattle.pb_script.specs.Inner.Serving.{AppendsFor, AreCounts, HasServed, ServesAll, ServesUpTo};
+ghost use Rattle.pb_script.specs.Inner.Serving.{AreBack, IsServingFault, list_of, opening_of, unshared};
+ghost use Rattle.pb_script.specs.Inner.Serving.{ShutAtEnd};
 
 use crate::admission::{Admission, NoNotice, Notice};
 use crate::requests::Requests;
@@ -40,7 +43,8 @@ pub const ROOM: u32 = 4_294_967_295;
 /// enough for a holder without a processor to get one, and for a large journal to grow.
 const TRIES: u32 = 100_000;
 
-/// What the clerks of a shared desk are to do: each serves its own requests, and the gate is called before each.
+/// What the clerks of a shared desk are to do: each serves its own requests, and the gate is called before
+/// each.
 #[derive(Drop)]
 struct Work<'a, G> {
     /// The requests of each clerk, by its number.
@@ -216,8 +220,8 @@ fn closed(
     }
 }
 
-/// These clerks of a shared desk serve the requests of a script, and it is closed. What they leave over is served
-/// after them, clerks in rising number.
+/// These clerks of a shared desk serve the requests of a script, and it is closed. What they leave over is
+/// served after them, clerks in rising number.
 fn serve_shared<T: Threads + Sync, G: Gate>(
     rt: &T,
     alloc: Global,
@@ -307,13 +311,16 @@ fn serve_all<T: Threads + Sync, G: Gate>(
     Ok(serve_shared(rt, alloc, shared, fresh, work)?)
 }
 
-/// The text of a desk's journal.
-fn written(alloc: Global, desk: Desk) -> Result<Vec<u8>, NoMemory>
+/// The text of a desk's journal. Once it is there, whoever listens is told the answers.
+fn written<N: Notice>(alloc: Global, desk: Desk, notice: &N) -> Result<Vec<u8>, NoMemory>
     ensures legal { IfOk result (λ text. IsLegal desk.opening desk.journal) }
     ensures fits { IfOk result (λ text. length desk.journal ≤ desk.room) }
     ensures text { IfOk result (λ text. text.items ≡ journal_text desk.opening.version desk.journal) }
 {
     let text = desk.journal_text(alloc);
+    if text.is_ok() {
+        tell_answers(&desk, notice);
+    }
     drop(desk);
     match text {
         Ok(text) => Ok(text),
@@ -321,14 +328,23 @@ fn written(alloc: Global, desk: Desk) -> Result<Vec<u8>, NoMemory>
     }
 }
 
-/// Reads a script for this many clerks, serves its requests on a shared desk of this election, and makes the text of
-/// its journal.
+/// Tells the answer of each entry of a desk's journal, in their order.
+fn tell_answers<N: Notice>(desk: &Desk, notice: &N) {
+    for before in 0..desk.entries() {
+        if let Some(entry) = desk.entry(before + 1) {
+            notice.answered(entry.answer);
+        }
+    }
+}
+
+/// Reads a script for this many clerks, serves its requests on a shared desk of this election, and makes the
+/// text of its journal.
 ///
-/// Each clerk serves its own rows in their order, by at most 100,000 tries of the lock for each. One who finds
-/// the desk busy all that time stops; what the clerks leave over is served after all of them have stopped,
-/// clerks in rising number. Where the run `shuts` the desk, clerk 0 asks for that in one last entry, after all of
-/// these. Before the first try of a row the gate is called with the clerk's number and the row's place among the
-/// clerk's own rows, from 0.
+/// Each clerk serves its own rows in their order, by at most 100,000 tries of the lock for each. One who
+/// finds the desk busy all that time stops; what the clerks leave over is served after all of them have
+/// stopped, clerks in rising number. Where the run `shuts` the desk, clerk 0 asks for that in one last entry,
+/// after all of these. Before the first try of a row the gate is called with the clerk's number and the row's
+/// place among the clerk's own rows, from 0.
 ///
 /// The script is refused before the number of clerks, 1 to 64.
 pub fn serve_script<T: Threads + Sync, S: Read + Drop, G: Gate>(
@@ -340,7 +356,8 @@ pub fn serve_script<T: Threads + Sync, S: Read + Drop, G: Gate>(
     shuts: bool,
     gate: &G,
 ) -> Result<Vec<u8>, ServeFault>
-    // Where the script's bytes are known, the text is that of a journal that they and the number of clerks allow,
+    // Where the script's bytes are known, the text is that of a journal that they and the number of clerks
+    // allow,
     ensures ok { IfOk result (λ text. IfSome (S.remaining script) (λ bytes.
         IsServed open_to_all election clerks shuts (records_of bytes) text.items)) }
 
@@ -356,7 +373,8 @@ pub fn serve_script<T: Threads + Sync, S: Read + Drop, G: Gate>(
     text
 }
 
-/// The same, of the requests that are admitted. A row that is refused refuses the script.
+/// Serves as `serve_script` does, the requests that are admitted. A row that is refused refuses the script,
+/// and is told to `notice`; once the text is made, so is the answer of each entry.
 pub fn serve_admitted<T: Threads + Sync, S: Read + Drop, G: Gate, N: Notice>(
     rt: &T,
     alloc: Global,
@@ -368,7 +386,8 @@ pub fn serve_admitted<T: Threads + Sync, S: Read + Drop, G: Gate, N: Notice>(
     admission: &Admission,
     notice: &N,
 ) -> Result<Vec<u8>, ServeFault>
-    // Where the script's bytes are known, the text is that of a journal that they and the number of clerks allow,
+    // Where the script's bytes are known, the text is that of a journal that they and the number of clerks
+    // allow,
     ensures ok { IfOk result (λ text. IfSome (S.remaining script) (λ bytes.
         IsServed admission.now election clerks shuts (records_of bytes) text.items)) }
 
@@ -390,5 +409,5 @@ pub fn serve_admitted<T: Threads + Sync, S: Read + Drop, G: Gate, N: Notice>(
     let served = serve_all(rt, alloc, election, clerks, &work);
     drop(lists);
     let desk = ended(served?, shuts)?;
-    Ok(written(alloc, desk)?)
+    Ok(written(alloc, desk, notice)?)
 }

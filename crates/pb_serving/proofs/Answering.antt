@@ -1,10 +1,10 @@
 -- The answers to rows of the input, batch by batch.
-use Rattle.std.proofs.Common.{◌≡◌, ◌∙◌, ℕ, suc, ◌+◌, List, [], ◌∷◌, ◌++◌, length, map, take, Option, Some, None, IfSome, IfErr, OnOk, IsSome, Result, Ok, Err, refl, sym, ap, subst, arith, append_assoc, length-append}
+use Rattle.std.proofs.Common.{◌≡◌, ◌∙◌, ℕ, suc, ◌+◌, List, [], ◌∷◌, ◌++◌, length, map, Option, Some, None, IfSome, IsSome, Result, Ok, Err, refl, sym, ap, subst, arith, append_assoc, length-append}
 use Rattle.std.specs.List.{AllZip, filter_map}
 use Rattle.std.specs.Result.{result_ok}
 use Rattle.std.specs.Io.KnownBytes.{Appends}
 use Rattle.std.proofs.KnownBytes.{Appends-nil, Appends-trans}
-use Rattle.std.proofs.lemmas.List.{append-nil, append_cancel_left, take_at}
+use Rattle.std.proofs.lemmas.List.{append-nil, append_cancel_left}
 use Rattle.std.proofs.lemmas.List.Elements.{filter_map-append}
 use Rattle.pb_core.specs.Request.{EntryView}
 use Rattle.pb_core.specs.declared.answer.Answer.{Answer}
@@ -24,12 +24,11 @@ use Rattle.pb_script.specs.declared.admission.Admission.{Admission}
 use Rattle.pb_script.specs.declared.admission.RowRefusal.{RowRefusal}
 use Rattle.pb_script.specs.Inner.ScriptReading.{HaveGone, NoneLeft}
 use Rattle.pb_faults.specs.Fault.{line, told}
+use Rattle.pb_faults.specs.declared.fault.AppFault.{AppFault}
 use Rattle.pb_faults.specs.declared.fault.AppFault.TheVariants.{Script}
 use Rattle.pb_script.specs.declared.script_fault.ScriptFault.TheVariants.{ReadFailed}
 use Rattle.pb_serving.specs.Answered.{answers_from, Answers, Becomes, Halts, IsBehind}
 use Rattle.pb_serving.specs.Inner.Batch.{IsRowAsking}
-use Rattle.pb_serving.specs.declared.serving_fault.ServingFault.{ServingFault}
-use Rattle.pb_serving.specs.declared.serving_fault.ServingFault.TheVariants.{App}
 
 abbrev pub Outcome : Type 0
 Outcome = Result EntryView RowRefusal
@@ -47,17 +46,14 @@ pub nothing_said : (w : Option (List ℕ)) (n : ℕ) → Appends w w (text_of_ro
 unfolding rows_from text_of_rows
 nothing_said w n = Appends-nil w
 
--- the last rows of a journal's text are those of its last entries
-pub said_rows : (before after more : List EntryView) (rows : List ℕ) (n : ℕ) → n ≡ length before → after ≡ before ++ more
-    → journal_text One (take n after) ++ rows ≡ journal_text One after → rows ≡ text_of_rows (rows_from (length before + 1) more)
-said_rows before after more rows n count grown is =
+-- the rows that a journal's text got are those of its last entries
+pub said_rows : (before after more : List EntryView) (rows : List ℕ) → after ≡ before ++ more → journal_text One before ++ rows ≡ journal_text One after
+    → rows ≡ text_of_rows (rows_from (length before + 1) more)
+said_rows before after more rows grown is =
     append_cancel_left (text_of_rows (rows_from 1 before)) rows (text_of_rows (rows_from (length before + 1) more))
-    (ap (λ (l : List EntryView). journal_text One l ++ rows) (sym front) ∙ is ∙ ap (λ (l : List EntryView). journal_text One l) grown
+    (is ∙ ap (λ (l : List EntryView). journal_text One l) grown
     ∙ ap text_of_rows (rows_from-append 1 before more ∙ ap (λ (k : ℕ). rows_from 1 before ++ rows_from k more) (omega arith))
     ∙ text_of_rows-append (rows_from 1 before) (rows_from (length before + 1) more))
-  where
-    front : take n after ≡ before
-    front = ap (λ (l : List EntryView). take n l) grown ∙ take_at before more n (sym count)
 
 pub added-some : (entries : List EntryView) → added (map Ok entries) ≡ entries
 added-some [] = refl
@@ -263,11 +259,11 @@ pub not_stopped : (rows : RowsView) → rows.fault ≡ None → ¬ HasFailed row
 not_stopped rows is failed = cc (subst (λ (fault : Option RecordsFault). IsSome fault) is failed.0)
 
 -- that the input failed is told
-abbrev pub IsTold : ServingFault → Type 0
-IsTold fault = (i : ℕ) × (fault ≡ App (Script (ReadFailed i)))
+abbrev pub IsTold : AppFault → Type 0
+IsTold fault = (i : ℕ) × (fault ≡ Script (ReadFailed i))
 
 -- some rows were read, and not answered: some of them are served
-pub halts : (ad : Admission) (fault : ServingFault) (start end : RowsView) (left after : Option (List Fields)) (old now last : List EntryView) (w0 w1 : Option (List ℕ)) (row bad : ℕ) (served unserved : List Fields) (became : List Outcome)
+pub halts : (ad : Admission) (fault : AppFault) (start end : RowsView) (left after : Option (List Fields)) (old now last : List EntryView) (w0 w1 : Option (List ℕ)) (row bad : ℕ) (served unserved : List Fields) (became : List Outcome)
     → (p : Progress ad start.left left old now w0 w1 row bad) → HaveGone left (served ++ unserved) after → AllZip (Becomes ad) served became → last ≡ now ++ added became
     → HasGiven start end (row + (length served + length unserved)) → ((answered : ℕ) → answered ≡ row → IsBehind fault answered (length served) (length unserved))
     → (¬ HasFailed start → HasFailed end → served ++ unserved ≡ [] → IsTold fault)
@@ -298,7 +294,7 @@ nothing_gone None = tt
 nothing_gone (Some rows) = refl
 
 -- no more rows were read
-pub halts_here : (ad : Admission) (fault : ServingFault) (start end : RowsView) (left : Option (List Fields)) (old now : List EntryView) (w0 w1 : Option (List ℕ)) (row bad : ℕ)
+pub halts_here : (ad : Admission) (fault : AppFault) (start end : RowsView) (left : Option (List Fields)) (old now : List EntryView) (w0 w1 : Option (List ℕ)) (row bad : ℕ)
     → (p : Progress ad start.left left old now w0 w1 row bad) → HasGiven start end row → ((answered : ℕ) → answered ≡ row → IsBehind fault answered 0 0)
     → (¬ HasFailed start → HasFailed end → IsTold fault)
     → Halts ad fault start end old now now (text_so_far ad start.left left old now w0 w1 row bad p)
@@ -307,7 +303,7 @@ halts_here ad fault start end left old now w0 w1 row bad p given behind told_so 
     halts ad fault start end left left old now now w0 w1 row bad [] [] [] p (nothing_gone left) tt (sym (append-nil now)) (subst (λ (n : ℕ). HasGiven start end n) same given) behind (λ sound failed none. told_so sound failed)
 
 -- nothing was read
-pub halts_unbegun : (ad : Admission) (fault : ServingFault) (start : RowsView) (old : List EntryView) → IsBehind fault 0 0 0 → Halts ad fault start start old old old []
+pub halts_unbegun : (ad : Admission) (fault : AppFault) (start : RowsView) (old : List EntryView) → IsBehind fault 0 0 0 → Halts ad fault start start old old old []
 unfolding started
 halts_unbegun ad fault start old behind =
     halts_here ad fault start start start.left old old None None 0 0 (started ad start.left old None) (λ fits. omega arith) (λ answered is. subst (λ (n : ℕ). IsBehind fault n 0 0) (sym is) behind)
@@ -318,7 +314,7 @@ with_nil None records are = tt
 with_nil (Some rows) records are = are ∙ sym (append-nil (records ++ [] ++ []) ∙ append-nil (records ++ []) ∙ append-nil records)
 
 -- all rows were read and answered
-pub halts_behind_all : (ad : Admission) (fault : ServingFault) (start end : RowsView) (old now : List EntryView) (text : List ℕ) (records : List Fields) → IfSome start.left (λ left. left ≡ records)
+pub halts_behind_all : (ad : Admission) (fault : AppFault) (start end : RowsView) (old now : List EntryView) (text : List ℕ) (records : List Fields) → IfSome start.left (λ left. left ≡ records)
     → HasGiven start end (length records) → Answers ad records old now text → ((answered : ℕ) → IsBehind fault answered 0 0) → ¬ HasFailed end → Halts ad fault start end old now now text
 halts_behind_all ad fault start end old now text records are given answers behind sound =
     let all : records ≡ records ++ [] = sym (append-nil records) in (
@@ -334,12 +330,3 @@ halts_behind_all ad fault start end old now text records are given answers behin
       behind (length records),
       λ before failed empty. absurd (sound failed),
     )
-
--- what follows from what holds of an answer
-pub on_ok : {T E : Type 0} (r : Result T E) (A B : Type 0) → OnOk r A → (A → B) → OnOk r B
-on_ok (Ok x) A B a to = to a
-on_ok (Err e) A B a to = a
-
-pub any_err : {T E : Type 0} (r : Result T E) (P : E → Type 0) → ((e : E) → P e) → IfErr r P
-any_err (Ok x) P all = tt
-any_err (Err e) P all = all e

@@ -1,5 +1,5 @@
 -- What the faults of a run tell of their causes.
-use Rattle.std.proofs.Common.{◌≡◌, ◌∙◌, ◌⊎◌, inl, inr, ℕ, ◌+◌, ◌^◌, ◌<◌, ◌≤◌, ◌++◌, length, List, Result, Ok, Err, IfErr, IsErrAnd, refl, sym, ap, subst, arith}
+use Rattle.std.proofs.Common.{◌≡◌, ◌∙◌, ◌⊎◌, inl, inr, ℕ, ◌+◌, ◌^◌, ◌<◌, ◌≤◌, ◌++◌, length, List, Result, Ok, Err, IsErrAnd, refl, sym, ap, subst, arith}
 use Rattle.std.proofs.lemmas.Bool.{cases_lt}
 use Rattle.pb_core.specs.Request.{EntryView}
 use Rattle.pb_desk.specs.Desk.{DeskView}
@@ -11,11 +11,10 @@ use Rattle.pb_durable.specs.declared.device_fault.DeviceFault.TheVariants as dev
 use Rattle.pb_durable.specs.declared.durable_fault.DurableFault.{DurableFault}
 use Rattle.pb_durable.specs.declared.durable_fault.DurableFault.TheVariants as durable
 use Rattle.pb_serving.specs.Answered.{HasNoRoom, IsBehind}
-use Rattle.pb_faults.specs.declared.fault.AppFault.TheVariants.{Script, Write}
+use Rattle.pb_faults.specs.declared.fault.AppFault.{AppFault}
+use Rattle.pb_faults.specs.declared.fault.AppFault.TheVariants.{ClerkCount, Count, Audit, Export, Locked, Memory, Moved, Open, OpenDesk, OtherFile, Output, Read, Roll, Script, Spelling, Warned, Write}
 use Rattle.pb_script.specs.declared.script_fault.ScriptFault.TheVariants.{ReadFailed}
-use Rattle.pb_serving.specs.declared.serving_fault.ServingFault.{ServingFault}
-use Rattle.pb_serving.specs.declared.serving_fault.ServingFault.TheVariants.{App, Moved, Output, Spelling}
-use Rattle.pb_serving.specs.Fault.{of_device, of_durable}
+use Rattle.pb_faults.specs.Durable.{of_device, of_durable}
 
 pub behind_device : (why : DeviceFault) (answered served unserved : ℕ) → served + unserved ≤ 4097 → IsBehind (of_device why) answered served unserved
 behind_device device.NoMemory answered served unserved few = few
@@ -45,12 +44,7 @@ has_cause first before now d new count more same few room opening grown (inr (in
 has_cause first before now d new count more same few room opening grown (inr (inr full)) =
     inr (d.journal, more, grown, inr (subst (λ (o : OpeningView). 2 ^ 60 ≤ length (journal_text o.version d.journal)) (sym opening) full))
 
--- the same of a desk that had a cause before
-pub later_cause : (first before now : ℕ) (d new : DeskView) → first ≤ before → before ≤ now → new ≡ d → (first < before) ⊎ HasNoRoom d → (first < now) ⊎ HasNoRoom new
-later_cause first before now d new early late same (inl failed) = inl (omega (arith, failed, late))
-later_cause first before now d new early late same (inr full) = inr (subst HasNoRoom (sym same) full)
-
-pub not_durable : (why : DurableFault) (i : ℕ) → App (Script (ReadFailed i)) ≡ of_durable why → ⊥
+pub not_durable : (why : DurableFault) (i : ℕ) → Script (ReadFailed i) ≡ of_durable why → ⊥
 not_durable (durable.Desk desk.NoMemory) i is = cc is
 not_durable (durable.Desk desk.JournalFull) i is = cc is
 not_durable (durable.Device device.NoMemory) i is = cc is
@@ -64,18 +58,27 @@ not_output (durable.Device device.NoMemory) is = cc is
 not_output (durable.Device device.Failed) is = cc is
 not_output (durable.Device device.Full) is = cc is
 
-pub from_fault : {T E : Type 0} (r : Result T E) (why : E) (P : E → Type 0) → IfErr r (λ e. e ≡ why) → P why → IfErr r P
-from_fault (Ok x) why P is p = tt
-from_fault (Err e) why P is p = subst P (sym is) p
-
 -- the writer failed, or it was something else
-pub output_or : (why : ServingFault) → (why ≡ Output) ⊎ (why ≡ Output → ⊥)
-output_or (App fault) = inr (λ is. cc is)
+pub output_or : (why : AppFault) → (why ≡ Output) ⊎ (why ≡ Output → ⊥)
+output_or (Read fault) = inr (λ is. cc is)
+output_or (Script fault) = inr (λ is. cc is)
+output_or ClerkCount = inr (λ is. cc is)
+output_or (Audit fault) = inr (λ is. cc is)
+output_or OtherFile = inr (λ is. cc is)
+output_or OpenDesk = inr (λ is. cc is)
+output_or (Count fault) = inr (λ is. cc is)
+output_or (Export fault) = inr (λ is. cc is)
+output_or (Open number) = inr (λ is. cc is)
+output_or Write = inr (λ is. cc is)
+output_or Memory = inr (λ is. cc is)
+output_or (Warned warning) = inr (λ is. cc is)
+output_or (Roll fault) = inr (λ is. cc is)
 output_or Spelling = inr (λ is. cc is)
 output_or Moved = inr (λ is. cc is)
+output_or (Locked number) = inr (λ is. cc is)
 output_or Output = inl refl
 
-pub cause_of : (why : DurableFault) (X Y Z : Type 0) → App Write ≡ of_durable why → (why ≡ durable.Device device.Failed → X) → (why ≡ durable.Desk desk.JournalFull → Y)
+pub cause_of : (why : DurableFault) (X Y Z : Type 0) → Write ≡ of_durable why → (why ≡ durable.Device device.Failed → X) → (why ≡ durable.Desk desk.JournalFull → Y)
     → (why ≡ durable.Device device.Full → Z) → X ⊎ Y ⊎ Z
 cause_of (durable.Desk desk.NoMemory) X Y Z is failed full large = absurd (cc is)
 cause_of (durable.Desk desk.JournalFull) X Y Z is failed full large = inr (inl (full refl))

@@ -16,8 +16,8 @@ use Rattle.pb_serving.specs.Answered.{Becomes, Halts, IsBehind}
 use Rattle.pb_serving.specs.Inner.Batch.{refused, EndsBy, IsRowAsking}
 use Rattle.pb_serving.specs.declared.batch.BatchEnd.{BatchEnd}
 use Rattle.pb_serving.specs.declared.batch.BatchEnd.TheVariants.{More, Refused, Over, ReadFailed, NoMemory}
-use Rattle.pb_serving.specs.declared.serving_fault.ServingFault.{ServingFault}
-use Rattle.pb_serving.specs.declared.serving_fault.ServingFault.TheVariants.{Output}
+use Rattle.pb_faults.specs.declared.fault.AppFault.{AppFault}
+use Rattle.pb_faults.specs.declared.fault.AppFault.TheVariants.{Output}
 use Rattle.pb_serving.proofs.Answering.{added, added-some, halts, text_so_far, zip-append, zip-length, Outcome, Progress}
 use Rattle.pb_serving.proofs.Causes.{output_or}
 
@@ -78,7 +78,7 @@ part ad (row ∷ rows) (a ∷ asks) (x ∷ answers) each = let p = part ad rows 
 }
 
 -- a batch was not answered
-module _ (ad : Admission) (fault : ServingFault) (start end : RowsView) (left after : Option (List Fields)) (old now last : List EntryView) (w0 w1 : Option (List ℕ)) (row bad : ℕ)
+module _ (ad : Admission) (fault : AppFault) (start end : RowsView) (left after : Option (List Fields)) (old now last : List EntryView) (w0 w1 : Option (List ℕ)) (row bad : ℕ)
     (rows : List Fields) (asks : List ClerkRequest) (answers : List Answer) (why : BatchEnd) (p : Progress ad start.left left old now w0 w1 row bad) (each : AllZip (IsRowAsking ad) rows asks)
     (ends : EndsBy ad why left rows after) (few : length asks ≤ 4096) (some : 0 < length asks) (grown : last ≡ now ++ entries_of asks answers) (full : fault ≡ Output → length answers ≡ length asks)
     (given : HasGiven start end (row + (length asks + refused why)))

@@ -1,5 +1,6 @@
 -- What a run of `serve` says.
-use Rattle.std.specs.Prelude.{◌≡◌, ◌⊎◌, ◌<◌, ◌≤◌, ℕ, suc, ◌+◌, ◌-◌, ◌^◌, ◌++◌, ◌==◌, min, List, [], ◌∷◌, IfSome, Result, Ok, Err, codes, decimal, filter_map, length, if◌then◌else◌}
+use Rattle.std.specs.Prelude.{◌≡◌, ◌⊎◌, ◌<◌, ◌≤◌, ℕ, suc, ◌+◌, ◌-◌, ◌^◌, ◌++◌, ◌==◌, min, List, [], ◌∷◌}
+use Rattle.std.specs.Prelude.{IfSome, Result, Ok, Err, codes, decimal, filter_map, length, if◌then◌else◌}
 use Rattle.std.specs.List.{AllZip}
 use Rattle.std.specs.Result.{result_ok}
 use Rattle.pb_core.specs.Request.{EntryView}
@@ -18,9 +19,8 @@ use Rattle.pb_script.specs.declared.admission.RowRefusal.{RowRefusal}
 use Rattle.pb_script.specs.declared.script_fault.ScriptFault.TheVariants.{ReadFailed, TooManyRows}
 use Rattle.pb_faults.specs.DeskRow.{entries_row}
 use Rattle.pb_faults.specs.Fault.{line, told}
-use Rattle.pb_faults.specs.declared.fault.AppFault.TheVariants.{Script, Memory, Write}
-use Rattle.pb_serving.specs.declared.serving_fault.ServingFault.{ServingFault}
-use Rattle.pb_serving.specs.declared.serving_fault.ServingFault.TheVariants.{App, Output}
+use Rattle.pb_faults.specs.declared.fault.AppFault.{AppFault}
+use Rattle.pb_faults.specs.declared.fault.AppFault.TheVariants.{Script, Memory, Write, Output}
 
 -- what is said first: how many bytes were cut off the journal, where there were any, and the row of its desk
 abbrev pub heading : ℕ → DeskView → List ℕ
@@ -44,33 +44,35 @@ abbrev pub Answers : Admission → List Fields → List EntryView → List Entry
 Answers a rows before after text = (became : List (Result EntryView RowRefusal)) × AllZip (Becomes a) rows became
     × (after ≡ before ++ filter_map result_ok became) × (text ≡ answers_from (length before + 1) 1 became)
 
--- the file stands for a journal that begins with the first of these journals, and is a first part of the second
+-- the file stands for a journal that begins with the first of these journals, and is a first part of the
+-- second
 abbrev pub StandsWithin : Version → List EntryView → List EntryView → List ℕ → Type 0
 StandsWithin version first last file = (more rest : List EntryView)
     × StandsForText (journal_text version (first ++ more)) file × (last ≡ (first ++ more) ++ rest)
 
--- what a run may end by that has answered so many rows, and behind them has read, but not answered, so many that are
--- served, and so many that are not: a reader that failed is told with the number of the next row
-abbrev pub IsBehind : ServingFault → (answered served unserved : ℕ) → Type 0
-IsBehind (App (Script (ReadFailed i))) answered served unserved =
+-- what a run may end by that has answered so many rows, and behind them has read, but not answered, so many
+-- that are served, and so many that are not: a reader that failed is told with the number of the next row
+abbrev pub IsBehind : AppFault → (answered served unserved : ℕ) → Type 0
+IsBehind (Script (ReadFailed i)) answered served unserved =
     (i ≡ min (answered + 1) (2 ^ 32 - 1)) × (served + unserved ≡ 0)
-IsBehind (App (Script TooManyRows)) answered served unserved = (2 ^ 50 ≤ answered) × (served + unserved ≡ 0)
-IsBehind (App Memory) answered served unserved = served + unserved ≤ 4097
-IsBehind (App Write) answered served unserved = served + unserved ≤ 4097
+IsBehind (Script TooManyRows) answered served unserved = (2 ^ 50 ≤ answered) × (served + unserved ≡ 0)
+IsBehind Memory answered served unserved = served + unserved ≤ 4097
+IsBehind Write answered served unserved = served + unserved ≤ 4097
 IsBehind Output answered served unserved = (served ≤ 4097) × (unserved ≡ 0)
 IsBehind fault answered served unserved = ⊥
 
--- Where a run has ended early: some first rows were answered by this text, with which the journal had come so far. Those
--- that are served behind them are what the journal has besides; those that are not served left nothing in it. All
--- these were read, and no others. That the input failed is told, unless a row that was read before has no answer.
-abbrev pub Halts : Admission → ServingFault → RowsView → RowsView → (old kept now : List EntryView) → List ℕ → Type 0
+-- Where a run has ended early: some first rows were answered by this text, with which the journal had come so
+-- far. Those that are served behind them are what the journal has besides; those that are not served left
+-- nothing in it. All these were read, and no others. That the input failed is told, unless a row that was
+-- read before has no answer.
+abbrev pub Halts : Admission → AppFault → RowsView → RowsView → (old kept now : List EntryView) → List ℕ → Type 0
 Halts a fault before after old kept now text = (answered served unserved rest : List Fields) × (unsaid : List ℕ)
     × IfSome before.left (λ rows. rows ≡ answered ++ served ++ unserved ++ rest)
     × HasGiven before after (length (answered ++ served ++ unserved))
     × Answers a answered old kept text × Answers a (answered ++ served) old now (text ++ unsaid)
     × IsBehind fault (length answered) (length served) (length unserved)
     × (¬ HasFailed before → HasFailed after → served ++ unserved ≡ []
-    → (i : ℕ) × (fault ≡ App (Script (ReadFailed i))))
+    → (i : ℕ) × (fault ≡ Script (ReadFailed i)))
 
 -- at some entry the journal, or its file, had no room for a batch more
 abbrev pub HasNoRoom : DeskView → Type 0

@@ -1,5 +1,4 @@
 -- The words that public contracts reach, a notion a file.
 pub mod Answered
-pub mod Fault
 pub mod Paced
 pub mod Inner

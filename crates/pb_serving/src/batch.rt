@@ -29,8 +29,8 @@ pub(crate) enum BatchEnd {
     NoMemory,
 }
 
-/// Reads the next rows that are served together into `asks`, and says why there are no more of them. Also where it ends
-/// by a fault, what was read before is to be served.
+/// Reads the next rows that are served together into `asks`, and says why there are no more of them. Also
+/// where it ends by a fault, what was read before is to be served.
 pub(crate) fn next_batch<R: Read, P: Pace, N: Notice>(
     alloc: Global,
     rows: &mut RequestRows<R>,

@@ -24,7 +24,7 @@ pub(crate) fn heading(alloc: Global, torn: usize, desk: &Desk) -> Result<Vec<u8>
     Ok(text)
 }
 
-/// The same, behind the rows that stand there.
+/// Puts what is said first behind the rows that stand there.
 fn put_heading(rows: &mut RowsWriter, torn: usize, desk: &Desk) -> Result<(), NoMemory>
     ensures { OnOk result (rows.new.text ≡ rows.old.text ++ heading torn desk.now) }
 {

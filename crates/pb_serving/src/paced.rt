@@ -24,9 +24,9 @@ impl Pace for AtHand {
     }
 }
 
-/// A reader that hands out a row at a time, and tells whether the next one is at hand. What it reads is what the reader
-/// underneath reads at once, so it waits for no row while one is there. A contract sees what it has left, where it sees
-/// that of the reader underneath.
+/// A reader that hands out a row at a time, and tells whether the next one is at hand. What it reads is what
+/// the reader underneath reads at once, so it waits for no row while one is there. A contract sees what it
+/// has left, where it sees that of the reader underneath.
 #[derive(Drop)]
 pub struct Paced<'a, P> {
     pub(crate) reader: P,

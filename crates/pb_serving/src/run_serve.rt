@@ -1,6 +1,7 @@
 //! The command `serve`, once its journal is open.
 
-ghost use Rattle.std.specs.Prelude.{◌≡◌, ◌≢◌, ◌⊎◌, ◌+◌, ◌-◌, ◌^◌, ◌<◌, ◌≤◌, ◌++◌, ℕ, List, [], All, None, length, min, true, IfErr, IfOk, IfSome, IsErrOf, OnOk};
+ghost use Rattle.std.specs.Prelude.{◌≡◌, ◌≢◌, ◌⊎◌, ◌+◌, ◌-◌, ◌^◌, ◌<◌, ◌≤◌, ◌++◌, ℕ, List, [], All, None};
+ghost use Rattle.std.specs.Prelude.{length, min, true, IfErr, IfOk, IfSome, IsErrOf, OnOk};
 ghost use Rattle.std.specs.Io.KnownBytes.{Appends};
 ghost use Rattle.pb_core.specs.Request.{EntryView};
 ghost use Rattle.pb_core.specs.declared.answer.Answer.{Answer};
@@ -22,9 +23,9 @@ ghost use Rattle.pb_serving.specs.Inner.OnRoll.{AddsOnRoll};
 use crate::batch::{BatchEnd, next_batch};
 use crate::heading::heading;
 use crate::pace::Pace;
-use crate::serving_fault::ServingFault;
 use crate::session::Session;
-use pb_durable::{ClerkRequest, Device, DurableDesk};
+use pb_core::answer::Answer;
+use pb_durable::{ClerkRequest, Device, DurableDesk, Recorded};
 use pb_faults::{AppFault, write_out, write_refused_row};
 use pb_script::{Notice, RequestRows, RowRefusal, ScriptFault};
 use std::alloc::Global;
@@ -33,29 +34,32 @@ use std::io::{Read, Write};
 /// A run has fewer batches.
 const MOST_BATCHES: u64 = 1 << 50;
 
-/// Says `torn;BYTES` where bytes were cut off the journal, and `entries;N;open` or `entries;N;shut`, and then answers
-/// each row of the input in turn: by its journal row, once that is durable, or by the line of why it is refused, which
-/// changes nothing, and is told to the session's `notice`. What its `pace` says is at hand is served together, up to 4096
-/// rows, and each answer is flushed before the next row is waited for. At the end of the input the journal is closed.
-/// Answers how many rows were refused.
+/// Says `torn;BYTES` where bytes were cut off the journal, and `entries;N;open` or `entries;N;shut`, and then
+/// answers each row of the input in turn: by its journal row, once that is durable, or by the line of why it
+/// is refused, which changes nothing. What the session's `pace` says is at hand is served together, up to
+/// 4096 rows, and each answer is flushed before the next row is waited for. The session's `notice` is told
+/// which rows are refused, and the answer to each other row once it is written. At the end of the input the
+/// journal is closed. Answers how many rows were refused.
 ///
-/// It ends early where the input or the writer fails, where the journal is not written, or out of memory. What was
-/// answered stands.
+/// It ends early where the input or the writer fails, where the journal is not written, or out of memory.
+/// What was answered stands.
 pub fn run_serve<D: Device, R: Read, P: Pace, N: Notice, W: Write>(
     alloc: Global,
     desk: &mut DurableDesk<D>,
     rows: &mut RequestRows<R>,
     session: &Session<'_, P, N>,
     writer: &mut W,
-) -> Result<u64, ServingFault>
+) -> Result<u64, AppFault>
     requires { D.tells → IsDurable D.seen D.may_leave desk.old }
 
-    // Each row that was given has its answer, and the rows alone decide the text: all rows, where they are known.
+    // Each row that was given has its answer, and the rows alone decide the text: all rows, where they are
+    // known.
     ensures answered { IfOk result (λ refused. (records : List Fields) × (text : List ℕ)
         × IfSome rows.old.left (λ left. left ≡ records)
         × HasGiven rows.old rows.new (length records)
         × Answers session.now.admission.now records desk.old.desk.journal desk.new.desk.journal text
-        × Appends (W.contents writer.old) (W.contents writer.new) (heading session.now.torn desk.old.desk ++ text)
+        × Appends (W.contents writer.old) (W.contents writer.new)
+        (heading session.now.torn desk.old.desk ++ text)
         × (refused + length desk.new.desk.journal ≡ length records + length desk.old.desk.journal)) }
 
     // Each entry that it adds is for a voter of the roll, or shuts the desk, however it ends.
@@ -68,29 +72,30 @@ pub fn run_serve<D: Device, R: Read, P: Pace, N: Notice, W: Write>(
     ensures durable { D.tells → OnOk result
         (Only (D.seen desk.new.file.device) (D.may_leave desk.new.file.device)) }
 
-    // Where it ends early, some first rows have their answers, and nothing else was said, unless the writer failed; before
-    // its first words nothing was done. What was answered stands in what a crash leaves.
+    // Where it ends early, some first rows have their answers, and nothing else was said, unless the writer
+    // failed; before its first words nothing was done. What was answered stands in what a crash leaves.
     ensures stopped { IfErr result (λ fault. (kept : List EntryView) × (text : List ℕ)
-        × Halts session.now.admission.now fault rows.old rows.new desk.old.desk.journal kept desk.new.desk.journal text
-        × (fault ≢ ServingFault.Output
-        → Appends (W.contents writer.old) (W.contents writer.new) (heading session.now.torn desk.old.desk ++ text)
+        × Halts session.now.admission.now fault rows.old rows.new desk.old.desk.journal kept
+        desk.new.desk.journal text
+        × (fault ≢ AppFault.Output
+        → Appends (W.contents writer.old) (W.contents writer.new)
+        (heading session.now.torn desk.old.desk ++ text)
         ⊎ ((writer.new ≡ writer.old) × (rows.new ≡ rows.old) × (desk.new ≡ desk.old)))
         × (D.tells → (c : List ℕ) → D.may_leave desk.new.file.device c
         → StandsWithin desk.new.desk.opening.version kept desk.new.desk.journal c)) }
 
     // The input is blamed only where it failed, and all is well only where it did not.
-    ensures blame { (i : ℕ) → IsErrOf result (ServingFault.App (AppFault.Script (ReadFailed i)))
-        → HasFailed rows.new }
+    ensures blame { (i : ℕ) → IsErrOf result (AppFault.Script (ReadFailed i)) → HasFailed rows.new }
     ensures read { OnOk result (rows.new.fault ≡ None) }
 
     // A failure of the device is told, and only there, or where there is no room.
     ensures told { D.tells → D.failures desk.old.file.device < D.failures desk.new.file.device
-        → IsErrOf result (ServingFault.App AppFault.Write) }
-    ensures write { D.tells → IsErrOf result (ServingFault.App AppFault.Write)
+        → IsErrOf result (AppFault.Write) }
+    ensures write { D.tells → IsErrOf result (AppFault.Write)
         → (D.failures desk.old.file.device < D.failures desk.new.file.device) ⊎ HasNoRoom desk.new.desk }
 
     // Where the writer fails, all that was served stands.
-    ensures output { D.tells → IsErrOf result ServingFault.Output → IsDurable D.seen D.may_leave desk.new }
+    ensures output { D.tells → IsErrOf result AppFault.Output → IsDurable D.seen D.may_leave desk.new }
 
     // A crash at any moment leaves what stood, and a first part of what was served.
     ensures any_moment { D.tells → LeavesOnly D.moment D.left_since desk.old.file.device desk.new.file.device
@@ -99,7 +104,7 @@ pub fn run_serve<D: Device, R: Read, P: Pace, N: Notice, W: Write>(
     // The desk's journal is legal.
     let _entries = desk.desk().entries();
     let opened = heading(alloc, session.torn, desk.desk())?;
-    write_out(writer, opened.as_slice(), ServingFault::Output)?;
+    write_out(writer, opened.as_slice(), AppFault::Output)?;
     let refused = serve_rows(alloc, desk, rows, session, writer)?;
     desk.close()?;
     Ok(refused)
@@ -112,7 +117,7 @@ fn serve_rows<D: Device, R: Read, P: Pace, N: Notice, W: Write>(
     rows: &mut RequestRows<R>,
     session: &Session<'_, P, N>,
     writer: &mut W,
-) -> Result<u64, ServingFault>
+) -> Result<u64, AppFault>
     requires durable { D.tells → IsDurable D.seen D.may_leave desk.old }
     requires legal { IsLegal desk.old.desk.opening desk.old.desk.journal }
     ensures answered { IfOk result (λ refused. (records : List Fields) × (text : List ℕ)
@@ -124,21 +129,21 @@ fn serve_rows<D: Device, R: Read, P: Pace, N: Notice, W: Write>(
     ensures durable { D.tells → OnOk result (IsDurable D.seen D.may_leave desk.new) }
     ensures legal { IsLegal desk.new.desk.opening desk.new.desk.journal }
     ensures opening { desk.new.desk.opening ≡ desk.old.desk.opening }
-    ensures blame { (i : ℕ) → IsErrOf result (ServingFault.App (AppFault.Script (ReadFailed i)))
-        → HasFailed rows.new }
+    ensures blame { (i : ℕ) → IsErrOf result (AppFault.Script (ReadFailed i)) → HasFailed rows.new }
     ensures read { OnOk result (rows.new.fault ≡ None) }
     ensures grown { AddsOnRoll session.now.admission.now desk.old.desk.journal desk.new.desk.journal }
     ensures stopped { IfErr result (λ fault. (kept : List EntryView) × (text : List ℕ)
-        × Halts session.now.admission.now fault rows.old rows.new desk.old.desk.journal kept desk.new.desk.journal text
-        × (fault ≢ ServingFault.Output → Appends (W.contents writer.old) (W.contents writer.new) text)
+        × Halts session.now.admission.now fault rows.old rows.new desk.old.desk.journal kept
+        desk.new.desk.journal text
+        × (fault ≢ AppFault.Output → Appends (W.contents writer.old) (W.contents writer.new) text)
         × (D.tells → (c : List ℕ) → D.may_leave desk.new.file.device c
         → StandsWithin desk.new.desk.opening.version kept desk.new.desk.journal c)) }
     ensures steady { D.tells → D.failures desk.old.file.device ≤ D.failures desk.new.file.device }
     ensures told { D.tells → D.failures desk.old.file.device < D.failures desk.new.file.device
-        → IsErrOf result (ServingFault.App AppFault.Write) }
-    ensures write { D.tells → IsErrOf result (ServingFault.App AppFault.Write)
+        → IsErrOf result (AppFault.Write) }
+    ensures write { D.tells → IsErrOf result (AppFault.Write)
         → (D.failures desk.old.file.device < D.failures desk.new.file.device) ⊎ HasNoRoom desk.new.desk }
-    ensures output { D.tells → IsErrOf result ServingFault.Output → IsDurable D.seen D.may_leave desk.new }
+    ensures output { D.tells → IsErrOf result AppFault.Output → IsDurable D.seen D.may_leave desk.new }
     ensures any_moment { D.tells → LeavesOnly D.moment D.left_since desk.old.file.device desk.new.file.device
         (StandsWithin desk.old.desk.opening.version desk.old.desk.journal desk.new.desk.journal) }
 {
@@ -147,13 +152,14 @@ fn serve_rows<D: Device, R: Read, P: Pace, N: Notice, W: Write>(
     for _ in 0..MOST_BATCHES {
         let mut asks = Vec::new(alloc);
         let end = next_batch(alloc, rows, session, &mut asks);
-        answer(alloc, desk, asks.as_slice(), writer)?;
-        row += asks.len() as u64;
+        let asking = asks.len() as u64;
+        answer(alloc, desk, asks, session.notice, writer)?;
+        row += asking;
         match end {
             BatchEnd::More => {}
             BatchEnd::Over => return Ok(refused),
             BatchEnd::ReadFailed => return Err(read_failed(row + 1)),
-            BatchEnd::NoMemory => return Err(ServingFault::App(AppFault::Memory)),
+            BatchEnd::NoMemory => return Err(AppFault::Memory),
             BatchEnd::Refused(why) => {
                 row += 1;
                 refused += 1;
@@ -161,73 +167,82 @@ fn serve_rows<D: Device, R: Read, P: Pace, N: Notice, W: Write>(
             }
         }
     }
-    Err(ServingFault::App(AppFault::Script(ScriptFault::TooManyRows)))
+    Err(AppFault::Script(ScriptFault::TooManyRows))
 }
 
 /// The fault of an input that was not read at this row, from 1.
-fn read_failed(row: u64) -> ServingFault
-    ensures { result ≡ ServingFault.App (AppFault.Script (ReadFailed (min row (2 ^ 32 - 1)))) }
+fn read_failed(row: u64) -> AppFault
+    ensures { result ≡ AppFault.Script (ReadFailed (min row (2 ^ 32 - 1))) }
 {
     let row = u32::try_from(row).unwrap_or(u32::MAX);
-    ServingFault::App(AppFault::Script(ScriptFault::ReadFailed(row)))
+    AppFault::Script(ScriptFault::ReadFailed(row))
 }
 
-/// Serves these requests, and says their rows once they are durable.
-fn answer<D: Device, W: Write>(
+/// Serves these requests, says their rows once they are durable, and then tells the answers.
+fn answer<D: Device, N: Notice, W: Write>(
     alloc: Global,
     desk: &mut DurableDesk<D>,
-    asks: &[ClerkRequest],
+    asks: Vec<ClerkRequest>,
+    notice: &N,
     writer: &mut W,
-) -> Result<(), ServingFault>
+) -> Result<(), AppFault>
     requires durable { D.tells → IsDurable D.seen D.may_leave desk.old }
-    requires clerks { All (λ a. a.clerk < most_clerks) asks.now }
-    ensures said { OnOk result ((answers : List Answer) × (length answers ≡ length asks.now)
-        × (desk.new.desk.journal ≡ desk.old.desk.journal ++ entries_of asks.now answers)
+    requires clerks { All (λ a. a.clerk < most_clerks) asks.items }
+    ensures said { OnOk result ((answers : List Answer) × (length answers ≡ length asks.items)
+        × (desk.new.desk.journal ≡ desk.old.desk.journal ++ entries_of asks.items answers)
         × Appends (W.contents writer.old) (W.contents writer.new)
-        (text_of_rows (rows_from (length desk.old.desk.journal + 1) (entries_of asks.now answers)))) }
+        (text_of_rows (rows_from (length desk.old.desk.journal + 1) (entries_of asks.items answers)))) }
     ensures durable { D.tells → OnOk result (IsDurable D.seen D.may_leave desk.new) }
-    ensures output { D.tells → IsErrOf result ServingFault.Output → IsDurable D.seen D.may_leave desk.new }
+    ensures output { D.tells → IsErrOf result AppFault.Output → IsDurable D.seen D.may_leave desk.new }
     ensures other { IfErr result (λ fault. (answered served unserved : ℕ) → served + unserved ≤ 4097
-        → (fault ≡ ServingFault.Output → unserved ≡ 0) → IsBehind fault answered served unserved) }
-    ensures not_read { (i : ℕ) → IsErrOf result (ServingFault.App (AppFault.Script (ReadFailed i))) → ⊥ }
+        → (fault ≡ AppFault.Output → unserved ≡ 0) → IsBehind fault answered served unserved) }
+    ensures not_read { (i : ℕ) → IsErrOf result (AppFault.Script (ReadFailed i)) → ⊥ }
     ensures steady { D.tells → D.failures desk.old.file.device ≤ D.failures desk.new.file.device }
     ensures told { D.tells → D.failures desk.old.file.device < D.failures desk.new.file.device
-        → IsErrOf result (ServingFault.App AppFault.Write) }
-    ensures write { D.tells → IsErrOf result (ServingFault.App AppFault.Write)
+        → IsErrOf result (AppFault.Write) }
+    ensures write { D.tells → IsErrOf result (AppFault.Write)
         → (D.failures desk.old.file.device < D.failures desk.new.file.device)
-        ⊎ (desk.old.desk.room < length desk.old.desk.journal + length asks.now)
+        ⊎ (desk.old.desk.room < length desk.old.desk.journal + length asks.items)
         ⊎ (2 ^ 60 ≤ length (journal_text desk.old.desk.opening.version desk.old.desk.journal)) }
     ensures room { desk.new.desk.room ≡ desk.old.desk.room }
-    ensures some { IfErr result (λ fault. 0 < length asks.now) }
-    ensures unsaid { IfErr result (λ fault. fault ≢ ServingFault.Output
+    ensures some { IfErr result (λ fault. 0 < length asks.items) }
+    ensures unsaid { IfErr result (λ fault. fault ≢ AppFault.Output
         → W.contents writer.new ≡ W.contents writer.old) }
     ensures asked { (answers : List Answer)
-        × (desk.new.desk.journal ≡ desk.old.desk.journal ++ entries_of asks.now answers)
-        × (IsErrOf result ServingFault.Output → length answers ≡ length asks.now) }
+        × (desk.new.desk.journal ≡ desk.old.desk.journal ++ entries_of asks.items answers)
+        × (IsErrOf result AppFault.Output → length answers ≡ length asks.items) }
     ensures legal { IsLegal desk.new.desk.opening desk.new.desk.journal }
     ensures opening { desk.new.desk.opening ≡ desk.old.desk.opening }
     ensures any_moment { D.tells → LeavesOnly D.moment D.left_since desk.old.file.device desk.new.file.device
         (StandsForEither (journal_text desk.old.desk.opening.version desk.old.desk.journal)
         (journal_text desk.old.desk.opening.version desk.new.desk.journal)) }
 {
-    let before = desk.desk().entries();
+    // The desk's journal is legal.
+    let _entries = desk.desk().entries();
     if asks.is_empty() {
         return Ok(());
     }
-    let answers = desk.serve_all(alloc, asks)?;
-    drop(answers);
-    let text = desk.desk().rows_after(alloc, before)?;
-    write_out(writer, text.as_slice(), ServingFault::Output)
+    let Recorded { answers, rows } = desk.serve_all(alloc, asks)?;
+    write_out(writer, rows.as_slice(), AppFault::Output)?;
+    tell(notice, &answers);
+    Ok(())
+}
+
+/// Tells these answers, in their order.
+fn tell<N: Notice>(notice: &N, answers: &[Answer]) {
+    for answer in answers {
+        notice.answered(*answer);
+    }
 }
 
 /// Says why this row, from 1, is refused.
-fn say_refused<W: Write>(writer: &mut W, why: RowRefusal, row: u64) -> Result<(), ServingFault>
+fn say_refused<W: Write>(writer: &mut W, why: RowRefusal, row: u64) -> Result<(), AppFault>
     ensures ok { OnOk result (Appends (W.contents writer.old) (W.contents writer.new)
         (line (told (AppFault.Script (fault_of_row why row))).1)) }
-    ensures fault { IfErr result (λ fault. fault ≡ ServingFault.Output) }
+    ensures fault { IfErr result (λ fault. fault ≡ AppFault.Output) }
 {
     if write_refused_row(writer, why, row).is_err() || writer.flush().is_err() {
-        return Err(ServingFault::Output);
+        return Err(AppFault::Output);
     }
     Ok(())
 }

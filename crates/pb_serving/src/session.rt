@@ -11,6 +11,6 @@ pub struct Session<'a, P, N> {
     pub pace: &'a P,
     /// Which requests are admitted.
     pub admission: &'a Admission,
-    /// Who hears of those that are not.
+    /// Who hears of the rows that are refused, and of the answers to the others.
     pub notice: &'a N,
 }

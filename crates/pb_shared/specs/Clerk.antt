@@ -1,5 +1,6 @@
 -- What contracts see of a shared desk and its clerks, and what a call changes of it.
-use Rattle.std.specs.Prelude.{◌≡◌, ◌≢◌, ℕ, ◌+◌, ◌<◌, ◌≤◌, ◌==◌, List, [], ◌∷◌, ◌++◌, length, map, filter, All, Contains, slice_get, Some}
+use Rattle.std.specs.Prelude.{◌≡◌, ◌≢◌, ℕ, ◌+◌, ◌<◌, ◌≤◌, ◌==◌, List, [], ◌∷◌, ◌++◌, length, map, filter, All}
+use Rattle.std.specs.Prelude.{Contains, slice_get, Some}
 use Rattle.atomic_table.specs.Seated.{TableId}
 use Rattle.pb_core.specs.Request.{EntryView, RequestView}
 use Rattle.pb_core.specs.declared.answer.Answer.{Answer}
@@ -57,8 +58,8 @@ abbrev pub Tries : ℕ → SharedView → Sheet → ℕ → Sheet → Type 0
 Tries tries d x word x' = (lost : List ℕ) × All (IsAnothers d (x ∷ [])) lost × (length lost < tries)
     × (x'.found ≡ x.found ++ (lost ++ word ∷ []))
 
--- one of the tries won the lock, and the clerk has seen the journal, which the desk can have, and which grew by other clerks'
--- entries alone; nothing else of the clerk has changed
+-- one of the tries won the lock, and the clerk has seen the journal, which the desk can have, and which grew
+-- by other clerks' entries alone; nothing else of the clerk has changed
 abbrev pub Sees : ℕ → SharedView → Sheet → Sheet → Type 0
 Sees tries d x x' =
     Tries tries d x 0 x' × (CanHave d.start x'.seen × GrowsByOthers x.number x.seen x'.seen)

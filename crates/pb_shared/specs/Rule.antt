@@ -1,5 +1,6 @@
 -- The rule of the running desk: what is true between any two atomic steps, of any clerks in any threads.
-use Rattle.std.specs.Prelude.{◌≡◌, ◌≢◌, ℕ, ◌+◌, ◌<◌, ◌≤◌, ◌==◌, ⊤, Bool, true, false, List, [], ◌∷◌, ◌++◌, length, All, Option, Some}
+use Rattle.std.specs.Prelude.{◌≡◌, ◌≢◌, ℕ, ◌+◌, ◌<◌, ◌≤◌, ◌==◌, ⊤, Bool, true, false, List, [], ◌∷◌, ◌++◌}
+use Rattle.std.specs.Prelude.{length, All, Option, Some}
 use mathlib.Core.Option as slot
 use lib.ListN.{get_elem?}
 use Rattle.atomic_table.specs.Table.{State}
@@ -14,10 +15,11 @@ use Rattle.pb_shared.specs.declared.seat_view.Sheet.{Sheet}
 
 module _ (a : About) (lock : ℕ) (home : slot.Option (Option DeskView)) (journal later : List EntryView)
     (seat_of : ℕ → ℕ) where
-  -- a clerk's sheet is true, where `journal` is the history and `later` is what was served since the start: the
-  -- seat is its own; what it has seen begins the history, what came after is other clerks', and nothing did while
-  -- it holds the lock; past the start, its own entries are those of its number; each lock word that it found is 0,
-  -- or another clerk's number and 1; no front word that it read is above the length of what it has seen
+  -- a clerk's sheet is true, where `journal` is the history and `later` is what was served since the start:
+  -- the seat is its own; what it has seen begins the history, what came after is other clerks', and nothing
+  -- did while it holds the lock; past the start, its own entries are those of its number; each lock word that
+  -- it found is 0, or another clerk's number and 1; no front word that it read is above the length of what it
+  -- has seen
   pub record SheetFits (seat : ℕ) (holds : Bool) (x : Sheet) : Type 0 where
     pub known : x.number < a.clerks
     pub its_seat : seat_of x.number ≡ seat
@@ -56,7 +58,8 @@ module _ (a : About) (lock : ℕ) (home : slot.Option (Option DeskView)) (journa
     pub in_slot : (x : Option DeskView) → home ≡ slot.some x → x ≡ Some (record a.desk.value { journal = journal })
     pub each : (seat : ℕ) (v : SeatView) → get_elem? views seat ≡ slot.some v → RoleFits v.role seat v
 
--- There is one history: the journal at the start, and what was served since. The words are the lock and the history's length
+-- There is one history: the journal at the start, and what was served since. The words are the lock and the
+-- history's length
 abbrev pub DeskRule : About → State (Option DeskView) SeatView → Type 0
 DeskRule a s =
     (lock : ℕ) × (home : slot.Option (Option DeskView)) × (later : List EntryView) × (seat_of : ℕ → ℕ)

@@ -5,9 +5,9 @@ use std::marker::Model;
 
 /// A clerk of a shared desk: who has it can call on the desk. It may go to another thread.
 ///
-/// A contract sees which desk made it, its number, the entries that it has seen, its own entries since the desk
-/// was shared, the words that its exchanges found in the lock, 0 for one that was won, and the numbers that its
-/// loads found in the front word.
+/// A contract sees which desk made it, its number, the entries that it has seen, its own entries since the
+/// desk was shared, the words that its exchanges found in the lock, 0 for one that was won, and the numbers
+/// that its loads found in the front word.
 #[derive(Drop)]
 pub struct Clerk {
     pub(crate) number: u32,

@@ -24,8 +24,8 @@ pub enum Bar<'a> {
     IsServed,
 }
 
-/// What bars the result of a task from a path, as files stand now. An error is a call of the system that has failed: what
-/// can't be looked at is not replaced.
+/// What bars the result of a task from a path, as files stand now. An error is a call of the system that has
+/// failed: what can't be looked at is not replaced.
 pub(crate) fn bar_of<'a, R: Files<File = File> + AllocGlobal>(
     rt: &R,
     task: &Task<'a>,

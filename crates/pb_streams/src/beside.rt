@@ -13,8 +13,8 @@ const ENDS: [&str; 3] = [".torn", ".file", ".kept"];
 /// So many files with a number are looked for.
 const MOST_KEPT: u32 = 10_000;
 
-/// Whether a path is one of the names that the program gives beside a journal, or leads to a file that has one.
-/// The journal may be named by a link, or be standard input.
+/// Whether a path is one of the names that the program gives beside a journal, or leads to a file that has
+/// one. The journal may be named by a link, or be standard input.
 pub(crate) fn stands_beside<R: Files + AllocGlobal>(
     rt: &R,
     path: &str,

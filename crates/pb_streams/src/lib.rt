@@ -1,5 +1,5 @@
-//! What the program reads from and writes to: standard input or files, digested as they are read and shown as they come, and
-//! the file that gets a result whole or not at all.
+//! What the program reads from and writes to: standard input or files, digested as they are read and shown as
+//! they come, and the file that gets a result whole or not at all.
 #![tactic(auto)]
 
 mod bar;

@@ -27,11 +27,13 @@ pub enum Unplaced<'a> {
     Failed(Error),
 }
 
-/// A writer of a result. A file is opened at the first write: a run that is refused writes nothing, and leaves no file.
+/// A writer of a result. A file is opened at the first write: a run that is refused writes nothing, and
+/// leaves no file.
 #[derive(Drop)]
 pub struct Output<'a, R> {
     rt: &'a R,
-    /// What the run was asked for: its output is the path of the file that gets the result, none is standard output.
+    /// What the run was asked for: its output is the path of the file that gets the result, none is standard
+    /// output.
     asked: &'a Asked<'a>,
     opened: Option<Opened>,
     /// Why a write failed.
@@ -75,7 +77,8 @@ impl<'a, R: Files<File = File> + Print + AllocGlobal> Output<'a, R> {
         }
     }
 
-    /// Puts a whole result in the place of an older one, also an empty one. What it replaces is looked at before.
+    /// Puts a whole result in the place of an older one, also an empty one. What it replaces is looked at
+    /// before.
     pub fn finish(&mut self) -> std::result::Result<(), Unplaced<'a>> {
         let Some(path) = self.asked.output else {
             return Ok(());

@@ -26,8 +26,8 @@ pub(crate) struct PartFile<F> {
 }
 
 impl<F: OpenFile + Drop> PartFile<F> {
-    /// Makes a file beside the one with this path. It has the permissions of that one; where there is none, it is for its
-    /// owner alone, if that is asked for, whatever the umask.
+    /// Makes a file beside the one with this path. It has the permissions of that one; where there is none,
+    /// it is for its owner alone, if that is asked for, whatever the umask.
     pub(crate) fn make<R: Files<File = F>>(
         rt: &R,
         alloc: Global,

@@ -24,9 +24,9 @@ pub(crate) fn makes_journal(task: &Task<'_>) -> bool {
 /// Whether the result pairs ids with ballots.
 pub(crate) fn pairs_ids(task: &Task<'_>) -> bool {
     match task {
-        Task::Desk(_) | Task::Voters(..) | Task::Export(..) | Task::Ballots(_) => true,
-        Task::Count(..)
-        | Task::Projects(..)
+        Task::Desk(_) | Task::Voters(_) | Task::Export(_) | Task::Ballots(_) => true,
+        Task::Count(_)
+        | Task::Projects(_)
         | Task::Compare(_)
         | Task::WhatIf(..)
         | Task::Page(..)

@@ -1,10 +1,10 @@
-//! Two clerks of a shared desk, for `tools/refuse`, which runs this program with each of its allocations refused
-//! in turn.
+//! Two clerks of a shared desk, for `tools/refuse`, which runs this program with each of its allocations
+//! refused in turn.
 //!
-//! It says `served` where both clerks are served as ever, and `serve refused` where memory was refused to one of
-//! them, who then saw the desk as it was, and both were answered after that. It says `share refused` where the desk
-//! came back from a call to share it, and could then be shared, and `out of memory` where there was none before.
-//! `other` is wrong.
+//! It says `served` where both clerks are served as ever, and `serve refused` where memory was refused to one
+//! of them, who then saw the desk as it was, and both were answered after that. It says `share refused` where
+//! the desk came back from a call to share it, and could then be shared, and `out of memory` where there was
+//! none before. `other` is wrong.
 #![tactic(auto)]
 
 ghost use Rattle.std.specs.Prelude.{◌≡◌, All, IfSome};
@@ -151,8 +151,8 @@ fn has_served(desk: &Desk, entries: u32) -> bool {
     desk.entries() == entries && desk.ballots().checked_sub(3) == Some(entries)
 }
 
-/// A clerk to whom memory was refused sees the desk with this many entries, as it was; another clerk is served,
-/// and then the clerk itself.
+/// A clerk to whom memory was refused sees the desk with this many entries, as it was; another clerk is
+/// served, and then the clerk itself.
 fn after_refusal(
     shared: &SharedDesk,
     clerk: &mut Clerk,

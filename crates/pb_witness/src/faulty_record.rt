@@ -61,8 +61,8 @@ impl<'r> FaultyRecord<'r> {
         text_at(self.record, self.places().1)
     }
 
-    /// What stands where its other value would be if a text before it had no `;`; the empty text where the row has no more
-    /// fields than there are column names.
+    /// What stands where its other value would be if a text before it had no `;`; the empty text where the
+    /// row has no more fields than there are column names.
     pub fn shifted(&self) -> &'r str {
         let surplus = self.record.len().saturating_sub(self.seen.columns);
         if surplus == 0 {
@@ -71,7 +71,8 @@ impl<'r> FaultyRecord<'r> {
         text_at(self.record, self.places().1.saturating_add(surplus))
     }
 
-    /// Whether it is a project's row whose cost seems to stand further right, because of a `;` in a text before it.
+    /// Whether it is a project's row whose cost seems to stand further right, because of a `;` in a text
+    /// before it.
     pub fn is_split(&self) -> bool {
         match (self.kind, self.stage) {
             (ReadKind::BadMoney, Stage::InProjects(_)) => Money::read(self.shifted()).is_ok(),
@@ -111,7 +112,8 @@ impl<'r> FaultyRecord<'r> {
         }
     }
 
-    /// The row, read again, that has further fields and is read as a head which can't be there: this one, or the one before.
+    /// The row, read again, that has further fields and is read as a head which can't be there: this one, or
+    /// the one before.
     pub fn like_head<R: Files>(&self, text: &Text<'_, R>) -> Option<Records<R::File>> {
         let records = text.record_at(self.head_mark()?)?;
         if has_more(&records.last) {
@@ -175,7 +177,8 @@ impl<'r> FaultyRecord<'r> {
         }
     }
 
-    /// What separates its column names in place of `;`, if it is a row of them that seems to be one field by that.
+    /// What separates its column names in place of `;`, if it is a row of them that seems to be one field by
+    /// that.
     pub fn separators(&self) -> Option<&'static str> {
         match (self.kind, self.joined()) {
             (ReadKind::MissingColumn, Some(joined)) => joined.separators(),

@@ -1,4 +1,5 @@
-//! The heads of a .pb file's sections: rows that seem to be meant as one, and META's head where it comes late.
+//! The heads of a .pb file's sections: rows that seem to be meant as one, and META's head where it comes
+//! late.
 
 use crate::fields::{joined, text_at};
 use crate::mark::Mark;
@@ -68,8 +69,8 @@ fn is_column(word: &str) -> bool {
     false
 }
 
-/// The head that a record seems to be meant as, where it is none: punctuation stands beside a section's name, or a column's
-/// name behind it.
+/// The head that a record seems to be meant as, where it is none: punctuation stands beside a section's name,
+/// or a column's name behind it.
 pub fn odd_head_of(record: &ByteRecord, mark: Mark) -> Option<OddHead> {
     if joined(record).is_some() {
         return None;

@@ -24,7 +24,8 @@ pub struct Ids {
     pub projects: Firsts,
     /// The projects that were left out.
     pub left_out: Firsts,
-    /// The ids of rows that a quotation mark swallowed, each with where the row begins that has them in a field.
+    /// The ids of rows that a quotation mark swallowed, each with where the row begins that has them in a
+    /// field.
     pub swallowed: Firsts,
     /// The pieces of ids that have a comma.
     pub pieces: Firsts,
@@ -102,7 +103,8 @@ impl Ids {
         Ok(())
     }
 
-    /// The id of a project that this one is without the quotation marks and unseen characters at its ends, if it has some.
+    /// The id of a project that this one is without the quotation marks and unseen characters at its ends, if
+    /// it has some.
     pub fn bare<'v>(&self, id: &'v str) -> Option<&'v str> {
         let bare = id.trim_matches(|c: char| c == '"' || is_hidden(u32::from(c)));
         if bare.len() < id.len() && self.projects.has(bare) {
@@ -134,8 +136,8 @@ impl Ids {
         count > 1
     }
 
-    /// The id of a project that is nearest to this one, if one is near: it differs in case alone, or in at most a third
-    /// of the characters. It is looked for a limited number of times.
+    /// The id of a project that is nearest to this one, if one is near: it differs in case alone, or in at
+    /// most a third of the characters. It is looked for a limited number of times.
     pub fn nearest(&self, id: &str) -> Result<Option<&str>, AllocError> {
         let compared = self.compared.get();
         if compared >= MOST_COMPARED {

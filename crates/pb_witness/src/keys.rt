@@ -10,20 +10,26 @@ pub struct Given {
     pub last: Mark,
 }
 
+/// How many these keys are.
+const COUNT: usize = MetaKey::ALL.len();
+
 /// The rows of META that gave the keys that the desk or the count uses.
 #[derive(Clone, Copy)]
 pub struct Keys {
     /// The rows of each key, in the order in which `MetaKey` declares them.
-    given: [Option<Given>; 3],
+    given: [Option<Given>; COUNT],
 }
 
 impl Keys {
     /// No key was given yet.
     pub fn none() -> Keys {
-        Keys { given: [None; 3] }
+        Keys {
+            given: [None; COUNT],
+        }
     }
 
-    /// Takes a row of META with this key, and answers where it stood last, if it is one of these and repeated.
+    /// Takes a row of META with this key, and answers where it stood last, if it is one of these and
+    /// repeated.
     pub fn take(&mut self, key: &str, mark: Mark) -> Option<Mark> {
         let key = MetaKey::of(key)?;
         let before = self.given(key);
@@ -43,13 +49,32 @@ impl Keys {
         self.given[key as usize]
     }
 
-    /// The key that a fault at the head of PROJECTS is about, and the rows that gave it.
-    pub fn judged(&self, kind: ReadKind) -> (MetaKey, Option<Given>) {
+    /// The key whose value a fault at the head of PROJECTS is about, and the rows that gave it; none where
+    /// the fault is about no value, or the value is missing.
+    pub fn judged(&self, kind: ReadKind) -> Option<(MetaKey, Given)> {
         let key = match kind {
+            ReadKind::BadMoney | ReadKind::MoneyTooFine | ReadKind::MoneyTooLarge =>
+                MetaKey::Budget,
             ReadKind::VoteType => MetaKey::VoteType,
             ReadKind::BadLength => MetaKey::MaxLength,
-            _ => MetaKey::Budget,
+            ReadKind::ReadFailed
+            | ReadKind::NotText
+            | ReadKind::TooManyRecords
+            | ReadKind::NoSection
+            | ReadKind::SectionOrder
+            | ReadKind::NoHeader
+            | ReadKind::MissingColumn
+            | ReadKind::MissingField
+            | ReadKind::MissingKey
+            | ReadKind::ZeroCost
+            | ReadKind::EmptyId
+            | ReadKind::RepeatedProject
+            | ReadKind::RepeatedVoter
+            | ReadKind::UnknownProject
+            | ReadKind::TooManyProjects
+            | ReadKind::TooManyVoters
+            | ReadKind::NoMemory => return None,
         };
-        (key, self.given(key))
+        Some((key, self.given(key)?))
     }
 }

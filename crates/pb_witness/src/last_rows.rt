@@ -82,7 +82,8 @@ impl LastRows {
         self.state == State::Quoted
     }
 
-    /// The rows up to the one with this number, from 1, which is read last, if it is among them and all bytes are there.
+    /// The rows up to the one with this number, from 1, which is read last, if it is among them and all bytes
+    /// are there.
     pub fn records_to(&self, number: u64) -> Option<Records<&[u8]>> {
         if number <= self.before || !self.is_whole {
             return None;

@@ -1,10 +1,11 @@
 //! What was seen of the texts that a run reads, and is found when they are looked at again.
 //!
-//! While pb_read reads a .pb file, a `Witness` looks on and keeps what words need of what is refused; `Warnings` and
-//! `ResultWarnings` collect what is accepted and probably not meant. `EntryCounts` count the answers of a journal as its
-//! bytes go by. After a run has failed, a text that is a file is looked at again: where a record begins, which quotation
-//! mark is open, what the proved desk answers. Nothing but that each call returns is proved of this, and no result can
-//! change by it but by `--strict`, which refuses a file for a warning.
+//! While pb_read reads a .pb file, a `Witness` looks on and keeps what words need of what is refused;
+//! `Warnings` and `ResultWarnings` collect what is accepted and probably not meant. `EntryCounts` count the
+//! answers of a journal. After a run has failed, a text that is a file is looked at again:
+//! where a record begins, which quotation mark is open, what the proved desk answers. Nothing but that each
+//! call returns is proved of this, and no result can change by it but by `--strict`, which refuses a file for
+//! a warning.
 #![tactic(auto)]
 
 pub mod audited;
@@ -27,6 +28,7 @@ pub mod records;
 mod result_columns;
 mod result_oddities;
 pub mod row_flaw;
+pub mod rule_counts;
 pub mod seen;
 pub mod swallowed;
 pub mod text;

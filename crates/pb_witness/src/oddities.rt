@@ -23,6 +23,9 @@ pub const ALL: [Oddity; 14] = [
     Oddity::SelectedOf,
 ];
 
+/// How many they are.
+const COUNT: usize = ALL.len();
+
 /// What a row is of.
 #[derive(Clone, Copy, PartialEq, Eq)]
 pub enum Subject {
@@ -105,8 +108,8 @@ pub struct Oddities {
     alloc: Global,
     most: u64,
     found: Vec<Odd>,
-    counts: [u64; 14],
-    firsts: [u64; 14],
+    counts: [u64; COUNT],
+    firsts: [u64; COUNT],
     is_whole: bool,
 }
 
@@ -117,8 +120,8 @@ impl Oddities {
             alloc,
             most,
             found: Vec::new(alloc),
-            counts: [0; 14],
-            firsts: [0; 14],
+            counts: [0; COUNT],
+            firsts: [0; COUNT],
             is_whole: true,
         }
     }

@@ -18,7 +18,8 @@ pub struct PageNotes {
     currency: String,
     /// Where the column `category` of PROJECTS stands, from 0.
     column: Option<usize>,
-    /// The different texts of that column, in the order of their first projects, and the number of each, from 0.
+    /// The different texts of that column, in the order of their first projects, and the number of each, from
+    /// 0.
     categories: Vec<String>,
     numbers: IdTable,
     /// The number of each project's category.
@@ -47,7 +48,8 @@ impl PageNotes {
         self.is_whole
     }
 
-    /// The currency that META names. A text with a digit is none: beside an amount it would be read as a part of it.
+    /// The currency that META names. A text with a digit is none: beside an amount it would be read as a part
+    /// of it.
     pub fn currency(&self) -> Option<&str> {
         let currency = self.currency.as_str();
         let has_digit = currency.as_bytes().iter().any(|byte| byte.is_ascii_digit());
@@ -65,7 +67,8 @@ impl PageNotes {
             .any(|category| category.as_str() != "")
     }
 
-    /// The different categories, in the order of their first projects; the empty text is that of projects without one.
+    /// The different categories, in the order of their first projects; the empty text is that of projects
+    /// without one.
     pub fn categories(&self) -> Result<Vec<&str>, NoMemory> {
         let mut all = Vec::new(self.alloc);
         for category in &self.categories {

@@ -1,4 +1,5 @@
-//! The line of the text at which a record begins, and the quotation mark that makes it run over several lines.
+//! The line of the text at which a record begins, and the quotation mark that makes it run over several
+//! lines.
 
 use crate::mark::Mark;
 use crate::text::Text;
@@ -91,7 +92,8 @@ impl Span {
         self.marks = 0;
     }
 
-    /// Takes a quotation mark. Behind the one that closes the field over several lines there should be no other in its line.
+    /// Takes a quotation mark. Behind the one that closes the field over several lines there should be no
+    /// other in its line.
     fn take_mark(&mut self) {
         self.marks = self.marks.saturating_add(1);
         if let Some((_, closes)) = self.over {
@@ -116,8 +118,8 @@ impl State {
     }
 }
 
-/// What the bytes say of the record with this mark, where the text is a file that can be read again. Of another text no
-/// more is known than the mark.
+/// What the bytes say of the record with this mark, where the text is a file that can be read again. Of
+/// another text no more is known than the mark.
 pub fn span_of<R: Files>(text: &Text<'_, R>, mark: Mark) -> Span {
     let Some(mut file) = text.open_at(mark.byte) else {
         return Span::new(mark.line);

@@ -15,7 +15,8 @@ pub struct Seen {
     pub keys: Keys,
     /// The first row of META or PROJECTS, whichever is read, that seems to be meant as a head.
     pub odd_head: Option<OddHead>,
-    /// The first row of META or PROJECTS, whichever is read, that has a head or a row of META in a field in quotes.
+    /// The first row of META or PROJECTS, whichever is read, that has a head or a row of META in a field in
+    /// quotes.
     pub swallowing: Option<Mark>,
     /// The last record that is not blank.
     pub last: Mark,

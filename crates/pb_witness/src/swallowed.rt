@@ -62,7 +62,8 @@ pub(crate) fn later_lines(record: &ByteRecord, place: usize) -> &str {
     }
 }
 
-/// Whether a field of a row has a line in it that seems to be a section's head, or a row of META that the count uses.
+/// Whether a field of a row has a line in it that seems to be a section's head, or a row of META that the
+/// count uses.
 pub(crate) fn swallows_head(record: &ByteRecord) -> bool {
     for place in 0..record.len() {
         for line in later_lines(record, place).split('\n') {
@@ -90,8 +91,8 @@ fn swallows_row(record: &ByteRecord, part: Part, projects: &Firsts) -> bool {
     false
 }
 
-/// Whether a line seems to be a row of META that the count uses, of a project with a cost, or of a voter who votes for
-/// these projects.
+/// Whether a line seems to be a row of META that the count uses, of a project with a cost, or of a voter who
+/// votes for these projects.
 fn is_row(line: &str, part: Part, projects: &Firsts) -> bool {
     match part {
         Part::Key => line.contains(';') && MetaKey::of(field_of(line, 0)).is_some(),
@@ -107,7 +108,8 @@ fn is_row(line: &str, part: Part, projects: &Firsts) -> bool {
     }
 }
 
-/// The text at this place of a line, whose fields are separated by `;`; the empty text where the line ends before it.
+/// The text at this place of a line, whose fields are separated by `;`; the empty text where the line ends
+/// before it.
 fn field_of(line: &str, place: usize) -> &str {
     line.split(';').nth(place).unwrap_or("").trim()
 }

@@ -58,7 +58,8 @@ pub fn project_with_comma<R: Files>(file: &Text<'_, R>) -> Result<Option<String>
     Ok(None)
 }
 
-/// The id of the only project whose id has a comma; the empty text where there is none, or where there are several.
+/// The id of the only project whose id has a comma; the empty text where there is none, or where there are
+/// several.
 fn only_with_comma(election: &Election) -> &str {
     let projects = election.projects();
     let mut only = None;

@@ -10,8 +10,8 @@ use std::alloc::{AllocError, Global};
 use std::io::Read;
 use std::rt::Files;
 
-/// Where the first rows of the voters stand whose ids are repeated, if the text is a file. A witness keeps no table of all
-/// voters, so the rows of VOTES are read again for them, until each was found.
+/// Where the first rows of the voters stand whose ids are repeated, if the text is a file. A witness keeps no
+/// table of all voters, so the rows of VOTES are read again for them, until each was found.
 pub fn first_rows<R: Files>(text: &Text<'_, R>, witness: &Witness) -> Result<Firsts, AllocError> {
     let mut found = Firsts::new(text.alloc);
     let wanted = repeated(text.alloc, witness)?;

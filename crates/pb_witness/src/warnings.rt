@@ -143,7 +143,8 @@ impl Warnings {
         }
     }
 
-    /// Compares what the column `selected` says with a count that elects or adds the projects at these places.
+    /// Compares what the column `selected` says with a count that elects or adds the projects at these
+    /// places.
     fn compare(&mut self, winners: &[u32]) {
         for winner in winners {
             let place = *winner as usize;

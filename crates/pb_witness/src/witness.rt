@@ -51,7 +51,8 @@ impl Witness {
         }
     }
 
-    /// The rows that are accepted and seem to have further rows in a field, once the file has ended and may end there.
+    /// The rows that are accepted and seem to have further rows in a field, once the file has ended and may
+    /// end there.
     pub fn swallowing(&self) -> Option<&SwallowingRows> {
         if self.has_ended {
             Some(&self.swallowing)

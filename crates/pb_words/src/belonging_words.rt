@@ -1,11 +1,12 @@
 //! Words for a journal and the file that it belongs to.
 
 use crate::words::Value::{Name, Own};
-use crate::words::{Said, Words, said};
+use crate::words::{Said, Words, failed, said};
 use std::alloc::Global;
 use std::io::Error;
 
-/// Words for a journal that belongs to another file than the one with this path, as this text of the file beside it says.
+/// Words for a journal that belongs to another file than the one with this path, as this text of the file
+/// beside it says.
 pub fn other_file_words(
     alloc: Global,
     file: Option<&str>,
@@ -33,7 +34,8 @@ pub fn other_file_words(
     out.finish()
 }
 
-/// Words for a journal with entries beside which nothing stood, and that now belongs to the file with this digest.
+/// Words for a journal with entries beside which nothing stood, and that now belongs to the file with this
+/// digest.
 pub fn adopted_words(alloc: Global, journal: &str, beside: &str, digest: &str) -> Said {
     said(
         alloc,
@@ -44,9 +46,7 @@ pub fn adopted_words(alloc: Global, journal: &str, beside: &str, digest: &str) -
 
 /// Words for the file beside a journal, which could not be read, for this reason.
 pub fn unread_file_words(alloc: Global, beside: &str, reason: &Error) -> Said {
-    let mut out = Words::new(alloc);
-    out.fill("{}", &[Name(Some(beside))]);
-    out.put_error(reason);
-    out.put("This file says to which .pb file the journal belongs. Get permission to read it.\n");
-    out.finish()
+    let remedy =
+        "This file says to which .pb file the journal belongs. Get permission to read it.\n";
+    failed(alloc, beside, Some(reason), "", remedy)
 }

@@ -1,6 +1,6 @@
 //! Words for a count's options, and for raises that were spent.
 
-use crate::words::Value::{Name, Number, Own};
+use crate::words::Value::{Amount, Count, Name, Number, Own};
 use crate::words::{Said, Words};
 use pb_rounds::count_fault::CountFault;
 use pb_rounds::options::CountOptions;
@@ -21,8 +21,8 @@ pub enum Deciding {
     Unread,
 }
 
-/// Words for a count of the .pb file with this path that is refused, by these options; no path is standard input.
-/// Of raises that were spent they say no more than that: what to do is said by `spent_words`.
+/// Words for a count of the .pb file with this path that is refused, by these options; no path is standard
+/// input. Of raises that were spent they say no more than that: what to do is said by `spent_words`.
 pub fn count_words(
     alloc: Global,
     path: Option<&str>,
@@ -31,19 +31,21 @@ pub fn count_words(
 ) -> Said {
     let mut out = Words::new(alloc);
     match fault {
-        CountFault::RaisesSpent => {
-            out.fill("{}: the count is not finished after ", &[Name(path)]);
-            put_count(&mut out, options.max_raises);
-            out.put(" of ");
-            put_amount(&mut out, options.step.0);
-            out.put(", so there is no result.\n")
-        }
+        CountFault::RaisesSpent => out.fill(
+            "{}: the count is not finished after {} of {}, so there is no result.\n",
+            &[
+                Name(path),
+                Count(u64::from(options.max_raises), "raise"),
+                Amount(options.step.0),
+            ],
+        ),
         fault => put_option(&mut out, fault, options),
     }
     out.finish()
 }
 
-/// Words for what to do about raises that were spent: what is known of more raises, and of a step that decides.
+/// Words for what to do about raises that were spent: what is known of more raises, and of a step that
+/// decides.
 pub fn spent_words(
     alloc: Global,
     options: &CountOptions,
@@ -57,12 +59,6 @@ pub fn spent_words(
         put_step(&mut out, options.max_raises, step);
     }
     out.finish()
-}
-
-/// Puts how many raises are meant.
-fn put_count(out: &mut Words, raises: u32) {
-    let unit = if raises == 1 { "raise" } else { "raises" };
-    out.fill("{} {}", &[Number(u64::from(raises)), Own(unit)])
 }
 
 /// Puts how many raises would decide.
@@ -91,13 +87,15 @@ fn put_raises(out: &mut Words, deciding: Deciding) {
 /// Puts a larger step, which is known to decide with so many raises where it is given, and what it may cost.
 fn put_step(out: &mut Words, raises: u32, step: Option<u64>) {
     match step {
-        Some(step) => {
-            out.put("You can use a larger step: with ");
-            put_count(out, raises);
-            out.fill(", `--step {}` (", &[Number(step)]);
-            put_amount(out, step);
-            out.put(") is certainly enough; a smaller step may be enough too.\n");
-        }
+        Some(step) => out.fill(
+            "You can use a larger step: with {}, `--step {}` ({}) is certainly enough; \
+            a smaller step may be enough too.\n",
+            &[
+                Count(u64::from(raises), "raise"),
+                Number(step),
+                Amount(step),
+            ],
+        ),
         None => out.put("You can try a larger step: `--step` can be at most 1000000000.\n"),
     }
     out.put("But with a larger step fewer different shares are tried, so fewer projects may win.\n")
@@ -119,15 +117,5 @@ pub(crate) fn put_range<'w>(out: &mut Words, option: &'w str, value: u64, range:
     out.fill(
         "option --{}: {} is not allowed. Give a value from {}.\n",
         &[Own(option), Number(value), Own(range)],
-    )
-}
-
-/// Puts an amount of so many hundredths in units.
-pub(crate) fn put_amount(out: &mut Words, amount: u64) {
-    let hundredths = amount % 100;
-    let point = if hundredths < 10 { ".0" } else { "." };
-    out.fill(
-        "{}{}{}",
-        &[Number(amount / 100), Own(point), Number(hundredths)],
     )
 }

@@ -17,7 +17,8 @@ pub const ASKED_FOR: [&str; 6] = [
     "date_end",
 ];
 
-/// Words where the file with this path lacks some of these keys, and so does the exported file; no path is standard input.
+/// Words where the file with this path lacks some of these keys, and so does the exported file; no path is
+/// standard input.
 pub fn lacking_words(alloc: Global, path: Option<&str>, lacking: &[bool; 6]) -> Said {
     let mut out = Words::new(alloc);
     let mut before = "";
@@ -38,7 +39,8 @@ pub fn lacking_words(alloc: Global, path: Option<&str>, lacking: &[bool; 6]) -> 
     out.finish()
 }
 
-/// Words for an election with a section's name as an id, whose ballots are those of this .pb file, or of a journal.
+/// Words for an election with a section's name as an id, whose ballots are those of this .pb file, or of a
+/// journal.
 pub fn heading_words<R: Files>(
     rt: &R,
     alloc: Global,
@@ -51,8 +53,7 @@ pub fn heading_words<R: Files>(
             out.fill(
                 "{}: the voter {} can't be written into a .pb file, because this id is a heading there.\nGive this voter another id in copies of the file and the journal (tools/replace_ids.py does it), and export these.\n",
                 &[Name(journal), Quoted(voter.as_str())],
-            );
-            drop(voter);
+            )
         }
         None => out.fill(
             "{}: the id of a voter or a project is META, PROJECTS or VOTES. It can't be written into a .pb file, because it is a heading there.\nGive the voter or project another id in a copy of the file, and export this.\n",
@@ -62,16 +63,14 @@ pub fn heading_words<R: Files>(
     out.finish()
 }
 
-/// Words for an election with a vote for a project whose id has a comma; whether its ballots are those of a journal.
+/// Words for an election with a vote for a project whose id has a comma; whether its ballots are those of a
+/// journal.
 pub fn comma_words<R: Files>(rt: &R, alloc: Global, file: Option<&str>, has_journal: bool) -> Said {
     let mut out = Words::new(alloc);
     let project = project_with_comma(&Text::new(rt, alloc, file))?;
     out.fill("{}: a ballot names ", &[Name(file)]);
-    match project {
-        Some(id) => {
-            out.fill("the project {}", &[Quoted(id.as_str())]);
-            drop(id);
-        }
+    match &project {
+        Some(id) => out.fill("the project {}", &[Quoted(id.as_str())]),
         None => out.put("a project whose id has a comma"),
     }
     out.put(

@@ -69,11 +69,9 @@ pub(crate) fn put_what(out: &mut Words, faulty: &FaultyRecord) {
     let first = text_at(faulty.record, 0);
     match faulty.kind {
         ReadKind::NotText => put_no_text(out, faulty),
-        _ if is_votes_names(faulty) => {
-            out.put(
-                ": these are the column names of VOTES, but there is no heading VOTES above them.\n",
-            )
-        }
+        _ if is_votes_names(faulty) => out.put(
+            ": these are the column names of VOTES, but there is no heading VOTES above them.\n",
+        ),
         ReadKind::NoSection if faulty.is_behind_mark() => {
             out.put(": an invisible character is before META.\n")
         }
@@ -88,18 +86,11 @@ pub(crate) fn put_what(out: &mut Words, faulty: &FaultyRecord) {
         }
         ReadKind::MissingColumn => put_no_column(out, faulty),
         ReadKind::MissingField => put_short(out, faulty),
-        ReadKind::EmptyId => put_value(out, faulty, names.id_column, ("", faulty.id())),
+        ReadKind::EmptyId => put_value(out, faulty, names.id_column, ""),
         ReadKind::BadMoney
         | ReadKind::MoneyTooFine
         | ReadKind::MoneyTooLarge
-        | ReadKind::ZeroCost => {
-            put_value(
-                out,
-                faulty,
-                names.value_column,
-                (faulty.id(), faulty.value()),
-            )
-        }
+        | ReadKind::ZeroCost => put_value(out, faulty, names.value_column, faulty.value()),
         kind => out.fill(": {}.\n", &[Own(words_of(kind).0)]),
     }
 }
@@ -133,11 +124,7 @@ fn put_no_column(out: &mut Words, faulty: &FaultyRecord) {
             &[Own(separators)],
         );
     }
-    let missing = if column_of(faulty.record, names.id_column).is_some() {
-        names.value_column
-    } else {
-        names.id_column
-    };
+    let missing = names.missing(column_of(faulty.record, names.id_column).is_some());
     out.fill(
         ": the row of column names has no column `{}`; it begins with {}.\n",
         &[Own(missing), Quoted(text_at(faulty.record, 0))],
@@ -156,21 +143,15 @@ fn put_short(out: &mut Words, faulty: &FaultyRecord) {
         );
     }
     put_subject(out, names.subject, faulty.id());
-    let missing = if faulty.has_id() {
-        names.value_column
-    } else {
-        names.id_column
-    };
     out.fill(
         ": the row has no field for the column `{}`.\n",
-        &[Own(missing)],
+        &[Own(names.missing(faulty.has_id()))],
     )
 }
 
-/// Puts a value of this column, in the row with this id, and the rule that it breaks.
-fn put_value(out: &mut Words, faulty: &FaultyRecord, column: &'static str, pair: (&str, &str)) {
-    let (id, value) = pair;
+/// Puts a value of this column, whose row it is, and the rule that it breaks.
+fn put_value(out: &mut Words, faulty: &FaultyRecord, column: &'static str, value: &str) {
     out.fill(", column {}", &[Own(column)]);
-    put_subject(out, names(faulty).subject, id);
+    put_subject(out, names(faulty).subject, faulty.id());
     put_broken(out, faulty.kind, value)
 }

@@ -3,7 +3,7 @@
 use crate::file_words::{NO_MEMORY, put_reading_failed};
 use crate::mark_words::{put_mark, put_record_number, put_subject, put_unclosed};
 use crate::row_words::{JOURNAL_FIELDS, put_field_count, put_flaw};
-use crate::words::Value::{Bytes, Name, Number, Own};
+use crate::words::Value::{Bytes, Count, Name, Number, Numbers, Own};
 use crate::words::{Said, Words};
 use csv::ByteRecord;
 use pb_core::answer::Answer;
@@ -30,10 +30,12 @@ const OTHER_ANSWER: &str =
 
 /// What is said of a journal that is perhaps another file, has an incomplete end, or is of another version.
 const OTHER_FILE: &str =
-    "Check that {} is the journal. (The .pb file comes first in the command, then the journal.) If it is the journal, it is not as the desk wrote it.";
+    "Check that {} is the journal. (The .pb file comes first in the command, then the journal.) \
+    If it is the journal, it is not as the desk wrote it.";
 
 const INCOMPLETE: &str =
-    "If the power failed, run `pb_app serve` first: it cuts off the incomplete end. If not, the journal is not as the desk wrote it.";
+    "If the power failed, run `pb_app serve` first: it cuts off the incomplete end. \
+    If not, the journal is not as the desk wrote it.";
 
 const NEWER: &str =
     "If a newer pb_app wrote the journal, use that program. If not, the journal is not as the desk wrote it.";
@@ -59,7 +61,7 @@ pub fn journal_words<R: Files>(
 
 fn put_words<R: Files>(out: &mut Words, audited: &Audited<R>) {
     let is_put = match audited.fault {
-        AuditFault::ReadFailed(_) => put_reading_failed(out, &audited.journal, audited.at),
+        AuditFault::ReadFailed(_) => put_reading_failed(out, &audited.journal, Some(audited.at)),
         _ => put_found(out, audited),
     };
     if !is_put {
@@ -115,14 +117,12 @@ fn put_found<R: Files>(out: &mut Words, audited: &Audited<R>) -> bool {
         let _ = put_mark(out, &audited.journal, desk.mark);
         put_wrong_answer(out, &desk.row, Some(&desk));
         put_other_answer(out, audited);
-        drop(desk);
         return true;
     }
     let Some(records) = audited.records() else {
         return false;
     };
     put_row(out, audited, &records.last, records.mark());
-    drop(records);
     true
 }
 
@@ -158,7 +158,8 @@ fn put_row<R: Files>(out: &mut Words, audited: &Audited<R>, row: &ByteRecord, ma
     }
 }
 
-/// Puts what to do about a bad row: a text whose first row is one, and that does not begin as journals do, may be another file.
+/// Puts what to do about a bad row: a text whose first row is one, and that does not begin as journals do,
+/// may be another file.
 fn put_bad_remedy<R: Files>(out: &mut Words, audited: &Audited<R>, mark: Mark) {
     if audited.at == 1 && audited.journal.before == 0 {
         out.fill(OTHER_FILE, &[Name(audited.journal.path)]);
@@ -228,13 +229,12 @@ fn put_unknown(out: &mut Words, place: u64, projects: u64) {
         ", but the right answer is `unknown-place {}`, because no project has the position {}: the file has ",
         &[Number(place), Number(place)],
     );
-    match projects {
-        0 => return out.put("no projects.\n"),
-        1 => out.put("1 project, at position "),
-        _ => out.fill("{} projects, at positions ", &[Number(projects)]),
-    }
-    out.put_numbers(projects);
-    out.put(".\n")
+    let form = match projects {
+        0 => "no projects.\n",
+        1 => "{}, at position {}.\n",
+        _ => "{}, at positions {}.\n",
+    };
+    out.fill(form, &[Count(projects, "project"), Numbers(projects)])
 }
 
 /// Puts that the ballot of a row is not too long, and why.
@@ -243,12 +243,11 @@ fn put_short_enough(out: &mut Words, desk: &DeskAnswer) {
         "" => 0,
         places => places.split(',').count() as u64,
     };
-    let form = if count == 1 {
-        ", and {} project is not too many: "
-    } else {
-        ", and {} projects are not too many: "
-    };
-    out.fill(form, &[Number(count)]);
+    let verb = if count == 1 { "is" } else { "are" };
+    out.fill(
+        ", and {} {} not too many: ",
+        &[Count(count, "project"), Own(verb)],
+    );
     if desk.most == u64::from(u32::MAX) {
         out.put("the file sets no `max_length`")
     } else {

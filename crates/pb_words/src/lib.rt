@@ -1,9 +1,10 @@
-//! Words for people beside a fault's line: where it stands, what stands there and which rule it breaks, and what to do.
+//! Words for people beside a fault's line: where it stands, what stands there and which rule it breaks, and
+//! what to do.
 //!
-//! Words are made after a run has failed, so no result can change by them. What they speak of was seen by pb_witness while
-//! the texts were read, or is found there when they are looked at again; of standard input words say what the fault alone
-//! says. All text from outside goes through `Words`, so no word puts a control character into a terminal. Nothing but that
-//! each call returns is proved of a word.
+//! Words are made after a run has failed, so no result can change by them. What they speak of was seen by
+//! pb_witness while the texts were read, or is found there when they are looked at again; of standard input
+//! words say what the fault alone says. All text from outside goes through `Words`, so no word puts a control
+//! character into a terminal. Nothing but that each call returns is proved of a word.
 #![tactic(auto)]
 
 pub mod belonging_words;

@@ -43,16 +43,10 @@ pub(crate) fn looks_of<R: Files>(text: &Text<R>) -> Option<&'static str> {
 
 /// What a text looks like that begins with these bytes.
 fn looks_by(bytes: &[u8]) -> Option<&'static str> {
-    for (begins, words) in LOOKS {
-        if bytes.starts_with(begins) {
-            return Some(words);
-        }
-    }
-    if bytes.is_empty() {
-        Some(EMPTY)
-    } else if is_web_page(bytes) {
-        Some(WEB_PAGE)
-    } else {
-        None
+    match LOOKS.iter().find(|(begins, _)| bytes.starts_with(begins)) {
+        Some((_, words)) => Some(*words),
+        None if bytes.is_empty() => Some(EMPTY),
+        None if is_web_page(bytes) => Some(WEB_PAGE),
+        None => None,
     }
 }

@@ -57,7 +57,8 @@ fn put_opening(out: &mut Words, span: Span, opens: u64) {
     }
 }
 
-/// Puts that a quotation mark in the record whose line was put is never closed, if so, and answers whether it is.
+/// Puts that a quotation mark in the record whose line was put is never closed, if so, and answers whether it
+/// is.
 pub(crate) fn put_unclosed(out: &mut Words, span: Span) -> bool {
     let Some(opens) = span.unclosed() else {
         return false;
@@ -67,8 +68,8 @@ pub(crate) fn put_unclosed(out: &mut Words, span: Span) -> bool {
     true
 }
 
-/// Puts that a quotation mark makes several lines one field, if one does, of the record whose line was put, or as a sentence of
-/// its own; answers whether one does.
+/// Puts that a quotation mark makes several lines one field, if one does, of the record whose line was put,
+/// or as a sentence of its own; answers whether one does.
 pub(crate) fn put_over(out: &mut Words, span: Span, is_sentence: bool) -> bool {
     let Some((opens, closes)) = span.over else {
         return false;
@@ -88,7 +89,8 @@ pub(crate) fn put_over(out: &mut Words, span: Span, is_sentence: bool) -> bool {
     true
 }
 
-/// Puts the same of an earlier row that swallowed rows which are missed now, if there is one; answers whether it did.
+/// Puts the same of an earlier row that swallowed rows which are missed now, if there is one; answers whether
+/// it did.
 pub(crate) fn put_swallowing<R: Files>(out: &mut Words, text: &Text<R>, row: Option<Mark>) -> bool {
     match row {
         Some(mark) => put_over(out, span_of(text, mark), true),

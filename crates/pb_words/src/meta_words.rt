@@ -13,7 +13,9 @@ use pb_witness::seen::Seen;
 use pb_witness::text::Text;
 use std::rt::Files;
 
-/// What to do where META has no vote type.
+/// What to do where META has no budget, and where it has no vote type.
+const ADD_BUDGET: &str = "Add it above this line, in the form `budget;AMOUNT`.\n";
+
 const ADD_VOTE_TYPE: &str =
     "If the votes are approval votes, add `vote_type;approval` above this line.\n";
 
@@ -53,8 +55,7 @@ pub(crate) fn put_value_words<R: Files>(
     seen: &Seen,
     kind: ReadKind,
 ) -> bool {
-    let (key, given) = seen.keys.judged(kind);
-    let Some(Given { first, last }) = given else {
+    let Some((key, Given { first, last })) = seen.keys.judged(kind) else {
         return false;
     };
     let Some(records) = text.record_at(last) else {
@@ -64,12 +65,10 @@ pub(crate) fn put_value_words<R: Files>(
     let value = text_at(&records.last, 1);
     out.fill(", key {}", &[Quoted(key.text())]);
     put_broken(out, kind, value);
-    let remedy = value_remedy(kind, value);
-    drop(records);
     if first.at != last.at {
         out.fill(REPEATED_KEY, &[Number(line_of(text, first))]);
     }
-    out.put(remedy);
+    out.put(value_remedy(kind, value));
     true
 }
 
@@ -84,13 +83,9 @@ fn value_remedy(kind: ReadKind, value: &str) -> &'static str {
 
 /// Puts which key META lacks, and what to do.
 pub(crate) fn put_missing_key<R: Files>(out: &mut Words, text: &Text<R>, seen: &Seen, mark: Mark) {
-    let (key, remedy) = if seen.keys.given(MetaKey::Budget).is_none() {
-        (
-            MetaKey::Budget,
-            "Add it above this line, in the form `budget;AMOUNT`.\n",
-        )
-    } else {
-        (MetaKey::VoteType, ADD_VOTE_TYPE)
+    let (key, remedy) = match seen.keys.given(MetaKey::Budget) {
+        None => (MetaKey::Budget, ADD_BUDGET),
+        Some(_) => (MetaKey::VoteType, ADD_VOTE_TYPE),
     };
     if text.begins_with(seen.names, key.text()) {
         let _ = put_mark(out, text, seen.names);

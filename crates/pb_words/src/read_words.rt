@@ -20,8 +20,8 @@ use std::rt::Files;
 const ROWS_OF_INPUT: &str =
     "Empty lines are not counted as rows. To see the line, and what is wrong there, save the text in a file, and name this file in the command.\n";
 
-/// Words for a fault of the .pb file with this path; no path is standard input. If the witness did not look on while the
-/// file was read, the file is read once more.
+/// Words for a fault of the .pb file with this path; no path is standard input. If the witness did not look
+/// on while the file was read, the file is read once more.
 pub fn read_words<R: Files>(
     rt: &R,
     alloc: Global,
@@ -35,13 +35,11 @@ pub fn read_words<R: Files>(
     }
     let mut again = Witness::new(alloc);
     again.look_again(&Text::new(rt, alloc, path));
-    let words = list_words(rt, alloc, path, &faults, &again);
-    drop(again);
-    words
+    list_words(rt, alloc, path, &faults, &again)
 }
 
-/// Words for these faults of the .pb file with this path, their records rising; no path is standard input. The witness has
-/// looked on while it was read.
+/// Words for these faults of the .pb file with this path, their records rising; no path is standard input.
+/// The witness has looked on while it was read.
 pub fn list_words<R: Files>(
     rt: &R,
     alloc: Global,
@@ -72,8 +70,7 @@ fn put_faults<R: Files>(
     };
     let can_be_read = text.is_file();
     let mut names_row = false;
-    let mut place = 0usize;
-    for fault in faults {
+    for (place, fault) in faults.iter().enumerate() {
         match witness.refused.get(place) {
             Some(refused) if refused.fault == *fault => {
                 if can_be_read {
@@ -84,9 +81,7 @@ fn put_faults<R: Files>(
             }
             _ => put_unread(out, text, *fault),
         }
-        place = place.saturating_add(1);
     }
-    drop(voters);
     if names_row {
         out.put(ROWS_OF_INPUT);
     }
@@ -146,7 +141,7 @@ fn put_from_input<R: Files>(
 /// Puts what is said of a fault by itself.
 fn put_unread<R: Files>(out: &mut Words, text: &Text<R>, fault: ReadFault) {
     let at = u64::from(fault.at);
-    if fault.kind == ReadKind::ReadFailed && put_reading_failed(out, text, at) {
+    if fault.kind == ReadKind::ReadFailed && put_reading_failed(out, text, Some(at)) {
         return;
     }
     put_record_number(out, text, at);
@@ -168,7 +163,8 @@ fn put_looks<R: Files>(out: &mut Words, text: &Text<R>, kind: ReadKind) -> bool 
     }
 }
 
-/// Puts what is wrong with a record that is no text, which is read again as bytes; answers whether it was found.
+/// Puts what is wrong with a record that is no text, which is read again as bytes; answers whether it was
+/// found.
 fn put_no_text<R: Files>(
     out: &mut Words,
     text: &Text<R>,
@@ -182,7 +178,5 @@ fn put_no_text<R: Files>(
         record: &records.last,
         ..*faulty
     };
-    let is_found = put_found(out, text, known, &again);
-    drop(records);
-    is_found
+    put_found(out, text, known, &again)
 }

@@ -49,7 +49,8 @@ const IN_PIECES: &str =
 const SPLIT: &str =
     "The row has {} fields, but there are {} column names. If a text in it has a `;`, put this text in quotation marks: `\"Park; north\"`.\n";
 
-/// Puts what is wrong with a record, or with the values of META before it, and what to do; answers whether it was found.
+/// Puts what is wrong with a record, or with the values of META before it, and what to do; answers whether it
+/// was found.
 pub(crate) fn put_found<R: Files>(
     out: &mut Words,
     text: &Text<R>,
@@ -71,11 +72,10 @@ pub(crate) fn put_found<R: Files>(
 
 /// Puts what is wrong with a record, and what to do.
 fn put_record<R: Files>(out: &mut Words, text: &Text<R>, known: &Known, faulty: &FaultyRecord) {
-    let ids = known.ids;
+    let (ids, id) = (known.ids, faulty.id());
     if let Some(records) = faulty.like_head(text) {
         let _ = put_mark(out, text, records.mark());
-        out.fill(LIKE_A_HEAD, &[Quoted(text_at(&records.last, 0))]);
-        return drop(records);
+        return out.fill(LIKE_A_HEAD, &[Quoted(text_at(&records.last, 0))]);
     }
     let span = put_mark(out, text, faulty.mark);
     if faulty.is_quoted_meta() {
@@ -87,7 +87,7 @@ fn put_record<R: Files>(out: &mut Words, text: &Text<R>, known: &Known, faulty: 
     if let Some(section) = faulty.head_with_names() {
         return out.fill(OWN_LINE, &[Own(head_of(section))]);
     }
-    if faulty.id().contains('\n') && put_over(out, span, false) {
+    if id.contains('\n') && put_over(out, span, false) {
         return;
     }
     let mut remedy = words_of(faulty.kind).1;
@@ -100,12 +100,12 @@ fn put_record<R: Files>(out: &mut Words, text: &Text<R>, known: &Known, faulty: 
                 Number(line_of(text, faulty.seen.last)),
             ],
         ),
-        ReadKind::RepeatedProject => {
-            put_repeated(out, faulty, line_at(text, ids.projects.mark(faulty.id())))
-        }
-        ReadKind::RepeatedVoter => {
-            put_repeated(out, faulty, line_at(text, known.voters.mark(faulty.id())))
-        }
+        ReadKind::RepeatedProject => put_repeated(
+            out,
+            faulty,
+            line_at(text, ids.projects.mark(id)),
+        ),
+        ReadKind::RepeatedVoter => put_repeated(out, faulty, line_at(text, known.voters.mark(id))),
         _ => put_what(out, faulty),
     }
     // Where a field is missing, the quotation mark may have taken it.
@@ -131,22 +131,16 @@ fn put_remedy<R: Files>(out: &mut Words, text: &Text<R>, faulty: &FaultyRecord, 
         return put_split(out, faulty);
     }
     if faulty.separators().is_some() {
-        let are_all = text.joined_behind(faulty.mark).is_some();
-        return out.put(if are_all {
-            VOTE
-        } else {
-            "Write `;` between them.\n"
+        return out.put(match text.joined_behind(faulty.mark) {
+            Some(_) => VOTE,
+            None => "Write `;` between them.\n",
         });
     }
     if faulty.is_short() && faulty.joined().is_none() && text.is_last(faulty.mark) {
         out.put(LAST_LINE);
     }
-    put_joined(
-        out,
-        faulty.joined(),
-        remedy_of(faulty).unwrap_or(remedy),
-        VOTE,
-    )
+    let remedy = remedy_of(faulty).unwrap_or(remedy);
+    put_joined(out, faulty.joined(), remedy, VOTE)
 }
 
 /// Puts that a row has more fields than there are column names, and what to do.
@@ -224,7 +218,8 @@ fn put_no_project<R: Files>(
     words_of(ReadKind::UnknownProject).1
 }
 
-/// Puts what is missing at the end of the file, where it was read so far and its records say this; answers that it did.
+/// Puts what is missing at the end of the file, where it was read so far and its records say this; answers
+/// that it did.
 pub(crate) fn put_end<R: Files>(out: &mut Words, text: &Text<R>, end: &FaultyRecord) -> bool {
     let ((due, section), last) = (due_at_end(end.stage), end.seen.last);
     if last.at == 0 {

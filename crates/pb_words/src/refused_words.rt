@@ -3,7 +3,7 @@
 use crate::file_words::{FOLDER, NO_MEMORY};
 use crate::mark_words::{put_mark, put_record_number};
 use crate::words::Value::{Name, Number, Own, Quoted};
-use crate::words::{Said, Words, said};
+use crate::words::{Said, Value, Words, said};
 use pb_script::{RollFault, RowRefusal};
 use pb_witness::failures::is_folder;
 use pb_witness::fields::{JoinedBy, text_at};
@@ -38,12 +38,11 @@ pub fn refused_words<R: Files>(rt: &R, alloc: Global, refused: &RefusedRow<'_>) 
     match text.records_at(Mark::start(), refused.row) {
         Some(records) => {
             let _ = put_mark(&mut out, &text, records.mark());
-            put_why(&mut out, refused, Some(text_at(&records.last, 2)));
-            drop(records);
+            put_why(&mut out, refused, Quoted(text_at(&records.last, 2)));
         }
         None => {
             put_record_number(&mut out, &text, refused.row);
-            put_why(&mut out, refused, None);
+            put_why(&mut out, refused, Own("the voter"));
         }
     }
     out.put(if refused.refuses_script {
@@ -79,27 +78,23 @@ fn put_remedy<R: Files>(out: &mut Words, refused: &RefusedRow<'_>, roll: &Text<R
     out.fill("{}, and {}\n", &[Own(remedy), Own(again)])
 }
 
-/// Puts why a row of this voter, if it is known, is refused.
-fn put_why(out: &mut Words, refused: &RefusedRow<'_>, voter: Option<&str>) {
-    match (refused.why, voter) {
-        (RowRefusal::UnknownId, _) if refused.unknown.contains('"') => {
+/// Puts why a row of this voter is refused.
+fn put_why(out: &mut Words, refused: &RefusedRow<'_>, voter: Value<'_>) {
+    match refused.why {
+        RowRefusal::UnknownId if refused.unknown.contains('"') => {
             out.put(", field places: a quotation mark is beside an id, and is read as part of it.")
         }
-        (RowRefusal::UnknownId, _) => out.fill(
+        RowRefusal::UnknownId => out.fill(
             ", field places: no project has the id {}.",
             &[Quoted(refused.unknown)],
         ),
-        (RowRefusal::TooFew, _) => out.fill(
+        RowRefusal::TooFew => out.fill(
             ", field places: the ballot names too few projects: `--min` asks for at least {}.",
             &[Number(u64::from(refused.least))],
         ),
-        (_, Some(voter)) => out.fill(
+        RowRefusal::NotOnRoll | RowRefusal::Bad => out.fill(
             ", field voter: {} is not on the roll in the file {}.",
-            &[Quoted(voter), Name(refused.roll)],
-        ),
-        (_, None) => out.fill(
-            ", field voter: the voter is not on the roll in the file {}.",
-            &[Name(refused.roll)],
+            &[voter, Name(refused.roll)],
         ),
     }
 }
@@ -108,7 +103,8 @@ fn put_why(out: &mut Words, refused: &RefusedRow<'_>, voter: Option<&str>) {
 pub fn like_a_place_words(alloc: Global, id: &str) -> Said {
     said(
         alloc,
-        "Careful: a project has the id {}. But in a request the number {} is a position, and positions count from 0.\nTo write ids in requests, run again with `--by-id`.\n",
+        "Careful: a project has the id {}. But in a request the number {} is a position, and positions count \
+        from 0.\nTo write ids in requests, run again with `--by-id`.\n",
         &[Quoted(id), Name(Some(id))],
     )
 }

@@ -60,11 +60,10 @@ pub fn script_words<R: Files>(
 ) -> Said {
     let mut out = Words::new(alloc);
     match fault {
-        Some(ScriptFault::BadRow(_)) | None if taking.clerks == 0 => {
-            put_range(&mut out, "clerks", 0, "1 to 64")
+        Some(fault) if taking.clerks > 0 || !matches!(fault, ScriptFault::BadRow(_)) => {
+            put_words(&mut out, &Text::new(rt, alloc, path), fault, taking)
         }
-        Some(fault) => put_words(&mut out, &Text::new(rt, alloc, path), fault, taking),
-        None => put_range(&mut out, "clerks", u64::from(taking.clerks), "1 to 64"),
+        _ => put_range(&mut out, "clerks", u64::from(taking.clerks), "1 to 64"),
     }
     out.finish()
 }
@@ -72,7 +71,7 @@ pub fn script_words<R: Files>(
 fn put_words<R: Files>(out: &mut Words, text: &Text<R>, fault: ScriptFault, taking: Taking) {
     let at = u64::from(fault.at());
     let is_put = match fault {
-        ScriptFault::ReadFailed(_) => put_reading_failed(out, text, at),
+        ScriptFault::ReadFailed(_) => put_reading_failed(out, text, Some(at)),
         ScriptFault::BadRow(_) => put_row(out, text, at, taking.clerks),
         _ => false,
     };
@@ -88,15 +87,14 @@ fn put_words<R: Files>(out: &mut Words, text: &Text<R>, fault: ScriptFault, taki
 /// What is wrong and what to do, where no more than the fault is known.
 fn what_and_remedy(fault: ScriptFault) -> &'static str {
     match fault {
-        ScriptFault::ReadFailed(_) => {
-            ": the requests could not be read to their end.\nCheck the disk or the connection, then run again.\n"
-        }
-        ScriptFault::BadRow(_) => {
-            ": the row is not a valid request, or its clerk's number is too high. Clerks are numbered from 0; without `--clerks` there is only clerk 0.\nTo see what is wrong, save the script in a file, and name this file in the command.\n"
-        }
-        ScriptFault::TooManyRows => {
-            ": the script has more than 2,000,000 rows.\nA longer script can't be used.\n"
-        }
+        ScriptFault::ReadFailed(_) => ": the requests could not be read to their end.
+Check the disk or the connection, then run again.\n",
+        ScriptFault::BadRow(_) =>
+            ": the row is not a valid request, or its clerk's number is too high. \
+            Clerks are numbered from 0; without `--clerks` there is only clerk 0.
+To see what is wrong, save the script in a file, and name this file in the command.\n",
+        ScriptFault::TooManyRows =>
+            ": the script has more than 2,000,000 rows.\nA longer script can't be used.\n",
         ScriptFault::NoMemory => NO_MEMORY,
         ScriptFault::UnknownId(_) => ": no project has one of the ids.\n",
         ScriptFault::NotOnRoll(_) => ": the voter is not on the roll.\n",
@@ -116,7 +114,6 @@ fn put_row<R: Files>(out: &mut Words, text: &Text<R>, at: u64, clerks: u32) -> b
         put_row_words(out, &records.last, clerks, BALLOT);
         let _ = put_over(out, span, true);
     }
-    drop(records);
     true
 }
 
@@ -126,12 +123,12 @@ pub fn last_row_words(alloc: Global, rows: &LastRows, number: u64) -> Said {
     if let Some(records) = rows.records_to(number) {
         out.fill("standard input: row {}", &[Number(number)]);
         put_row_words(&mut out, &records.last, MOST_CLERKS, TYPED);
-        drop(records);
     }
     out.finish()
 }
 
-/// Puts which condition a row breaks, in a run of so many clerks, and what to do: this, where its fields are not separated.
+/// Puts which condition a row breaks, in a run of so many clerks, and what to do: this, where its fields are
+/// not separated.
 fn put_row_words(out: &mut Words, row: &ByteRecord, clerks: u32, separate: &'static str) {
     if is_of_journal(row) {
         return out.put(JOURNAL_ROW);

@@ -16,6 +16,17 @@ pub(crate) struct Names {
     pub(crate) add_column: &'static str,
 }
 
+impl Names {
+    /// The column that is missing: the other one, where there is that of the ids.
+    pub(crate) fn missing(&self, has_id: bool) -> &'static str {
+        if has_id {
+            self.value_column
+        } else {
+            self.id_column
+        }
+    }
+}
+
 const META: &Names = &Names {
     id_column: "key",
     value_column: "value",
@@ -54,7 +65,8 @@ pub(crate) fn names_of(section: Section) -> &'static Names {
     }
 }
 
-/// What is wrong with this head of a section at a stage where it is refused, with the head in place of `{}`, and what to do.
+/// What is wrong with this head of a section at a stage where it is refused, with the head in place of `{}`,
+/// and what to do.
 pub(crate) fn wrong_head(stage: &Stage, head: &str) -> (&'static str, &'static str) {
     match stage {
         Stage::Start => (

@@ -2,7 +2,7 @@
 
 use crate::file_words::FOLDER;
 use crate::words::Value::{Name, Number, Own};
-use crate::words::{Said, Words, said};
+use crate::words::{Said, failed, said};
 use std::alloc::Global;
 use std::io::{Error, ErrorKind};
 
@@ -27,24 +27,21 @@ pub fn unopened_words(alloc: Global, path: &str, reason: &Error) -> Said {
     let form = match reason.kind() {
         ErrorKind::IsADirectory => FOLDER,
         ErrorKind::Unsupported => "{}: this is not an ordinary file.\nName another file.\n",
-        _ => return failure_words(
-            alloc,
-            path,
-            Some(reason),
-            "Name an ordinary file. Its folder must exist, and you must be allowed to read and write there.\n",
-        ),
+        _ => {
+            let remedy =
+                "Name an ordinary file. Its folder must exist, and you must be allowed to read and write \
+                there.\n";
+            return failed(alloc, path, Some(reason), "", remedy);
+        }
     };
     said(alloc, form, &[Name(Some(path))])
 }
 
 /// Words for a journal, or what is kept beside it, that could not be written, synced or cut, for this reason.
 pub fn unkept_words(alloc: Global, path: &str, reason: &Error) -> Said {
-    failure_words(
-        alloc,
-        path,
-        Some(reason),
-        "Every request that got an answer is kept. Check for a full or failing disk. Then run `serve` again, and send each request that got no answer.\n",
-    )
+    let remedy = "Every request that got an answer is kept. Check for a full or failing disk. \
+        Then run `serve` again, and send each request that got no answer.\n";
+    failed(alloc, path, Some(reason), "", remedy)
 }
 
 /// Words for a journal whose name leads elsewhere, and whose text is kept in this file.
@@ -61,24 +58,22 @@ pub fn moved_words(alloc: Global, path: &str, kept: &str) -> Said {
     )
 }
 
-/// Words for a journal whose name leads elsewhere, and whose text could not be kept beside it, for this reason.
+/// Words for a journal whose name leads elsewhere, and whose text could not be kept beside it, for this
+/// reason.
 pub fn lost_words(alloc: Global, path: &str, reason: &Error) -> Said {
-    failure_words(
-        alloc,
-        path,
-        Some(reason),
-        "The journal was moved, replaced or deleted while `pb_app serve` was using it, and it could not be saved beside its old place.\nFind the file under its new name: it has every request that got an answer.\n",
-    )
+    let remedy =
+        "The journal was moved, replaced or deleted while `pb_app serve` was using it, and it could \
+        not be saved beside its old place.
+Find the file under its new name: it has every request that got an answer.\n";
+    failed(alloc, path, Some(reason), "", remedy)
 }
 
 /// Words for an answer that could not be written, for this reason.
 pub fn unanswered_words(alloc: Global, reason: Option<&Error>) -> Said {
-    failure_words(
-        alloc,
-        "standard output",
-        reason,
-        "The journal has every request that was taken, whether its answer was printed or not.\n",
-    )
+    let otherwise = ": an answer could not be written.\n";
+    let remedy =
+        "The journal has every request that was taken, whether its answer was printed or not.\n";
+    failed(alloc, "standard output", reason, otherwise, remedy)
 }
 
 /// Words for a journal that is legal, and not spelled as a desk spells it.
@@ -132,16 +127,4 @@ pub fn bad_rows_words(alloc: Global, rows: u64) -> Said {
         "{} rows are not valid requests, and are not in the journal. Each of them has a line `fault;script;2;BadRow;ROW` among the answers.\nCorrect them, and send them again: `pb_app serve --help` shows the form of a request.\n"
     };
     said(alloc, form, &[Number(rows)])
-}
-
-/// The path, why a call on it failed, and what to do.
-fn failure_words(alloc: Global, path: &str, reason: Option<&Error>, remedy: &str) -> Said {
-    let mut out = Words::new(alloc);
-    out.fill("{}", &[Name(Some(path))]);
-    match reason {
-        Some(error) => out.put_error(error),
-        None => out.put(": an answer could not be written.\n"),
-    }
-    out.put(remedy);
-    out.finish()
 }

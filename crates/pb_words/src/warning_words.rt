@@ -1,10 +1,9 @@
 //! Words for warnings: where, what, and what to do.
 
-use crate::count_words::put_amount;
 use crate::mark_words::{
     CLOSE_IT, line_of, put_mark, put_over, put_record_number, put_subject, put_unclosed,
 };
-use crate::words::Value::{Number, Own, Quoted};
+use crate::words::Value::{Amount, Number, Own, Quoted};
 use crate::words::{Said, Words};
 use pb_core::money::Money;
 use pb_read::Oddity;
@@ -15,58 +14,6 @@ use pb_witness::swallowed::SwallowingRows;
 use pb_witness::text::Text;
 use std::alloc::Global;
 use std::rt::Files;
-
-/// What is said of each oddity, in the order of `ALL`, in three lines: what is odd, with the row's value and numbers in
-/// place of `{}`; the same where the row is not known, with the number; and what to do.
-const SAID: [&str; 14] = [
-    "{} is wrong: the number of vote rows in the file is {}
-`num_votes` is wrong: the number of vote rows in the file is {}
-If rows are missing, get the whole file again. Otherwise correct the number.",
-    "{} is wrong: the number of project rows in the file is {}
-`num_projects` is wrong: the number of project rows in the file is {}
-If rows are missing, get the whole file again. Otherwise correct the number.",
-    "only {} is counted. The row has {} fields, but the number of column names is {}
-the row has too many fields: the number of column names is {}
-If `;` is between the ids of the vote, write `,` instead: only the ids before the first `;` are counted.",
-    "the vote {} names {}
-the vote names {}
-This ballot is counted. If your rules do not allow it, delete the row.",
-    "the vote {} names {}
-the vote names {}
-This ballot is counted. If your rules do not allow it, delete the row.",
-    "the ballot is empty
-the ballot is empty
-It is counted, and its voter gets a share of the budget. If your rules do not allow it, delete the row.",
-    "no vote names this project
-no vote names the project
-Check whether votes for it are missing, or name it by another id.",
-    "{} is more than the budget, so the project can't win
-the project costs more than the budget, so it can't win
-Check whether the amount has too many digits, or is in another unit (cents, for example).",
-    "the id has a comma, so no vote can name the project
-the project's id has a comma, so no vote can name it
-Give the project another id.",
-    "{}
-the three digits after an amount's point or comma are read as decimals
-If the point or comma separates thousands, delete it. Otherwise write two decimals.",
-    "this value, {}, counts, and the one on line {} does not
-a key is repeated; only the last row of a key counts
-The last row of a key counts. Delete the wrong row.",
-    "its cost, {}, is the sum of all costs above
-the cost in the last row of PROJECTS is the sum of all costs above
-It is counted as a project. If it is a total, delete the row.",
-    "the column `votes` says {}, but the number of vote rows that name the project is {}
-the column `votes` is wrong: the number of vote rows that name the project is {}
-If rows are missing, get the whole file again. Otherwise correct the number.",
-    "the column `selected` says {}, but by this count it is {}
-the column `selected` is wrong: by this count it is {}
-Check whether the published count had other options, and whether ballots or costs were changed since.",
-];
-
-/// The same of a last row of VOTES.
-const LAST_VOTE: &str = "this last row is the only one with an empty vote
-the last row is the only one with an empty vote
-It is counted as a voter. If it is a total or a note, delete the row.";
 
 /// What is said of a row with rows in a field, of which no lines are known.
 const LIKE_ROWS: &str =
@@ -80,11 +27,57 @@ const NUMBER: &str = "Write the number in digits.";
 /// What to do where there are more rows than META says.
 const SURPLUS_ROWS: &str = "Delete the rows that do not belong there, or correct the number.";
 
-/// What is said of a row that is odd: what, the same where the row is not known, and what to do.
+/// What is said of a row that is odd: what, with the row's value and numbers in place of `{}`; the same where
+/// the row is not known, with the number; and what to do. They are the three lines of each text.
 fn said_of(odd: &Odd) -> (&'static str, &'static str, &'static str) {
-    let said = match (odd.oddity, odd.subject) {
-        (Oddity::FooterRow, Subject::Voter) => LAST_VOTE,
-        _ => SAID.get(odd.oddity as usize).copied().unwrap_or(""),
+    let said = match odd.oddity {
+        Oddity::VotesMissing => "{} is wrong: the number of vote rows in the file is {}
+`num_votes` is wrong: the number of vote rows in the file is {}
+If rows are missing, get the whole file again. Otherwise correct the number.",
+        Oddity::ProjectsMissing => "{} is wrong: the number of project rows in the file is {}
+`num_projects` is wrong: the number of project rows in the file is {}
+If rows are missing, get the whole file again. Otherwise correct the number.",
+        Oddity::SurplusFields =>
+            "only {} is counted. The row has {} fields, but the number of column names \
+    is {}
+the row has too many fields: the number of column names is {}
+If `;` is between the ids of the vote, write `,` instead: only the ids before the first `;` are counted.",
+        Oddity::TooLongBallot | Oddity::TooShortBallot => "the vote {} names {}
+the vote names {}
+This ballot is counted. If your rules do not allow it, delete the row.",
+        Oddity::EmptyBallot => "the ballot is empty
+the ballot is empty
+It is counted, and its voter gets a share of the budget. If your rules do not allow it, delete the row.",
+        Oddity::NoSupporter => "no vote names this project
+no vote names the project
+Check whether votes for it are missing, or name it by another id.",
+        Oddity::OverBudget => "{} is more than the budget, so the project can't win
+the project costs more than the budget, so it can't win
+Check whether the amount has too many digits, or is in another unit (cents, for example).",
+        Oddity::CommaInId => "the id has a comma, so no vote can name the project
+the project's id has a comma, so no vote can name it
+Give the project another id.",
+        Oddity::ThousandsMark => "{}
+the three digits after an amount's point or comma are read as decimals
+If the point or comma separates thousands, delete it. Otherwise write two decimals.",
+        Oddity::RepeatedKey => "this value, {}, counts, and the one on line {} does not
+a key is repeated; only the last row of a key counts
+The last row of a key counts. Delete the wrong row.",
+        Oddity::FooterRow if odd.subject == Subject::Voter =>
+            "this last row is the only one with an empty vote
+the last row is the only one with an empty vote
+It is counted as a voter. If it is a total or a note, delete the row.",
+        Oddity::FooterRow => "its cost, {}, is the sum of all costs above
+the cost in the last row of PROJECTS is the sum of all costs above
+It is counted as a project. If it is a total, delete the row.",
+        Oddity::VotesOf =>
+            "the column `votes` says {}, but the number of vote rows that name the project \
+    is {}
+the column `votes` is wrong: the number of vote rows that name the project is {}
+If rows are missing, get the whole file again. Otherwise correct the number.",
+        Oddity::SelectedOf => "the column `selected` says {}, but by this count it is {}
+the column `selected` is wrong: by this count it is {}
+Check whether the published count had other options, and whether ballots or costs were changed since.",
     };
     let (what, rest) = said.split_once('\n').unwrap_or((said, ""));
     let (alone, remedy) = rest.split_once('\n').unwrap_or((rest, ""));
@@ -97,7 +90,8 @@ fn said_of(odd: &Odd) -> (&'static str, &'static str, &'static str) {
     }
 }
 
-/// Words for the warnings that were found in the file with this path, by their names; no path is standard input.
+/// Words for the warnings that were found in the file with this path, by their names; no path is standard
+/// input.
 pub fn warning_words<R: Files>(
     rt: &R,
     alloc: Global,
@@ -199,27 +193,24 @@ fn put_row<R: Files>(out: &mut Words, text: &Text<R>, odd: &Odd, what: &'static 
     if odd.oddity == Oddity::ThousandsMark {
         put_as_read(out, value);
     }
-    drop(records);
     true
 }
 
 /// Puts the limit that a ballot does not keep, after the number of its projects.
 fn put_limit(out: &mut Words, odd: &Odd) {
-    let form = match (odd.oddity, odd.number) {
-        (Oddity::TooLongBallot, 1) => " project, and `max_length` allows {}",
-        (Oddity::TooLongBallot, _) => " projects, and `max_length` allows {}",
-        (Oddity::TooShortBallot, 1) => " project, and `min_length` asks for {}",
-        (Oddity::TooShortBallot, _) => " projects, and `min_length` asks for {}",
+    let form = match odd.oddity {
+        Oddity::TooLongBallot => " project{}, and `max_length` allows {}",
+        Oddity::TooShortBallot => " project{}, and `min_length` asks for {}",
         _ => return,
     };
-    out.fill(form, &[Number(odd.limit.unwrap_or(0))])
+    let plural = if odd.number == 1 { "" } else { "s" };
+    out.fill(form, &[Own(plural), Number(odd.limit.unwrap_or(0))])
 }
 
 /// Puts as which amount a value is read.
 fn put_as_read(out: &mut Words, value: &str) {
     if let Ok(amount) = Money::read(value) {
-        out.put(" is read as ");
-        put_amount(out, amount.0);
-        out.put(", because a point or a comma begins the decimals");
+        let form = " is read as {}, because a point or a comma begins the decimals";
+        out.fill(form, &[Amount(amount.0)]);
     }
 }

@@ -1,6 +1,5 @@
 //! Words that are being written: text from outside is made fit for a terminal.
 
-use itoa::Buffer;
 use pb_witness::faulty_record::{is_hidden, is_plain};
 use std::alloc::{AllocError, Global};
 use std::io::Error;
@@ -18,7 +17,14 @@ pub enum Value<'v> {
     /// A text that is the program's own.
     Own(&'v str),
     Number(u64),
-    /// A text from outside, in quotes and cut after 60 characters; three dots after the quotes say that it goes on.
+    /// So many of this unit: `1 raise`, `2 raises`.
+    Count(u64, &'v str),
+    /// The numbers of so many things, counted from 0: `0`, `0 and 1`, `0 to 7`.
+    Numbers(u64),
+    /// An amount of so many hundredths, in units: `10.05`.
+    Amount(u64),
+    /// A text from outside, in quotes and cut after 60 characters; three dots behind them say that it goes
+    /// on.
     Quoted(&'v str),
     /// The same of bytes, which may be no text.
     Bytes(&'v [u8]),
@@ -64,19 +70,16 @@ impl Words {
 
     /// Puts a text that is the program's own.
     pub fn put(&mut self, piece: &str) {
-        let put = self.text.push_str(piece);
-        self.is_whole &= put.is_ok();
+        self.is_whole &= self.text.push_str(piece).is_ok();
     }
 
     /// Puts a text that is the program's own, with the next one of these values in place of each `{}`.
     pub fn fill(&mut self, form: &str, values: &[Value<'_>]) {
-        let mut place = 0usize;
-        for piece in form.split("{}") {
+        for (place, piece) in form.split("{}").enumerate() {
             if place > 0 && place <= values.len() {
                 self.put_value(&values[place - 1]);
             }
             self.put(piece);
-            place = place.saturating_add(1);
         }
     }
 
@@ -84,6 +87,22 @@ impl Words {
         match value {
             Value::Own(text) => self.put(text),
             Value::Number(number) => self.put_number(*number),
+            Value::Count(count, unit) => {
+                self.put_number(*count);
+                self.put(" ");
+                self.put(unit);
+                self.put(if *count == 1 { "" } else { "s" })
+            }
+            Value::Numbers(0 | 1) => self.put("0"),
+            Value::Numbers(2) => self.put("0 and 1"),
+            Value::Numbers(count) => {
+                self.put("0 to ");
+                self.put_number(count.saturating_sub(1))
+            }
+            Value::Amount(amount) => {
+                let (units, rest) = (amount / 100, amount % 100);
+                self.is_whole &= write!(&mut self.text, "{units}.{rest:02}").is_ok();
+            }
             Value::Quoted(text) => self.put_quoted(text.as_bytes()),
             Value::Bytes(bytes) => self.put_quoted(bytes),
             Value::Name(path) => {
@@ -95,20 +114,9 @@ impl Words {
         }
     }
 
-    /// Puts the numbers of so many things, counted from 0: `0`, `0 and 1`, `0 to 7`.
-    pub(crate) fn put_numbers(&mut self, count: u64) {
-        let form = match count {
-            0 | 1 => "0",
-            2 => "0 and 1",
-            _ => "0 to {}",
-        };
-        self.fill(form, &[Value::Number(count.saturating_sub(1))])
-    }
-
     /// Puts a number in decimal.
     fn put_number(&mut self, number: u64) {
-        let mut digits = Buffer::new();
-        self.put(digits.format(number));
+        self.is_whole &= write!(&mut self.text, "{number}").is_ok();
     }
 
     fn put_quoted(&mut self, value: &[u8]) {
@@ -117,10 +125,12 @@ impl Words {
         self.put(if is_whole { "\"" } else { "\"..." });
     }
 
-    /// Puts the system's reason, and ends the line.
-    pub(crate) fn put_error(&mut self, error: &Error) {
-        let put = write!(&mut self.text, ": {error}.\n");
-        self.is_whole &= put.is_ok();
+    /// Puts the system's reason, or these words where there is none.
+    pub(crate) fn put_reason(&mut self, reason: Option<&Error>, otherwise: &str) {
+        match reason {
+            Some(error) => self.is_whole &= write!(&mut self.text, ": {error}.\n").is_ok(),
+            None => self.put(otherwise),
+        }
     }
 
     /// Puts at most this many characters of a text, those that a terminal would obey as escapes, and answers
@@ -146,8 +156,7 @@ impl Words {
         if byte < 0x80 {
             return self.put_char(char::from(byte));
         }
-        let put = write!(&mut self.text, "\\x{byte:02x}");
-        self.is_whole &= put.is_ok();
+        self.is_whole &= write!(&mut self.text, "\\x{byte:02x}").is_ok();
     }
 
     fn put_char(&mut self, c: char) {
@@ -175,8 +184,8 @@ impl Words {
     }
 }
 
-/// A text as a terminal may get it: characters that it would obey, and those that are not seen or turn the direction of a
-/// line, are shown as escapes, line ends aside. None where there is no such character.
+/// A text as a terminal may get it: characters that it would obey, and those that are not seen or turn the
+/// direction of a line, are shown as escapes, line ends aside. None where there is no such character.
 pub fn for_terminal(alloc: Global, bytes: &[u8]) -> Result<Option<String>, AllocError> {
     match str::from_utf8(bytes) {
         Ok(text) if is_plain(text) => return Ok(None),
@@ -192,5 +201,21 @@ pub fn for_terminal(alloc: Global, bytes: &[u8]) -> Result<Option<String>, Alloc
 pub fn said(alloc: Global, form: &str, values: &[Value<'_>]) -> Said {
     let mut out = Words::new(alloc);
     out.fill(form, values);
+    out.finish()
+}
+
+/// A file's name, the system's reason why a call on it failed, or these words where there is none, and what
+/// to do.
+pub(crate) fn failed(
+    alloc: Global,
+    path: &str,
+    reason: Option<&Error>,
+    otherwise: &str,
+    remedy: &str,
+) -> Said {
+    let mut out = Words::new(alloc);
+    out.fill("{}", &[Value::Name(Some(path))]);
+    out.put_reason(reason, otherwise);
+    out.put(remedy);
     out.finish()
 }

@@ -28,7 +28,7 @@ impl<A: Allocator> BallotBox<A> {
         }
     }
 
-    /// The same, where the voters are put into `voters`.
+    /// Closes the box, and puts the voters into `voters`.
     fn closed(self, mut voters: Vec<Voter<A>, A>) -> Election<A>
     where
         A: Copy,

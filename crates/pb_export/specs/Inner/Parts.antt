@@ -1,5 +1,6 @@
 -- Parts of what is asked of an election, and of its file's rows; private contracts speak of them.
-use Rattle.std.specs.Prelude.{ℕ, Bool, true, false, List, [], ◌∷◌, Option, decimal, if◌then◌else◌, is_some, map, nat_le, slice_index, slice_index_or}
+use Rattle.std.specs.Prelude.{ℕ, Bool, true, false, List, [], ◌∷◌, Option, decimal, if◌then◌else◌, is_some}
+use Rattle.std.specs.Prelude.{map, nat_le, slice_index, slice_index_or}
 use Rattle.std.specs.List.{enumerate_from, join_with_byte}
 use Rattle.std.specs.Option.{option_map_or, option_to_list}
 use Rattle.std.specs.Str.{bytes_eq, trim}

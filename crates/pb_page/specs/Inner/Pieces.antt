@@ -1,5 +1,6 @@
 -- What each function of the code puts after a page: parts of the public definitions.
-use Rattle.std.specs.Prelude.{ℕ, Bool, ◌<◌, ◌-◌, ◌==◌, List, [], ◌∷◌, ◌++◌, All, ⊤, Option, codes, decimal, filter, flat_map, if◌then◌else◌, length, map, slice_index_or, sum_by}
+use Rattle.std.specs.Prelude.{ℕ, ◌<◌, ◌-◌, ◌==◌, List, [], ◌∷◌, ◌++◌, All, ⊤, Option, codes, decimal, filter}
+use Rattle.std.specs.Prelude.{flat_map, if◌then◌else◌, length, map, slice_index_or, sum_by}
 use Rattle.std.specs.Borrow.{Bor}
 use Rattle.std.specs.List.{range_with_len}
 use Rattle.std.specs.Option.{option_map_or}
@@ -19,18 +20,36 @@ use Rattle.pb_page.specs.Amount.{shown}
 use Rattle.pb_page.specs.Filling.{Filling}
 use Rattle.pb_page.specs.declared.markup.form.Form.{Form}
 use Rattle.pb_reasons.specs.Counted.{CountedView, winners_of}
-use Rattle.pb_reasons.specs.Ties.{ties_of}
 use Rattle.pb_reasons.specs.Totals.{totals_of}
 use Rattle.pb_reasons.specs.declared.raise_end.RaiseEnd.{RaiseEnd}
 use Rattle.pb_reasons.specs.declared.raise_end.RaiseEnd.TheVariants.{Plain, Exhausted, Over}
 use Rattle.pb_rounds.specs.declared.measure.Measure.{Measure}
 use Rattle.pb_rounds.specs.declared.options.Completion.{Completion}
 use Rattle.pb_rounds.specs.declared.options.CountOptions.{CountOptions}
-use Rattle.pb_page.specs.Page.{added, amount, at, at_least, ballots_row, besides, between, budget, by_completion, by_measure, called, categories, category_name, category_of, category_row, check, exactly, filling, head_end, labels, lost_row, made, noun_at, number, others, row_of, rule, say, text, tie, ties, voters, width, winners, won_by_voter, won_row}
+use Rattle.pb_rounds.specs.RuleNames.{completion_name, fills_up, measure_name}
+use Rattle.pb_rounds.specs.declared.rule.FillUp.{FillUp}
+use Rattle.pb_rounds.specs.declared.rule.Rule.{Rule}
+use Rattle.pb_page.specs.Page.{amount, at, at_least, ballots_row, between, by_completion, by_measure, called}
+use Rattle.pb_page.specs.Page.{category_name, category_of, category_row, exactly, filling, head_end, labels}
+use Rattle.pb_page.specs.Page.{lost_row, made, noun_at, number, row_of, say, text, tie, width, won_row}
 use Rattle.pb_page.specs.declared.keys.TheConstants as key
 use Rattle.pb_page.specs.declared.language.Language.{Language}
 use Rattle.pb_page.specs.declared.style.TheConstants.{HEAD}
-use Rattle.pb_page.specs.declared.templates.TheConstants.{LEAD_NEXT, NOTHING, BUDGET_OPENING, BLOCKS_OPENING, BUDGET_PART, BLOCKS_CLOSING, BUDGET_CLOSING, HEAD_CATEGORY, ROW_CATEGORY, WINNERS_OPENING, WINNER, ADDED_OPENING, ADDED, OTHERS_OPENING, OTHER, OTHER_CLOSING, TABLE_CLOSING, CATEGORIES_OPENING, CATEGORY, COMPARED_OPENING, VOTERS_OPENING, VOTERS_TABLE, VOTERS_ROW, VOTERS_ROW_CLOSING, RULE_OPENING, RULE_NEXT, ITEM, ITEM_OPENING, ONLY_THEN_OPENING, ONLY_THEN, NAMELESS, CALLED, TIES_OPENING, LIST_CLOSING, CHECK_OPENING, CHECK_FILE, CHECK_JOURNAL, RECOUNT_OPENING, RECOUNT_LINK, RECOUNT_CLOSING, NO_RECOUNT, COUNT, AUDIT, OPTION_COST, OPTION_PLAIN, OPTION_UTILITARIAN, OPTION_ADD1U, COMMAND_CLOSING, MADE_BY_OPENING}
+use Rattle.pb_page.specs.declared.templates.TheConstants.{LEAD_NEXT, NOTHING, BUDGET_OPENING, BLOCKS_OPENING}
+use Rattle.pb_page.specs.declared.templates.TheConstants.{BUDGET_PART, BLOCKS_CLOSING, BUDGET_CLOSING}
+use Rattle.pb_page.specs.declared.templates.TheConstants.{HEAD_CATEGORY, ROW_CATEGORY, WINNERS_OPENING}
+use Rattle.pb_page.specs.declared.templates.TheConstants.{WINNER, ADDED_OPENING, ADDED, OTHERS_OPENING, OTHER}
+use Rattle.pb_page.specs.declared.templates.TheConstants.{OTHER_CLOSING, TABLE_CLOSING, CATEGORIES_OPENING}
+use Rattle.pb_page.specs.declared.templates.TheConstants.{CATEGORY, COMPARED_OPENING, VOTERS_OPENING}
+use Rattle.pb_page.specs.declared.templates.TheConstants.{VOTERS_TABLE, VOTERS_ROW, VOTERS_ROW_CLOSING}
+use Rattle.pb_page.specs.declared.templates.TheConstants.{RULE_OPENING, RULE_NEXT, ITEM, ITEM_OPENING}
+use Rattle.pb_page.specs.declared.templates.TheConstants.{ONLY_THEN_OPENING, ONLY_THEN, NAMELESS, CALLED}
+use Rattle.pb_page.specs.declared.templates.TheConstants.{TIES_OPENING, LIST_CLOSING, CHECK_OPENING}
+use Rattle.pb_page.specs.declared.templates.TheConstants.{CHECK_FILE, CHECK_JOURNAL, RECOUNT_OPENING}
+use Rattle.pb_page.specs.declared.templates.TheConstants.{RECOUNT_LINK, RECOUNT_CLOSING, NO_RECOUNT, COUNT}
+use Rattle.pb_page.specs.declared.templates.TheConstants.{AUDIT, OPTION_COST, OPTION_PLAIN}
+use Rattle.pb_page.specs.declared.templates.TheConstants.{OPTION_UTILITARIAN, OPTION_ADD1U, COMMAND_CLOSING}
+use Rattle.pb_page.specs.declared.templates.TheConstants.{MADE_BY_OPENING}
 
 -- the numbers of the whole
 abbrev pub figures_of : ElectionView → CountedView → Figures
@@ -193,18 +212,20 @@ exact_row l won n = ballots_row l key.EXACTLY n (exactly n won) won
 abbrev pub order : Language → Measure → Filling
 order l measure = item l (by_measure measure key.BY_VOTES key.BY_COST)
 
-abbrev pub raises : Language → Completion → (fills_up : Bool) → (raised : ℕ) → Filling
-raises l completion fills_up raised =
-    item l (by_completion completion (if fills_up then key.UNUSED else key.PLAIN) (if raised == 0 then key.UNRAISED else key.RAISED))
+-- the keys of the sentences on the raises, and on what the rule is called
+abbrev pub raises_key : Rule → (raised : ℕ) → ℕ
+raises_key rule raised =
+    let raises = if raised == 0 then key.UNRAISED else key.RAISED in
+    by_completion rule.options.completion rule.fill_up key.PLAIN raises key.UNUSED raises
 
-abbrev pub method : Language → Completion → (fills_up : Bool) → Filling
-method l completion fills_up =
-    item l (by_completion completion (if fills_up then key.METHOD_FILLED else key.METHOD_PLAIN) key.METHOD_ADD1)
+abbrev pub method_key : Rule → ℕ
+method_key rule =
+    by_completion rule.options.completion rule.fill_up key.METHOD_PLAIN key.METHOD_ADD1 key.METHOD_FILLED key.METHOD_ADD1
 
 -- how the share came about, which project is elected first, and whether shares were raised
-unfoldable pub rounds_said : Language → CountOptions → (fills_up : Bool) → (share raised : ℕ) → List Filling
-rounds_said l options fills_up share raised =
-    share_rule l options.step share raised ++ order l options.measure ∷ raises l options.completion fills_up raised ∷ []
+unfoldable pub rounds_said : Language → Rule → (share raised : ℕ) → List Filling
+rounds_said l rule share raised =
+    share_rule l rule.options.step share raised ++ order l rule.options.measure ∷ item l (raises_key rule raised) ∷ []
 
 -- what one raise more would elect, and a project that is elected only then
 abbrev pub over_said : Language → (share cost : ℕ) → List Filling
@@ -221,8 +242,8 @@ KnowsPlaces e Plain = ⊤
 KnowsPlaces e Exhausted = ⊤
 KnowsPlaces e (Over next) = All (λ place. place < length e.projects) next.only_then.items
 
-abbrev pub filled_up : Language → (fills_up : Bool) → List Filling
-filled_up l fills_up = if fills_up then item l key.FILLED_UP ∷ [] else []
+abbrev pub filled_up : Language → FillUp → List Filling
+filled_up l fill_up = if fills_up fill_up then item l key.FILLED_UP ∷ [] else []
 
 -- a tie between two projects that are called so
 abbrev pub tie_said : Language → Measure → (round : ℕ) → (winner other : List ℕ) → List Filling
@@ -236,37 +257,29 @@ tie_list l m e all =
     labels l TIES_OPENING.now (key.TIES ∷ []) ∷ (flat_map (tie l m e) all ++ filling LIST_CLOSING.now [] ∷ [])
 
 -- how that is called, and how what was left was filled up
-abbrev pub method_said : Language → Completion → (fills_up : Bool) → List Filling
-method_said l completion fills_up = method l completion fills_up ∷ filled_up l fills_up
+abbrev pub method_said : Language → Rule → List Filling
+method_said l rule = item l (method_key rule) ∷ filled_up l rule.fill_up
 
 abbrev pub measure_option : Measure → List Filling
 measure_option measure = by_measure measure [] (filling OPTION_COST.now [] ∷ [])
 
-abbrev pub completion_option : Completion → (fills_up : Bool) → List Filling
-completion_option completion fills_up =
-    by_completion completion
-    (filling (if fills_up then OPTION_UTILITARIAN.now else OPTION_PLAIN.now) [] ∷ [])
-    (if fills_up then filling OPTION_ADD1U.now [] ∷ [] else [])
+abbrev pub completion_option : Completion → FillUp → List Filling
+completion_option completion fill_up =
+    by_completion completion fill_up
+    (filling OPTION_PLAIN.now [] ∷ []) [] (filling OPTION_UTILITARIAN.now [] ∷ []) (filling OPTION_ADD1U.now [] ∷ [])
 
 abbrev pub command_closing : CountOptions → Filling
 command_closing options = filling COMMAND_CLOSING.now (decimal options.step ∷ decimal options.max_raises ∷ [])
 
--- a measure and a completion, as the command line names them
-abbrev pub measure_name : Measure → List ℕ
-measure_name measure = by_measure measure (codes "votes") (codes "cost")
+abbrev pub option_places : Language → Rule → List Filling
+option_places l rule =
+    let o = rule.options in
+    text (measure_name o.measure) ∷ text (completion_name o.completion rule.fill_up)
+    ∷ amount l.amounts (codes "step") o.step ∷ number (codes "limit") o.max_raises ∷ []
 
-abbrev pub completion_name : Completion → (fills_up : Bool) → List ℕ
-completion_name completion fills_up =
-    by_completion completion (if fills_up then codes "utilitarian" else codes "none") (if fills_up then codes "add1u" else codes "add1")
-
-abbrev pub option_places : Language → CountOptions → (fills_up : Bool) → List Filling
-option_places l options fills_up =
-    text (measure_name options.measure) ∷ text (completion_name options.completion fills_up)
-    ∷ amount l.amounts (codes "step") options.step ∷ number (codes "limit") options.max_raises ∷ []
-
-abbrev pub options_said : Language → CountOptions → (fills_up : Bool) → List Filling
-options_said l options fills_up =
-    between (command_closing options) (filling MADE_BY_OPENING.now []) l key.OPTIONS (option_places l options fills_up)
+abbrev pub options_said : Language → Rule → List Filling
+options_said l rule =
+    between (command_closing rule.options) (filling MADE_BY_OPENING.now []) l key.OPTIONS (option_places l rule)
 
 abbrev pub lost_figures : Language → ProjectView → (votes : ℕ) → Lost → Filling
 lost_figures l p votes lost =
@@ -309,7 +322,8 @@ shown_row l k n ballots won =
 abbrev pub command : Language → Facts → List Filling
 command l facts =
     recounting facts.journal
-    ++ (measure_option facts.options.measure ++ (completion_option facts.options.completion facts.fills_up ++ made l facts))
+    ++ (measure_option facts.rule.options.measure
+    ++ (completion_option facts.rule.options.completion facts.rule.fill_up ++ made l facts))
 
 -- which of these winners are of a category
 abbrev pub winners_in : Categories → List ℕ → ℕ → List ℕ
@@ -327,7 +341,8 @@ category_said l whole name sum =
     ((if length name == 0 then at l key.NO_CATEGORY else name) ∷ decimal (width sum.cost whole) ∷ at l key.CATEGORY_WON
     ∷ decimal sum.winners ∷ at l key.CATEGORY_COST ∷ money_text sum.cost ∷ shown l.costs sum.cost ∷ [])
 
--- the head of the table of categories, a row for each of the first ones, and the whole, where they have this of the winners
+-- the head of the table of categories, a row for each of the first ones, and the whole, where they have this
+-- of the winners
 abbrev pub categories_head : Language → Filling
 categories_head l =
     labels l CATEGORIES_OPENING.now
@@ -349,28 +364,3 @@ abbrev pub category_table : Language → ElectionView → List ℕ → Categorie
 category_table l e winners g =
     categories_head l
     ∷ (map (category_row l e winners g) (range_with_len 0 (length g.names.now)) ++ filling TABLE_CLOSING.now [] ∷ [])
-
--- the five parts of a page, each as a whole
-unfoldable pub the_budget : Language → List ℕ → ElectionView → CountedView → List Filling
-the_budget l title e c = budget l title e c
-
-unfoldable pub the_projects : Facts → ElectionView → CountedView → List Filling
-the_projects facts e c = winners facts e c ++ (added facts e c ++ others facts e c)
-
-unfoldable pub the_voters : Language → List ℕ → List Filling
-the_voters l won = voters l won
-
-unfoldable pub the_rule : Language → ElectionView → CountOptions → RaiseEnd → (fills_up : Bool) → (share raised : ℕ) → List Filling
-the_rule l e options end fills_up share raised = rule l e options end fills_up share raised
-
-unfoldable pub the_check : Language → Facts → List Filling
-the_check l facts = check l facts
-
--- and one after the other
-unfoldable pub the_parts : ElectionView → CountedView → Facts → RaiseEnd → List Filling
-the_parts e c facts end =
-    the_budget facts.language facts.title.now e c ++ (the_projects facts e c ++ (categories e c facts
-    ++ (the_voters facts.language (won_by_voter e c) ++ (besides e c facts
-    ++ (the_rule facts.language e facts.options end c.fills_up c.outcome.share c.outcome.raised
-    ++ (ties facts.language facts.options.measure e (ties_of facts.options.measure e c.outcome)
-    ++ the_check facts.language facts))))))

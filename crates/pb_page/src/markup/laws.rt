@@ -5,9 +5,9 @@ ghost use Rattle.std.specs.List.{before_first};
 ghost use Rattle.pb_page.specs.Filling.{Filling, delimiters, page_of};
 ghost use Rattle.pb_page.specs.Markup.{read_back, written};
 
-/// A text as it stands in a page never ends the attribute that it stands in, whichever of the two quotes (34, 39) ends
-/// that, opens no tag (60) and closes none (62), has no control character of ASCII, and is read as it was: so each `&`
-/// in it begins a reference.
+/// A text as it stands in a page never ends the attribute that it stands in, whichever of the two quotes (34,
+/// 39) ends that, opens no tag (60) and closes none (62), has no control character of ASCII, and is read as
+/// it was: so each `&` in it begins a reference.
 pub fn texts_stay_texts()
     ensures attribute { (quote : ℕ) (text after : List ℕ) → (quote ≡ 34) ⊎ (quote ≡ 39)
         → before_first (λ c. c == quote) (written text ++ quote ∷ after) ≡ written text }
@@ -19,5 +19,6 @@ pub fn texts_stay_texts()
 /// Each `<`, `>` and quote of a page is one of its pieces', in their order: the texts, whatever they are, add
 /// none, and take none away.
 pub fn pieces_alone_are_markup()
-    ensures { (fillings : List Filling) → delimiters (page_of fillings) ≡ flat_map (λ f. delimiters f.piece) fillings }
+    ensures { (fillings : List Filling) → delimiters (page_of fillings)
+        ≡ flat_map (λ f. delimiters f.piece) fillings }
 {}

@@ -17,8 +17,8 @@ const PLACE: u8 = b'~';
 /// Stands in a piece of markup where the value of the next place goes as well.
 const NEXT: u8 = b'^';
 
-/// Writes a piece of the program's own markup after a page, with these values in the places of its `~`, one after
-/// the other; each `^` is the value of the next `~` as well. A place without a value stays empty.
+/// Writes a piece of the program's own markup after a page, with these values in the places of its `~`, one
+/// after the other; each `^` is the value of the next `~` as well. A place without a value stays empty.
 pub fn fill(
     page: &mut Vec<u8>,
     alloc: Global,

@@ -13,15 +13,16 @@ use std::alloc::Global;
 /// The bytes below this one are places of a sentence: byte 0 the first, byte 1 the second, and so on.
 const PLACES: u8 = 32;
 
-/// Writes a sentence after a page. Its bytes from 32 on are text, and stay text. Those below are its places: what is given
-/// for each stands there, and nothing where nothing is given.
+/// Writes a sentence after a page. Its bytes from 32 on are text, and stay text. Those below are its places:
+/// what is given for each stands there, and nothing where nothing is given.
 pub fn say(
     page: &mut Vec<u8>,
     alloc: Global,
     sentence: &str,
     places: &[Place],
 ) -> Result<(), NoMemory>
-    ensures { OnOk result (page.new.items ≡ page.old.items ++ page_of (said (map at_place places.now) sentence.now)) }
+    ensures { OnOk result (page.new.items ≡ page.old.items
+        ++ page_of (said (map at_place places.now) sentence.now)) }
 {
     let bytes = sentence.as_bytes();
     for byte in bytes {
@@ -32,7 +33,8 @@ pub fn say(
 
 /// Writes a byte of a sentence.
 fn say_byte(page: &mut Vec<u8>, alloc: Global, byte: u8, places: &[Place]) -> Result<(), NoMemory>
-    ensures { OnOk result (page.new.items ≡ page.old.items ++ page_of (character_said (map at_place places.now) byte ∷ [])) }
+    ensures { OnOk result (page.new.items ≡ page.old.items
+        ++ page_of (character_said (map at_place places.now) byte ∷ [])) }
 {
     if byte >= PLACES {
         return write_byte(page, byte);

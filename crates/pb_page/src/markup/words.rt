@@ -8,7 +8,8 @@ use crate::markup::plural::Plural;
 /// What a page says, in a language.
 #[derive(Clone, Copy)]
 pub struct Words<'a> {
-    /// The sentences, each with the number of its key as its index. The bytes below 32 are a sentence's places.
+    /// The sentences, each with the number of its key as its index. The bytes below 32 are a sentence's
+    /// places.
     pub sentences: &'a [&'a str],
     pub plural: Plural,
 }

@@ -15,7 +15,8 @@ past_end pieces numbers = count_by (λ number. nat_le pieces number) numbers
 abbrev pub AreBelowOnce : List ℕ → ℕ → Type 0
 AreBelowOnce numbers next = (weight : ℕ → ℕ) → sum_by weight numbers ≡ sum_by weight (range_with_len 0 next)
 
--- a draw: the number found goes after the others, and the view has no number twice and none above the one found
+-- a draw: the number found goes after the others, and the view has no number twice and none above the one
+-- found
 abbrev pub draws : {S : Type 0} → Step S → Me S Drawn → ℕ → Me S Drawn → Type 0
 draws st me found after =
     (after ≡ (drawn me.0.seats (me.0.numbers ++ found ∷ []), me.1))

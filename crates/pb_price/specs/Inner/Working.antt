@@ -1,5 +1,6 @@
 -- What a worker has drawn and answered, and what its answers become together.
-use Rattle.std.specs.Prelude.{◌≡◌, ℕ, ◌<◌, ◌≤◌, ◌*◌, List, [], ◌∷◌, ◌++◌, Option, None, All, length, map, fold, count_by, nat_eq, nat_lt, slice_index, slice_index_or, slice_set}
+use Rattle.std.specs.Prelude.{◌≡◌, ℕ, ◌<◌, ◌≤◌, ◌*◌, List, [], ◌∷◌, ◌++◌, Option, None, All, length, map}
+use Rattle.std.specs.Prelude.{fold, count_by, nat_eq, nat_lt, slice_index, slice_index_or, slice_set}
 use Rattle.pb_core.specs.Election.{most_projects}
 use Rattle.pb_price.specs.Inner.Claims.{past_end}
 use Rattle.pb_price.specs.Price.{price_at, AreRests}
@@ -53,8 +54,8 @@ times number numbers = count_by (λ n. nat_eq n number) numbers
 abbrev pub drawn_pieces : ℕ → List ℕ → ℕ
 drawn_pieces pieces numbers = count_by (λ n. nat_lt n pieces) numbers
 
--- the answers of some workers, gathered: each piece that they drew has its price, as many were priced as pieces drawn,
--- and each worker drew a number that is no piece
+-- the answers of some workers, gathered: each piece that they drew has its price, as many were priced as
+-- pieces drawn, and each worker drew a number that is no piece
 pub record AreGathered (s : SupportView) (rests projects : List ℕ) (v : Drawn) (prices : List (Option ℕ))
     (priced : ℕ) : Type 0 where
   pub one_each : length prices ≡ length projects

@@ -5,8 +5,8 @@ ghost use Rattle.std.specs.Borrow.{ftrue};
 
 use std::marker::Model;
 
-/// What a claim knows: how many worker seats went into it, and the numbers that they drew, in order. No value of it is
-/// made.
+/// What a claim knows: how many worker seats went into it, and the numbers that they drew, in order. No value
+/// of it is made.
 pub(crate) struct Drawn {
     pub(crate) ghost seats: { ℕ },
     pub(crate) ghost numbers: { List ℕ },

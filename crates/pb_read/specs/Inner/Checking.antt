@@ -1,5 +1,6 @@
 -- How far a check of a whole file has come; private contracts speak of it.
-use Rattle.std.specs.Prelude.{◌≡◌, ◌≢◌, ◌≤◌, ◌<◌, ◌+◌, ◌-◌, ◌==◌, ℕ, true, false, List, [], ◌∷◌, length, remove, Option, Some, None, IfSome, if◌then◌else◌}
+use Rattle.std.specs.Prelude.{◌≡◌, ◌≢◌, ◌≤◌, ◌<◌, ◌+◌, ◌-◌, ◌==◌, ℕ, true, false, List, [], ◌∷◌, length}
+use Rattle.std.specs.Prelude.{remove, Option, Some, None, IfSome, if◌then◌else◌}
 use Rattle.csv.specs.Records.{AllText}
 use Rattle.pb_core.specs.Election.{ElectionView}
 use Rattle.pb_rows.specs.Reading.{Fields, IsNext}
@@ -53,7 +54,8 @@ JudgesRow kept row p q Passes =
     ((kept == most_records) ≡ false) × (row_fault p (next_row row) ≡ None) × (q ≡ advance p (next_row row))
 JudgesRow kept row p q verdict = IsVerdict (text_fault kept p row) p q verdict
 
--- the next record, where it is known what is left, is followed by these, and its lowest kind of fault is this one
+-- the next record, where it is known what is left, is followed by these, and its lowest kind of fault is this
+-- one
 abbrev pub NextHas : ℕ → Option (List Fields) → Option (List Fields) → Position → ReadKind → Type 0
 NextHas kept None after p kind = Unit {0}
 NextHas kept (Some []) after p kind = ⊥

@@ -1,12 +1,14 @@
 -- The reading of rows one by one. Private contracts and proofs speak of it; what a file stands for does not
 -- rest on it.
-use Rattle.std.specs.Prelude.{◌≡◌, ◌==◌, ℕ, Bool, not, find, if◌then◌else◌, List, [], ◌∷◌, ◌++◌, Option, Some, None, Result, Ok, Err, codes}
+use Rattle.std.specs.Prelude.{◌≡◌, ◌==◌, ℕ, Bool, not, find, if◌then◌else◌, List, [], ◌∷◌, ◌++◌, Option, Some}
+use Rattle.std.specs.Prelude.{None, Result, Ok, Err, codes}
 use Rattle.std.specs.Result.{result_unwrap_or}
 use Rattle.std.specs.Option.{option_map_or}
 use Rattle.std.specs.Prelude.{length, map, nat_le}
 use Rattle.std.specs.List.{list_all, position_or_len}
 use Rattle.std.specs.Str.{bytes_eq, is_utf8}
-use Rattle.pb_core.specs.Election.{ElectionView, ProjectView, VoterView, most_projects, most_voters, opening, project_ids, voter_ids}
+use Rattle.pb_core.specs.Election.{ElectionView, ProjectView, VoterView, most_projects, most_voters, opening}
+use Rattle.pb_core.specs.Election.{project_ids, voter_ids}
 use Rattle.pb_core.specs.Money.{money_of}
 use Rattle.pb_core.specs.declared.money_fault.MoneyFault.{MoneyFault}
 use Rattle.pb_core.specs.declared.terms.Terms.{Terms}
@@ -26,7 +28,13 @@ use Rattle.pb_read.specs.Voting.{ballot_of, is_among, names_only}
 use Rattle.pb_read.specs.declared.columns.ProjectColumns.{ProjectColumns}
 use Rattle.pb_read.specs.declared.columns.VoteColumns.{VoteColumns}
 use Rattle.pb_read.specs.declared.fault.ReadKind.{ReadKind}
-use Rattle.pb_read.specs.declared.fault.ReadKind.TheVariants.{ReadFailed, NotText, TooManyRecords, NoSection, SectionOrder, NoHeader, MissingColumn, MissingField, MissingKey, VoteType, BadMoney, MoneyTooFine, MoneyTooLarge, ZeroCost, EmptyId, RepeatedProject, RepeatedVoter, UnknownProject, TooManyProjects, TooManyVoters, NoMemory, BadLength}
+use Rattle.pb_read.specs.declared.fault.ReadKind.TheVariants.{ReadFailed, NotText, TooManyRecords, NoSection}
+use Rattle.pb_read.specs.declared.fault.ReadKind.TheVariants.{SectionOrder, NoHeader, MissingColumn}
+use Rattle.pb_read.specs.declared.fault.ReadKind.TheVariants.{MissingField, MissingKey, VoteType, BadMoney}
+use Rattle.pb_read.specs.declared.fault.ReadKind.TheVariants.{MoneyTooFine, MoneyTooLarge, ZeroCost, EmptyId}
+use Rattle.pb_read.specs.declared.fault.ReadKind.TheVariants.{RepeatedProject, RepeatedVoter, UnknownProject}
+use Rattle.pb_read.specs.declared.fault.ReadKind.TheVariants.{TooManyProjects, TooManyVoters, NoMemory}
+use Rattle.pb_read.specs.declared.fault.ReadKind.TheVariants.{BadLength}
 use Rattle.pb_read.specs.declared.meta.Meta.{Meta}
 use Rattle.pb_read.specs.declared.meta_key.MetaKey.{MetaKey}
 use Rattle.pb_read.specs.declared.meta_key.MetaKey.TheVariants as key

@@ -9,8 +9,8 @@ use Rattle.pb_read.specs.declared.progress.Stage.{Stage}
 use Rattle.pb_read.specs.declared.progress.Stage.TheVariants.{Start, Header, InMeta, InProjects, InVotes}
 use Rattle.pb_read.specs.declared.section.Section.TheVariants.{Meta, Projects, Votes}
 
--- the rows have come so far, and what stands before them is as it must be: the election has just the budget, projects
--- and voters of the rows up to here
+-- the rows have come so far, and what stands before them is as it must be: the election has just the budget,
+-- projects and voters of the rows up to here
 abbrev pub IsJustAt : List Fields → Stage × ElectionView → Type 0
 IsJustAt rows (Start, e) = (rows ≡ []) × (e ≡ empty)
 IsJustAt rows (Header Meta, e) = EndsIn (λ front. front ≡ []) Meta [] rows × (e ≡ empty)

@@ -1,5 +1,6 @@
 -- How a comparison grows voter by voter; private contracts speak of it.
-use Rattle.std.specs.Prelude.{◌≡◌, ℕ, ◌+◌, ◌-◌, ◌*◌, ◌^◌, ◌<◌, ◌≤◌, ◌==◌, Bool, List, count_by, false, if◌then◌else◌, length, nat_lt, slice_index_or, sum_by}
+use Rattle.std.specs.Prelude.{◌≡◌, ℕ, ◌+◌, ◌-◌, ◌*◌, ◌^◌, ◌<◌, ◌≤◌, ◌==◌, Bool, List, count_by, false}
+use Rattle.std.specs.Prelude.{if◌then◌else◌, length, nat_lt, slice_index_or, sum_by}
 use Rattle.pb_core.specs.Election.{ElectionView, VoterView}
 use Rattle.pb_rounds.specs.MostVotes.{is_taken}
 use Rattle.pb_price.specs.Supporters.{cost_at, support_of}

@@ -12,7 +12,8 @@ pub record AreRounds (projects : ℕ) (elected : List ElectedView) (rounds : Lis
   pub one_each : length rounds ≡ projects
   pub numbered : (place : ℕ) → place < projects → slice_index rounds place ≡ round_of elected place
 
--- what contracts see of reasons: the supporters, the rounds, and what the supporters of each of the elected paid
+-- what contracts see of reasons: the supporters, the rounds, and what the supporters of each of the elected
+-- paid
 pub record ReasonsView : Type 0 where
   pub supporters : SupportView
   pub rounds : List ℕ

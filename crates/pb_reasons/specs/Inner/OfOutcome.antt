@@ -1,5 +1,6 @@
 -- The reasons of an outcome alone, with nothing added; private contracts speak of it.
-use Rattle.std.specs.Prelude.{ℕ, ◌+◌, ◌-◌, ◌==◌, List, Option, Some, None, count_by, if◌then◌else◌, length, nat_lt, slice_get, slice_index, sum_by}
+use Rattle.std.specs.Prelude.{ℕ, ◌+◌, ◌-◌, ◌==◌, List, Option, Some, None, count_by, if◌then◌else◌, length}
+use Rattle.std.specs.Prelude.{nat_lt, slice_get, slice_index, sum_by}
 use Rattle.pb_core.specs.Election.{ElectionView}
 use Rattle.pb_rounds.specs.MostVotes.{is_taken}
 use Rattle.pb_price.specs.Price.{total_rest}

@@ -1,5 +1,6 @@
 -- How the ties of a round are looked for, with a lower bound of each price; private contracts speak of it.
-use Rattle.std.specs.Prelude.{◌≡◌, ℕ, ◌+◌, ◌*◌, ◌<◌, ◌≤◌, Bool, false, List, Option, Some, None, filter, if◌then◌else◌, length, map, slice_index_or}
+use Rattle.std.specs.Prelude.{◌≡◌, ℕ, ◌+◌, ◌*◌, ◌<◌, ◌≤◌, Bool, false, List, Option, Some, None, filter}
+use Rattle.std.specs.Prelude.{if◌then◌else◌, length, map, slice_index_or}
 use Rattle.std.specs.List.{range_with_len}
 use Rattle.pb_price.specs.Price.{price_at}
 use Rattle.pb_price.specs.Supporters.{SupportView, cost_at}
@@ -9,7 +10,8 @@ use Rattle.pb_rounds.specs.declared.measure.Measure.TheVariants.{Votes, Cost}
 use Rattle.pb_reasons.specs.Ties.{is_tied}
 use Rattle.pb_reasons.specs.declared.tie.Tie.{Tie}
 
--- the two numbers that are compared: what a price counts for, and what it has to count for to be as good as the winner's
+-- the two numbers that are compared: what a price counts for, and what it has to count for to be as good as
+-- the winner's
 abbrev pub scaled : Measure → SupportView → (winner : ElectedView) → (price : ℕ) → ℕ
 scaled Votes s winner price = price
 scaled Cost s winner price = price * cost_at s winner.place

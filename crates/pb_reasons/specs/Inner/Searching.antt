@@ -17,7 +17,7 @@ use Rattle.pb_reasons.specs.declared.changes.question.Question.{Question}
 
 -- whether the count of an election elects or adds the project that is asked about
 abbrev pub HasWon : ElectionView → Question → Bool → Type 0
-HasWon e q won = (o : OutcomeView) × IsCountOf e q.options o × (is_selected (counted e q.fills_up o) q.place ≡ won)
+HasWon e q won = (o : OutcomeView) × IsCountOf e q.rule.options o × (is_selected (counted e q.rule.fill_up o) q.place ≡ won)
 
 -- how many further voters a change has
 abbrev pub further_of : Change → ℕ → ℕ
@@ -26,7 +26,7 @@ further_of Voters value = value
 
 -- a fault that ends a search: out of memory, or options that are out of their ranges
 pub record IsStop (q : Question) (fault : CountFault) : Type 0 where
-  pub out_of_range : fault ≢ NoMemory → refusal_of q.options ≡ Some fault
+  pub out_of_range : fault ≢ NoMemory → refusal_of q.rule.options ≡ Some fault
   pub not_spent : fault ≢ RaisesSpent
 
 -- whether a verdict is that the project wins

@@ -1,12 +1,14 @@
 -- What one voter pays, round by round; private contracts speak of it.
-use Rattle.std.specs.Prelude.{◌≡◌, ℕ, ◌-◌, ◌<◌, Bool, List, [], ◌∷◌, All, length, min, nat_lt, slice_index, slice_index_or, true, if◌then◌else◌}
+use Rattle.std.specs.Prelude.{◌≡◌, ℕ, ◌-◌, ◌<◌, Bool, List, [], ◌∷◌, All, length, min, nat_lt, slice_index}
+use Rattle.std.specs.Prelude.{slice_index_or, true, if◌then◌else◌}
 use Rattle.std.specs.List.Sorted.{IsStrictlyIncreasing}
 use Rattle.pb_core.specs.Ballot.{approves}
 use Rattle.pb_rounds.specs.Inner.Listed.{is_listed}
 use Rattle.pb_rounds.specs.Run.{ElectedView}
 use Rattle.pb_reasons.specs.Reasons.{round_of}
 
--- what a voter pays in a round, out of what is left: who approves the project the price, or all that is left if that is less
+-- what a voter pays in a round, out of what is left: who approves the project the price, or all that is left
+-- if that is less
 abbrev pub due_of : Bool → ℕ → ℕ → ℕ
 due_of is_approved rest price = if is_approved then min rest price else 0
 

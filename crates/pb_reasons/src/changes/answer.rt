@@ -23,12 +23,13 @@ use pb_core::money::Money;
 use pb_rounds::count_fault::CountFault;
 use std::thread::Threads;
 
-/// Searches what would have made the project win, or lose. A loser is searched from a cost of 0.01 to its own, and from no
-/// further voter to as many again, or to as many as an election may still have; a winner from its own cost to ten times it, or
-/// to the largest cost of a file.
+/// Searches what would have made the project win, or lose. A loser is searched from a cost of 0.01 to its
+/// own, and from no further voter to as many again, or to as many as an election may still have; a winner
+/// from its own cost to ten times it, or to the largest cost of a file.
 ///
-/// Each row is of a whole count. Nothing is claimed of changes between the rows, nor beyond them. RaisesSpent is answered
-/// where the election's own count is refused; a changed election whose count is refused has a row.
+/// Each row is of a whole count. Nothing is claimed of changes between the rows, nor beyond them. RaisesSpent
+/// is answered where the election's own count is refused; a changed election whose count is refused has a
+/// row.
 pub fn what_if<T: Threads + Sync, G: Gate>(
     recount: &Recount<T, G>,
     election: Election,
@@ -37,7 +38,7 @@ pub fn what_if<T: Threads + Sync, G: Gate>(
     ensures found { IfOk result (IsWhatIf election recount.now.question
         (cost_at (support_of election) recount.now.question.place)) }
     ensures fault { IfErr result (λ fault. fault ≢ NoMemory
-        → IsCountFault election recount.now.question.options fault) }
+        → IsCountFault election recount.now.question.rule.options fault) }
 {
     let cost = election.projects()[recount.question.place as usize].cost();
     let won = match has_won(recount, &election) {
@@ -67,7 +68,7 @@ pub fn one_change<T: Threads + Sync, G: Gate>(
     ensures row { IfOk result (IsTrue (seen election) recount.now.question change) }
     ensures value { IfOk result (λ row. row.value ≡ value) }
     ensures fault { IfErr result (λ fault. fault ≢ NoMemory
-        → refusal_of recount.now.question.options ≡ Some fault) }
+        → refusal_of recount.now.question.rule.options ≡ Some fault) }
 {
     let mut changing = Changing::of(recount.alloc, election)?;
     changing.row(recount, change, value)

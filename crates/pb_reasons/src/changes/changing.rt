@@ -19,8 +19,8 @@ use std::marker::Model;
 use std::mem;
 use std::thread::Threads;
 
-/// An election that is changed for one count at a time. Its voters have numbers for ids, so that further ones can be added,
-/// and their ballots are moved into each changed election and back.
+/// An election that is changed for one count at a time. Its voters have numbers for ids, so that further ones
+/// can be added, and their ballots are moved into each changed election and back.
 ///
 /// A contract sees what a count reads of it.
 #[derive(Drop)]

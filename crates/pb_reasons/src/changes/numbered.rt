@@ -1,6 +1,7 @@
 //! Voters whose ids are numbers.
 
-ghost use Rattle.std.specs.Prelude.{◌≡◌, ◌+◌, ◌<◌, ◌≤◌, ◌++◌, ◌∷◌, [], All, List, IfOk, OnOk, decimal, length, map, replicate};
+ghost use Rattle.std.specs.Prelude.{◌≡◌, ◌+◌, ◌<◌, ◌≤◌, ◌++◌, ◌∷◌, [], All, List, IfOk, OnOk, decimal};
+ghost use Rattle.std.specs.Prelude.{length, map, replicate};
 ghost use Rattle.pb_core.specs.Election.{IsVoter, VoterView, most_voters};
 ghost use Rattle.pb_reasons.specs.Inner.Numbered.{AreNumbered};
 

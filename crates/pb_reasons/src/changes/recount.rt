@@ -19,7 +19,8 @@ use pb_rounds::outcome::Elected;
 use std::alloc::Global;
 use std::thread::Threads;
 
-/// How changed elections are counted: by which threads, in which memory, what is asked of them, and who is told of raises.
+/// How changed elections are counted: by which threads, in which memory, what is asked of them, and who is
+/// told of raises.
 #[derive(Drop)]
 pub struct Recount<'a, T, G> {
     pub rt: &'a T,
@@ -51,13 +52,13 @@ pub(crate) fn has_won<T: Threads + Sync, G: Gate>(
     election: &Election,
 ) -> Result<bool, CountFault>
     ensures ok { IfOk result (HasWon election.now recount.now.question) }
-    ensures fault { IfErr result (IsCountFault election.now recount.now.question.options) }
+    ensures fault { IfErr result (IsCountFault election.now recount.now.question.rule.options) }
 {
     let (rt, alloc) = (recount.rt, recount.alloc);
-    let question = &recount.question;
-    let outcome = count_watched(rt, alloc, election, &question.options, recount.gate)?;
-    let counted = Counted::of(alloc, election, outcome, question.fills_up)?;
-    let won = is_selected(&counted, question.place);
+    let rule = &recount.question.rule;
+    let outcome = count_watched(rt, alloc, election, &rule.options, recount.gate)?;
+    let counted = Counted::of(alloc, election, outcome, rule.fill_up)?;
+    let won = is_selected(&counted, recount.question.place);
     drop(counted);
     Ok(won)
 }

@@ -39,8 +39,8 @@ pub(crate) fn between<T: Threads + Sync, G: Gate>(
     halved(recount, changing, change, low, high)
 }
 
-/// Halves a range of which one end wins and the other does not, until its ends are one step apart, or one is refused. The end
-/// that wins stays one that wins.
+/// Halves a range of which one end wins and the other does not, until its ends are one step apart, or one is
+/// refused. The end that wins stays one that wins.
 fn halved<T: Threads + Sync, G: Gate>(
     recount: &Recount<T, G>,
     changing: &mut Changing,
@@ -71,8 +71,8 @@ fn halved<T: Threads + Sync, G: Gate>(
     })
 }
 
-/// Doubles the number of further voters until the project wins, up to so many, and halves between the last two numbers. A
-/// count that is refused ends the search: its row is found, and the last one that loses.
+/// Doubles the number of further voters until the project wins, up to so many, and halves between the last
+/// two numbers. A count that is refused ends the search: its row is found, and the last one that loses.
 pub(crate) fn doubled<T: Threads + Sync, G: Gate>(
     recount: &Recount<T, G>,
     changing: &mut Changing,
@@ -134,7 +134,8 @@ fn is_won(verdict: Verdict) -> bool
 fn is_open(low: Row, high: Row) -> bool
     requires ordered { low.value < high.value }
     ensures open { result ≡ true → low.value + 1 < high.value }
-    ensures shut { result ≡ false → low.verdict ≢ Refused → high.verdict ≢ Refused → high.value ≤ low.value + 1 }
+    ensures shut { result ≡ false → low.verdict ≢ Refused → high.verdict ≢ Refused → high.value
+        ≤ low.value + 1 }
 {
     low.value + 1 < high.value && is_counted(low.verdict) && is_counted(high.verdict)
 }

@@ -12,9 +12,9 @@ use Rattle.pb_rounds.specs.declared.measure.Measure.{Measure}
 abbrev pub places_of_elected : List ElectedView → List ℕ
 places_of_elected elected = map (λ w. w.place) elected
 
--- The elected of a smaller share are paid for one after the other from these rests, each at its price there: each has one,
--- and no other project left has a key that does not come after the elected one's at its price of the smaller share. At the
--- end no project left has a price.
+-- The elected of a smaller share are paid for one after the other from these rests, each at its price there:
+-- each has one, and no other project left has a key that does not come after the elected one's at its price
+-- of the smaller share. At the end no project left has a price.
 abbrev pub KeepsElecting : Measure → SupportView → List ElectedView → List ℕ → List ℕ → Type 0
 KeepsElecting m s [] rests left =
     (place : ℕ) → is_listed left place ≡ true → price_at s rests place ≡ None

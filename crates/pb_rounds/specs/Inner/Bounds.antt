@@ -1,6 +1,7 @@
--- The queue of a trial: a lower bound of the price of each project that may still be paid. Only clauses of private functions
--- speak of it.
-use Rattle.std.specs.Prelude.{◌≡◌, ℕ, Option, None, Some, List, ◌∷◌, ◌++◌, [], ◌<◌, ◌≤◌, length, replicate, true}
+-- The queue of a trial: a lower bound of the price of each project that may still be paid. Only clauses of
+-- private functions speak of it.
+use Rattle.std.specs.Prelude.{◌≡◌, ℕ, Option, None, Some, List, ◌∷◌, ◌++◌, [], ◌<◌, ◌≤◌, length, replicate}
+use Rattle.std.specs.Prelude.{true}
 use Rattle.pb_price.specs.Price.{price_at}
 use Rattle.pb_price.specs.Supporters.{SupportView, supporters_at}
 use Rattle.pb_rounds.specs.Key.{KeyView, is_before}
@@ -36,8 +37,8 @@ abbrev pub IsBeyond : Option KeyView → KeyView → Type 0
 IsBeyond None k = ⊥
 IsBeyond (Some limit) k = is_before limit k ≡ true
 
--- what a search of the queue up to a limit gives: the best project, which is taken out; or none, where each project left
--- that has a price is beyond the limit
+-- what a search of the queue up to a limit gives: the best project, which is taken out; or none, where each
+-- project left that has a price is beyond the limit
 abbrev pub FindsBest : Measure → SupportView → List ℕ → List ℕ → Option KeyView → List KeyView → Option KeyView → Type 0
 FindsBest m s rests left limit queue None =
     ((place p : ℕ) → is_listed left place ≡ true → price_at s rests place ≡ Some p → IsBeyond limit (key_of m s place p))

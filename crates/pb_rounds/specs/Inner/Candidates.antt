@@ -1,5 +1,6 @@
 -- The projects that may be added, as the program lists and passes over them.
-use Rattle.std.specs.Prelude.{ℕ, ◌-◌, ◌&&◌, Bool, not, nat_le, nat_lt, List, [], ◌∷◌, filter, length, map, if◌then◌else◌}
+use Rattle.std.specs.Prelude.{ℕ, ◌-◌, ◌&&◌, Bool, not, nat_le, nat_lt, List, [], ◌∷◌, filter, length, map}
+use Rattle.std.specs.Prelude.{if◌then◌else◌}
 use Rattle.std.specs.List.{range_with_len}
 use Rattle.pb_price.specs.Supporters.{SupportView, cost_at}
 use Rattle.pb_rounds.specs.MostVotes.{is_taken, votes_at}

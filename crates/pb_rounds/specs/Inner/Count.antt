@@ -2,7 +2,8 @@
 use Rattle.std.specs.Prelude.{◌≡◌, None, ℕ}
 use Rattle.pb_core.specs.Election.{ElectionView}
 use Rattle.pb_rounds.specs.declared.count_fault.CountFault.{CountFault}
-use Rattle.pb_rounds.specs.declared.count_fault.CountFault.TheVariants.{WorkerCount, StepRange, RaisesRange, RaisesSpent, NoMemory}
+use Rattle.pb_rounds.specs.declared.count_fault.CountFault.TheVariants.{WorkerCount, StepRange, RaisesRange}
+use Rattle.pb_rounds.specs.declared.count_fault.CountFault.TheVariants.{RaisesSpent, NoMemory}
 use Rattle.pb_rounds.specs.declared.measure.Measure.{Measure}
 use Rattle.pb_rounds.specs.Count.{add1_of}
 

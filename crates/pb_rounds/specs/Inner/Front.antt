@@ -1,5 +1,5 @@
--- The front of a completion: the first rounds of its runs, as far as they are the same at every larger share. Only clauses
--- of private functions speak of it.
+-- The front of a completion: the first rounds of its runs, as far as they are the same at every larger share.
+-- Only clauses of private functions speak of it.
 use Rattle.std.specs.Prelude.{◌≡◌, ℕ, ◌∷◌, ◌+◌, ◌≤◌, All, Bool, Some, List, map, replicate, slice_index}
 use Rattle.pb_price.specs.Price.{NoRestRises, largest_share, price_at}
 use Rattle.pb_price.specs.Supporters.{IsSupport, SupportView, supporters_at}
@@ -30,8 +30,9 @@ raised_by more o = record {
   priced = o.priced;
 }
 
--- The same rounds are the first ones of the run at every share from this one on, where each voter has as much more left as
--- the share is more. The queue has the projects left that somebody supports, each at its price at the largest share.
+-- The same rounds are the first ones of the run at every share from this one on, where each voter has as much
+-- more left as the share is more. The queue has the projects left that somebody supports, each at its price
+-- at the largest share.
 pub record IsFront (f : FrontView) : Type 0 where
   pub is_support : IsSupport f.support
   pub left : List ℕ

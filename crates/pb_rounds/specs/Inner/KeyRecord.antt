@@ -1,5 +1,6 @@
 -- A pricing record in keys, where each round elects the best of what is left: as the queue makes it.
-use Rattle.std.specs.Prelude.{◌≡◌, ℕ, Bool, true, false, Option, Some, None, List, [], ◌∷◌, ◌++◌, ◌-◌, ◌≤◌, MatchOption, not, nat_eq, map, length, replicate, if◌then◌else◌}
+use Rattle.std.specs.Prelude.{◌≡◌, ℕ, Bool, true, false, Option, Some, None, List, [], ◌∷◌, ◌++◌, ◌-◌, ◌≤◌}
+use Rattle.std.specs.Prelude.{MatchOption, not, nat_eq, map, length, replicate, if◌then◌else◌}
 use Rattle.std.specs.List.{IsDistinct, range_with_len}
 use Rattle.std.specs.Option.{option_map_or}
 use Rattle.pb_price.specs.Price.{price_at}
@@ -9,7 +10,8 @@ use Rattle.pb_rounds.specs.Inner.Listed.{is_listed}
 use Rattle.pb_rounds.specs.Run.{best_of, charged, key_of, without}
 use Rattle.pb_rounds.specs.declared.measure.Measure.{Measure}
 
--- the last known price of each project, once these are priced at these rests: none where it is known to have none
+-- the last known price of each project, once these are priced at these rests: none where it is known to have
+-- none
 abbrev pub known_after : SupportView → List ℕ → List ℕ → (ℕ → Option ℕ) → ℕ → Option ℕ
 known_after s rests priced known place =
     if is_listed priced place then price_at s rests place else known place
@@ -33,8 +35,8 @@ pub record AreInTime (m : Measure) (s : SupportView) (workers : ℕ) (known : �
   pub few : length spare ≤ workers - 1
   pub in_time : (place : ℕ) → is_listed needed place ≡ true → is_in_time m s winner known place ≡ true
 
--- A round that elects the winner, and prices these: the winner is among them; after the round no known price of a project
--- left comes before the winner's; and they were in time.
+-- A round that elects the winner, and prices these: the winner is among them; after the round no known price
+-- of a project left comes before the winner's; and they were in time.
 pub record IsKeyRound (m : Measure) (s : SupportView) (workers : ℕ) (rests left : List ℕ)
     (known : ℕ → Option ℕ)
     (winner : KeyView) (priced : List ℕ) : Type 0 where
@@ -51,8 +53,8 @@ pub record IsKeyEnd (s : SupportView) (rests left : List ℕ) (known : ℕ → O
   pub are_priced : AreSomeOf left priced
   pub all_none : (place : ℕ) → is_listed left place ≡ true → known_after s rests priced known place ≡ None
 
--- The lists of the projects priced, one for each round of a run from these rests on, with these projects left and these
--- known prices: each round but the last elects the best of it, and the next begins where it ends.
+-- The lists of the projects priced, one for each round of a run from these rests on, with these projects left
+-- and these known prices: each round but the last elects the best of it, and the next begins where it ends.
 abbrev pub KeyRecord : Measure → SupportView → ℕ → List ℕ → List ℕ → (ℕ → Option ℕ) → List (List ℕ)
     → Type 0
 KeyRecord m s workers rests left known [] = ⊥
@@ -64,7 +66,8 @@ KeyRecord m s workers rests left known (priced ∷ later) =
     (without winner.place left)
     (known_after s rests priced known) later)
 
--- these are the numbers of prices of such a record of a run at this share, where each known price is 0 at first
+-- these are the numbers of prices of such a record of a run at this share, where each known price is 0 at
+-- first
 abbrev pub HasKeyRecord : Measure → SupportView → ℕ → ℕ → List ℕ → Type 0
 HasKeyRecord m s workers share priced = (record_of : List (List ℕ))
     × KeyRecord m s workers (replicate s.voters share) (range_with_len 0 (length s.costs))

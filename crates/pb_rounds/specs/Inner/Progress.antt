@@ -1,5 +1,5 @@
--- How far a run has come: what is elected, followed by a run from here, is the whole run. Only clauses of private functions
--- speak of it.
+-- How far a run has come: what is elected, followed by a run from here, is the whole run. Only clauses of
+-- private functions speak of it.
 use Rattle.std.specs.Prelude.{◌≡◌, ℕ, ◌+◌, ◌<◌, ◌≤◌, List, [], ◌∷◌, ◌++◌, length}
 use Rattle.pb_price.specs.Price.{AreRests}
 use Rattle.pb_price.specs.Supporters.{SupportView}

@@ -1,5 +1,6 @@
 -- The queue of stale prices as the code keeps it. Only clauses of private functions speak of it.
-use Rattle.std.specs.Prelude.{◌≡◌, ◌≢◌, ℕ, Bool, true, false, Option, Some, None, List, [], ◌∷◌, ◌++◌, ◌<◌, ◌≤◌, ◌⊎◌, map, length, slice_index_or}
+use Rattle.std.specs.Prelude.{◌≡◌, ◌≢◌, ℕ, Bool, true, false, Option, Some, None, List, [], ◌∷◌, ◌++◌, ◌<◌}
+use Rattle.std.specs.Prelude.{◌≤◌, ◌⊎◌, map, length, slice_index_or}
 use Rattle.pb_price.specs.Supporters.{SupportView}
 use Rattle.pb_rounds.specs.Key.{KeyView, first_least, is_before}
 use Rattle.pb_rounds.specs.Run.{ElectedView, is_elected, key_of, keys_at}
@@ -30,7 +31,8 @@ IsDone best [] = Unit {0}
 IsDone None (head ∷ queue) = ⊥
 IsDone (Some best) (head ∷ queue) = is_before best head ≡ true
 
--- some heads are taken from the queue, at most this many, and their places put after others; none only in a round done
+-- some heads are taken from the queue, at most this many, and their places put after others; none only in a
+-- round done
 pub record TakesHeads (best : Option KeyView) (most : ℕ) (queue rest : List KeyView)
     (places all : List ℕ) : Type 0 where
   pub heads : List KeyView
@@ -40,8 +42,9 @@ pub record TakesHeads (best : Option KeyView) (most : ℕ) (queue rest : List Ke
   pub taken : (head : KeyView) (others : List KeyView) → heads ≡ head ∷ others → IsTaken best head
   pub done : heads ≡ [] → IsDone best queue
 
--- A round took some heads from the queue, in batches of at most this many, and priced them: the last batch was begun since
--- no key priced before came before its head; what is left of the queue comes after the best of all.
+-- A round took some heads from the queue, in batches of at most this many, and priced them: the last batch
+-- was begun since no key priced before came before its head; what is left of the queue comes after the best
+-- of all.
 pub record PricesHeads (m : Measure) (s : SupportView) (rests : List ℕ) (most : ℕ) (queue rest : List KeyView)
     (places : List ℕ) (fresh : List KeyView) (best : Option KeyView) : Type 0 where
   pub early : List KeyView

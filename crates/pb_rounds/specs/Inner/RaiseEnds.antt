@@ -35,7 +35,8 @@ pub record IsFound {F : Type 0} (m : Measure) (s : SupportView) (budget share : 
     : Type 0 where
   pub found : IfOk end (IsTried m s budget share elected)
 
--- what an election can be completed with: the numbers are within their ranges, and the supporters are the election's own
+-- what an election can be completed with: the numbers are within their ranges, and the supporters are the
+-- election's own
 pub record CanComplete (e : ElectionView) (workers : ℕ) (s : SupportView) (step raises : ℕ) : Type 0 where
   pub few_workers : is_worker_count workers ≡ true
   pub small_step : step ≤ largest_step

@@ -12,8 +12,8 @@ use pb_price::Supporters;
 use std::alloc::Allocator;
 use std::cmp::Reverse;
 
-/// A project that may be added. The one with more votes comes first, among equals the cheaper, among equals the one that
-/// stands first in the file.
+/// A project that may be added. The one with more votes comes first, among equals the cheaper, among equals
+/// the one that stands first in the file.
 #[derive(Clone, Copy, PartialEq, Eq, PartialOrd, Ord)]
 pub(crate) struct Candidate {
     /// How many ballots approve it: at least 1.
@@ -32,7 +32,8 @@ pub(crate) fn candidates<A: Allocator, B: Allocator>(
 ) -> Result<Vec<Candidate, A>, NoMemory>
 where
     A: Copy,
-    ensures candidates { IfOk result (λ candidates. candidates.items ≡ candidates_of supporters.now taken.now) }
+    ensures candidates { IfOk result
+        (λ candidates. candidates.items ≡ candidates_of supporters.now taken.now) }
     ensures is_support { IsSupport supporters.now }
 {
     let projects = supporters.projects();
@@ -57,7 +58,8 @@ fn taken_flags<A: Allocator>(
     projects: u32,
     taken: &[u32],
 ) -> Result<Vec<bool, A>, NoMemory>
-    ensures flags { IfOk result (λ flags. flags.items ≡ map (is_taken taken.now) (range_with_len 0 projects)) }
+    ensures flags { IfOk result (λ flags. flags.items ≡ map (is_taken taken.now)
+        (range_with_len 0 projects)) }
     ensures one_each { IfOk result (λ flags. length flags.items ≡ projects) }
 {
     let mut flags = vec![in alloc; false; projects as usize]?;

@@ -10,13 +10,13 @@ use pb_core::no_memory::NoMemory;
 use pb_price::Supporters;
 use std::alloc::Allocator;
 
-/// The projects that most votes first adds to those that are taken already, by place, in the order in which they are added:
-/// while a project fits, the one with the most supporters is added, among equals the cheaper, among equals the one that
-/// stands first in the file. A project fits where it has a supporter, is not taken, and costs at most what is left, in
-/// hundredths; what an added one costs is no longer left.
+/// The projects that most votes first adds to those that are taken already, by place, in the order in which
+/// they are added: while a project fits, the one with the most supporters is added, among equals the cheaper,
+/// among equals the one that stands first in the file. A project fits where it has a supporter, is not taken,
+/// and costs at most what is left, in hundredths; what an added one costs is no longer left.
 ///
-/// With nothing taken and the whole budget left it is the whole rule. The order in which `taken` names places says nothing,
-/// nor does a place that no project has.
+/// With nothing taken and the whole budget left it is the whole rule. The order in which `taken` names places
+/// says nothing, nor does a place that no project has.
 pub fn most_votes_first<A: Allocator, B: Allocator>(
     alloc: A,
     supporters: &Supporters<B>,

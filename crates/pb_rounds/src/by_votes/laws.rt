@@ -3,16 +3,18 @@
 ghost use Rattle.std.specs.Prelude.{◌≡◌, ◌≢◌, ◌↔◌, ◌<◌, ◌≤◌, ◌++◌, ℕ, List, All, AllPairs, false, sum_by};
 ghost use Rattle.pb_core.specs.Election.{ElectionView, IsElection};
 ghost use Rattle.pb_price.specs.Supporters.{cost_at, support_of};
-ghost use Rattle.pb_rounds.specs.MostVotes.{IsMostVotesFirst, fits, is_taken, left_after, most_votes_first, votes_at};
+ghost use Rattle.pb_rounds.specs.MostVotes.{IsMostVotesFirst, fits, is_taken, left_after, most_votes_first};
+ghost use Rattle.pb_rounds.specs.MostVotes.{votes_at};
 
 /// Most votes first adds the one list of projects of which the words of its rule hold.
 pub fn most_votes_first_is_its_rule()
     ensures { (e : ElectionView) (taken : List ℕ) (left : ℕ) (added : List ℕ) → IsElection e
-        → (added ≡ most_votes_first (support_of e) taken left) ↔ IsMostVotesFirst (support_of e) taken left added }
+        → (added ≡ most_votes_first (support_of e) taken left) ↔ IsMostVotesFirst
+        (support_of e) taken left added }
 {}
 
-/// What most votes first adds is paid from what was left, has supporters, was not taken before and is added once; and no
-/// project that fits is left.
+/// What most votes first adds is paid from what was left, has supporters, was not taken before and is added
+/// once; and no project that fits is left.
 pub fn what_is_added_fits()
     ensures paid { (e : ElectionView) (taken : List ℕ) (left : ℕ) → IsElection e
         → sum_by (cost_at (support_of e)) (most_votes_first (support_of e) taken left) ≤ left }

@@ -1,5 +1,6 @@
 -- What each clerk of a script asks, as lists.
-use Rattle.std.specs.Prelude.{◌≡◌, ℕ, ◌<◌, ◌==◌, List, [], ◌∷◌, ◌++◌, filter, length, map, min, slice_index_or, slice_set}
+use Rattle.std.specs.Prelude.{◌≡◌, ℕ, ◌<◌, ◌==◌, List, [], ◌∷◌, ◌++◌, filter, length, map, min}
+use Rattle.std.specs.Prelude.{slice_index_or, slice_set}
 use Rattle.pb_core.specs.Request.{RequestView}
 use Rattle.pb_desk.specs.Replay.{most_clerks}
 use Rattle.pb_script.specs.Script.{ScriptRowView}

@@ -1,5 +1,6 @@
 -- How far the clerks' requests were served.
-use Rattle.std.specs.Prelude.{◌≡◌, ℕ, ◌<◌, ◌≤◌, ◌++◌, ⊤, Bool, true, false, List, [], ◌∷◌, All, length, map, slice_index, slice_index_or, take}
+use Rattle.std.specs.Prelude.{◌≡◌, ℕ, ◌<◌, ◌≤◌, ◌++◌, ⊤, Bool, true, false, List, [], ◌∷◌, All, length, map}
+use Rattle.std.specs.Prelude.{slice_index, slice_index_or, take}
 use Rattle.pb_core.specs.Election.{ElectionView}
 use Rattle.pb_core.specs.Request.{EntryView, RequestView, Shut}
 use Rattle.pb_core.specs.declared.answer.Answer.{Answer}
@@ -24,8 +25,8 @@ pub record ServesScript (clerks : ℕ) (script : List ScriptRowView) (journal : 
   pub in_order : (clerk : ℕ) → clerk < clerks → requests_of clerk journal ≡ asked_by clerk script
   pub by_clerks : All (λ x. x.clerk < clerks) journal
 
--- a run's journal is such a one; where the run shuts the desk at its end, one last entry, by clerk 0, asks for
--- that after such a one
+-- a run's journal is such a one; where the run shuts the desk at its end, one last entry, by clerk 0, asks
+-- for that after such a one
 abbrev pub ShutAtEnd : Bool → (List EntryView → Type 0) → List EntryView → Type 0
 ShutAtEnd false IsJournal journal = IsJournal journal
 ShutAtEnd true IsJournal journal =

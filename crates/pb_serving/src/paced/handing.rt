@@ -1,6 +1,7 @@
 //! How a row at a time is handed out.
 
-ghost use Rattle.std.specs.Prelude.{◌≡◌, ◌<◌, ◌≤◌, ◌++◌, [], Option, ℕ, List, length, take, IfOk, IfSome, IsSome, IsTrue};
+ghost use Rattle.std.specs.Prelude.{◌≡◌, ◌<◌, ◌≤◌, ◌++◌, [], Option, ℕ, List, length, take, IfOk, IfSome};
+ghost use Rattle.std.specs.Prelude.{IsSome, IsTrue};
 ghost use Rattle.csv.specs.Machine.{is_end, step};
 ghost use Rattle.pb_durable.specs.Place.{state_at};
 ghost use Rattle.pb_rows.specs.Reading.{pb_config};
@@ -36,7 +37,8 @@ fn after_all(place: Place, bytes: &[u8]) -> Place
     place
 }
 
-/// How many bytes there are up to the end of the first row, with its line end; none where it doesn't end among them.
+/// How many bytes there are up to the end of the first row, with its line end; none where it doesn't end
+/// among them.
 fn row_length(place: Place, bytes: &[u8]) -> Option<usize>
     ensures row { result ≡ first_row (state_at place) bytes.now }
     ensures some { IfSome result (λ count. (0 < count) × (count ≤ length bytes.now)) }
@@ -99,7 +101,8 @@ impl<'a, P: Read + Drop> Paced<'a, P> {
         ensures bytes { at_hand self.old ≡ take result buf.new ++ at_hand self.new }
         ensures some { 0 < length buf.new → 0 < length (at_hand self.old) → 0 < result }
         ensures reader { self.new.reader ≡ self.old.reader }
-        ensures place { state_at self.new.place ≡ state_after (state_at self.old.place) (take result buf.new) }
+        ensures place { state_at self.new.place ≡ state_after (state_at self.old.place)
+            (take result buf.new) }
     {
         let rest = self.rest();
         let row = row_length(self.place, rest).unwrap_or(rest.len());

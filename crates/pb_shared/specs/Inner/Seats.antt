@@ -1,4 +1,5 @@
--- The table of a shared desk, and a clerk's seat between two calls, while it holds the lock, and after it has served.
+-- The table of a shared desk, and a clerk's seat between two calls, while it holds the lock, and after it has
+-- served.
 use Rattle.std.specs.Prelude.{◌≡◌, ◌≢◌, ℕ, ◌+◌, ◌<◌, ◌≤◌, ◌^◌, List, [], ◌∷◌, ◌++◌, false, true, None}
 use Rattle.atomic_table.specs.Seated.{TableId}
 use Rattle.pb_shared.specs.Inner.Desk.{desk_with}

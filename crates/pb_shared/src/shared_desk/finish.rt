@@ -10,15 +10,16 @@ use crate::unfinished::Unfinished;
 use pb_desk::desk::Desk;
 
 impl SharedDesk {
-    /// Takes clerks back and gives the desk, with the opening and the room that it had. Its journal begins with
-    /// what each of these clerks has seen, and past the start it has their own entries in their order.
+    /// Takes clerks back and gives the desk, with the opening and the room that it had. Its journal begins
+    /// with what each of these clerks has seen, and past the start it has their own entries in their order.
     ///
     /// Unfinished comes only where a clerk who is not among these holds the lock, so never where all clerks
     /// are handed back; then the journal past the start is a merge of their own lists.
     pub fn finish(self, mut clerks: Vec<Clerk>) -> Result<Desk, Unfinished>
         requires own { All (λ clerk. clerk.desk ≡ self) clerks.items }
         ensures ok { IfOk result (λ desk.
-            (desk ≡ record self.start { journal = desk.journal }) × IsMergeOf self clerks.items desk.journal) }
+            (desk ≡ record self.start { journal = desk.journal })
+            × IsMergeOf self clerks.items desk.journal) }
         ensures err { IfErr result (λ fault. IsAnothers self (map (λ c. c.sheet) clerks.items) fault.0) }
         ensures all { AreAll self clerks.items → IsOk result }
     {

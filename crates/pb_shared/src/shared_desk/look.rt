@@ -13,8 +13,8 @@ use crate::desk_rule::{FRONT, Read};
 use pb_desk::desk::Desk;
 
 impl SharedDesk {
-    /// Lends the desk to `f` under the lock, if the lock is won by one exchange, and answers what `f` answers.
-    /// The clerk has then seen that desk's journal. Nothing is appended.
+    /// Lends the desk to `f` under the lock, if the lock is won by one exchange, and answers what `f`
+    /// answers. The clerk has then seen that desk's journal. Nothing is appended.
     pub fn look<T, F: FnOnce(&Desk) -> T>(&self, clerk: &mut Clerk, f: F) -> Result<T, Busy>
         requires own { clerk.old.desk ≡ self.now }
         requires f { F.IsAlwaysCallable f }
@@ -22,7 +22,8 @@ impl SharedDesk {
         ensures seen { OnOk result (Sees 1 self.now clerk.old.sheet clerk.new.sheet) }
         ensures answer { IfOk result (λ answer.
             FnOnceReturnsAt F.FnOnce f (record self.now.start { journal = clerk.new.sheet.seen }) answer) }
-        ensures err { IfErr result (λ busy. Refuses 1 self.now clerk.old.sheet (fault.Busy busy.0) clerk.new.sheet) }
+        ensures err { IfErr result (λ busy. Refuses 1 self.now clerk.old.sheet
+            (fault.Busy busy.0) clerk.new.sheet) }
     {
         let desk = self.take_desk(&mut clerk.seat, clerk.number)?;
         let answer = f(&desk);

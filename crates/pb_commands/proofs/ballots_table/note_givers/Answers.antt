@@ -1,4 +1,4 @@
-use Rattle.std.proofs.Common.{◌≡◌, ◌+◌, ◌-◌, ◌<◌, ◌∙◌, ap, length, option_and_then, option_copied, slice_get, refl, sym, arith}
+use Rattle.std.proofs.Common.{◌≡◌, ◌+◌, ◌-◌, ◌<◌, ◌∙◌, ap, length, option_and_then, option_copied, slice_get, refl, arith}
 use Rattle.std.specs.FinMap as finite
 use Rattle.pb_core.specs.Request.{EntryView}
 use Rattle.pb_commands.proofs.LastGiven.{giver_noted, givers_start, none_noted}

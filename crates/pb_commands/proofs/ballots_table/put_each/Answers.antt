@@ -1,4 +1,4 @@
-use Rattle.std.proofs.Common.{◌≡◌, ◌∷◌, ◌++◌, ◌∙◌, ℕ, List, [], true, ap, decimal, map, option_copied, sym}
+use Rattle.std.proofs.Common.{◌≡◌, ◌++◌, ◌∙◌, true, ap, option_copied, sym}
 use Rattle.std.specs.Str.{bytes_eq}
 use Rattle.std.specs.Option.{option_map_or}
 use Rattle.pb_core.specs.Election.{project_ids}

@@ -5,7 +5,7 @@ use Rattle.pb_commands.proofs.export_text.export_text.Goals as goal
 
 pub of-requires : goal.of-requires
 of-requires g c =
-    result_of c.args.election.now c.args.counting.now.options.now c.args.counting.now.fills_up _ c.requires.0 c.requires.1 c.requires.2
+    result_of c.args.counting.now.rule.now c.args.election.now _ c.requires
 
 pub write_pb-requires-clause-votes : goal.write_pb-requires-clause-votes
 write_pb-requires-clause-votes g c =
@@ -17,9 +17,9 @@ write_pb-requires-clause-selected g c =
 
 pub returns-clause-ok : goal.returns-clause-ok
 returns-clause-ok g c = record {
-  outcome = c.requires.0;
-  counted = c.requires.1;
+  counted = c.args.counted.now;
+  by_rule = c.requires;
   can = c.in_ok-text.ensures.ok;
-  text_is = rw (c.rule_word.ensures, c.as_str.ensures.value, c.in_ok-comment.ensures, c.comment.ensures, c.in_ok-further.ensures, c.as_slice.ensures.value, c.in_ok-votes.ensures, c.as_slice-2.ensures.value, c.in_ok-selected.ensures, c.in_ok-teller.ensures, c.requires.2) at c.in_ok-text.ensures.text;
+  text_is = rw (c.word.ensures, c.as_str.ensures.value, c.in_ok-comment.ensures, c.comment.ensures, c.in_ok-further.ensures, c.as_slice.ensures.value, c.in_ok-votes.ensures, c.as_slice-2.ensures.value, c.in_ok-selected.ensures, c.in_ok-teller.ensures) at c.in_ok-text.ensures.text;
   reads_back = c.in_ok-text.ensures.reads_back;
 }

@@ -1,4 +1,4 @@
-use Rattle.std.proofs.Common.{◌≡◌, ◌==◌, ◌++◌, [], ℕ, List, append-nil, append_assoc, codes, length, string_bytes, ap, ◌∙◌, sym}
+use Rattle.std.proofs.Common.{◌==◌, ◌++◌, [], ℕ, List, append-nil, append_assoc, codes, length, string_bytes, ap, ◌∙◌, sym}
 use Rattle.std.proofs.lemmas.Bool.{cond-false, cond-true}
 use Rattle.pb_commands.proofs.export_text.put_own.Goals as goal
 

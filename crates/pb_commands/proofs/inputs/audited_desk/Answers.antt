@@ -2,7 +2,8 @@ use Rattle.std.proofs.Common.{Some, None}
 use Rattle.pb_commands.proofs.Endings.{given}
 use Rattle.pb_commands.proofs.InputEnds.{desk_is, desk_passes, journal_ends}
 use Rattle.pb_commands.specs.Audited.{IsDeskOf}
-use Rattle.pb_commands.specs.Closed.{LeavesNone, MayBeOpen}
+use Rattle.pb_commands.specs.Closed.{Demanding, LeavesNone}
+use Rattle.pb_commands.specs.declared.demand.Demand.TheVariants.{Any}
 use Rattle.pb_commands.proofs.inputs.audited_desk.Goals as goal
 
 pub returns-in-Err-clause-ends : goal.returns-in-Err-clause-ends
@@ -10,7 +11,7 @@ returns-in-Err-clause-ends g c = desk_passes _ _ _ c.in-Err.fault c.in-Err.ensur
 
 pub returns-clause-ends : goal.returns-clause-ends
 returns-clause-ends g c =
-    given IsDeskOf (λ bytes rows. MayBeOpen (LeavesNone bytes (Some rows))) (g.P.Read.remaining c.args.file) (g.J.Read.remaining c.args.journal) _ c.in_ok-audit.field-0
+    given IsDeskOf (λ bytes rows. Demanding Any (LeavesNone bytes (Some rows))) (g.P.Read.remaining c.args.file) (g.J.Read.remaining c.args.journal) _ c.in_ok-audit.field-0
     c.in-Ok.ensures.ends.judges.1 c.in-Ok.ensures.ends.judges.0
 
 pub returns-clause-ok : goal.returns-clause-ok

@@ -5,7 +5,7 @@ use Rattle.pb_commands.proofs.laws.one_report.Goals as goal
 
 pub returns : goal.returns
 returns c = record {
-  counted = λ bytes options fills_up first second. one_text fills_up bytes options first second;
-  audited = λ bytes journal options fills_up first second. one_audit fills_up bytes journal options first second;
+  counted = λ bytes rule first second. one_text rule bytes first second;
+  audited = one_audit;
   ballots = λ voter bytes journal first second. one_table voter bytes journal first second;
 }

@@ -3,5 +3,5 @@ use Rattle.pb_commands.proofs.report.put_opening.Goals as goal
 
 pub returns : goal.returns
 returns c =
-    rw (← c.budget.ensures.budget, ← c.voters.ensures.voters, ← c.outcome.view_is, ← c.from.ensures)
+    rw (← c.budget.ensures.budget, ← c.voters.ensures.voters, ← c.share.ensures, ← c.raised.ensures, ← c.from.ensures)
     (four_grown _ _ _ _ _ _ _ _ _ c.in_ok-put_amount.ensures c.in_ok-put_number.ensures c.in_ok-put_amount-2.ensures c.in_ok-put_number-2.ensures)

@@ -5,14 +5,14 @@ use Rattle.pb_commands.proofs.run_audit.put_desk.Goals as goal
 pub put_report-put-requires : goal.put_report-put-requires
 put_report-put-requires g c =
     let count = rw c.in-Ok-Some.field-0-is at c.in-Ok-Some.ensures.shut in
-    result_of c.in-Ok-Some.count.election c.args.counting.now.options.now c.args.counting.now.fills_up _ count.2 count.3 count.4
+    result_of c.args.counting.now.rule.now c.in-Ok-Some.count.election _ count.2
 
 pub returns-in-Ok-put-clause-ok : goal.returns-in-Ok-put-clause-ok
 returns-in-Ok-put-clause-ok g c =
     let count = rw c.in-Ok-Some.field-0-is at c.in-Ok-Some.ensures.shut in
-    report_follows c.args.counting.now.fills_up c.args.desk c.args.counting.now.options.now c.in-Ok-Some.count.election c.in-Ok-Some.count.counted count.2 c.args.rows.now.text
-    c.put_entries.new.rows.text c.put_report-put.new.rows.text count.0 count.1 count.3 count.4 c.in-Ok.ensures c.in-Ok-put.ensures
+    report_follows c.args.counting.now.rule.now c.args.desk c.in-Ok-Some.count.election c.in-Ok-Some.count.counted c.args.rows.now.text
+    c.put_entries.new.rows.text c.put_report-put.new.rows.text count.0 count.1 count.2 c.in-Ok.ensures c.in-Ok-put.ensures
 
 pub returns-in-Ok-None-clause-ok : goal.returns-in-Ok-None-clause-ok
 returns-in-Ok-None-clause-ok g c =
-    row_alone c.args.counting.now.fills_up c.args.desk c.args.counting.now.options.now c.args.rows.now.text c.put_entries.new.rows.text (c.in-Ok-None.ensures.open c.in-Ok-None.field-0-is) c.in-Ok.ensures
+    row_alone c.args.counting.now.rule.now c.args.desk c.args.rows.now.text c.put_entries.new.rows.text (c.in-Ok-None.ensures.open c.in-Ok-None.field-0-is) c.in-Ok.ensures

@@ -2,7 +2,8 @@ use Rattle.std.proofs.Common.{Some, None, option_copied}
 use Rattle.pb_commands.proofs.Endings.{memory_end, run_ended, run_given, run_written}
 use Rattle.pb_commands.proofs.RunEnds.{ballots_known, ballots_pass}
 use Rattle.pb_commands.specs.Ballots.{BallotsWrites}
-use Rattle.pb_commands.specs.Closed.{LeavesNone, MayBeOpen}
+use Rattle.pb_commands.specs.Closed.{Demanding, LeavesNone}
+use Rattle.pb_commands.specs.declared.demand.Demand.TheVariants.{Any}
 use Rattle.pb_faults.specs.declared.fault.AppFault.TheVariants.{Memory}
 use Rattle.pb_commands.proofs.run_ballots.run_ballots.Goals as goal
 
@@ -11,7 +12,7 @@ returns-in-Err g c =
     let voter = option_copied c.args.voter in
     let files = g.P.Read.remaining c.args.file in
     let journals = g.J.Read.remaining c.args.journal in
-    run_ended (BallotsWrites voter) (λ bytes rows. MayBeOpen (LeavesNone bytes (Some rows))) files journals None g.W.Write.contents _ c.in-Err.fault
+    run_ended (BallotsWrites voter) (λ bytes rows. Demanding Any (LeavesNone bytes (Some rows))) files journals None g.W.Write.contents _ c.in-Err.fault
     (ballots_pass files journals None voter c.in-Err.fault c.in-Err.ensures.reads c.in-Err.ensures.ends)
 
 pub returns-in_err-text : goal.returns-in_err-text
@@ -20,8 +21,8 @@ returns-in_err-text g c =
     let files = g.P.Read.remaining c.args.file in
     let journals = g.J.Read.remaining c.args.journal in
     let file = c.in-Ok.ensures.ends.judges in
-    run_given (BallotsWrites voter) (λ bytes rows. MayBeOpen (LeavesNone bytes (Some rows))) files journals None g.W.Write.contents _ _ Memory c.from_residual.ensures.1
-    (memory_end (BallotsWrites voter) (λ bytes rows. MayBeOpen (LeavesNone bytes (Some rows))) files journals None file.1 file.0)
+    run_given (BallotsWrites voter) (λ bytes rows. Demanding Any (LeavesNone bytes (Some rows))) files journals None g.W.Write.contents _ _ Memory c.from_residual.ensures.1
+    (memory_end (BallotsWrites voter) (λ bytes rows. Demanding Any (LeavesNone bytes (Some rows))) files journals None file.1 file.0)
 
 pub returns : goal.returns
 returns g c =
@@ -30,6 +31,6 @@ returns g c =
     let journals = g.J.Read.remaining c.args.journal in
     let file = c.in-Ok.ensures.ends.judges in
     let text = c.in_ok-text.text.items in
-    run_written (BallotsWrites voter) (λ bytes rows. MayBeOpen (LeavesNone bytes (Some rows))) files journals None g.W.Write.contents _ _ text _
+    run_written (BallotsWrites voter) (λ bytes rows. Demanding Any (LeavesNone bytes (Some rows))) files journals None g.W.Write.contents _ _ text _
     (rw c.as_slice.ensures.value at c.write_out.ensures.ok) c.write_out.ensures.fault file.1 file.0
     (ballots_known files journals None c.in-Ok.desk c.in-Ok.ensures.ok voter text c.in_ok-text.ensures)

@@ -11,7 +11,7 @@ use Rattle.pb_commands.proofs.run_table.put_outcome.Goals as goal
 pub returns-in-Projects : goal.returns-in-Projects
 unfolding table_of
 returns-in-Projects c =
-    rw c.in-Projects.is (rw (projects_head c.args.counted.now.fills_up (map (project_table_row c.args.election.now c.args.counted.now) (range_with_len 0 (length c.args.election.now.projects)))) at c.put_projects.ensures)
+    rw c.in-Projects.is (rw (projects_head c.args.counted.now.fill_up (map (project_table_row c.args.election.now c.args.counted.now) (range_with_len 0 (length c.args.election.now.projects)))) at c.put_projects.ensures)
 
 pub returns-in-Voters : goal.returns-in-Voters
 unfolding table_of

@@ -1,9 +1,9 @@
-use Rattle.pb_page.specs.Inner.Pieces.{the_check}
+use Rattle.pb_page.specs.Page.{check}
 use Rattle.pb_page.proofs.Grown.{then_put}
 use Rattle.pb_page.proofs.check.put_check.Goals as goal
 
 pub returns : goal.returns
-unfolding the_check
+unfolding check
 returns c =
     then_put _ _ _ _ _ _ c.in_ok-put_sources.ensures
     (then_put _ _ _ _ _ _ c.in_ok-put_link.ensures c.put_command.ensures)

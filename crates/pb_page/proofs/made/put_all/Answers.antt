@@ -4,12 +4,12 @@ use Rattle.pb_core.specs.declared.no_memory.NoMemory.{NoMemory}
 use Rattle.pb_price.specs.Supporters.{support_of}
 use Rattle.pb_reasons.specs.Counted.{CountedView}
 use Rattle.pb_page.specs.Inner.Grown.{Grows}
-use Rattle.pb_page.specs.Inner.Pieces.{the_parts}
+use Rattle.pb_page.specs.Page.{parts}
 use Rattle.pb_page.proofs.Grown.{refused, then_put}
 use Rattle.pb_page.proofs.made.put_all.Goals as goal
 
 pub returns : goal.returns
-unfolding the_parts
+unfolding parts
 returns c =
     then_put _ _ _ _ _ _ c.in_ok-put_budget.ensures
     (then_put _ _ _ _ _ _ c.in_ok-put_projects.ensures
@@ -21,10 +21,10 @@ returns c =
 
 pub put_ties-requires-clause-supporters : goal.put_ties-requires-clause-supporters
 put_ties-requires-clause-supporters c =
-    c.supporters.ensures ∙ ap (λ (told : ElectionView × CountedView). support_of told.0) c.requires.own
+    c.supporters-supporters.ensures ∙ ap (λ (told : ElectionView × CountedView). support_of told.0) c.requires.own
 
 pub returns-in_err-put_rule : goal.returns-in_err-put_rule
 returns-in_err-put_rule c =
     refused {E = NoMemory} c.from_residual-in_err-put_rule.result _
-    (Grows c.args.page.now.items c.put_rule.new.page.items (the_parts c.args.election.now c.args.counted.now c.args.facts.now c.args.end.now))
+    (Grows c.args.page.now.items c.put_rule.new.page.items (parts c.args.election.now c.args.counted.now c.args.facts.now c.args.end.now))
     c.from_residual-in_err-put_rule.ensures.1

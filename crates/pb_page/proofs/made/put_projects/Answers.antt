@@ -1,11 +1,6 @@
-use Rattle.pb_page.specs.Inner.Pieces.{the_projects}
 use Rattle.pb_reasons.proofs.Results.{result_is_added}
 use Rattle.pb_reasons.proofs.Tellable.{count_can_be_told}
 use Rattle.pb_page.proofs.made.put_projects.Goals as goal
-
-pub returns : goal.returns
-unfolding the_projects
-returns c = c.put_told.ensures
 
 pub put_told-requires-clause-elected : goal.put_told-requires-clause-elected
 put_told-requires-clause-elected c =

@@ -6,4 +6,4 @@ pub returns : goal.returns
 unfolding rounds_said
 returns c =
     then_put _ _ _ _ _ _ c.in_ok-put_share.ensures
-    (then_put _ _ _ _ _ _ c.in_ok-put_order.ensures c.put_raises.ensures)
+    (then_put _ _ _ _ _ _ c.in_ok-put_order.ensures (rw c.raises_key.ensures at c.put_item.ensures))

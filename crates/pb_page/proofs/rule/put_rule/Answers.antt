@@ -1,9 +1,10 @@
-use Rattle.pb_page.specs.Inner.Pieces.{rounds_said, the_rule}
+use Rattle.pb_page.specs.Inner.Pieces.{rounds_said}
+use Rattle.pb_page.specs.Page.{rule}
 use Rattle.pb_page.proofs.Grown.{then_put}
 use Rattle.pb_page.proofs.rule.put_rule.Goals as goal
 
 pub returns : goal.returns
-unfolding rounds_said the_rule
+unfolding rounds_said rule
 returns c =
     then_put _ _ _ _ _ _ c.in_ok-put_counted.ensures
-    (then_put _ _ _ _ _ _ c.in_ok-put_end.ensures (rw c.fills_up-fills.ensures at c.put_last.ensures))
+    (then_put _ _ _ _ _ _ c.in_ok-put_end.ensures c.put_last.ensures)

@@ -1,9 +1,9 @@
-use Rattle.pb_page.specs.Inner.Pieces.{the_voters}
+use Rattle.pb_page.specs.Page.{voters}
 use Rattle.pb_page.proofs.Grown.{then_put}
 use Rattle.pb_page.proofs.voters.put_won.Goals as goal
 
 pub returns : goal.returns
-unfolding the_voters
+unfolding voters
 returns c =
     then_put _ _ _ _ _ _ c.in_ok-put_got.ensures
     (then_put _ _ _ _ _ _ c.in_ok-put_rows.ensures

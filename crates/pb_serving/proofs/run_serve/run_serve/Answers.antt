@@ -5,10 +5,9 @@ use Rattle.pb_desk.specs.Desk.{DeskView}
 use Rattle.pb_durable.proofs.Openings.{if_err}
 use Rattle.pb_durable.specs.Device.{LeavesOnly}
 use Rattle.pb_serving.specs.Answered.{heading, Halts, StandsWithin}
-use Rattle.pb_serving.specs.Fault.{of_device}
-use Rattle.pb_serving.specs.declared.serving_fault.ServingFault.{ServingFault}
-use Rattle.pb_serving.specs.declared.serving_fault.ServingFault.TheVariants.{App, Output}
-use Rattle.pb_faults.specs.declared.fault.AppFault.TheVariants.{Memory, Write}
+use Rattle.pb_faults.specs.Durable.{of_device}
+use Rattle.pb_faults.specs.declared.fault.AppFault.{AppFault}
+use Rattle.pb_faults.specs.declared.fault.AppFault.TheVariants.{Memory, Output, Write}
 use Rattle.pb_serving.proofs.Answering.{halts_behind_all, halts_unbegun, not_stopped, HasAnswered}
 use Rattle.pb_serving.proofs.Batches.{adds_none}
 use Rattle.pb_serving.proofs.Causes.{behind_device}
@@ -18,10 +17,10 @@ use Rattle.pb_serving.proofs.run_serve.run_serve.Goals as goal
 pub returns-in_err-opened-clause-stopped : goal.returns-in_err-opened-clause-stopped
 returns-in_err-opened-clause-stopped g c =
     let old = c.args.desk.now in
-    if_err c.from_residual.result (App Memory) _ c.from_residual.ensures.1 (
+    if_err c.from_residual.result Memory _ c.from_residual.ensures.1 (
       old.desk.journal,
       [],
-      halts_unbegun c.args.session.now.admission.now (App Memory) c.args.rows.now old.desk.journal (omega arith),
+      halts_unbegun c.args.session.now.admission.now Memory c.args.rows.now old.desk.journal (omega arith),
       λ other. inr (refl, refl, refl),
       λ tells f left. kept_all g.D.Device.moment g.D.Device.left_since g.D.Device.seen g.D.Device.may_leave old (c.requires tells) f left,
     )
@@ -37,7 +36,7 @@ returns-in_err-write_out-clause-stopped g c =
     if_err c.from_residual-in_err-write_out.result why _ c.from_residual-in_err-write_out.ensures.1 (
       old.desk.journal,
       [],
-      subst (λ (fault : ServingFault). Halts c.args.session.now.admission.now fault c.args.rows.now c.args.rows.now old.desk.journal old.desk.journal old.desk.journal []) (sym is)
+      subst (λ (fault : AppFault). Halts c.args.session.now.admission.now fault c.args.rows.now c.args.rows.now old.desk.journal old.desk.journal old.desk.journal []) (sym is)
           (halts_unbegun c.args.session.now.admission.now Output c.args.rows.now old.desk.journal (omega arith, refl)),
       λ other. absurd (other is),
       λ tells f left. kept_all g.D.Device.moment g.D.Device.left_since g.D.Device.seen g.D.Device.may_leave old (c.requires tells) f left,
@@ -118,5 +117,5 @@ returns-in_err-write_out-clause-on_roll g c = adds_none c.args.session.now.admis
 
 pub returns-in_err-refused-clause-write : goal.returns-in_err-refused-clause-write
 returns-in_err-refused-clause-write g c = λ tells said.
-    let is : App Write ≡ c.in_err-refused.field-0.0 = subst (λ r. IsErrAnd r (λ x. x ≡ c.in_err-refused.field-0.0)) said c.from_residual-in_err-refused.ensures.1 in
-    c.serve_rows.ensures.write tells (c.in_err-refused.was ∙ ap (λ (f : ServingFault). Err f) (sym is))
+    let is : Write ≡ c.in_err-refused.field-0.0 = subst (λ r. IsErrAnd r (λ x. x ≡ c.in_err-refused.field-0.0)) said c.from_residual-in_err-refused.ensures.1 in
+    c.serve_rows.ensures.write tells (c.in_err-refused.was ∙ ap (λ (f : AppFault). Err f) (sym is))

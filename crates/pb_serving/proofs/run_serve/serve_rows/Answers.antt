@@ -1,19 +1,11 @@
-use Rattle.std.proofs.Common.{◌≡◌, ◌∙◌, ◌≤◌, ◌<◌, ◌+◌, ℕ, List, [], ◌∷◌, ◌++◌, length, true, Option, Err, IsErrAnd, refl, sym, ap, subst, arith}
+use Rattle.std.proofs.Common.{◌≡◌, ◌∙◌, ◌≤◌, ◌<◌, ◌+◌, ℕ, List, [], ◌∷◌, ◌++◌, length, Option, Err, IsErrAnd, refl, sym, ap, subst, arith}
 use Rattle.std.proofs.lemmas.List.{append-nil}
-use Rattle.std.specs.List.{All}
 use Rattle.std.specs.Io.KnownBytes.{Appends}
-use Rattle.pb_core.specs.Request.{EntryView}
-use Rattle.pb_desk.specs.Replay.{most_clerks}
-use Rattle.pb_desk.specs.Rows.{rows_from}
 use Rattle.pb_durable.proofs.Openings.{if_err}
 use Rattle.pb_durable.specs.DurableDesk.{entries_of}
-use Rattle.pb_durable.specs.declared.clerk_request.ClerkRequest.{ClerkRequest}
-use Rattle.pb_rows.specs.Writing.{text_of_rows}
 use Rattle.pb_script.specs.RowsView.{HasGiven}
 use Rattle.pb_serving.specs.Answered.{IsBehind}
 use Rattle.pb_serving.specs.Inner.OnRoll.{AddsOnRoll}
-use Rattle.pb_serving.specs.declared.serving_fault.ServingFault.{ServingFault}
-use Rattle.pb_serving.specs.declared.serving_fault.ServingFault.TheVariants.{App, Output}
 use Rattle.pb_serving.specs.Inner.Batch.{refused, EndsBy}
 use Rattle.pb_serving.specs.declared.batch.BatchEnd.{BatchEnd}
 use Rattle.pb_serving.specs.declared.batch.BatchEnd.TheVariants as end
@@ -23,10 +15,10 @@ use Rattle.pb_serving.proofs.Causes.{err_is, has_cause, not_failed}
 use Rattle.pb_serving.proofs.Standings.{begins, goes_on, kept_all, kept_first}
 use Rattle.pb_serving.proofs.Unanswered.{unanswered}
 use Rattle.pb_script.specs.declared.script_fault.ScriptFault.TheVariants.{TooManyRows}
-use Rattle.pb_script.specs.Admission.{is_on_roll}
 use Rattle.pb_script.specs.ScriptReading.{fault_of_row}
 use Rattle.pb_faults.specs.Fault.{line, told}
-use Rattle.pb_faults.specs.declared.fault.AppFault.TheVariants.{Memory, Script, Write}
+use Rattle.pb_faults.specs.declared.fault.AppFault.{AppFault}
+use Rattle.pb_faults.specs.declared.fault.AppFault.TheVariants.{Memory, Output, Script, Write}
 use Rattle.pb_serving.proofs.run_serve.serve_rows.Goals.{in-More, in-Refused+in_ok-say_refused-in-Refused}
 use Rattle.pb_serving.proofs.run_serve.serve_rows.Goals as goal
 
@@ -49,7 +41,7 @@ loop-init g c = record {
 pub answer-requires-clause-clerks : goal.answer-requires-clause-clerks
 answer-requires-clause-clerks g c =
     let batch = c.next_batch-end.ensures.batch in
-    subst (λ (asks : List ClerkRequest). All (λ (a : ClerkRequest). a.clerk < most_clerks) asks) (sym c.as_slice.ensures.value) (asks_clerks c.args.session.now.admission.now batch.rows _ batch.each)
+    asks_clerks c.args.session.now.admission.now batch.rows _ batch.each
 
 pub returns-in_err-answer-clause-stopped : goal.returns-in_err-answer-clause-stopped
 returns-in_err-answer-clause-stopped g c =
@@ -60,12 +52,11 @@ returns-in_err-answer-clause-stopped g c =
     let batch = c.next_batch-end.ensures.batch in
     let asks = c.next_batch-end.new.asks.items in
     let asked = c.answer.ensures.asked in
-    let value = c.as_slice.ensures.value in
     let why = c.in_err-answer.field-0.0 in
     let end = c.next_batch-end.result in
-    let some : 0 < length asks = subst (λ (n : ℕ). 0 < n) (ap length value) c.in_err-answer.ensures.some in
-    let grown : new.desk.journal ≡ mid.desk.journal ++ entries_of asks asked.0 = asked.1 ∙ ap (λ (a : List ClerkRequest). mid.desk.journal ++ entries_of a asked.0) value in
-    let full : why ≡ Output → length asked.0 ≡ length asks = λ is. asked.2 (c.in_err-answer.was ∙ ap (λ (f : ServingFault). Err f) is) ∙ ap length value in
+    let some : 0 < length asks = c.in_err-answer.ensures.some in
+    let grown : new.desk.journal ≡ mid.desk.journal ++ entries_of asks asked.0 = asked.1 in
+    let full : why ≡ Output → length asked.0 ≡ length asks = λ is. asked.2 (c.in_err-answer.was ∙ ap (λ (f : AppFault). Err f) is) in
     let given : HasGiven c.args.rows.now c.next_batch-end.new.rows (c.loop.row + (length asks + refused end)) = gives c.args.rows.now c.loop.rows c.next_batch-end.new.rows c.loop.row (length asks + refused end) inv.given c.next_batch-end.ensures.given in
     if_err c.from_residual.result why _ c.from_residual.ensures.1 (
       mid.desk.journal,
@@ -74,7 +65,7 @@ returns-in_err-answer-clause-stopped g c =
           batch.rows asks asked.0 end inv.progress batch.each batch.goes_on c.next_batch-end.ensures.few some grown full given c.in_err-answer.ensures.other,
       λ other. subst (λ (w : Option (List ℕ)). Appends (g.W.Write.contents c.args.writer.now) w (text_so_far c.args.session.now.admission.now c.args.rows.now.left c.loop.rows.left old.desk.journal mid.desk.journal (g.W.Write.contents c.args.writer.now) (g.W.Write.contents c.loop.writer) c.loop.row c.loop.refused inv.progress))
           (sym (c.in_err-answer.ensures.unsaid other)) inv.progress.said,
-      λ tells f left. kept_first g.D.Device.moment g.D.Device.left_since g.D.Device.seen g.D.Device.may_leave g.met.D.Device.counts_now mid new (entries_of c.as_slice.result.now asked.0) c.answer.ensures.opening asked.1 (c.answer.ensures.any_moment tells) f left,
+      λ tells f left. kept_first g.D.Device.moment g.D.Device.left_since g.D.Device.seen g.D.Device.may_leave g.met.D.Device.counts_now mid new (entries_of c.next_batch-end.new.asks.items asked.0) c.answer.ensures.opening asked.1 (c.answer.ensures.any_moment tells) f left,
     )
 
 pub returns-in_err-answer-clause-any_moment : goal.returns-in_err-answer-clause-any_moment
@@ -83,7 +74,7 @@ returns-in_err-answer-clause-any_moment g c = λ tells.
     let old = c.args.desk.now in
     let mid = c.loop.desk in
     let asked = c.answer.ensures.asked in
-    goes_on g.D.Device.moment g.D.Device.left_since g.D.Device.seen g.D.Device.may_leave old mid c.answer.new.desk inv.grown.0 (entries_of c.as_slice.result.now asked.0) inv.opening inv.grown.1 asked.1 (inv.any_moment tells) (c.answer.ensures.any_moment tells)
+    goes_on g.D.Device.moment g.D.Device.left_since g.D.Device.seen g.D.Device.may_leave old mid c.answer.new.desk inv.grown.0 (entries_of c.next_batch-end.new.asks.items asked.0) inv.opening inv.grown.1 asked.1 (inv.any_moment tells) (c.answer.ensures.any_moment tells)
 
 pub returns-in-Over-clause-any_moment : goal.returns-in-Over-clause-any_moment
 returns-in-Over-clause-any_moment g c = λ tells.
@@ -91,7 +82,7 @@ returns-in-Over-clause-any_moment g c = λ tells.
     let old = c.args.desk.now in
     let mid = c.loop.desk in
     let asked = c.answer.ensures.asked in
-    goes_on g.D.Device.moment g.D.Device.left_since g.D.Device.seen g.D.Device.may_leave old mid c.answer.new.desk inv.grown.0 (entries_of c.as_slice.result.now asked.0) inv.opening inv.grown.1 asked.1 (inv.any_moment tells) (c.answer.ensures.any_moment tells)
+    goes_on g.D.Device.moment g.D.Device.left_since g.D.Device.seen g.D.Device.may_leave old mid c.answer.new.desk inv.grown.0 (entries_of c.next_batch-end.new.asks.items asked.0) inv.opening inv.grown.1 asked.1 (inv.any_moment tells) (c.answer.ensures.any_moment tells)
 
 pub returns-in-ReadFailed-clause-any_moment : goal.returns-in-ReadFailed-clause-any_moment
 returns-in-ReadFailed-clause-any_moment g c = λ tells.
@@ -99,7 +90,7 @@ returns-in-ReadFailed-clause-any_moment g c = λ tells.
     let old = c.args.desk.now in
     let mid = c.loop.desk in
     let asked = c.answer.ensures.asked in
-    goes_on g.D.Device.moment g.D.Device.left_since g.D.Device.seen g.D.Device.may_leave old mid c.answer.new.desk inv.grown.0 (entries_of c.as_slice.result.now asked.0) inv.opening inv.grown.1 asked.1 (inv.any_moment tells) (c.answer.ensures.any_moment tells)
+    goes_on g.D.Device.moment g.D.Device.left_since g.D.Device.seen g.D.Device.may_leave old mid c.answer.new.desk inv.grown.0 (entries_of c.next_batch-end.new.asks.items asked.0) inv.opening inv.grown.1 asked.1 (inv.any_moment tells) (c.answer.ensures.any_moment tells)
 
 pub returns-in-NoMemory-clause-any_moment : goal.returns-in-NoMemory-clause-any_moment
 returns-in-NoMemory-clause-any_moment g c = λ tells.
@@ -107,7 +98,7 @@ returns-in-NoMemory-clause-any_moment g c = λ tells.
     let old = c.args.desk.now in
     let mid = c.loop.desk in
     let asked = c.answer.ensures.asked in
-    goes_on g.D.Device.moment g.D.Device.left_since g.D.Device.seen g.D.Device.may_leave old mid c.answer.new.desk inv.grown.0 (entries_of c.as_slice.result.now asked.0) inv.opening inv.grown.1 asked.1 (inv.any_moment tells) (c.answer.ensures.any_moment tells)
+    goes_on g.D.Device.moment g.D.Device.left_since g.D.Device.seen g.D.Device.may_leave old mid c.answer.new.desk inv.grown.0 (entries_of c.next_batch-end.new.asks.items asked.0) inv.opening inv.grown.1 asked.1 (inv.any_moment tells) (c.answer.ensures.any_moment tells)
 
 pub returns-in_err-say_refused-in-Refused-clause-any_moment : goal.returns-in_err-say_refused-in-Refused-clause-any_moment
 returns-in_err-say_refused-in-Refused-clause-any_moment g c = λ tells.
@@ -115,7 +106,7 @@ returns-in_err-say_refused-in-Refused-clause-any_moment g c = λ tells.
     let old = c.args.desk.now in
     let mid = c.loop.desk in
     let asked = c.answer.ensures.asked in
-    goes_on g.D.Device.moment g.D.Device.left_since g.D.Device.seen g.D.Device.may_leave old mid c.answer.new.desk inv.grown.0 (entries_of c.as_slice.result.now asked.0) inv.opening inv.grown.1 asked.1 (inv.any_moment tells) (c.answer.ensures.any_moment tells)
+    goes_on g.D.Device.moment g.D.Device.left_since g.D.Device.seen g.D.Device.may_leave old mid c.answer.new.desk inv.grown.0 (entries_of c.next_batch-end.new.asks.items asked.0) inv.opening inv.grown.1 asked.1 (inv.any_moment tells) (c.answer.ensures.any_moment tells)
 
 pub returns-in-Over-clause-answered : goal.returns-in-Over-clause-answered
 returns-in-Over-clause-answered g c =
@@ -125,10 +116,9 @@ returns-in-Over-clause-answered g c =
     let batch = c.next_batch-end.ensures.batch in
     let said = c.in_ok-answer.ensures.said in
     let asks = c.next_batch-end.new.asks.items in
-    let value = c.as_slice.ensures.value in
-    let grown : c.answer.new.desk.desk.journal ≡ mid.desk.journal ++ entries_of asks said.0 = said.2 ∙ ap (λ (a : List ClerkRequest). mid.desk.journal ++ entries_of a said.0) value in
-    let count : length said.0 ≡ length asks = said.1 ∙ ap length value in
-    let text = subst (λ (a : List ClerkRequest). Appends (g.W.Write.contents c.loop.writer) (g.W.Write.contents c.answer.new.writer) (text_of_rows (rows_from (length mid.desk.journal + 1) (entries_of a said.0)))) value said.3 in
+    let grown : c.answer.new.desk.desk.journal ≡ mid.desk.journal ++ entries_of asks said.0 = said.2 in
+    let count : length said.0 ≡ length asks = said.1 in
+    let text = said.3 in
     let ends = subst (λ (e : BatchEnd). EndsBy c.args.session.now.admission.now e c.loop.rows.left batch.rows c.next_batch-end.new.rows.left) c.in-Over.is batch.goes_on in
     let given = gives c.args.rows.now c.loop.rows c.next_batch-end.new.rows c.loop.row (length asks + refused end.Over) inv.given (subst (λ (e : BatchEnd). HasGiven c.loop.rows c.next_batch-end.new.rows (length asks + refused e)) c.in-Over.is c.next_batch-end.ensures.given) in
     let sizes : c.loop.row + (length asks + 0) ≡ c.loop.row + length asks = omega arith in
@@ -145,11 +135,10 @@ returns-in-ReadFailed-clause-stopped g c =
     let batch = c.next_batch-end.ensures.batch in
     let said = c.in_ok-answer.ensures.said in
     let asks = c.next_batch-end.new.asks.items in
-    let value = c.as_slice.ensures.value in
-    let grown : c.answer.new.desk.desk.journal ≡ mid.desk.journal ++ entries_of asks said.0 = said.2 ∙ ap (λ (a : List ClerkRequest). mid.desk.journal ++ entries_of a said.0) value in
-    let count : length said.0 ≡ length asks = said.1 ∙ ap length value in
-    let text = subst (λ (a : List ClerkRequest). Appends (g.W.Write.contents c.loop.writer) (g.W.Write.contents c.answer.new.writer) (text_of_rows (rows_from (length mid.desk.journal + 1) (entries_of a said.0)))) value said.3 in
-    let size : c.len.result ≡ length asks = c.len.ensures ∙ c.next_batch-end.new.asks.ok.0 in
+    let grown : c.answer.new.desk.desk.journal ≡ mid.desk.journal ++ entries_of asks said.0 = said.2 in
+    let count : length said.0 ≡ length asks = said.1 in
+    let text = said.3 in
+    let size : c.len-asking.result ≡ length asks = c.len-asking.ensures ∙ c.next_batch-end.new.asks.ok.0 in
     let new = c.answer.new.desk in
     let ends = subst (λ (e : BatchEnd). EndsBy c.args.session.now.admission.now e c.loop.rows.left batch.rows c.next_batch-end.new.rows.left) c.in-ReadFailed.is batch.goes_on in
     let so_far = batch_more c.args.session.now.admission.now c.args.rows.now.left c.loop.rows.left ends.0 old.desk.journal mid.desk.journal c.answer.new.desk.desk.journal
@@ -161,7 +150,7 @@ returns-in-ReadFailed-clause-stopped g c =
       text_so_far c.args.session.now.admission.now c.args.rows.now.left ends.0 old.desk.journal new.desk.journal (g.W.Write.contents c.args.writer.now) (g.W.Write.contents c.answer.new.writer) (c.loop.row + length asks) c.loop.refused so_far,
       halts_here c.args.session.now.admission.now c.read_failed.result c.args.rows.now c.next_batch-end.new.rows ends.0 old.desk.journal new.desk.journal (g.W.Write.contents c.args.writer.now) (g.W.Write.contents c.answer.new.writer) (c.loop.row + length asks) c.loop.refused so_far
           (subst (λ (n : ℕ). HasGiven c.args.rows.now c.next_batch-end.new.rows n) sizes given)
-          (λ answered is. subst (λ (fault : ServingFault). IsBehind fault answered 0 0) (sym c.read_failed.ensures) (omega (arith, size, is), refl))
+          (λ answered is. subst (λ (fault : AppFault). IsBehind fault answered 0 0) (sym c.read_failed.ensures) (omega (arith, size, is), refl))
           (λ sound failed. (_, c.read_failed.ensures)),
       λ other. so_far.said,
       λ tells f left. kept_all g.D.Device.moment g.D.Device.left_since g.D.Device.seen g.D.Device.may_leave new (c.in_ok-answer.ensures.durable tells) f left,
@@ -175,10 +164,9 @@ returns-in-NoMemory-clause-stopped g c =
     let batch = c.next_batch-end.ensures.batch in
     let said = c.in_ok-answer.ensures.said in
     let asks = c.next_batch-end.new.asks.items in
-    let value = c.as_slice.ensures.value in
-    let grown : c.answer.new.desk.desk.journal ≡ mid.desk.journal ++ entries_of asks said.0 = said.2 ∙ ap (λ (a : List ClerkRequest). mid.desk.journal ++ entries_of a said.0) value in
-    let count : length said.0 ≡ length asks = said.1 ∙ ap length value in
-    let text = subst (λ (a : List ClerkRequest). Appends (g.W.Write.contents c.loop.writer) (g.W.Write.contents c.answer.new.writer) (text_of_rows (rows_from (length mid.desk.journal + 1) (entries_of a said.0)))) value said.3 in
+    let grown : c.answer.new.desk.desk.journal ≡ mid.desk.journal ++ entries_of asks said.0 = said.2 in
+    let count : length said.0 ≡ length asks = said.1 in
+    let text = said.3 in
     let new = c.answer.new.desk in
     let ends = subst (λ (e : BatchEnd). EndsBy c.args.session.now.admission.now e c.loop.rows.left batch.rows c.next_batch-end.new.rows.left) c.in-NoMemory.is batch.goes_on in
     let so_far = batch_more c.args.session.now.admission.now c.args.rows.now.left c.loop.rows.left ends.0 old.desk.journal mid.desk.journal c.answer.new.desk.desk.journal
@@ -188,7 +176,7 @@ returns-in-NoMemory-clause-stopped g c =
     let sizes : c.loop.row + (length asks + 0) ≡ c.loop.row + length asks = omega arith in (
       new.desk.journal,
       text_so_far c.args.session.now.admission.now c.args.rows.now.left ends.0 old.desk.journal new.desk.journal (g.W.Write.contents c.args.writer.now) (g.W.Write.contents c.answer.new.writer) (c.loop.row + length asks) c.loop.refused so_far,
-      halts_here c.args.session.now.admission.now (App Memory) c.args.rows.now c.next_batch-end.new.rows ends.0 old.desk.journal new.desk.journal (g.W.Write.contents c.args.writer.now) (g.W.Write.contents c.answer.new.writer) (c.loop.row + length asks) c.loop.refused so_far
+      halts_here c.args.session.now.admission.now Memory c.args.rows.now c.next_batch-end.new.rows ends.0 old.desk.journal new.desk.journal (g.W.Write.contents c.args.writer.now) (g.W.Write.contents c.answer.new.writer) (c.loop.row + length asks) c.loop.refused so_far
           (subst (λ (n : ℕ). HasGiven c.args.rows.now c.next_batch-end.new.rows n) sizes given)
           (λ answered is. omega arith)
           (λ sound failed. absurd (cc (c.in-NoMemory.is, c.next_batch-end.ensures.told (inv.sound sound) failed))),
@@ -204,13 +192,12 @@ loop-preserved g c =
     let batch = c.next_batch-end.ensures.batch in
     let said = c.in_ok-answer.ensures.said in
     let asks = c.next_batch-end.new.asks.items in
-    let value = c.as_slice.ensures.value in
-    let grown : c.answer.new.desk.desk.journal ≡ mid.desk.journal ++ entries_of asks said.0 = said.2 ∙ ap (λ (a : List ClerkRequest). mid.desk.journal ++ entries_of a said.0) value in
-    let count : length said.0 ≡ length asks = said.1 ∙ ap length value in
-    let text = subst (λ (a : List ClerkRequest). Appends (g.W.Write.contents c.loop.writer) (g.W.Write.contents c.answer.new.writer) (text_of_rows (rows_from (length mid.desk.journal + 1) (entries_of a said.0)))) value said.3 in
+    let grown : c.answer.new.desk.desk.journal ≡ mid.desk.journal ++ entries_of asks said.0 = said.2 in
+    let count : length said.0 ≡ length asks = said.1 in
+    let text = said.3 in
     let new = c.answer.new.desk in
     let asked = c.answer.ensures.asked in
-    let size : c.len.result ≡ length asks = c.len.ensures ∙ c.next_batch-end.new.asks.ok.0 in
+    let size : c.len-asking.result ≡ length asks = c.len-asking.ensures ∙ c.next_batch-end.new.asks.ok.0 in
     let few : length asks ≤ 4096 = c.next_batch-end.ensures.few in
     let before = inv.few in
     let many = inv.many in
@@ -247,14 +234,14 @@ loop-preserved g c =
                 (ap contents w.writer-is) (omega (arith, row, size)) bad
                 (batch_more c.args.session.now.admission.now all left after old.desk.journal mid.desk.journal new.desk.journal start (contents c.loop.writer) (contents c.answer.new.writer) c.loop.row c.loop.refused
                 batch.rows asks said.0 inv.progress (ends end.More w.in-More.is) batch.each count grown text);
-            any_moment = λ tells. goes_on g.D.Device.moment g.D.Device.left_since g.D.Device.seen g.D.Device.may_leave old mid new inv.grown.0 (entries_of c.as_slice.result.now asked.0) inv.opening inv.grown.1 asked.1 (inv.any_moment tells) (c.answer.ensures.any_moment tells);
+            any_moment = λ tells. goes_on g.D.Device.moment g.D.Device.left_since g.D.Device.seen g.D.Device.may_leave old mid new inv.grown.0 (entries_of c.next_batch-end.new.asks.items asked.0) inv.opening inv.grown.1 asked.1 (inv.any_moment tells) (c.answer.ensures.any_moment tells);
           }
       | in-Refused+in_ok-say_refused-in-Refused w ↦
           let row = w.row-is in
           let bad = w.refused-is in
           let here = ends (end.Refused w.in-Refused.why) w.in-Refused.is in
           let between = gone_mid left after batch.rows here.0 here.2 in
-          let at : c.loop.row + c.len.result + 1 ≡ c.loop.row + length asks + 1 = omega (arith, size) in
+          let at : c.loop.row + c.len-asking.result + 1 ≡ c.loop.row + length asks + 1 = omega (arith, size) in
           let line_is = subst (λ (n : ℕ). Appends (contents c.answer.new.writer) (contents w.say_refused.new.writer) (line (told (Script (fault_of_row w.in-Refused.why n))).1)) at w.in_ok-say_refused-in-Refused.ensures.ok in
           record {
             few = omega (arith, row, size, few, before);
@@ -275,7 +262,7 @@ loop-preserved g c =
                 (batch_more c.args.session.now.admission.now all left between.0 old.desk.journal mid.desk.journal new.desk.journal start (contents c.loop.writer) (contents c.answer.new.writer) c.loop.row c.loop.refused
                 batch.rows asks said.0 inv.progress between.1 batch.each count grown text)
                 between.2 here.1 line_is);
-            any_moment = λ tells. goes_on g.D.Device.moment g.D.Device.left_since g.D.Device.seen g.D.Device.may_leave old mid new inv.grown.0 (entries_of c.as_slice.result.now asked.0) inv.opening inv.grown.1 asked.1 (inv.any_moment tells) (c.answer.ensures.any_moment tells);
+            any_moment = λ tells. goes_on g.D.Device.moment g.D.Device.left_since g.D.Device.seen g.D.Device.may_leave old mid new inv.grown.0 (entries_of c.next_batch-end.new.asks.items asked.0) inv.opening inv.grown.1 asked.1 (inv.any_moment tells) (c.answer.ensures.any_moment tells);
           }
     ]
 
@@ -286,7 +273,7 @@ returns-clause-stopped g c =
     let mid = c.loop.desk in (
       mid.desk.journal,
       text_so_far c.args.session.now.admission.now c.args.rows.now.left c.loop.rows.left old.desk.journal mid.desk.journal (g.W.Write.contents c.args.writer.now) (g.W.Write.contents c.loop.writer) c.loop.row c.loop.refused inv.progress,
-      halts_here c.args.session.now.admission.now (App (Script TooManyRows)) c.args.rows.now c.loop.rows c.loop.rows.left old.desk.journal mid.desk.journal (g.W.Write.contents c.args.writer.now) (g.W.Write.contents c.loop.writer) c.loop.row c.loop.refused inv.progress
+      halts_here c.args.session.now.admission.now (Script TooManyRows) c.args.rows.now c.loop.rows c.loop.rows.left old.desk.journal mid.desk.journal (g.W.Write.contents c.args.writer.now) (g.W.Write.contents c.loop.writer) c.loop.row c.loop.refused inv.progress
           inv.given (λ answered is. let many = inv.many in (omega (arith, is, many, c.loop-test.false), refl))
           (λ sound failed. absurd (inv.sound sound failed)),
       λ other. inv.progress.said,
@@ -304,10 +291,9 @@ returns-in_err-say_refused-in-Refused-clause-stopped g c =
     let batch = c.next_batch-end.ensures.batch in
     let said = c.in_ok-answer.ensures.said in
     let asks = c.next_batch-end.new.asks.items in
-    let value = c.as_slice.ensures.value in
-    let grown : new.desk.journal ≡ mid.desk.journal ++ entries_of asks said.0 = said.2 ∙ ap (λ (a : List ClerkRequest). mid.desk.journal ++ entries_of a said.0) value in
-    let count : length said.0 ≡ length asks = said.1 ∙ ap length value in
-    let text = subst (λ (a : List ClerkRequest). Appends (contents c.loop.writer) (contents c.answer.new.writer) (text_of_rows (rows_from (length mid.desk.journal + 1) (entries_of a said.0)))) value said.3 in
+    let grown : new.desk.journal ≡ mid.desk.journal ++ entries_of asks said.0 = said.2 in
+    let count : length said.0 ≡ length asks = said.1 in
+    let text = said.3 in
     let here = subst (λ (e : BatchEnd). EndsBy ad e c.loop.rows.left batch.rows c.next_batch-end.new.rows.left) c.in-Refused.is batch.goes_on in
     let between = gone_mid c.loop.rows.left c.next_batch-end.new.rows.left batch.rows here.0 here.2 in
     let so_far = batch_more ad c.args.rows.now.left c.loop.rows.left between.0 old.desk.journal mid.desk.journal new.desk.journal (contents c.args.writer.now) (contents c.loop.writer) (contents c.answer.new.writer) c.loop.row c.loop.refused
@@ -322,7 +308,7 @@ returns-in_err-say_refused-in-Refused-clause-stopped g c =
       text_so_far ad c.args.rows.now.left between.0 old.desk.journal new.desk.journal (contents c.args.writer.now) (contents c.answer.new.writer) (c.loop.row + length asks) c.loop.refused so_far,
       halts ad why c.args.rows.now c.next_batch-end.new.rows between.0 c.next_batch-end.new.rows.left old.desk.journal new.desk.journal new.desk.journal (contents c.args.writer.now) (contents c.answer.new.writer) (c.loop.row + length asks) c.loop.refused
           (here.0 ∷ []) [] whys so_far between.2 (here.1, tt) (sym (append-nil new.desk.journal)) (subst (λ (n : ℕ). HasGiven c.args.rows.now c.next_batch-end.new.rows n) sizes given)
-          (λ answered same. subst (λ (fault : ServingFault). IsBehind fault answered 1 0) (sym is) (omega arith, refl))
+          (λ answered same. subst (λ (fault : AppFault). IsBehind fault answered 1 0) (sym is) (omega arith, refl))
           (λ sound failed none. absurd (cc none)),
       λ other. absurd (other is),
       λ tells f left. kept_all g.D.Device.moment g.D.Device.left_since g.D.Device.seen g.D.Device.may_leave new (c.in_ok-answer.ensures.durable tells) f left,
@@ -333,50 +319,40 @@ returns-in_err-answer-clause-grown g c =
     let inv = c.loop.invariant in
     let batch = c.next_batch-end.ensures.batch in
     let asked = c.answer.ensures.asked in
-    let value = c.as_slice.ensures.value in
-    adds_more c.args.session.now.admission.now c.args.desk.now.desk.journal c.loop.desk.desk.journal c.answer.new.desk.desk.journal (entries_of c.as_slice.result.now asked.0) inv.grown asked.1
-    (subst (λ (a : List ClerkRequest). All (λ (x : EntryView). is_on_roll c.args.session.now.admission.now x.request ≡ true) (entries_of a asked.0)) (sym value)
-    (entries_on_roll c.args.session.now.admission.now batch.rows c.next_batch-end.new.asks.items asked.0 batch.each))
+    adds_more c.args.session.now.admission.now c.args.desk.now.desk.journal c.loop.desk.desk.journal c.answer.new.desk.desk.journal (entries_of c.next_batch-end.new.asks.items asked.0) inv.grown asked.1
+    (entries_on_roll c.args.session.now.admission.now batch.rows c.next_batch-end.new.asks.items asked.0 batch.each)
 
 pub returns-in-Over-clause-grown : goal.returns-in-Over-clause-grown
 returns-in-Over-clause-grown g c =
     let inv = c.loop.invariant in
     let batch = c.next_batch-end.ensures.batch in
     let asked = c.answer.ensures.asked in
-    let value = c.as_slice.ensures.value in
-    adds_more c.args.session.now.admission.now c.args.desk.now.desk.journal c.loop.desk.desk.journal c.answer.new.desk.desk.journal (entries_of c.as_slice.result.now asked.0) inv.grown asked.1
-    (subst (λ (a : List ClerkRequest). All (λ (x : EntryView). is_on_roll c.args.session.now.admission.now x.request ≡ true) (entries_of a asked.0)) (sym value)
-    (entries_on_roll c.args.session.now.admission.now batch.rows c.next_batch-end.new.asks.items asked.0 batch.each))
+    adds_more c.args.session.now.admission.now c.args.desk.now.desk.journal c.loop.desk.desk.journal c.answer.new.desk.desk.journal (entries_of c.next_batch-end.new.asks.items asked.0) inv.grown asked.1
+    (entries_on_roll c.args.session.now.admission.now batch.rows c.next_batch-end.new.asks.items asked.0 batch.each)
 
 pub returns-in-ReadFailed-clause-grown : goal.returns-in-ReadFailed-clause-grown
 returns-in-ReadFailed-clause-grown g c =
     let inv = c.loop.invariant in
     let batch = c.next_batch-end.ensures.batch in
     let asked = c.answer.ensures.asked in
-    let value = c.as_slice.ensures.value in
-    adds_more c.args.session.now.admission.now c.args.desk.now.desk.journal c.loop.desk.desk.journal c.answer.new.desk.desk.journal (entries_of c.as_slice.result.now asked.0) inv.grown asked.1
-    (subst (λ (a : List ClerkRequest). All (λ (x : EntryView). is_on_roll c.args.session.now.admission.now x.request ≡ true) (entries_of a asked.0)) (sym value)
-    (entries_on_roll c.args.session.now.admission.now batch.rows c.next_batch-end.new.asks.items asked.0 batch.each))
+    adds_more c.args.session.now.admission.now c.args.desk.now.desk.journal c.loop.desk.desk.journal c.answer.new.desk.desk.journal (entries_of c.next_batch-end.new.asks.items asked.0) inv.grown asked.1
+    (entries_on_roll c.args.session.now.admission.now batch.rows c.next_batch-end.new.asks.items asked.0 batch.each)
 
 pub returns-in-NoMemory-clause-grown : goal.returns-in-NoMemory-clause-grown
 returns-in-NoMemory-clause-grown g c =
     let inv = c.loop.invariant in
     let batch = c.next_batch-end.ensures.batch in
     let asked = c.answer.ensures.asked in
-    let value = c.as_slice.ensures.value in
-    adds_more c.args.session.now.admission.now c.args.desk.now.desk.journal c.loop.desk.desk.journal c.answer.new.desk.desk.journal (entries_of c.as_slice.result.now asked.0) inv.grown asked.1
-    (subst (λ (a : List ClerkRequest). All (λ (x : EntryView). is_on_roll c.args.session.now.admission.now x.request ≡ true) (entries_of a asked.0)) (sym value)
-    (entries_on_roll c.args.session.now.admission.now batch.rows c.next_batch-end.new.asks.items asked.0 batch.each))
+    adds_more c.args.session.now.admission.now c.args.desk.now.desk.journal c.loop.desk.desk.journal c.answer.new.desk.desk.journal (entries_of c.next_batch-end.new.asks.items asked.0) inv.grown asked.1
+    (entries_on_roll c.args.session.now.admission.now batch.rows c.next_batch-end.new.asks.items asked.0 batch.each)
 
 pub returns-in_err-say_refused-in-Refused-clause-grown : goal.returns-in_err-say_refused-in-Refused-clause-grown
 returns-in_err-say_refused-in-Refused-clause-grown g c =
     let inv = c.loop.invariant in
     let batch = c.next_batch-end.ensures.batch in
     let asked = c.answer.ensures.asked in
-    let value = c.as_slice.ensures.value in
-    adds_more c.args.session.now.admission.now c.args.desk.now.desk.journal c.loop.desk.desk.journal c.answer.new.desk.desk.journal (entries_of c.as_slice.result.now asked.0) inv.grown asked.1
-    (subst (λ (a : List ClerkRequest). All (λ (x : EntryView). is_on_roll c.args.session.now.admission.now x.request ≡ true) (entries_of a asked.0)) (sym value)
-    (entries_on_roll c.args.session.now.admission.now batch.rows c.next_batch-end.new.asks.items asked.0 batch.each))
+    adds_more c.args.session.now.admission.now c.args.desk.now.desk.journal c.loop.desk.desk.journal c.answer.new.desk.desk.journal (entries_of c.next_batch-end.new.asks.items asked.0) inv.grown asked.1
+    (entries_on_roll c.args.session.now.admission.now batch.rows c.next_batch-end.new.asks.items asked.0 batch.each)
 
 pub returns-in_err-answer-clause-write : goal.returns-in_err-answer-clause-write
 returns-in_err-answer-clause-write g c = λ tells said.
@@ -386,16 +362,15 @@ returns-in_err-answer-clause-write g c = λ tells said.
     let new = c.answer.new.desk in
     let asked = c.answer.ensures.asked in
     let why = c.in_err-answer.field-0.0 in
-    let same : App Write ≡ why = subst (λ r. IsErrAnd r (λ x. x ≡ why)) said c.from_residual.ensures.1 in
-    let value = c.as_slice.ensures.value in
-    let size : length c.as_slice.result.now ≤ 4096 = omega (arith, ap length value, c.next_batch-end.ensures.few) in
-    has_cause (g.D.Device.failures old.file.device) (g.D.Device.failures mid.file.device) (g.D.Device.failures new.file.device) mid.desk new.desk (length c.as_slice.result.now) (entries_of c.as_slice.result.now asked.0)
-    (inv.failures tells) size c.answer.ensures.room c.answer.ensures.opening asked.1 (c.answer.ensures.write tells (c.in_err-answer.was ∙ ap (λ (f : ServingFault). Err f) (sym same)))
+    let same : Write ≡ why = subst (λ r. IsErrAnd r (λ x. x ≡ why)) said c.from_residual.ensures.1 in
+    let size : length c.next_batch-end.new.asks.items ≤ 4096 = c.next_batch-end.ensures.few in
+    has_cause (g.D.Device.failures old.file.device) (g.D.Device.failures mid.file.device) (g.D.Device.failures new.file.device) mid.desk new.desk (length c.next_batch-end.new.asks.items) (entries_of c.next_batch-end.new.asks.items asked.0)
+    (inv.failures tells) size c.answer.ensures.room c.answer.ensures.opening asked.1 (c.answer.ensures.write tells (c.in_err-answer.was ∙ ap (λ (f : AppFault). Err f) (sym same)))
 
 pub returns-in_err-answer-clause-told : goal.returns-in_err-answer-clause-told
 returns-in_err-answer-clause-told g c = λ tells failed.
     let inv = c.loop.invariant in
     let before = inv.failures tells in
     let said = c.answer.ensures.told tells (omega (arith, before, failed)) in
-    let same : App Write ≡ c.in_err-answer.field-0.0 = cc (said, c.in_err-answer.was) in
-    err_is c.from_residual.result c.in_err-answer.field-0.0 (App Write) c.from_residual.ensures.1 (sym same)
+    let same : Write ≡ c.in_err-answer.field-0.0 = cc (said, c.in_err-answer.was) in
+    err_is c.from_residual.result c.in_err-answer.field-0.0 Write c.from_residual.ensures.1 (sym same)

@@ -1,5 +1,5 @@
 use Rattle.std.proofs.Common.{◌≡◌, ◌++◌, ℕ, List, append_assoc, codes, decimal, string_bytes, ap, ◌∙◌}
-use Rattle.pb_commands.proofs.export_text.put_terms.Goals as goal
+use Rattle.pb_rounds.proofs.rule_words.put_terms.Goals as goal
 
 -- a text after some part, and one more part after it
 part : (base old new first more : List ℕ) → old ≡ base ++ first → new ≡ old ++ more → new ≡ base ++ (first ++ more)

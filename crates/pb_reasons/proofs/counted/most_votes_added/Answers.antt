@@ -1,7 +1,7 @@
 use Rattle.std.proofs.Common.{◌∙◌, ap}
 use Rattle.pb_rounds.specs.Outcome.{OutcomeView}
 use Rattle.pb_reasons.proofs.Tellable.{count_can_be_told}
-use Rattle.pb_reasons.proofs.counted.added_to.Goals as goal
+use Rattle.pb_reasons.proofs.counted.most_votes_added.Goals as goal
 
 pub spent_for-requires-clause-known : goal.spent_for-requires-clause-known
 spent_for-requires-clause-known c =

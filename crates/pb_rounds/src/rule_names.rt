@@ -1,0 +1,80 @@
+//! What measures and completions are called on the command line.
+
+ghost use Rattle.std.specs.Prelude.{◌≡◌, ◌≢◌, IfSome, None};
+ghost use Rattle.pb_rounds.specs.RuleNames.{completion_name, measure_name};
+
+use crate::measure::Measure;
+use crate::options::Completion;
+use crate::rule::FillUp;
+
+pub(crate) const VOTES: &str = "votes";
+
+pub(crate) const COST: &str = "cost";
+
+/// The measures by their names, the standard one first.
+pub const MEASURES: &[&str] = &[VOTES, COST];
+
+pub(crate) const NONE: &str = "none";
+
+pub(crate) const ADD1: &str = "add1";
+
+pub(crate) const UTILITARIAN: &str = "utilitarian";
+
+pub(crate) const ADD1U: &str = "add1u";
+
+/// The completions by their names: what is done with the money that a first run leaves.
+pub const COMPLETIONS: &[&str] = &[NONE, ADD1, UTILITARIAN, ADD1U];
+
+/// The name of a measure.
+pub fn measure_name(measure: Measure) -> &'static str
+    ensures { result.now ≡ measure_name measure }
+{
+    match measure {
+        Measure::Votes => VOTES,
+        Measure::Cost => COST,
+    }
+}
+
+/// The measure with this name, if one has it.
+pub fn measure_named(name: &str) -> Option<Measure>
+    ensures some { IfSome result (λ measure. measure_name measure ≡ name.now) }
+    ensures none { result ≡ None → (m : Measure) → measure_name m ≢ name.now }
+{
+    if name == VOTES {
+        Some(Measure::Votes)
+    } else if name == COST {
+        Some(Measure::Cost)
+    } else {
+        None
+    }
+}
+
+/// The name of a completion: whether shares are raised, and what is done with what the elected leave.
+pub fn completion_name(completion: Completion, fill_up: FillUp) -> &'static str
+    ensures { result.now ≡ completion_name completion fill_up }
+{
+    match (completion, fill_up) {
+        (Completion::Plain, FillUp::Nothing) => NONE,
+        (Completion::Add1, FillUp::Nothing) => ADD1,
+        (Completion::Plain, FillUp::MostVotes) => UTILITARIAN,
+        (Completion::Add1, FillUp::MostVotes) => ADD1U,
+    }
+}
+
+/// The completion with this name, if one has it.
+pub fn completion_named(name: &str) -> Option<(Completion, FillUp)>
+    ensures some { IfSome result (λ x. completion_name x.0 x.1 ≡ name.now) }
+    ensures none { result ≡ None → (c : Completion) (f : FillUp) → completion_name c f ≢ name.now }
+{
+    if name == NONE {
+        Some((Completion::Plain, FillUp::Nothing))
+    } else if name == ADD1 {
+        Some((Completion::Add1, FillUp::Nothing))
+    } else if name == UTILITARIAN {
+        Some((Completion::Plain, FillUp::MostVotes))
+    } else if name == ADD1U {
+        Some((Completion::Add1, FillUp::MostVotes))
+    } else {
+        None
+    }
+}

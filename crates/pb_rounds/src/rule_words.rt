@@ -1,0 +1,78 @@
+//! A rule in the words of an exported file.
+
+ghost use Rattle.std.specs.Prelude.{◌≡◌, ◌++◌, IfOk, OnOk, codes, decimal, string_bytes};
+ghost use Rattle.pb_rounds.specs.RuleNames.{completion_text, fill_up_text, rule_text, rule_word};
+
+use crate::measure::Measure;
+use crate::options::{Completion, CountOptions};
+use crate::rule::{FillUp, Rule};
+use itoa::Buffer;
+use pb_core::no_memory::NoMemory;
+use std::alloc::Global;
+
+impl Rule {
+    /// Pabulib's word for the rule; `unknown` where it has none.
+    pub fn word(&self) -> &'static str
+        ensures { result.now ≡ rule_word self.now.options.completion self.now.fill_up }
+    {
+        match (self.options.completion, self.fill_up) {
+            (_, FillUp::MostVotes) => "unknown",
+            (Completion::Plain, FillUp::Nothing) => "equalshares",
+            (Completion::Add1, FillUp::Nothing) => "equalshares/add1",
+        }
+    }
+
+    /// The rule in words.
+    pub fn text(&self, alloc: Global) -> Result<String, NoMemory>
+        ensures { IfOk result (λ text. string_bytes text ≡ rule_text self.now) }
+    {
+        let words = match self.options.measure {
+            Measure::Votes => "equal shares by price",
+            Measure::Cost => "equal shares by price over cost",
+        };
+        let mut text = String::from_str(alloc, words)?;
+        match self.options.completion {
+            Completion::Plain => text.push_str(", no raises")?,
+            Completion::Add1 => put_raises(alloc, &mut text, &self.options)?,
+        }
+        put_fill_up(&mut text, self.fill_up)?;
+        Ok(text)
+    }
+}
+
+/// Puts how what is left is filled up after a text.
+fn put_fill_up(text: &mut String, fill_up: FillUp) -> Result<(), NoMemory>
+    ensures { OnOk result (string_bytes text.new ≡ string_bytes text.old ++ fill_up_text fill_up) }
+{
+    match fill_up {
+        FillUp::Nothing => Ok(()),
+        FillUp::MostVotes => {
+            text.push_str(", filled up by votes")?;
+            Ok(())
+        }
+    }
+}
+
+/// Puts the step of the raises and their limit after a text.
+fn put_raises(alloc: Global, text: &mut String, options: &CountOptions) -> Result<(), NoMemory>
+    ensures { OnOk result (string_bytes text.new
+        ≡ string_bytes text.old ++ completion_text Completion.Add1 options.now.step options.now.max_raises) }
+{
+    let step = options.step.text(alloc)?;
+    let put = put_terms(text, step.as_str(), options.max_raises);
+    drop(step);
+    put
+}
+
+/// Puts the terms of raises after a text: their step, and how many there are at most.
+fn put_terms(text: &mut String, step: &str, most: u32) -> Result<(), NoMemory>
+    ensures { OnOk result (string_bytes text.new ≡ string_bytes text.old
+        ++ (codes ", raises of " ++ step.now ++ codes ", at most " ++ decimal most)) }
+{
+    let mut digits = Buffer::new();
+    text.push_str(", raises of ")?;
+    text.push_str(step)?;
+    text.push_str(", at most ")?;
+    text.push_str(digits.format(most))?;
+    Ok(())
+}

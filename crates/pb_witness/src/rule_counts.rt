@@ -1,0 +1,48 @@
+//! How many rows each rule of a desk has refused.
+
+use pb_script::RowRefusal;
+
+/// How many rows each rule of a desk has refused.
+#[derive(Clone, Copy)]
+pub struct RuleCounts {
+    /// Those with an id that no project has.
+    pub unknown_id: u64,
+    /// Those for a voter who is not on the roll.
+    pub not_on_roll: u64,
+    /// Those with too few projects.
+    pub too_few: u64,
+}
+
+impl RuleCounts {
+    /// No row yet.
+    pub fn new() -> RuleCounts {
+        RuleCounts {
+            unknown_id: 0,
+            not_on_roll: 0,
+            too_few: 0,
+        }
+    }
+
+    /// Takes a row that is refused for this reason; a row that has not the form of one breaks none of these
+    /// rules.
+    pub fn take(&mut self, why: RowRefusal) {
+        match why {
+            RowRefusal::Bad => {}
+            RowRefusal::UnknownId => self.unknown_id = self.unknown_id.saturating_add(1),
+            RowRefusal::NotOnRoll => self.not_on_roll = self.not_on_roll.saturating_add(1),
+            RowRefusal::TooFew => self.too_few = self.too_few.saturating_add(1),
+        }
+    }
+
+    /// How many rows they have refused together.
+    pub fn all(&self) -> u64 {
+        let RuleCounts {
+            unknown_id,
+            not_on_roll,
+            too_few,
+        } = *self;
+        unknown_id
+            .saturating_add(not_on_roll)
+            .saturating_add(too_few)
+    }
+}
