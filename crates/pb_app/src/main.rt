@@ -28,7 +28,7 @@ use crate::perform::{Notes, Refusal, perform};
 use crate::worded::{words_status, write_words_fault};
 use pb_command_line::parse::parse;
 use pb_command_line::{Asked, Parsed};
-use pb_commands::{AppFault, BAD_ARGUMENTS, rows_status};
+use pb_commands::{AppFault, BAD_ARGUMENTS, ServingFault, rows_status};
 use pb_read::ReadFault;
 use pb_streams::{Output, Progress};
 use pb_witness::entry_counts::EntryCounts;
@@ -164,7 +164,7 @@ fn write_line<R: Print>(rt: &R, refusal: &Refusal) -> u8 {
         Refusal::Journal(_) | Refusal::Beside(_) | Refusal::FileUnkept(_) => {
             write_fault(rt, AppFault::Write)
         }
-        Refusal::Moved(_) => write_fault(rt, AppFault::Moved),
+        Refusal::Moved(_) => write_fault(rt, AppFault::Serving(ServingFault::Moved)),
         Refusal::Words(fault) => {
             let _ = write_words_fault(&mut io::writer(rt), fault);
             words_status(fault)

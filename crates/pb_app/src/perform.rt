@@ -18,7 +18,7 @@ use pb_command_line::{Asked, Ballots, CompareRun, DeskRun, Source, Task};
 use pb_commands::run_count::run_count_watched;
 use pb_commands::run_desk::run_admitted_desk;
 use pb_commands::run_table::run_table;
-use pb_commands::{AppFault, Counting, Inputs, Table, WhatIfFault};
+use pb_commands::{AppFault, Counting, Inputs, ServingFault, Table, WhatIfFault};
 use pb_core::gate::NoGate;
 use pb_page::WordsFault;
 use pb_read::{ReadFault, read_pb};
@@ -179,7 +179,9 @@ fn names_by_id(task: &Task<'_>) -> bool {
 /// Why a run ends whose result is not put in its place.
 fn unplaced<'a, R>(output: &mut Output<'a, R>, why: Unplaced<'a>) -> Refusal {
     match why {
-        Unplaced::Barred(Bar::IsServed) => Refusal::Fault(AppFault::Locked(3)),
+        Unplaced::Barred(Bar::IsServed) => Refusal::Fault(AppFault::Serving(ServingFault::Locked(
+            3,
+        ))),
         Unplaced::Barred(bar) => {
             output.bar = Some(bar);
             Refusal::Barred

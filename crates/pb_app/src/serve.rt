@@ -6,8 +6,8 @@ use crate::perform::{Notes, Refusal, RefusedRows};
 use crate::typing::{TypedReader, Typing};
 use crate::words;
 use pb_command_line::{Admits, ServeRun};
-use pb_commands::AppFault;
 use pb_commands::run_desk::admission_of;
+use pb_commands::{AppFault, ServingFault};
 use pb_core::election::Election;
 use pb_core::project::Project;
 use pb_durable::file_beside::{name_file, read_file_beside};
@@ -343,7 +343,7 @@ where
 /// Why a journal was not opened.
 fn unopened(fault: FileFault) -> Refusal {
     match fault {
-        FileFault::Locked => Refusal::Fault(AppFault::Locked(2)),
+        FileFault::Locked => Refusal::Fault(AppFault::Serving(ServingFault::Locked(2))),
         FileFault::Open(error) if error.kind() == ErrorKind::OutOfMemory => {
             Refusal::Fault(AppFault::Memory)
         }

@@ -8,7 +8,7 @@ use crate::spent::look_further;
 use crate::what_if_words::{no_cost_words, no_project_words, too_many_voters_words};
 use crate::worded::words_file_words;
 use pb_command_line::{Asked, BallotsRun, OneChange, Source, Task, WhatIfRun};
-use pb_commands::{AppFault, WhatIfFault};
+use pb_commands::{AppFault, ServingFault, WhatIfFault};
 use pb_desk::desk::MOST_CLERKS;
 use pb_durable::file_beside::{file_path, read_file_beside};
 use pb_durable::moved::kept_path;
@@ -62,7 +62,11 @@ pub(crate) fn say_refusal<R: Files<File = File> + Eprint + AllocGlobal>(
 ) {
     let failure = output.failure.as_ref();
     match refusal {
-        Refusal::Fault(AppFault::Locked(3)) => say_bar(rt, asked.output, Some(Bar::IsServed)),
+        Refusal::Fault(AppFault::Serving(ServingFault::Locked(3))) => say_bar(
+            rt,
+            asked.output,
+            Some(Bar::IsServed),
+        ),
         Refusal::Barred => say_bar(rt, asked.output, output.bar),
         Refusal::WhatIf(fault) => say_words(rt, words_of_what_if(rt.alloc(), &asked.task, fault)),
         Refusal::Fault(AppFault::OtherFile) => {
@@ -83,7 +87,7 @@ pub(crate) fn say_refusal<R: Files<File = File> + Eprint + AllocGlobal>(
                 ScriptFault::UnknownId(_) | ScriptFault::NotOnRoll(_) | ScriptFault::TooFew(_),
             ),
         ) => {}
-        Refusal::Fault(AppFault::Spelling) => {
+        Refusal::Fault(AppFault::Serving(ServingFault::Spelling)) => {
             let (_, journal) = asked.task.paths();
             let path = journal.unwrap_or("-");
             say_words(rt, spelling_words(rt.alloc(), path));
@@ -92,8 +96,11 @@ pub(crate) fn say_refusal<R: Files<File = File> + Eprint + AllocGlobal>(
             let path = asked.task.roll().unwrap_or("-");
             say_words(rt, words_file_words(rt, rt.alloc(), path, fault));
         }
-        Refusal::Fault(AppFault::Output) => say_words(rt, unanswered_words(rt.alloc(), failure)),
-        Refusal::Fault(AppFault::Locked(_)) => {
+        Refusal::Fault(AppFault::Serving(ServingFault::Output)) => say_words(
+            rt,
+            unanswered_words(rt.alloc(), failure),
+        ),
+        Refusal::Fault(AppFault::Serving(ServingFault::Locked(_))) => {
             let (_, journal) = asked.task.paths();
             say_words(rt, locked_words(rt.alloc(), journal.unwrap_or("-")))
         }
@@ -235,10 +242,7 @@ fn words_of<R: Files + AllocGlobal>(
         | AppFault::Export(_)
         | AppFault::Memory
         | AppFault::Warned(_)
-        | AppFault::Spelling
-        | AppFault::Moved
-        | AppFault::Locked(_)
-        | AppFault::Output => Err(AllocError),
+        | AppFault::Serving(_) => Err(AllocError),
     }
 }
 

@@ -5,7 +5,7 @@ ghost use Rattle.std.specs.Prelude.{[]};
 
 use crate::checks::{THREE_VOTERS, same};
 use crate::memory_device::MemoryDevice;
-use pb_commands::AppFault;
+use pb_commands::{AppFault, ServingFault};
 use pb_core::answer::Answer;
 use pb_core::devices::{FailsAfter, FailsAt};
 use pb_durable::{Device, DeviceFault, DurableDesk, JournalFile, Opened, open};
@@ -321,7 +321,12 @@ fn what_is_not_written_is_not_told(rt: HostRuntime) {
     let mut writer = FailsAt::new(Vec::new(rt.alloc()), 2);
     let both = (&Always, &notice);
     let ended = served_to(rt.alloc(), opened, AT_HAND.as_bytes(), both, &mut writer);
-    same(&rt, ended, Err(AppFault::Output), "the fault");
+    same(
+        &rt,
+        ended,
+        Err(AppFault::Serving(ServingFault::Output)),
+        "the fault",
+    );
     same(&rt, notice.answers.get(), 0, "answers");
     drop(writer);
     drop(notice);

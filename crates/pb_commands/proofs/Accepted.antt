@@ -32,7 +32,7 @@ use Rattle.pb_script.specs.declared.roll.RollFault.TheVariants as roll
 use Rattle.pb_script.specs.declared.script_fault.ScriptFault.{ScriptFault}
 use Rattle.pb_script.specs.declared.script_fault.ScriptFault.TheVariants as script
 use Rattle.pb_faults.specs.declared.fault.AppFault.{AppFault}
-use Rattle.pb_faults.specs.declared.fault.AppFault.TheVariants.{Read, Script, ClerkCount, Audit, OtherFile, OpenDesk, Count, Export, Open, Write, Memory, Warned, Roll, Spelling, Moved, Locked, Output}
+use Rattle.pb_faults.specs.declared.fault.AppFault.TheVariants.{Read, Script, ClerkCount, Audit, OtherFile, OpenDesk, Count, Export, Open, Write, Memory, Warned, Roll, Serving}
 
 pub read_from_outside : (kind : ReadKind) (at : ℕ) → IsFromOutside kind → IsOutsideFault (merged (Read (record { kind = kind; at = at })))
 read_from_outside kind at (inl is) = rw is refl
@@ -82,10 +82,7 @@ merged_again Write = refl
 merged_again Memory = refl
 merged_again (Warned warning) = refl
 merged_again (Roll fault) = roll_again fault
-merged_again Spelling = refl
-merged_again Moved = refl
-merged_again (Locked number) = refl
-merged_again Output = refl
+merged_again (Serving why) = refl
 
 -- the count of an election that has an outcome is refused from outside alone
 pub count_from_outside : (e : ElectionView) (options : CountOptions) (o : OutcomeView) → IsCountOf e options o

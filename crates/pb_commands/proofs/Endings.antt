@@ -10,7 +10,7 @@ use Rattle.pb_rows.specs.Reading.{records_of}
 use Rattle.pb_commands.specs.Ends.{Ends, FailsBy, HasWritten, IfBothKnown, IsOutsideFault, Judges, Runs}
 use Rattle.pb_faults.specs.Fault.{merged}
 use Rattle.pb_faults.specs.declared.fault.AppFault.{AppFault}
-use Rattle.pb_faults.specs.declared.fault.AppFault.TheVariants.{Read, Open, Write, Memory, Warned, Spelling, Moved, Locked, Output}
+use Rattle.pb_faults.specs.declared.fault.AppFault.TheVariants.{Read, Open, Write, Memory, Warned, Serving}
 
 abbrev pub IsElectionFile : List ℕ → Type 0
 IsElectionFile bytes = (e : ElectionView) × StandsFor (records_of bytes) e
@@ -20,10 +20,7 @@ abbrev pub IsLate : AppFault → Type 0
 IsLate (Read fault) = ⊥
 IsLate (Open number) = ⊥
 IsLate (Warned warning) = ⊥
-IsLate Spelling = ⊥
-IsLate Moved = ⊥
-IsLate (Locked number) = ⊥
-IsLate Output = ⊥
+IsLate (Serving why) = ⊥
 IsLate fault = ⊤
 
 module _ {X : Type 0} where
@@ -68,10 +65,7 @@ judges_late T files warning (Read fault) late is none = absurd late
 judges_late T files warning (Open number) late is none = absurd late
 judges_late T files warning Memory late is none = tt
 judges_late T files warning (Warned other) late is none = absurd late
-judges_late T files warning Spelling late is none = absurd late
-judges_late T files warning Moved late is none = absurd late
-judges_late T files warning (Locked number) late is none = absurd late
-judges_late T files warning Output late is none = absurd late
+judges_late T files warning (Serving why) late is none = absurd late
 judges_late T files warning fault late is none = (none, is)
 
 -- what refuses one election refuses another in its way

@@ -25,7 +25,7 @@ use Rattle.pb_rounds.specs.PriceSystem.{PaysFor}
 use Rattle.pb_rounds.specs.Run.{ElectedView, is_elected}
 use Rattle.pb_reasons.proofs.ElectedPlaces.{count_elects_projects}
 use Rattle.pb_reasons.proofs.Tellable.{count_can_be_told}
-use Rattle.pb_reasons.specs.Totals.{collected_for, totals_of}
+use Rattle.pb_reasons.specs.Totals.{totals_of}
 
 -- a project that is not elected has no round
 no_round : (elected : List ElectedView) (place : ℕ) → is_elected elected place ≡ false → length elected ≤ round_of elected place
@@ -96,7 +96,7 @@ sum_by_place xs n e =
     ap sum (fill_by_all (λ k. slice_index xs k) xs n 0 e (λ k below. refl)) ∙ sum-map (λ k. slice_index xs k) (range_with_len 0 n)
 
 columns_sum : (s : SupportView) (rests : List ℕ) (elected : List ElectedView) (rows : List (List ℕ)) → AllZip (PaysFor s rests) elected rows
-    → sum_by (λ v. sum_by (λ row. slice_index row v) rows) (range_with_len 0 s.voters) ≡ collected_for elected
+    → sum_by (λ v. sum_by (λ row. slice_index row v) rows) (range_with_len 0 s.voters) ≡ sum_by (λ (w : ElectedView). w.collected) elected
 columns_sum s rests [] [] all = sum_by-none (range_with_len 0 s.voters)
 columns_sum s rests [] (row ∷ rows) all = absurd all
 columns_sum s rests (w ∷ elected) [] all = absurd all
@@ -107,7 +107,7 @@ columns_sum s rests (w ∷ elected) (row ∷ rows) all =
     omega (arith, both, first, later, all.0.collected, sum_by-cons (λ (w : ElectedView). w.collected) w elected)
 
 -- what is spent is collected
-spent_within : (s : SupportView) (rests : List ℕ) (elected : List ElectedView) (rows : List (List ℕ)) → AllZip (PaysFor s rests) elected rows → spent_on s elected ≤ collected_for elected
+spent_within : (s : SupportView) (rests : List ℕ) (elected : List ElectedView) (rows : List (List ℕ)) → AllZip (PaysFor s rests) elected rows → spent_on s elected ≤ sum_by (λ (w : ElectedView). w.collected) elected
 spent_within s rests [] [] all = omega arith
 spent_within s rests [] (row ∷ rows) all = absurd all
 spent_within s rests (w ∷ elected) [] all = absurd all
@@ -115,8 +115,8 @@ spent_within s rests (w ∷ elected) (row ∷ rows) all =
     omega (arith, spent_within s rests elected rows all.1, all.0.covered, sum_by-cons (λ (w : ElectedView). w.collected) w elected, sum_by-cons (λ (w : ElectedView). cost_at s w.place) w elected)
 
 pub paid_told : (e : ElectionView) (c : CountedView) → IsElection e → IsCounted e c
-    → (sum_by (λ voter. (voter_reason e c voter).paid) (range_with_len 0 (length e.voters)) ≡ collected_for c.outcome.elected)
-    × ((totals_of e c).spent + (totals_of e c).surplus ≡ collected_for c.outcome.elected + sum_by (cost_at (support_of e)) c.added)
+    → (sum_by (λ voter. (voter_reason e c voter).paid) (range_with_len 0 (length e.voters)) ≡ sum_by (λ (w : ElectedView). w.collected) c.outcome.elected)
+    × ((totals_of e c).spent + (totals_of e c).surplus ≡ sum_by (λ (w : ElectedView). w.collected) c.outcome.elected + sum_by (cost_at (support_of e)) c.added)
 paid_told e c h is_count =
     let o = c.outcome in
     let told = count_can_be_told e is_count.0 c.outcome h is_count.1 in

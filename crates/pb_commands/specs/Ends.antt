@@ -9,8 +9,7 @@ use Rattle.pb_read.specs.declared.warning.Warning.{Warning}
 use Rattle.pb_rows.specs.Reading.{records_of}
 use Rattle.pb_faults.specs.Fault.{merged, told}
 use Rattle.pb_faults.specs.declared.fault.AppFault.{AppFault}
-use Rattle.pb_faults.specs.declared.fault.AppFault.TheVariants.{Read, Open, Write, Memory, Warned, Spelling}
-use Rattle.pb_faults.specs.declared.fault.AppFault.TheVariants.{Moved, Locked, Output}
+use Rattle.pb_faults.specs.declared.fault.AppFault.TheVariants.{Read, Open, Write, Memory, Warned, Serving}
 
 -- where the bytes of a file are known, and what is read beside it, they are so
 abbrev pub IfBothKnown : {X : Type 0} → Option (List ℕ) → Option X → (List ℕ → X → Type 0) → Type 0
@@ -27,9 +26,7 @@ HasWritten IsText before after = (text : List ℕ) × IsText text × Appends bef
 -- the fault of a device, or out of memory: it comes from outside, whatever the bytes are; that of a journal
 -- that is served comes in none of these runs
 abbrev pub IsOutsideFault : AppFault → Type 0
-IsOutsideFault Moved = ⊥
-IsOutsideFault (Locked number) = ⊥
-IsOutsideFault Output = ⊥
+IsOutsideFault (Serving why) = ⊥
 IsOutsideFault fault = (told fault).0 ≡ 3
 
 -- why a run on this file ends: the file's first fault; or, of the election that it stands for, such a
@@ -46,10 +43,7 @@ FailsBy Refuses IsIt bytes fault = (e : ElectionView) × StandsFor (records_of b
 abbrev pub Judges : {T : Type 0} → Option (List ℕ) → Option Warning → Result T AppFault → Type 0
 Judges file warning (Err (Read fault)) = IfSome file (λ bytes. IsFaultAt (records_of bytes) fault.kind fault.at)
 Judges file warning (Err (Open number)) = ⊥
-Judges file warning (Err Spelling) = ⊥
-Judges file warning (Err Moved) = ⊥
-Judges file warning (Err (Locked number)) = ⊥
-Judges file warning (Err Output) = ⊥
+Judges file warning (Err (Serving why)) = ⊥
 Judges file warning (Err Memory) = ⊤
 Judges file warning (Err (Warned other)) =
     (warning ≡ Some other) × IfSome file (λ bytes. (e : ElectionView) × StandsFor (records_of bytes) e)

@@ -1,14 +1,15 @@
 -- What a run of `export` writes, and what refuses it.
-use Rattle.std.specs.Prelude.{◌≡◌, ◌==◌, ◌++◌, ℕ, Bool, List, [], Option, codes, if◌then◌else◌, length, map}
+use Rattle.std.specs.Prelude.{◌≡◌, ◌==◌, ◌++◌, ℕ, List, [], Option, codes, if◌then◌else◌, length, map}
 use Rattle.std.specs.Prelude.{string_bytes}
 use Rattle.std.specs.List.{range_with_len}
 use Rattle.pb_core.specs.Election.{ElectionView}
 use Rattle.pb_export.specs.Export.{CanBeWritten, IsExportFault}
 use Rattle.pb_export.specs.FileRows.{file_rows}
 use Rattle.pb_export.specs.declared.further.Further.{Further}
-use Rattle.pb_price.specs.Supporters.{support_of, supporters_at}
+use Rattle.pb_price.specs.Supporters.{support_of}
 use Rattle.pb_read.specs.StandsFor.{StandsFor}
 use Rattle.pb_reasons.specs.Counted.{CountedView, IsCountBy, is_selected}
+use Rattle.pb_rounds.specs.MostVotes.{votes_at}
 use Rattle.pb_rounds.specs.Outcome.{OutcomeView}
 use Rattle.pb_rounds.specs.RuleNames.{rule_text, rule_word}
 use Rattle.pb_rounds.specs.declared.options.CountOptions.{CountOptions}
@@ -23,22 +24,15 @@ use Rattle.pb_faults.specs.declared.fault.AppFault.TheVariants.{Export}
 abbrev pub own_comment : List ℕ → List ℕ
 own_comment own = if length own == 0 then [] else codes ". " ++ own
 
--- how many ballots approve each project, and whether it is elected or added
-abbrev pub votes_of : ElectionView → List ℕ
-votes_of e = map (λ place. length (supporters_at (support_of e) place)) (range_with_len 0 (length e.projects))
-
-abbrev pub selected_of : ElectionView → CountedView → List Bool
-selected_of e c = map (is_selected c) (range_with_len 0 (length e.projects))
-
 -- the text is a file of the election, with what a count by this rule came to, and what is kept of the file
 -- that was read; it is read back as the election
 pub record IsExportOf (rule : Rule) (kept : Further) (e : ElectionView) (text : List ℕ) : Type 0 where
   pub counted : CountedView
   pub by_rule : IsCountBy rule e counted
   pub can : CanBeWritten e
-  pub text_is : text
-      ≡ text_of_rows (file_rows e (rule_word rule.options.completion rule.fill_up) (rule_text rule ++ own_comment (string_bytes kept.comment))
-      (votes_of e) (selected_of e counted) kept)
+  pub text_is : let places = range_with_len 0 (length e.projects) in text ≡ text_of_rows
+      (file_rows e (rule_word rule.options.completion rule.fill_up) (rule_text rule ++ own_comment (string_bytes kept.comment))
+      (map (votes_at (support_of e)) places) (map (is_selected counted) places) kept)
   pub reads_back : StandsFor (records_of text) e
 
 -- what refuses an export: its count; or, once it is counted, that no file would be read back as the election

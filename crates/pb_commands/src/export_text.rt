@@ -1,10 +1,13 @@
 //! The file of a counted election, as text.
 
-ghost use Rattle.std.specs.Prelude.{◌≡◌, ◌++◌, IfErr, IfOk, OnOk, string_bytes};
+ghost use Rattle.std.specs.Prelude.{◌≡◌, ◌++◌, IfErr, IfOk, OnOk, length, map, string_bytes};
+ghost use Rattle.std.specs.List.{range_with_len};
 ghost use Rattle.pb_commands.specs.Inner.Exporting.{IsStopped, is_won};
-ghost use Rattle.pb_commands.specs.Exported.{IsExportOf, own_comment, selected_of, votes_of};
+ghost use Rattle.pb_commands.specs.Exported.{IsExportOf, own_comment};
 ghost use Rattle.pb_faults.specs.Fault.{merged};
-ghost use Rattle.pb_reasons.specs.Counted.{IsCountBy};
+ghost use Rattle.pb_price.specs.Supporters.{support_of};
+ghost use Rattle.pb_reasons.specs.Counted.{IsCountBy, is_selected};
+ghost use Rattle.pb_rounds.specs.MostVotes.{votes_at};
 ghost use Rattle.pb_rounds.specs.RuleNames.{rule_text};
 
 use crate::counting::Counting;
@@ -54,7 +57,8 @@ fn votes_of(
     teller: &ProjectTeller,
 ) -> Result<Vec<u32>, NoMemory>
     requires { teller.now.0 ≡ election.now }
-    ensures { IfOk result (λ votes. votes.items ≡ votes_of election.now) }
+    ensures { IfOk result (λ votes. votes.items
+        ≡ map (votes_at (support_of election.now)) (range_with_len 0 (length election.now.projects))) }
 {
     let mut votes = Vec::new(alloc);
     for place in 0..election.projects().len() {
@@ -71,7 +75,8 @@ fn selected_of(
     teller: &ProjectTeller,
 ) -> Result<Vec<bool>, NoMemory>
     requires { teller.now.0 ≡ election.now }
-    ensures { IfOk result (λ selected. selected.items ≡ selected_of election.now teller.now.1) }
+    ensures { IfOk result (λ selected. selected.items
+        ≡ map (is_selected teller.now.1) (range_with_len 0 (length election.now.projects))) }
 {
     let mut selected = Vec::new(alloc);
     for place in 0..election.projects().len() {

@@ -32,6 +32,6 @@ pub use counted_election::{CountedElection, count_inputs};
 pub use counting::Counting;
 pub use demand::Demand;
 pub use inputs::{Inputs, election_of};
-pub use pb_faults::{AppFault, BAD_ARGUMENTS, rows_status, write_out};
+pub use pb_faults::{AppFault, BAD_ARGUMENTS, ServingFault, rows_status, write_out};
 pub use table::Table;
 pub use what_if_rows::{Changes, WhatIfFault, what_if_text};

@@ -10,7 +10,7 @@ ghost use Rattle.pb_reasons.specs.declared.project_reason.Ending.TheVariants as 
 ghost use Rattle.pb_reasons.specs.declared.project_reason.Lost.{Lost};
 ghost use Rattle.pb_reasons.specs.declared.project_reason.Won.{Won};
 ghost use Rattle.pb_rounds.specs.Run.{ElectedView};
-ghost use Rattle.pb_reasons.specs.Totals.{collected_for, totals_of};
+ghost use Rattle.pb_reasons.specs.Totals.{totals_of};
 
 /// What the two tables of a count tell: a project that is neither elected nor added lacks something, and each
 /// voter has paid what is not left of the share. They agree with the report: the projects that it names as
@@ -32,7 +32,7 @@ pub fn tables_tell()
     ensures paid { (e : ElectionView) (c : CountedView)
         → IsElection e → IsCounted e c
         → (sum_by (λ voter. (voter_reason e c voter).paid) (range_with_len 0 (length e.voters))
-        ≡ collected_for c.outcome.elected)
+        ≡ sum_by (λ w. w.collected) c.outcome.elected)
         × ((totals_of e c).spent + (totals_of e c).surplus
-        ≡ collected_for c.outcome.elected + sum_by (cost_at (support_of e)) c.added) }
+        ≡ sum_by (λ w. w.collected) c.outcome.elected + sum_by (cost_at (support_of e)) c.added) }
 {}

@@ -8,7 +8,8 @@ use Rattle.pb_durable.specs.declared.open_fault.OpenFault.{OpenFault}
 use Rattle.pb_durable.specs.declared.open_fault.OpenFault.TheVariants as opening
 use Rattle.pb_faults.specs.Fault.{merged}
 use Rattle.pb_faults.specs.declared.fault.AppFault.{AppFault}
-use Rattle.pb_faults.specs.declared.fault.AppFault.TheVariants.{Audit, Memory, Spelling, Write}
+use Rattle.pb_faults.specs.declared.fault.AppFault.TheVariants.{Audit, Memory, Serving, Write}
+use Rattle.pb_faults.specs.declared.serving_fault.ServingFault.TheVariants.{Spelling}
 
 -- the fault of a journal that was not read or written
 abbrev pub of_device : DeviceFault → AppFault
@@ -18,7 +19,7 @@ of_device why = Write
 -- the fault of a journal that was not opened
 abbrev pub of_opening : OpenFault → AppFault
 of_opening (opening.Audit fault) = merged (Audit fault)
-of_opening opening.Spelling = Spelling
+of_opening opening.Spelling = Serving Spelling
 of_opening (opening.Device why) = of_device why
 of_opening (opening.Beside why) = of_device why
 

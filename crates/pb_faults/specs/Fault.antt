@@ -17,7 +17,8 @@ use Rattle.pb_script.specs.declared.script_fault.ScriptFault.TheVariants as scri
 use Rattle.pb_faults.specs.declared.fault.AppFault.{AppFault}
 use Rattle.pb_faults.specs.declared.fault.AppFault.TheVariants.{Read, Script, ClerkCount, Audit, OtherFile}
 use Rattle.pb_faults.specs.declared.fault.AppFault.TheVariants.{OpenDesk, Count, Export, Open, Write, Memory}
-use Rattle.pb_faults.specs.declared.fault.AppFault.TheVariants.{Warned, Roll, Spelling, Moved, Locked, Output}
+use Rattle.pb_faults.specs.declared.fault.AppFault.TheVariants.{Warned, Roll, Serving}
+use Rattle.pb_faults.specs.declared.serving_fault.ServingFault.TheVariants.{Spelling, Moved, Locked, Output}
 
 -- the same fault, in which out of memory is one case, whichever crate met it
 abbrev pub merged : AppFault → AppFault
@@ -61,10 +62,10 @@ told (Roll (roll.ReadFailed row)) = (3, codes "roll" ∷ codes "ReadFailed" ∷ 
 told (Roll (roll.NotText row)) = (1, codes "roll" ∷ codes "NotText" ∷ decimal row ∷ [])
 told (Roll (roll.TooManyIds row)) = (1, codes "roll" ∷ codes "TooManyIds" ∷ decimal row ∷ [])
 told (Roll roll.NoMemory) = (3, codes "memory" ∷ [])
-told Spelling = (1, codes "spelling" ∷ [])
-told Moved = (3, codes "moved" ∷ codes "2" ∷ [])
-told (Locked number) = (3, codes "locked" ∷ decimal number ∷ [])
-told Output = (3, codes "write" ∷ [])
+told (Serving Spelling) = (1, codes "spelling" ∷ [])
+told (Serving Moved) = (3, codes "moved" ∷ codes "2" ∷ [])
+told (Serving (Locked number)) = (3, codes "locked" ∷ decimal number ∷ [])
+told (Serving Output) = (3, codes "write" ∷ [])
 
 -- the line of these fields: a `;` stands before each
 abbrev pub line : List (List ℕ) → List ℕ

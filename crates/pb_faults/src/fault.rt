@@ -1,5 +1,6 @@
 //! Why a run ends without what it was to write.
 
+use crate::serving_fault::ServingFault;
 use pb_core::no_memory::NoMemory;
 use pb_desk::{AuditFault, DeskFault};
 use pb_durable::{DeviceFault, DurableFault, OpenFault};
@@ -52,18 +53,9 @@ pub enum AppFault {
     /// The voters' roll is refused, or could not be read.
     #[error("roll: {0}")]
     Roll(RollFault),
-    /// The journal is legal, and spelled otherwise than a desk spells it. The file is as it was.
-    #[error("the journal is not spelled as a desk spells it")]
-    Spelling,
-    /// The journal's name leads to another file than the one that is written, or nowhere.
-    #[error("the journal was moved")]
-    Moved,
-    /// Another run serves the journal at the path with this number on the command line, from 1.
-    #[error("another run serves file {0}")]
-    Locked(u32),
-    /// The answers could not be written. What was served stands.
-    #[error("the answers could not be written")]
-    Output,
+    /// A journal is not served, or no longer.
+    #[error("serve: {0}")]
+    Serving(ServingFault),
 }
 
 impl AppFault {
@@ -182,7 +174,7 @@ impl From<OpenFault> for AppFault {
     fn from(fault: OpenFault) -> AppFault {
         match fault {
             OpenFault::Audit(fault) => AppFault::from(fault),
-            OpenFault::Spelling => AppFault::Spelling,
+            OpenFault::Spelling => AppFault::Serving(ServingFault::Spelling),
             OpenFault::Device(why) | OpenFault::Beside(why) => AppFault::from(why),
         }
     }

@@ -6,6 +6,7 @@ ghost use Rattle.pb_faults.specs.Fault.{line, merged, rows_status, told, told_at
 ghost use Rattle.pb_script.specs.ScriptReading.{fault_of_row};
 
 use crate::fault::AppFault;
+use crate::serving_fault::ServingFault;
 use itoa::Buffer;
 use pb_rounds::count_fault::CountFault;
 use pb_script::{RollFault, RowRefusal};
@@ -49,15 +50,19 @@ impl AppFault {
                 write_numbered(writer, "export", fault.number(), fault.name())
             }
             AppFault::Open(number) => write_of_file(writer, "open", number),
-            AppFault::Write | AppFault::Output => write_fields(writer, &["write"]),
+            AppFault::Write | AppFault::Serving(ServingFault::Output) => {
+                write_fields(writer, &["write"])
+            }
             AppFault::Memory => write_fields(writer, &["memory"]),
             AppFault::Warned(warning) => {
                 write_named(writer, "warning", warning.oddity.name(), warning.at)
             }
             AppFault::Roll(fault) => write_roll(writer, fault),
-            AppFault::Spelling => write_fields(writer, &["spelling"]),
-            AppFault::Moved => write_fields(writer, &["moved", "2"]),
-            AppFault::Locked(number) => write_of_file(writer, "locked", number),
+            AppFault::Serving(ServingFault::Spelling) => write_fields(writer, &["spelling"]),
+            AppFault::Serving(ServingFault::Moved) => write_fields(writer, &["moved", "2"]),
+            AppFault::Serving(ServingFault::Locked(number)) => {
+                write_of_file(writer, "locked", number)
+            }
         }
     }
 
@@ -76,16 +81,16 @@ impl AppFault {
             | AppFault::Count(CountFault::RaisesSpent)
             | AppFault::Export(_)
             | AppFault::Warned(_)
-            | AppFault::Spelling => REFUSED,
+            | AppFault::Serving(ServingFault::Spelling) => REFUSED,
             AppFault::Count(_) => BAD_ARGUMENTS,
             AppFault::Roll(RollFault::NotText(_) | RollFault::TooManyIds(_)) => REFUSED,
             AppFault::Roll(_)
             | AppFault::Open(_)
             | AppFault::Write
             | AppFault::Memory
-            | AppFault::Moved
-            | AppFault::Locked(_)
-            | AppFault::Output => NO_DEVICE,
+            | AppFault::Serving(
+                ServingFault::Moved | ServingFault::Locked(_) | ServingFault::Output,
+            ) => NO_DEVICE,
         }
     }
 }

@@ -6,9 +6,11 @@ mod desk_row;
 pub mod fault;
 mod fault_line;
 pub mod laws;
+mod serving_fault;
 mod writing;
 
 pub use desk_row::put_entries;
 pub use fault::AppFault;
 pub use fault_line::{BAD_ARGUMENTS, rows_status, write_refused_row};
+pub use serving_fault::ServingFault;
 pub use writing::write_out;

@@ -25,13 +25,8 @@ use Rattle.pb_reasons.specs.declared.rule_row.RuleRow.{RuleRow}
 use Rattle.pb_reasons.specs.declared.project_reason.Ending.{Ending}
 use Rattle.pb_reasons.specs.declared.project_reason.Ending.TheVariants.{Won, Added, Lost}
 use Rattle.pb_reasons.specs.declared.tie.Tie.{Tie}
-use Rattle.pb_rounds.specs.RuleNames.{completion_name, fills_up, measure_name}
+use Rattle.pb_rounds.specs.RuleNames.{by_completion, by_measure, completion_name, fills_up, measure_name}
 use Rattle.pb_rounds.specs.declared.measure.Measure.{Measure}
-use Rattle.pb_rounds.specs.declared.measure.Measure.TheVariants as measure
-use Rattle.pb_rounds.specs.declared.options.Completion.{Completion}
-use Rattle.pb_rounds.specs.declared.options.Completion.TheVariants as completion
-use Rattle.pb_rounds.specs.declared.rule.FillUp.{FillUp}
-use Rattle.pb_rounds.specs.declared.rule.FillUp.TheVariants as fill
 use Rattle.pb_rounds.specs.declared.rule.Rule.{Rule}
 use Rattle.pb_page.specs.declared.categories.Categories.{Categories}
 use Rattle.pb_page.specs.declared.facts.Facts.{Facts}
@@ -91,17 +86,6 @@ amount form name h = filling AMOUNT.now (name ∷ money_text h ∷ shown form h 
 -- how wide an amount is: ten thousandths of the whole, at most all of them
 abbrev pub width : ℕ → ℕ → ℕ
 width amount whole = min (amount * 10000 / max whole 1) 10000
-
--- one thing for each measure; and one for each completion, in the order of their names
-abbrev pub by_measure : {A : Type 0} → Measure → (votes cost : A) → A
-by_measure measure.Votes votes cost = votes
-by_measure measure.Cost votes cost = cost
-
-abbrev pub by_completion : {A : Type 0} → Completion → FillUp → (none add1 utilitarian add1u : A) → A
-by_completion completion.Plain fill.Nothing none add1 utilitarian add1u = none
-by_completion completion.Add1 fill.Nothing none add1 utilitarian add1u = add1
-by_completion completion.Plain fill.MostVotes none add1 utilitarian add1u = utilitarian
-by_completion completion.Add1 fill.MostVotes none add1 utilitarian add1u = add1u
 
 -- the project at this place
 abbrev pub project_at : ElectionView → ℕ → ProjectView

@@ -3,7 +3,8 @@
 ghost use Rattle.std.specs.Prelude.{◌≡◌, [], ◌∷◌, OnOk, flat_map};
 ghost use Rattle.pb_page.specs.Inner.Grown.{Grows};
 ghost use Rattle.pb_page.specs.Inner.Pieces.{tie_list, tie_said};
-ghost use Rattle.pb_page.specs.Page.{at, by_measure, called, filling, project_at, tie, ties};
+ghost use Rattle.pb_rounds.specs.RuleNames.{by_measure};
+ghost use Rattle.pb_page.specs.Page.{at, called, filling, project_at, tie, ties};
 ghost use Rattle.pb_page.specs.declared.keys.TheConstants as key;
 ghost use Rattle.pb_page.specs.declared.templates.TheConstants.{TIES_OPENING};
 ghost use Rattle.pb_price.specs.Supporters.{support_of};

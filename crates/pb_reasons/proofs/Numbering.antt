@@ -5,8 +5,8 @@ use Rattle.pb_core.specs.Election.{ElectionView}
 use Rattle.pb_rounds.specs.MostVotes.{is_taken}
 use Rattle.pb_price.specs.Supporters.{ballot_at}
 use Rattle.pb_reasons.specs.Counted.{CountedView}
-use Rattle.pb_reasons.specs.Reasons.{number_of, voter_reason}
-use Rattle.pb_reasons.specs.Inner.Numbers.{AreNumbers}
+use Rattle.pb_reasons.specs.Reasons.{voter_reason}
+use Rattle.pb_reasons.specs.Inner.Numbers.{AreNumbers, number_of}
 use Rattle.pb_reasons.specs.Inner.OfOutcome.{outcome_voter}
 use Rattle.pb_reasons.specs.declared.voter_reason.VoterReason.{VoterReason}
 use Rattle.pb_reasons.proofs.Positions.{some_has_position}

@@ -13,7 +13,7 @@ use Rattle.pb_rounds.specs.Inner.PriceSystem.{HasPriceSystem}
 use Rattle.pb_rounds.specs.PriceSystem.{PaysFor}
 use Rattle.pb_rounds.specs.Run.{ElectedView}
 use Rattle.pb_rounds.specs.declared.options.CountOptions.{CountOptions}
-use Rattle.pb_reasons.specs.Totals.{collected_for}
+use Rattle.pb_reasons.specs.Inner.OfOutcome.{collected_for}
 use Rattle.pb_reasons.proofs.ElectedPlaces.{count_elects_projects}
 
 -- a known project has at most as many supporters as there are voters

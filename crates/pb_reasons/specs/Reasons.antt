@@ -30,10 +30,6 @@ abbrev pub paid_for : ElectionView → OutcomeView → (place voter : ℕ) → �
 paid_for e o place voter =
     slice_index (slice_index_or (all_payments e o) (round_of o.elected place) []) voter
 
--- the number of an added project, from 0; as many as are added where it is none of them
-abbrev pub number_of : (added : List ℕ) → ℕ → ℕ
-number_of added place = position_or_len (λ p. p == place) added
-
 -- how a project ended: elected, added, or neither
 abbrev pub ending_of : ElectionView → CountedView → ℕ → Option ElectedView → Ending
 ending_of e c place (Some w) =
@@ -47,7 +43,7 @@ ending_of e c place (Some w) =
     })
 ending_of e c place None =
     let left = total_rest (supporters_at (support_of e) place) c.outcome.rests in
-    if is_taken c.added place then Added (record { number = number_of c.added place + 1 })
+    if is_taken c.added place then Added (record { number = position_or_len (λ p. p == place) c.added + 1 })
     else Lost (record { left = left; missing = cost_at (support_of e) place - left })
 
 -- why the project at this place is elected or added, or is neither

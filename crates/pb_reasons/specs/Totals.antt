@@ -7,13 +7,9 @@ use Rattle.pb_reasons.specs.Counted.{CountedView}
 use Rattle.pb_rounds.specs.Run.{ElectedView}
 use Rattle.pb_reasons.specs.declared.totals.Totals.{Totals}
 
--- what was paid for the elected together
-abbrev pub collected_for : List ElectedView → ℕ
-collected_for elected = sum_by (λ w. w.collected) elected
-
 -- what the elected and the added cost together, and what was paid beyond the costs of the elected
 abbrev pub totals_of : ElectionView → CountedView → Totals
 totals_of e c =
     let elected = spent_on (support_of e) c.outcome.elected in
     let added = sum_by (cost_at (support_of e)) c.added in
-    record { spent = elected + added; surplus = collected_for c.outcome.elected - elected }
+    record { spent = elected + added; surplus = sum_by (λ w. w.collected) c.outcome.elected - elected }

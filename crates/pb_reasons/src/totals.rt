@@ -5,8 +5,8 @@ ghost use Rattle.pb_core.specs.Election.{IsElection};
 ghost use Rattle.pb_price.specs.Supporters.{cost_at, support_of};
 ghost use Rattle.pb_rounds.specs.Count.{spent_on};
 ghost use Rattle.pb_reasons.specs.Counted.{IsCounted};
-ghost use Rattle.pb_reasons.specs.Inner.OfOutcome.{IsOutcome, outcome_totals};
-ghost use Rattle.pb_reasons.specs.Totals.{collected_for, totals_of};
+ghost use Rattle.pb_reasons.specs.Inner.OfOutcome.{collected_for, IsOutcome, outcome_totals};
+ghost use Rattle.pb_reasons.specs.Totals.{totals_of};
 
 use crate::counted::Counted;
 use pb_core::election::Election;

@@ -10,6 +10,17 @@ use Rattle.pb_rounds.specs.declared.rule.FillUp.TheVariants.{Nothing, MostVotes}
 use Rattle.pb_rounds.specs.declared.rule.Rule.{Rule}
 use Rattle.pb_rounds.specs.declared.rule_names.TheConstants.{VOTES, COST, NONE, ADD1, UTILITARIAN, ADD1U}
 
+-- one thing for each measure; and one for each completion, in the order of their names
+abbrev pub by_measure : {A : Type 0} → Measure → (votes cost : A) → A
+by_measure Votes votes cost = votes
+by_measure Cost votes cost = cost
+
+abbrev pub by_completion : {A : Type 0} → Completion → FillUp → (none add1 utilitarian add1u : A) → A
+by_completion Plain Nothing none add1 utilitarian add1u = none
+by_completion Add1 Nothing none add1 utilitarian add1u = add1
+by_completion Plain MostVotes none add1 utilitarian add1u = utilitarian
+by_completion Add1 MostVotes none add1 utilitarian add1u = add1u
+
 -- whether projects may be added to the elected
 abbrev pub fills_up : FillUp → Bool
 fills_up Nothing = false
@@ -17,35 +28,22 @@ fills_up MostVotes = true
 
 -- the name of a measure, and of a completion
 abbrev pub measure_name : Measure → List ℕ
-measure_name Votes = VOTES.now
-measure_name Cost = COST.now
+measure_name m = by_measure m VOTES.now COST.now
 
 abbrev pub completion_name : Completion → FillUp → List ℕ
-completion_name Plain Nothing = NONE.now
-completion_name Add1 Nothing = ADD1.now
-completion_name Plain MostVotes = UTILITARIAN.now
-completion_name Add1 MostVotes = ADD1U.now
+completion_name c f = by_completion c f NONE.now ADD1.now UTILITARIAN.now ADD1U.now
 
 -- Pabulib's word for a rule, if it has one
 abbrev pub rule_word : Completion → FillUp → List ℕ
-rule_word Plain Nothing = codes "equalshares"
-rule_word Add1 Nothing = codes "equalshares/add1"
-rule_word completion MostVotes = codes "unknown"
+rule_word c f = by_completion c f (codes "equalshares") (codes "equalshares/add1") (codes "unknown") (codes "unknown")
 
 -- a rule in words: its measure, its raises, and whether what is left is filled up
-abbrev pub measure_text : Measure → List ℕ
-measure_text Votes = codes "equal shares by price"
-measure_text Cost = codes "equal shares by price over cost"
-
 abbrev pub completion_text : Completion → ℕ → ℕ → List ℕ
 completion_text Plain step most = codes ", no raises"
 completion_text Add1 step most = codes ", raises of " ++ money_text step ++ codes ", at most " ++ decimal most
 
-abbrev pub fill_up_text : FillUp → List ℕ
-fill_up_text Nothing = []
-fill_up_text MostVotes = codes ", filled up by votes"
-
 abbrev pub rule_text : Rule → List ℕ
-rule_text rule = let options = rule.options in
-    measure_text options.measure
-    ++ (completion_text options.completion options.step options.max_raises ++ fill_up_text rule.fill_up)
+rule_text rule = let o = rule.options in
+    by_measure o.measure (codes "equal shares by price") (codes "equal shares by price over cost")
+    ++ (completion_text o.completion o.step o.max_raises
+    ++ (if fills_up rule.fill_up then codes ", filled up by votes" else []))

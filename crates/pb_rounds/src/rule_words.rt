@@ -1,7 +1,8 @@
 //! A rule in the words of an exported file.
 
-ghost use Rattle.std.specs.Prelude.{◌≡◌, ◌++◌, IfOk, OnOk, codes, decimal, string_bytes};
-ghost use Rattle.pb_rounds.specs.RuleNames.{completion_text, fill_up_text, rule_text, rule_word};
+ghost use Rattle.std.specs.Prelude.{◌≡◌, ◌++◌, [], IfOk, OnOk, codes, decimal, string_bytes};
+ghost use Rattle.std.specs.Prelude.{if◌then◌else◌};
+ghost use Rattle.pb_rounds.specs.RuleNames.{completion_text, fills_up, rule_text, rule_word};
 
 use crate::measure::Measure;
 use crate::options::{Completion, CountOptions};
@@ -16,9 +17,9 @@ impl Rule {
         ensures { result.now ≡ rule_word self.now.options.completion self.now.fill_up }
     {
         match (self.options.completion, self.fill_up) {
-            (_, FillUp::MostVotes) => "unknown",
             (Completion::Plain, FillUp::Nothing) => "equalshares",
             (Completion::Add1, FillUp::Nothing) => "equalshares/add1",
+            (Completion::Plain | Completion::Add1, FillUp::MostVotes) => "unknown",
         }
     }
 
@@ -42,7 +43,8 @@ impl Rule {
 
 /// Puts how what is left is filled up after a text.
 fn put_fill_up(text: &mut String, fill_up: FillUp) -> Result<(), NoMemory>
-    ensures { OnOk result (string_bytes text.new ≡ string_bytes text.old ++ fill_up_text fill_up) }
+    ensures { OnOk result (string_bytes text.new
+        ≡ string_bytes text.old ++ (if fills_up fill_up then codes ", filled up by votes" else [])) }
 {
     match fill_up {
         FillUp::Nothing => Ok(()),

@@ -2,6 +2,7 @@
 
 ghost use Rattle.std.specs.Prelude.{◌≡◌, [], None, option_map, true, IfOk, IfSome, IsErrOf, MatchOption};
 ghost use Rattle.std.specs.Prelude.{OnErr, OnOk};
+ghost use Rattle.csv.specs.Records.{AllText, fields_of};
 ghost use Rattle.pb_rows.specs.Reading.{records_of, Fields, IsNext};
 ghost use Rattle.pb_script.specs.RequestRows.{IsRequestRow};
 ghost use Rattle.pb_script.specs.RowsView.{HasFailed, HasGiven};
@@ -16,6 +17,7 @@ use pb_rows::{Records, RecordsFault};
 use std::alloc::Global;
 use std::io::Read;
 use std::marker::Model;
+use std::mem;
 use thiserror::Error;
 
 /// A row of requests.
@@ -55,6 +57,8 @@ impl From<NoMemory> for RowsFault {
 #[derive(Drop)]
 pub struct RequestRows<R: Read> {
     records: Records<R>,
+    /// Where the next row is read to.
+    raw: ByteRecord,
     places: Vec<u32>,
     /// How many rows were given.
     count: u64,
@@ -72,6 +76,42 @@ impl<R: Read> Model for RequestRows<R> {
     } };
 }
 
+/// The record as text, if each of its fields is text. Then `raw` is empty afterwards.
+fn text_of(alloc: Global, raw: &mut ByteRecord) -> Option<StringRecord>
+    ensures { MatchOption result (¬ AllText (fields_of raw.old))
+        (λ row. (fields_of row ≡ fields_of raw.old) × AllText (fields_of row)) }
+{
+    let bytes = mem::replace(raw, ByteRecord::new(alloc));
+    match StringRecord::from_byte_record(bytes) {
+        Ok(row) => Some(row),
+        Err(refused) => {
+            drop(mem::replace(raw, refused.into_byte_record()));
+            None
+        }
+    }
+}
+
+/// What this row asks, or why it is refused. It is the row with this number, from 1, and is text.
+fn judge<N: Notice>(
+    alloc: Global,
+    row: &StringRecord,
+    places: &mut Vec<u32>,
+    number: u64,
+    admission: &Admission,
+    notice: &N,
+) -> Result<RequestRow, NoMemory>
+    requires { AllText (fields_of row.now) }
+    ensures { IfOk result (IsRequestRow admission.now (fields_of row.now)) }
+{
+    match read_row(alloc, row, places, MOST_CLERKS, admission)? {
+        Ok(said) => Ok(RequestRow::Asks(said.clerk, said.request)),
+        Err(why) => {
+            notice.refused(number, why, admission.unknown_in(row, places));
+            Ok(RequestRow::Refused(why))
+        }
+    }
+}
+
 impl<R: Read> RequestRows<R> {
     /// The rows that `reader` gives.
     pub fn new(alloc: Global, reader: R) -> RequestRows<R>
@@ -81,6 +121,7 @@ impl<R: Read> RequestRows<R> {
     {
         RequestRows {
             records: Records::new(alloc, reader),
+            raw: ByteRecord::new(alloc),
             places: Vec::new(alloc),
             count: 0,
         }
@@ -105,30 +146,23 @@ impl<R: Read> RequestRows<R> {
         ensures blame { IsErrOf result RowsFault.ReadFailed → HasFailed self.new }
         ensures memory { IsErrOf result RowsFault.NoMemory → ¬ HasFailed self.new }
     {
-        let mut row = ByteRecord::new(alloc);
-        match self.records.read_bytes(&mut row) {
+        match self.records.read_bytes(&mut self.raw) {
             Ok(true) => {}
             Ok(false) => return Ok(None),
             Err(RecordsFault::NoMemory) => return Err(RowsFault::NoMemory),
             Err(_) => return Err(RowsFault::ReadFailed),
         }
-        let Ok(row) = StringRecord::from_byte_record(row) else {
-            self.count = self.count.saturating_add(1);
+        let count = self.count.saturating_add(1);
+        let Some(row) = text_of(alloc, &mut self.raw) else {
+            self.count = count;
             // A field is no text.
             return Ok(Some(RequestRow::Refused(RowRefusal::Bad)));
         };
-        let judged = read_row(alloc, &row, &mut self.places, MOST_CLERKS, admission)?;
-        self.count = self.count.saturating_add(1);
-        match judged {
-            Ok(said) => Ok(Some(RequestRow::Asks(said.clerk, said.request))),
-            Err(why) => {
-                notice.refused(
-                    self.count,
-                    why,
-                    admission.unknown_in(&row, &mut self.places),
-                );
-                Ok(Some(RequestRow::Refused(why)))
-            }
-        }
+        let judged = judge(alloc, &row, &mut self.places, count, admission, notice);
+        // The next row is read into the same memory.
+        drop(mem::replace(&mut self.raw, row.into_byte_record()));
+        let judged = judged?;
+        self.count = count;
+        Ok(Some(judged))
     }
 }

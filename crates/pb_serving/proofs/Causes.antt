@@ -12,7 +12,8 @@ use Rattle.pb_durable.specs.declared.durable_fault.DurableFault.{DurableFault}
 use Rattle.pb_durable.specs.declared.durable_fault.DurableFault.TheVariants as durable
 use Rattle.pb_serving.specs.Answered.{HasNoRoom, IsBehind}
 use Rattle.pb_faults.specs.declared.fault.AppFault.{AppFault}
-use Rattle.pb_faults.specs.declared.fault.AppFault.TheVariants.{ClerkCount, Count, Audit, Export, Locked, Memory, Moved, Open, OpenDesk, OtherFile, Output, Read, Roll, Script, Spelling, Warned, Write}
+use Rattle.pb_faults.specs.declared.fault.AppFault.TheVariants.{ClerkCount, Count, Audit, Export, Memory, Open, OpenDesk, OtherFile, Read, Roll, Script, Serving, Warned, Write}
+use Rattle.pb_faults.specs.declared.serving_fault.ServingFault.TheVariants.{Spelling, Moved, Locked, Output}
 use Rattle.pb_script.specs.declared.script_fault.ScriptFault.TheVariants.{ReadFailed}
 use Rattle.pb_faults.specs.Durable.{of_device, of_durable}
 
@@ -51,7 +52,7 @@ not_durable (durable.Device device.NoMemory) i is = cc is
 not_durable (durable.Device device.Failed) i is = cc is
 not_durable (durable.Device device.Full) i is = cc is
 
-pub not_output : (why : DurableFault) → Output ≡ of_durable why → ⊥
+pub not_output : (why : DurableFault) → Serving Output ≡ of_durable why → ⊥
 not_output (durable.Desk desk.NoMemory) is = cc is
 not_output (durable.Desk desk.JournalFull) is = cc is
 not_output (durable.Device device.NoMemory) is = cc is
@@ -59,7 +60,7 @@ not_output (durable.Device device.Failed) is = cc is
 not_output (durable.Device device.Full) is = cc is
 
 -- the writer failed, or it was something else
-pub output_or : (why : AppFault) → (why ≡ Output) ⊎ (why ≡ Output → ⊥)
+pub output_or : (why : AppFault) → (why ≡ Serving Output) ⊎ (why ≡ Serving Output → ⊥)
 output_or (Read fault) = inr (λ is. cc is)
 output_or (Script fault) = inr (λ is. cc is)
 output_or ClerkCount = inr (λ is. cc is)
@@ -73,10 +74,10 @@ output_or Write = inr (λ is. cc is)
 output_or Memory = inr (λ is. cc is)
 output_or (Warned warning) = inr (λ is. cc is)
 output_or (Roll fault) = inr (λ is. cc is)
-output_or Spelling = inr (λ is. cc is)
-output_or Moved = inr (λ is. cc is)
-output_or (Locked number) = inr (λ is. cc is)
-output_or Output = inl refl
+output_or (Serving Spelling) = inr (λ is. cc is)
+output_or (Serving Moved) = inr (λ is. cc is)
+output_or (Serving (Locked number)) = inr (λ is. cc is)
+output_or (Serving Output) = inl refl
 
 pub cause_of : (why : DurableFault) (X Y Z : Type 0) → Write ≡ of_durable why → (why ≡ durable.Device device.Failed → X) → (why ≡ durable.Desk desk.JournalFull → Y)
     → (why ≡ durable.Device device.Full → Z) → X ⊎ Y ⊎ Z

@@ -17,7 +17,8 @@ use Rattle.pb_serving.specs.Inner.Batch.{refused, EndsBy, IsRowAsking}
 use Rattle.pb_serving.specs.declared.batch.BatchEnd.{BatchEnd}
 use Rattle.pb_serving.specs.declared.batch.BatchEnd.TheVariants.{More, Refused, Over, ReadFailed, NoMemory}
 use Rattle.pb_faults.specs.declared.fault.AppFault.{AppFault}
-use Rattle.pb_faults.specs.declared.fault.AppFault.TheVariants.{Output}
+use Rattle.pb_faults.specs.declared.fault.AppFault.TheVariants.{Serving}
+use Rattle.pb_faults.specs.declared.serving_fault.ServingFault.TheVariants.{Output}
 use Rattle.pb_serving.proofs.Answering.{added, added-some, halts, text_so_far, zip-append, zip-length, Outcome, Progress}
 use Rattle.pb_serving.proofs.Causes.{output_or}
 
@@ -80,9 +81,9 @@ part ad (row ∷ rows) (a ∷ asks) (x ∷ answers) each = let p = part ad rows 
 -- a batch was not answered
 module _ (ad : Admission) (fault : AppFault) (start end : RowsView) (left after : Option (List Fields)) (old now last : List EntryView) (w0 w1 : Option (List ℕ)) (row bad : ℕ)
     (rows : List Fields) (asks : List ClerkRequest) (answers : List Answer) (why : BatchEnd) (p : Progress ad start.left left old now w0 w1 row bad) (each : AllZip (IsRowAsking ad) rows asks)
-    (ends : EndsBy ad why left rows after) (few : length asks ≤ 4096) (some : 0 < length asks) (grown : last ≡ now ++ entries_of asks answers) (full : fault ≡ Output → length answers ≡ length asks)
+    (ends : EndsBy ad why left rows after) (few : length asks ≤ 4096) (some : 0 < length asks) (grown : last ≡ now ++ entries_of asks answers) (full : fault ≡ Serving Output → length answers ≡ length asks)
     (given : HasGiven start end (row + (length asks + refused why)))
-    (behind : (answered served unserved : ℕ) → served + unserved ≤ 4097 → (fault ≡ Output → unserved ≡ 0) → IsBehind fault answered served unserved) where
+    (behind : (answered served unserved : ℕ) → served + unserved ≤ 4097 → (fault ≡ Serving Output → unserved ≡ 0) → IsBehind fault answered served unserved) where
   pub unanswered : Halts ad fault start end old now last (text_so_far ad start.left left old now w0 w1 row bad p)
   unanswered =
       let first = part ad rows asks answers each in

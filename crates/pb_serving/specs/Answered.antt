@@ -20,7 +20,8 @@ use Rattle.pb_script.specs.declared.script_fault.ScriptFault.TheVariants.{ReadFa
 use Rattle.pb_faults.specs.DeskRow.{entries_row}
 use Rattle.pb_faults.specs.Fault.{line, told}
 use Rattle.pb_faults.specs.declared.fault.AppFault.{AppFault}
-use Rattle.pb_faults.specs.declared.fault.AppFault.TheVariants.{Script, Memory, Write, Output}
+use Rattle.pb_faults.specs.declared.fault.AppFault.TheVariants.{Script, Memory, Write, Serving}
+use Rattle.pb_faults.specs.declared.serving_fault.ServingFault.TheVariants.{Output}
 
 -- what is said first: how many bytes were cut off the journal, where there were any, and the row of its desk
 abbrev pub heading : ℕ → DeskView → List ℕ
@@ -58,7 +59,7 @@ IsBehind (Script (ReadFailed i)) answered served unserved =
 IsBehind (Script TooManyRows) answered served unserved = (2 ^ 50 ≤ answered) × (served + unserved ≡ 0)
 IsBehind Memory answered served unserved = served + unserved ≤ 4097
 IsBehind Write answered served unserved = served + unserved ≤ 4097
-IsBehind Output answered served unserved = (served ≤ 4097) × (unserved ≡ 0)
+IsBehind (Serving Output) answered served unserved = (served ≤ 4097) × (unserved ≡ 0)
 IsBehind fault answered served unserved = ⊥
 
 -- Where a run has ended early: some first rows were answered by this text, with which the journal had come so

@@ -26,7 +26,7 @@ use crate::pace::Pace;
 use crate::session::Session;
 use pb_core::answer::Answer;
 use pb_durable::{ClerkRequest, Device, DurableDesk, Recorded};
-use pb_faults::{AppFault, write_out, write_refused_row};
+use pb_faults::{AppFault, ServingFault, write_out, write_refused_row};
 use pb_script::{Notice, RequestRows, RowRefusal, ScriptFault};
 use std::alloc::Global;
 use std::io::{Read, Write};
@@ -77,7 +77,7 @@ pub fn run_serve<D: Device, R: Read, P: Pace, N: Notice, W: Write>(
     ensures stopped { IfErr result (λ fault. (kept : List EntryView) × (text : List ℕ)
         × Halts session.now.admission.now fault rows.old rows.new desk.old.desk.journal kept
         desk.new.desk.journal text
-        × (fault ≢ AppFault.Output
+        × (fault ≢ AppFault.Serving ServingFault.Output
         → Appends (W.contents writer.old) (W.contents writer.new)
         (heading session.now.torn desk.old.desk ++ text)
         ⊎ ((writer.new ≡ writer.old) × (rows.new ≡ rows.old) × (desk.new ≡ desk.old)))
@@ -95,7 +95,8 @@ pub fn run_serve<D: Device, R: Read, P: Pace, N: Notice, W: Write>(
         → (D.failures desk.old.file.device < D.failures desk.new.file.device) ⊎ HasNoRoom desk.new.desk }
 
     // Where the writer fails, all that was served stands.
-    ensures output { D.tells → IsErrOf result AppFault.Output → IsDurable D.seen D.may_leave desk.new }
+    ensures output { D.tells → IsErrOf result (AppFault.Serving ServingFault.Output)
+        → IsDurable D.seen D.may_leave desk.new }
 
     // A crash at any moment leaves what stood, and a first part of what was served.
     ensures any_moment { D.tells → LeavesOnly D.moment D.left_since desk.old.file.device desk.new.file.device
@@ -104,7 +105,11 @@ pub fn run_serve<D: Device, R: Read, P: Pace, N: Notice, W: Write>(
     // The desk's journal is legal.
     let _entries = desk.desk().entries();
     let opened = heading(alloc, session.torn, desk.desk())?;
-    write_out(writer, opened.as_slice(), AppFault::Output)?;
+    write_out(
+        writer,
+        opened.as_slice(),
+        AppFault::Serving(ServingFault::Output),
+    )?;
     let refused = serve_rows(alloc, desk, rows, session, writer)?;
     desk.close()?;
     Ok(refused)
@@ -135,7 +140,8 @@ fn serve_rows<D: Device, R: Read, P: Pace, N: Notice, W: Write>(
     ensures stopped { IfErr result (λ fault. (kept : List EntryView) × (text : List ℕ)
         × Halts session.now.admission.now fault rows.old rows.new desk.old.desk.journal kept
         desk.new.desk.journal text
-        × (fault ≢ AppFault.Output → Appends (W.contents writer.old) (W.contents writer.new) text)
+        × (fault ≢ AppFault.Serving ServingFault.Output → Appends (W.contents writer.old)
+        (W.contents writer.new) text)
         × (D.tells → (c : List ℕ) → D.may_leave desk.new.file.device c
         → StandsWithin desk.new.desk.opening.version kept desk.new.desk.journal c)) }
     ensures steady { D.tells → D.failures desk.old.file.device ≤ D.failures desk.new.file.device }
@@ -143,7 +149,8 @@ fn serve_rows<D: Device, R: Read, P: Pace, N: Notice, W: Write>(
         → IsErrOf result (AppFault.Write) }
     ensures write { D.tells → IsErrOf result (AppFault.Write)
         → (D.failures desk.old.file.device < D.failures desk.new.file.device) ⊎ HasNoRoom desk.new.desk }
-    ensures output { D.tells → IsErrOf result AppFault.Output → IsDurable D.seen D.may_leave desk.new }
+    ensures output { D.tells → IsErrOf result (AppFault.Serving ServingFault.Output)
+        → IsDurable D.seen D.may_leave desk.new }
     ensures any_moment { D.tells → LeavesOnly D.moment D.left_since desk.old.file.device desk.new.file.device
         (StandsWithin desk.old.desk.opening.version desk.old.desk.journal desk.new.desk.journal) }
 {
@@ -193,9 +200,11 @@ fn answer<D: Device, N: Notice, W: Write>(
         × Appends (W.contents writer.old) (W.contents writer.new)
         (text_of_rows (rows_from (length desk.old.desk.journal + 1) (entries_of asks.items answers)))) }
     ensures durable { D.tells → OnOk result (IsDurable D.seen D.may_leave desk.new) }
-    ensures output { D.tells → IsErrOf result AppFault.Output → IsDurable D.seen D.may_leave desk.new }
+    ensures output { D.tells → IsErrOf result (AppFault.Serving ServingFault.Output)
+        → IsDurable D.seen D.may_leave desk.new }
     ensures other { IfErr result (λ fault. (answered served unserved : ℕ) → served + unserved ≤ 4097
-        → (fault ≡ AppFault.Output → unserved ≡ 0) → IsBehind fault answered served unserved) }
+        → (fault ≡ AppFault.Serving ServingFault.Output → unserved ≡ 0)
+        → IsBehind fault answered served unserved) }
     ensures not_read { (i : ℕ) → IsErrOf result (AppFault.Script (ReadFailed i)) → ⊥ }
     ensures steady { D.tells → D.failures desk.old.file.device ≤ D.failures desk.new.file.device }
     ensures told { D.tells → D.failures desk.old.file.device < D.failures desk.new.file.device
@@ -206,11 +215,11 @@ fn answer<D: Device, N: Notice, W: Write>(
         ⊎ (2 ^ 60 ≤ length (journal_text desk.old.desk.opening.version desk.old.desk.journal)) }
     ensures room { desk.new.desk.room ≡ desk.old.desk.room }
     ensures some { IfErr result (λ fault. 0 < length asks.items) }
-    ensures unsaid { IfErr result (λ fault. fault ≢ AppFault.Output
+    ensures unsaid { IfErr result (λ fault. fault ≢ AppFault.Serving ServingFault.Output
         → W.contents writer.new ≡ W.contents writer.old) }
     ensures asked { (answers : List Answer)
         × (desk.new.desk.journal ≡ desk.old.desk.journal ++ entries_of asks.items answers)
-        × (IsErrOf result AppFault.Output → length answers ≡ length asks.items) }
+        × (IsErrOf result (AppFault.Serving ServingFault.Output) → length answers ≡ length asks.items) }
     ensures legal { IsLegal desk.new.desk.opening desk.new.desk.journal }
     ensures opening { desk.new.desk.opening ≡ desk.old.desk.opening }
     ensures any_moment { D.tells → LeavesOnly D.moment D.left_since desk.old.file.device desk.new.file.device
@@ -223,7 +232,11 @@ fn answer<D: Device, N: Notice, W: Write>(
         return Ok(());
     }
     let Recorded { answers, rows } = desk.serve_all(alloc, asks)?;
-    write_out(writer, rows.as_slice(), AppFault::Output)?;
+    write_out(
+        writer,
+        rows.as_slice(),
+        AppFault::Serving(ServingFault::Output),
+    )?;
     tell(notice, &answers);
     Ok(())
 }
@@ -239,10 +252,10 @@ fn tell<N: Notice>(notice: &N, answers: &[Answer]) {
 fn say_refused<W: Write>(writer: &mut W, why: RowRefusal, row: u64) -> Result<(), AppFault>
     ensures ok { OnOk result (Appends (W.contents writer.old) (W.contents writer.new)
         (line (told (AppFault.Script (fault_of_row why row))).1)) }
-    ensures fault { IfErr result (λ fault. fault ≡ AppFault.Output) }
+    ensures fault { IfErr result (λ fault. fault ≡ AppFault.Serving ServingFault.Output) }
 {
     if write_refused_row(writer, why, row).is_err() || writer.flush().is_err() {
-        return Err(AppFault::Output);
+        return Err(AppFault::Serving(ServingFault::Output));
     }
     Ok(())
 }

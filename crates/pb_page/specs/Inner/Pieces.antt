@@ -26,10 +26,10 @@ use Rattle.pb_reasons.specs.declared.raise_end.RaiseEnd.TheVariants.{Plain, Exha
 use Rattle.pb_rounds.specs.declared.measure.Measure.{Measure}
 use Rattle.pb_rounds.specs.declared.options.Completion.{Completion}
 use Rattle.pb_rounds.specs.declared.options.CountOptions.{CountOptions}
-use Rattle.pb_rounds.specs.RuleNames.{completion_name, fills_up, measure_name}
+use Rattle.pb_rounds.specs.RuleNames.{by_completion, by_measure, completion_name, fills_up, measure_name}
 use Rattle.pb_rounds.specs.declared.rule.FillUp.{FillUp}
 use Rattle.pb_rounds.specs.declared.rule.Rule.{Rule}
-use Rattle.pb_page.specs.Page.{amount, at, at_least, ballots_row, between, by_completion, by_measure, called}
+use Rattle.pb_page.specs.Page.{amount, at, at_least, ballots_row, between, called}
 use Rattle.pb_page.specs.Page.{category_name, category_of, category_row, exactly, filling, head_end, labels}
 use Rattle.pb_page.specs.Page.{lost_row, made, noun_at, number, row_of, say, text, tie, width, won_row}
 use Rattle.pb_page.specs.declared.keys.TheConstants as key

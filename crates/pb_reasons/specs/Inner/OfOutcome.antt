@@ -10,8 +10,8 @@ use Rattle.pb_rounds.specs.Counted.{IsCountOf}
 use Rattle.pb_rounds.specs.Outcome.{OutcomeView}
 use Rattle.pb_rounds.specs.Run.{ElectedView, is_elected}
 use Rattle.pb_rounds.specs.declared.options.CountOptions.{CountOptions}
-use Rattle.pb_reasons.specs.Reasons.{all_payments, number_of, paid_for, round_of}
-use Rattle.pb_reasons.specs.Totals.{collected_for}
+use Rattle.pb_reasons.specs.Inner.Numbers.{number_of}
+use Rattle.pb_reasons.specs.Reasons.{all_payments, paid_for, round_of}
 use Rattle.pb_reasons.specs.declared.project_reason.Ending.{Ending}
 use Rattle.pb_reasons.specs.declared.project_reason.Ending.TheVariants.{Won, Added, Lost}
 use Rattle.pb_reasons.specs.declared.project_reason.ProjectReason.{ProjectReason}
@@ -45,6 +45,10 @@ outcome_voter e o voter = record {
   paid = sum_by (λ row. slice_index row voter) (all_payments e o);
   left = slice_index o.rests voter;
 }
+
+-- what was paid for the elected together
+abbrev pub collected_for : List ElectedView → ℕ
+collected_for elected = sum_by (λ w. w.collected) elected
 
 abbrev pub outcome_totals : ElectionView → List ElectedView → Totals
 outcome_totals e elected =

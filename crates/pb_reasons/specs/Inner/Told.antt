@@ -7,7 +7,7 @@ use Rattle.pb_rounds.specs.Outcome.{OutcomeView}
 use Rattle.pb_rounds.specs.PriceSystem.{IsPriceSystem}
 use Rattle.pb_rounds.specs.Run.{ElectedView}
 use Rattle.pb_reasons.specs.Reasons.{all_payments}
-use Rattle.pb_reasons.specs.Totals.{collected_for}
+use Rattle.pb_reasons.specs.Inner.OfOutcome.{collected_for}
 
 -- two of the elected are not the same project
 abbrev pub AreApart : ElectedView → ElectedView → Type 0

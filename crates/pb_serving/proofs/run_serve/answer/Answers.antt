@@ -2,7 +2,8 @@ use Rattle.std.proofs.Common.{◌≡◌, ◌∙◌, ◌++◌, ◌+◌, ◌≤◌
 use Rattle.pb_durable.proofs.Openings.{if_err}
 use Rattle.pb_durable.specs.declared.durable_fault.DurableFault.{DurableFault}
 use Rattle.pb_faults.specs.declared.fault.AppFault.{AppFault}
-use Rattle.pb_faults.specs.declared.fault.AppFault.TheVariants.{Output, Write}
+use Rattle.pb_faults.specs.declared.fault.AppFault.TheVariants.{Serving, Write}
+use Rattle.pb_faults.specs.declared.serving_fault.ServingFault.TheVariants.{Output}
 use Rattle.pb_serving.specs.Answered.{IsBehind}
 use Rattle.pb_faults.specs.Durable.{of_durable}
 use Rattle.pb_serving.proofs.Causes.{behind_durable, cause_of, err_is, not_durable, not_output}
@@ -45,15 +46,15 @@ returns-then-is_empty-clause-said g c =
 pub returns-in_err-answers-clause-other : goal.returns-in_err-answers-clause-other
 returns-in_err-answers-clause-other g c =
     let why = c.in_err-answers.field-0.0 in
-    if_err c.from_residual.result (of_durable why) (λ (fault : AppFault). (answered served unserved : ℕ) → served + unserved ≤ 4097 → (fault ≡ Output → unserved ≡ 0) → IsBehind fault answered served unserved)
+    if_err c.from_residual.result (of_durable why) (λ (fault : AppFault). (answered served unserved : ℕ) → served + unserved ≤ 4097 → (fault ≡ Serving Output → unserved ≡ 0) → IsBehind fault answered served unserved)
     c.from_residual.ensures.1 (λ answered served unserved few none. behind_durable why answered served unserved few)
 
 pub returns-in_err-write_out-clause-other : goal.returns-in_err-write_out-clause-other
 returns-in_err-write_out-clause-other g c =
     let why = c.in_err-write_out.field-0.0 in
-    let is : why ≡ Output = c.in_err-write_out.ensures.fault in
-    if_err c.from_residual-in_err-write_out.result why (λ (fault : AppFault). (answered served unserved : ℕ) → served + unserved ≤ 4097 → (fault ≡ Output → unserved ≡ 0) → IsBehind fault answered served unserved)
-    c.from_residual-in_err-write_out.ensures.1 (subst (λ (fault : AppFault). (answered served unserved : ℕ) → served + unserved ≤ 4097 → (fault ≡ Output → unserved ≡ 0) → IsBehind fault answered served unserved) (sym is)
+    let is : why ≡ Serving Output = c.in_err-write_out.ensures.fault in
+    if_err c.from_residual-in_err-write_out.result why (λ (fault : AppFault). (answered served unserved : ℕ) → served + unserved ≤ 4097 → (fault ≡ Serving Output → unserved ≡ 0) → IsBehind fault answered served unserved)
+    c.from_residual-in_err-write_out.ensures.1 (subst (λ (fault : AppFault). (answered served unserved : ℕ) → served + unserved ≤ 4097 → (fault ≡ Serving Output → unserved ≡ 0) → IsBehind fault answered served unserved) (sym is)
     (λ answered served unserved few none. (omega (arith, few), none refl)))
 
 pub returns-in_err-answers-clause-asked : goal.returns-in_err-answers-clause-asked

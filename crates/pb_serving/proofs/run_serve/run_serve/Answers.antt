@@ -7,7 +7,8 @@ use Rattle.pb_durable.specs.Device.{LeavesOnly}
 use Rattle.pb_serving.specs.Answered.{heading, Halts, StandsWithin}
 use Rattle.pb_faults.specs.Durable.{of_device}
 use Rattle.pb_faults.specs.declared.fault.AppFault.{AppFault}
-use Rattle.pb_faults.specs.declared.fault.AppFault.TheVariants.{Memory, Output, Write}
+use Rattle.pb_faults.specs.declared.fault.AppFault.TheVariants.{Memory, Serving, Write}
+use Rattle.pb_faults.specs.declared.serving_fault.ServingFault.TheVariants.{Output}
 use Rattle.pb_serving.proofs.Answering.{halts_behind_all, halts_unbegun, not_stopped, HasAnswered}
 use Rattle.pb_serving.proofs.Batches.{adds_none}
 use Rattle.pb_serving.proofs.Causes.{behind_device}
@@ -32,12 +33,12 @@ pub returns-in_err-write_out-clause-stopped : goal.returns-in_err-write_out-clau
 returns-in_err-write_out-clause-stopped g c =
     let old = c.args.desk.now in
     let why = c.in_err-write_out.field-0.0 in
-    let is : why ≡ Output = c.in_err-write_out.ensures.fault in
+    let is : why ≡ Serving Output = c.in_err-write_out.ensures.fault in
     if_err c.from_residual-in_err-write_out.result why _ c.from_residual-in_err-write_out.ensures.1 (
       old.desk.journal,
       [],
       subst (λ (fault : AppFault). Halts c.args.session.now.admission.now fault c.args.rows.now c.args.rows.now old.desk.journal old.desk.journal old.desk.journal []) (sym is)
-          (halts_unbegun c.args.session.now.admission.now Output c.args.rows.now old.desk.journal (omega arith, refl)),
+          (halts_unbegun c.args.session.now.admission.now (Serving Output) c.args.rows.now old.desk.journal (omega arith, refl)),
       λ other. absurd (other is),
       λ tells f left. kept_all g.D.Device.moment g.D.Device.left_since g.D.Device.seen g.D.Device.may_leave old (c.requires tells) f left,
     )

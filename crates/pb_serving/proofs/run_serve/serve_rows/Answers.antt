@@ -18,7 +18,8 @@ use Rattle.pb_script.specs.declared.script_fault.ScriptFault.TheVariants.{TooMan
 use Rattle.pb_script.specs.ScriptReading.{fault_of_row}
 use Rattle.pb_faults.specs.Fault.{line, told}
 use Rattle.pb_faults.specs.declared.fault.AppFault.{AppFault}
-use Rattle.pb_faults.specs.declared.fault.AppFault.TheVariants.{Memory, Output, Script, Write}
+use Rattle.pb_faults.specs.declared.fault.AppFault.TheVariants.{Memory, Script, Serving, Write}
+use Rattle.pb_faults.specs.declared.serving_fault.ServingFault.TheVariants.{Output}
 use Rattle.pb_serving.proofs.run_serve.serve_rows.Goals.{in-More, in-Refused+in_ok-say_refused-in-Refused}
 use Rattle.pb_serving.proofs.run_serve.serve_rows.Goals as goal
 
@@ -56,7 +57,7 @@ returns-in_err-answer-clause-stopped g c =
     let end = c.next_batch-end.result in
     let some : 0 < length asks = c.in_err-answer.ensures.some in
     let grown : new.desk.journal ≡ mid.desk.journal ++ entries_of asks asked.0 = asked.1 in
-    let full : why ≡ Output → length asked.0 ≡ length asks = λ is. asked.2 (c.in_err-answer.was ∙ ap (λ (f : AppFault). Err f) is) in
+    let full : why ≡ Serving Output → length asked.0 ≡ length asks = λ is. asked.2 (c.in_err-answer.was ∙ ap (λ (f : AppFault). Err f) is) in
     let given : HasGiven c.args.rows.now c.next_batch-end.new.rows (c.loop.row + (length asks + refused end)) = gives c.args.rows.now c.loop.rows c.next_batch-end.new.rows c.loop.row (length asks + refused end) inv.given c.next_batch-end.ensures.given in
     if_err c.from_residual.result why _ c.from_residual.ensures.1 (
       mid.desk.journal,
@@ -301,7 +302,7 @@ returns-in_err-say_refused-in-Refused-clause-stopped g c =
     let given = gives c.args.rows.now c.loop.rows c.next_batch-end.new.rows c.loop.row (length asks + refused (end.Refused c.in-Refused.why)) inv.given (subst (λ (e : BatchEnd). HasGiven c.loop.rows c.next_batch-end.new.rows (length asks + refused e)) c.in-Refused.is c.next_batch-end.ensures.given) in
     let sizes : c.loop.row + (length asks + 1) ≡ c.loop.row + length asks + (1 + 0) = omega arith in
     let why = c.in_err-say_refused-in-Refused.field-0.0 in
-    let is : why ≡ Output = c.in_err-say_refused-in-Refused.ensures.fault in
+    let is : why ≡ Serving Output = c.in_err-say_refused-in-Refused.ensures.fault in
     let whys : List Outcome = Err c.in-Refused.why ∷ [] in
     if_err c.from_residual-in_err-say_refused-in-Refused.result why _ c.from_residual-in_err-say_refused-in-Refused.ensures.1 (
       new.desk.journal,
