@@ -120,11 +120,12 @@ pub(crate) fn rules_of<R: Files + AllocGlobal>(
     rt: &R,
     admits: &Admits<'_>,
 ) -> Result<Rules, AppFault> {
+    let roll = roll_of(rt, admits.roll)?;
     Ok(Rules {
         by_id: admits.by_id,
         admission: Admission {
             ids: None,
-            roll: roll_of(rt, admits.roll)?,
+            roll,
             least: admits.least,
         },
     })

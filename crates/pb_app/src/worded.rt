@@ -76,7 +76,7 @@ pub(crate) fn words_file_words<R: Files>(
     path: &str,
     fault: &WordsFault,
 ) -> Result<String, AllocError> {
-    if *fault == WordsFault::ReadFailed {
+    if matches!(fault, WordsFault::ReadFailed) {
         return unread_words(rt, alloc, path);
     }
     let row = Text::new(rt, alloc, Some(path)).line_at(line_of(fault).unwrap_or(0))?;

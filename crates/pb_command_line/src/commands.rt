@@ -21,13 +21,14 @@ pub(crate) struct CommandForm {
 
 /// The tables of all commands, in the order in which the help lists them. A function that names a table is
 /// checked with all its texts, so each table is short, and a function of its own names it.
-pub(crate) fn tables() -> [&'static [CommandForm]; 5] {
+pub(crate) fn tables() -> [&'static [CommandForm]; 6] {
     [
         counts(),
         comparisons(),
         publications(),
         checks(),
         journals(),
+        servings(),
     ]
 }
 
@@ -155,7 +156,7 @@ const CHECKS: &[CommandForm] = &[
     },
 ];
 
-/// The commands that read or write the journal of a desk.
+/// The commands that read the journal of a desk.
 fn journals() -> &'static [CommandForm] {
     JOURNALS
 }
@@ -197,10 +198,16 @@ const JOURNALS: &[CommandForm] = &[
             PROGRESS,
         ],
     },
-    CommandForm {
-        name: "serve",
-        notes: AFTER_SERVE,
-        about: "Runs a desk: takes requests from standard input, and writes each to the journal on disk before it answers",
-        arguments: &[SERVED, DURABLE, OTHER_FILE, BY_ID, ROLL, LEAST, QUIET_SERVE],
-    },
 ];
+
+/// The command that writes the journal of a desk.
+fn servings() -> &'static [CommandForm] {
+    SERVINGS
+}
+
+const SERVINGS: &[CommandForm] = &[CommandForm {
+    name: "serve",
+    notes: AFTER_SERVE,
+    about: "Runs a desk: takes requests from standard input, and writes each to the journal on disk before it answers",
+    arguments: &[SERVED, DURABLE, OTHER_FILE, BY_ID, ROLL, LEAST, QUIET_SERVE],
+}];

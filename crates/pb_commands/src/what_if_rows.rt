@@ -27,7 +27,7 @@ use std::alloc::Global;
 use std::thread::Threads;
 
 /// Which changes of an election are counted.
-#[derive(Clone, Copy, Debug, PartialEq, Eq)]
+#[derive(Clone, Copy)]
 pub enum Changes {
     /// Costs and numbers of further voters are searched.
     Searched,

@@ -212,13 +212,19 @@ impl Watch for Carried {
 /// The places of the columns in a row of column names whose names are not these, and did not come before.
 fn further_places(alloc: Global, names: &ByteRecord, own: &[&str]) -> Result<Vec<usize>, NoMemory> {
     let mut came = Names::of(alloc, own)?;
+    let places = new_places(alloc, names, &mut came);
+    drop(came);
+    places
+}
+
+/// The places of the columns in a row of column names whose names did not come before.
+fn new_places(alloc: Global, names: &ByteRecord, came: &mut Names) -> Result<Vec<usize>, NoMemory> {
     let mut places = Vec::new(alloc);
     for place in 0..names.len() {
         if came.take(text_at(names, place))? {
             places.push(place)?;
         }
     }
-    drop(came);
     Ok(places)
 }
 

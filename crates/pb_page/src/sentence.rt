@@ -15,26 +15,7 @@ pub(crate) fn with_places(
     entry: &Entry,
     line: WordsLine,
 ) -> Result<String, WordsFault> {
-    let mut made = String::new(alloc);
-    let mut is_first = true;
-    for part in text.split('{') {
-        let (name, text) = if is_first {
-            (None, part)
-        } else {
-            match part.split_once('}') {
-                Some((name, text)) => (Some(name), text),
-                None => return Err(WordsFault::LoneBrace(line)),
-            }
-        };
-        is_first = false;
-        if let Some(name) = name {
-            made.push(place_named(entry, name).ok_or(WordsFault::UnknownPlace(line))?)?;
-        }
-        if text.contains('}') {
-            return Err(WordsFault::LoneBrace(line));
-        }
-        made.push_str(text)?;
-    }
+    let made = placed(alloc, text, entry, line)?;
     match misplaced(made.as_str(), entry) {
         None => Ok(made),
         Some((place, 0)) => Err(WordsFault::MissingPlace(line, place)),
@@ -42,13 +23,55 @@ pub(crate) fn with_places(
     }
 }
 
+/// The sentence of a line with a byte in the place of each name, whatever places it has.
+fn placed(alloc: Global, text: &str, entry: &Entry, line: WordsLine) -> Result<String, WordsFault> {
+    let mut made = String::new(alloc);
+    let mut is_first = true;
+    for part in text.split('{') {
+        put_part(&mut made, entry, part, is_first, line)?;
+        is_first = false;
+    }
+    Ok(made)
+}
+
+/// Puts a part of the line behind those before it. Each part but the first begins with the name of a place.
+fn put_part(
+    made: &mut String,
+    entry: &Entry,
+    part: &str,
+    is_first: bool,
+    line: WordsLine,
+) -> Result<(), WordsFault> {
+    let text = if is_first {
+        part
+    } else {
+        put_place(made, entry, part, line)?
+    };
+    if text.contains('}') {
+        return Err(WordsFault::LoneBrace(line));
+    }
+    made.push_str(text)?;
+    Ok(())
+}
+
+/// Puts the byte of the place whose name a part begins with: the text behind the name.
+fn put_place<'a>(
+    made: &mut String,
+    entry: &Entry,
+    part: &'a str,
+    line: WordsLine,
+) -> Result<&'a str, WordsFault> {
+    let (name, text) = part.split_once('}').ok_or(WordsFault::LoneBrace(line))?;
+    made.push(place_named(entry, name).ok_or(WordsFault::UnknownPlace(line))?)?;
+    Ok(text)
+}
+
 /// The byte of the place with this name.
 fn place_named(entry: &Entry, name: &str) -> Option<char> {
-    let number = entry.numbers.iter().position(|place| *place == name);
-    let place = match number {
+    let place = match position_of(entry.numbers, name) {
         Some(place) => place,
         None => {
-            let noun = entry.nouns.iter().position(|place| *place == name)?;
+            let noun = position_of(entry.nouns, name)?;
             entry.numbers.len().saturating_add(noun)
         }
     };
@@ -57,6 +80,11 @@ fn place_named(entry: &Entry, name: &str) -> Option<char> {
     } else {
         None
     }
+}
+
+/// Which of these names it is, from 0.
+fn position_of(names: &[&str], name: &str) -> Option<usize> {
+    names.iter().position(|other| *other == name)
 }
 
 /// The first place of a number that is not there once, and how many times it is there.

@@ -277,8 +277,8 @@ fn is_value(index: usize, text: &str) -> bool {
 
 /// Whether a language with this rule has a sentence with this key.
 fn is_needed(key: &str, plural: Plural) -> bool {
-    let has_one = plural != Plural::Same;
-    let has_few = plural == Plural::Polish;
+    let has_one = !matches!(plural, Plural::Same);
+    let has_few = matches!(plural, Plural::Polish);
     (has_one || !key.ends_with(".one")) && (has_few || !key.ends_with(".few"))
 }
 

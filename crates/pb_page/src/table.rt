@@ -20,14 +20,23 @@ macro_rules! plain {
 
 /// How many sentences there are.
 pub fn entries() -> usize {
-    first().len().saturating_add(later().len())
+    let early = first().len().saturating_add(middle().len());
+    early.saturating_add(later().len())
 }
 
 /// The sentence at this index.
 pub fn entry_at(index: usize) -> Option<Entry> {
     match first().get(index) {
         Some(entry) => Some(*entry),
-        None => later_at(index.saturating_sub(first().len())),
+        None => middle_at(index.saturating_sub(first().len())),
+    }
+}
+
+/// The sentence at this index of those behind the first ones.
+fn middle_at(index: usize) -> Option<Entry> {
+    match middle().get(index) {
+        Some(entry) => Some(*entry),
+        None => later_at(index.saturating_sub(middle().len())),
     }
 }
 
@@ -51,11 +60,15 @@ pub(crate) fn entry_of(key: &str) -> Option<(usize, Entry)> {
     None
 }
 
-// The sentences are in two lists, each with a function of its own, since a proof writes out all texts of a
+// The sentences are in three lists, each with a function of its own, since a proof writes out all texts of a
 // constant.
 
 fn first() -> &'static [Entry] {
     FIRST
+}
+
+fn middle() -> &'static [Entry] {
+    MIDDLE
 }
 
 fn later() -> &'static [Entry] {
@@ -153,6 +166,10 @@ const FIRST: &[Entry] = &[
         nouns: &[],
         english: "{number} or more",
     },
+];
+
+/// The sentences behind them, on how it was counted and how to check it.
+const MIDDLE: &[Entry] = &[
     plain!("rule.heading", "How it was counted"),
     Entry {
         key: "rule.share",
@@ -220,7 +237,7 @@ const FIRST: &[Entry] = &[
     ),
 ];
 
-/// The sentences behind them, in the same order. A noun has a row for each of its forms.
+/// The sentences behind those, in the same order. A noun has a row for each of its forms.
 const LATER: &[Entry] = &[
     plain!("compared.heading", "Compared with most votes"),
     plain!(

@@ -8,7 +8,7 @@ use pb_core::no_memory::NoMemory;
 use std::alloc::{AllocError, AllocFailed};
 
 /// A key of a file of words.
-#[derive(Clone, Copy, Debug, PartialEq, Eq)]
+#[derive(Clone, Copy)]
 pub enum Key {
     Plural,
     Group,
@@ -38,7 +38,7 @@ impl Key {
 }
 
 /// A line of a file of words, where its key is known.
-#[derive(Clone, Copy, Debug, PartialEq, Eq)]
+#[derive(Clone, Copy)]
 pub struct WordsLine {
     /// Its number, from 1.
     pub number: u32,
@@ -46,7 +46,7 @@ pub struct WordsLine {
 }
 
 /// Why a file of words is refused. Lines have their numbers from 1.
-#[derive(Clone, Copy, Debug, PartialEq, Eq)]
+#[derive(Clone, Copy)]
 pub enum WordsFault {
     /// This line is not UTF-8.
     NotText(u32),

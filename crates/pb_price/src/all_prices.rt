@@ -1,12 +1,13 @@
 //! The prices of a list of projects, by several workers.
 
 ghost use Rattle.std.specs.Prelude.{◌≡◌, ◌+◌, ◌<◌, ◌≤◌, [], All, length, map, max, min, true, Err, IfOk};
-ghost use Rattle.std.specs.Prelude.{OnOk, OnErr, MatchBool, IsOkUnless};
+ghost use Rattle.std.specs.Prelude.{OnOk, OnErr, MatchBool, IsOkUnless, List, ℕ};
 ghost use Rattle.std.specs.List.{AllZip};
 ghost use Rattle.pb_core.specs.Election.{most_projects};
 ghost use Rattle.pb_price.specs.Inner.Claims.{drawn};
 ghost use Rattle.pb_price.specs.Price.{price_at, AreRests, IsPrice, largest_count};
 ghost use Rattle.pb_price.specs.PriceFault.{is_worker_count};
+ghost use Rattle.pb_price.specs.Supporters.{SupportView};
 ghost use Rattle.pb_price.specs.Inner.Working.{AreGathered, IsBatch, IsDone};
 
 use crate::claims::rule::Batch;
@@ -220,7 +221,22 @@ fn work_side_by_side<
             × IsDone pieces.entry.now.supporters.now pieces.entry.now.rests.now pieces.entry.now.projects.now
             w.claim.seat.me.0 w.answers.items) }
     { worker.work(claims, pieces) };
-    let mut ended = thread::map_vec(rt, staff, &work)?;
+    let ended = thread::map_vec(rt, staff, &work)?;
+    all_done(alloc, ended)
+}
+
+/// The workers that have stopped, the last one first, unless one of them was refused memory.
+fn all_done<A: Allocator>(
+    alloc: A,
+    mut ended: Vec<Result<Worker<A>, NoMemory>, A>,
+) -> Result<Vec<Worker<A>, A>, NoMemory>
+    ensures all { IfOk result (λ done. length done.items ≡ length ended.items) }
+    ensures done { (id : _) (s : SupportView) (rests projects : List ℕ)
+        → All (λ r. IfOk r (λ w. (w.claim.seat.table_id ≡ id)
+        × IsDone s rests projects w.claim.seat.me.0 w.answers.items)) ended.items
+        → IfOk result (λ done. All (λ w. (w.claim.seat.table_id ≡ id)
+        × IsDone s rests projects w.claim.seat.me.0 w.answers.items) done.items) }
+{
     let mut done = Vec::with_capacity(alloc, ended.len())?;
     while let Some(worker) = ended.pop() {
         done.push(worker?)?;

@@ -7,7 +7,7 @@ use std::marker::Model;
 
 /// How many prices were computed, and how many workers computed them, list by list. At the largest `u64`
 /// either stays there.
-#[derive(Debug, Drop)]
+#[derive(Drop)]
 pub struct Tally {
     prices: u64,
     workers: u64,

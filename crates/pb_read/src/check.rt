@@ -77,7 +77,10 @@ pub fn check_pb<R: Read + Drop, W: Watch>(
         IfOk result (λ checked. IsHandedOut (records_of bytes) checked.faults.items checked.election)) }
 {
     let mut records = Records::new(alloc, reader);
-    check_records(alloc, &mut records, watch)
+    let checked = check_records(alloc, &mut records, watch);
+    // Letting go of them by a call keeps this function's proof short.
+    drop(records);
+    checked
 }
 
 /// Checks these records.

@@ -1,6 +1,7 @@
 //! The ids of an election's projects, for those who name projects by them.
 
-ghost use Rattle.std.specs.Prelude.{◌≡◌, ◌≢◌, IfOk, map, string_bytes, true};
+ghost use Rattle.std.specs.Prelude.{◌≡◌, ◌≢◌, ◌++◌, ◌∷◌, [], IfOk, OnOk, map, string_bytes, true};
+ghost use Rattle.std.specs.FinMap as places;
 ghost use Rattle.std.specs.List.{AllPairs};
 ghost use Rattle.pb_core.specs.Ballot.{HasSameMembers};
 ghost use Rattle.pb_core.specs.Election.{project_ids};
@@ -39,9 +40,8 @@ impl ProjectIds {
         let mut ids = Vec::new(alloc);
         let mut table = IdTable::new(alloc);
         for project in election.projects() {
-            let id = project.id();
-            table.insert(alloc, id, ids.len() as u32)?;
-            ids.push(String::from_str(alloc, id)?)?;
+            let place = ids.len() as u32;
+            note(alloc, &mut ids, &mut table, project.id(), place)?;
         }
         Ok(ProjectIds { ids, table })
     }
@@ -55,4 +55,21 @@ impl ProjectIds {
     {
         find_places(&self.table, vote, places)
     }
+}
+
+/// Notes the next project's id, and its place.
+fn note(
+    alloc: Global,
+    ids: &mut Vec<String>,
+    table: &mut IdTable,
+    id: &str,
+    place: u32,
+) -> Result<(), NoMemory>
+    ensures ids { OnOk result (map string_bytes ids.new.items ≡ map string_bytes ids.old.items
+        ++ id.now ∷ []) }
+    ensures table { OnOk result (table.new ≡ places.insert table.old id.now place) }
+{
+    table.insert(alloc, id, place)?;
+    ids.push(String::from_str(alloc, id)?)?;
+    Ok(())
 }

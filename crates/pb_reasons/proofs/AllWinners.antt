@@ -1,5 +1,5 @@
 -- The winners: the elected and the added together.
-use Rattle.std.proofs.Common.{◌≡◌, ◌≢◌, ℕ, zero, suc, ◌+◌, ◌-◌, List, [], ◌∷◌, ◌++◌, Bool, false, true, map, refl, sym, ◌∙◌, ap, subst, arith, ◌||◌}
+use Rattle.std.proofs.Common.{◌≡◌, ◌≢◌, ℕ, zero, suc, ◌+◌, ◌-◌, List, [], ◌∷◌, ◌++◌, false, map, refl, sym, ◌∙◌, ap, subst, arith, ◌||◌}
 use Rattle.std.specs.Prelude.{◌==◌, All, AllPairs, sum_by}
 use Rattle.std.proofs.lemmas.Bool.{eqb-false, or_parts}
 use Rattle.std.proofs.lemmas.List.Elements.{All-append, All-map, All-weaker}

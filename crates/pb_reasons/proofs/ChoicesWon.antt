@@ -1,7 +1,6 @@
 -- How many of a ballot's choices won: those elected, and those added.
 use Rattle.std.proofs.Common.{◌≡◌, ℕ, ◌+◌, ◌-◌, Bool, false, true, cond, List, [], ◌∷◌, map, refl, sym, ◌∙◌, ap, subst, inl, inr, arith, ◌||◌}
 use Rattle.std.specs.Prelude.{◌==◌, All, count_by}
-use Rattle.std.specs.List.{range_with_len}
 use Rattle.std.proofs.lemmas.Bool.{cases_Bool, eqb-true, false≢true, false_from_ne_true}
 use Rattle.std.proofs.lemmas.List.Elements.{All-head, All-nil, All-tail}
 use Rattle.std.proofs.lemmas.List.Sums.{sum_by-cons}
@@ -15,7 +14,7 @@ use Rattle.pb_rounds.specs.Run.{ElectedView, is_elected}
 use Rattle.pb_reasons.specs.Comparison.{choices_of}
 use Rattle.pb_rounds.specs.declared.rule.FillUp.{FillUp}
 use Rattle.pb_rounds.specs.declared.rule.FillUp.TheVariants.{Nothing, MostVotes}
-use Rattle.pb_reasons.specs.Counted.{CountedView, IsCounted, counted, is_selected, winners_of}
+use Rattle.pb_reasons.specs.Counted.{CountedView, IsCounted, counted, winners_of}
 use Rattle.pb_reasons.specs.Reasons.{voter_reason}
 use Rattle.pb_reasons.proofs.AllWinners.{elected_are_taken, selected_are_winners}
 

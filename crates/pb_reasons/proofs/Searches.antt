@@ -1,17 +1,18 @@
 -- Rows of a search, and what ends one.
-use Rattle.std.proofs.Common.{◌≡◌, ◌≢◌, ◌<◌, ◌≤◌, ℕ, Bool, true, false, if◌then◌else◌, refl, sym, ◌∙◌, ap, arith}
-use Rattle.pb_core.specs.Election.{ElectionView}
+use Rattle.std.proofs.Common.{◌≡◌, ◌≢◌, ◌<◌, ◌≤◌, ℕ, Bool, true, false, if◌then◌else◌, get_or, length, refl, sym, ◌∙◌, ap, arith}
+use Rattle.pb_core.specs.Election.{ElectionView, IsElection, ProjectView}
 use Rattle.pb_rounds.specs.Counted.{IsCountFault}
 use Rattle.pb_rounds.specs.declared.count_fault.CountFault.{CountFault}
 use Rattle.pb_rounds.specs.declared.count_fault.CountFault.TheVariants.{WorkerCount, StepRange, RaisesRange, RaisesSpent, NoMemory}
 use Rattle.pb_reasons.specs.WhatIf.{CanBe, IsFound, IsTrue, Says, Seen}
-use Rattle.pb_reasons.specs.Inner.Searching.{AreEnds, AreNear, AreOpposed, HasWon, IsStop, wins}
+use Rattle.pb_reasons.specs.Inner.Searching.{AreEnds, AreNear, AreOpposed, HasWon, IsSaid, IsStop, wins}
 use Rattle.pb_reasons.specs.declared.changes.change.Change.{Change}
 use Rattle.pb_reasons.specs.declared.changes.change.Change.TheVariants.{Cost, Voters}
 use Rattle.pb_reasons.specs.declared.changes.change.Row.{Row}
 use Rattle.pb_reasons.specs.declared.changes.change.Verdict.{Verdict}
 use Rattle.pb_reasons.specs.declared.changes.change.Verdict.TheVariants.{Lost, Won, Refused}
 use Rattle.pb_reasons.specs.declared.changes.question.Question.{Question}
+use Rattle.pb_reasons.proofs.Changed.{known}
 
 lost_refused : Lost ≢ Refused
 lost_refused same = cc
@@ -140,3 +141,13 @@ says_won e q (o, is, won) = (o, is, ap (λ (b : Bool). if b then Won else Lost) 
 
 pub says_lost : (e : ElectionView) (q : Question) → HasWon e q false → Says e q Lost
 says_lost e q (o, is, lost) = (o, is, ap (λ (b : Bool). if b then Won else Lost) (sym lost))
+
+-- what a count says, and what is known of the project with its own cost
+pub said : (e : ElectionView) (q : Question) (p : ProjectView) (won : Bool) → IsElection e → q.place < length e.projects
+    → p ≡ get_or e.projects q.place p → HasWon e q won → IsSaid e q p.cost won
+said e q p true is within at has =
+    let says = says_won e q has in
+    record { says = says; known = known e q p Won is within at says }
+said e q p false is within at has =
+    let says = says_lost e q has in
+    record { says = says; known = known e q p Lost is within at says }

@@ -4,7 +4,6 @@ use Rattle.pb_core.specs.Election.{ElectionView}
 use Rattle.pb_price.specs.Supporters.{cost_at, support_of}
 use Rattle.pb_rounds.specs.Count.{spent_on}
 use Rattle.pb_reasons.specs.Counted.{CountedView}
-use Rattle.pb_rounds.specs.Run.{ElectedView}
 use Rattle.pb_reasons.specs.declared.totals.Totals.{Totals}
 
 -- what the elected and the added cost together, and what was paid beyond the costs of the elected

@@ -2,6 +2,7 @@
 
 ghost use Rattle.std.specs.Prelude.{◌≡◌, IfOk};
 ghost use Rattle.pb_reasons.specs.BesideVotes.{beside_votes, elected_by_votes};
+ghost use Rattle.pb_reasons.specs.Comparison.{comparison_of};
 
 use crate::comparison::{Comparison, compare};
 use crate::counted::Counted;
@@ -28,6 +29,22 @@ pub fn compare_with_votes(
     ensures { IfOk result (λ rules. rules ≡ beside_votes election.now counted.now) }
 {
     let winners = counted.winners(alloc)?;
+    let compared = compare_beside_votes(alloc, election, winners.as_slice());
+    drop(winners);
+    compared
+}
+
+/// Compares the winners at these places with what most votes first elects.
+fn compare_beside_votes(
+    alloc: Global,
+    election: &Election,
+    winners: &[u32],
+) -> Result<Comparison, NoMemory>
+    ensures { IfOk result (λ rules. rules
+        ≡ comparison_of election.now winners.now (elected_by_votes election.now)) }
+{
     let other = elected_by_votes(alloc, election)?;
-    compare(alloc, election, winners.as_slice(), other.as_slice())
+    let compared = compare(alloc, election, winners, other.as_slice());
+    drop(other);
+    compared
 }

@@ -10,7 +10,7 @@ use pb_core::no_memory::NoMemory;
 use std::alloc::Global;
 
 /// Two rules side by side: each one's row, beside the other.
-#[derive(Clone, Copy, Debug, PartialEq, Eq)]
+#[derive(Clone, Copy)]
 pub struct Comparison {
     /// The rule that is asked of.
     pub own: RuleRow,

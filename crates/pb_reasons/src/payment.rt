@@ -3,7 +3,7 @@
 use pb_core::money::Money;
 
 /// What a voter paid for an elected project.
-#[derive(Clone, Copy, Debug, PartialEq, Eq)]
+#[derive(Clone, Copy)]
 pub struct Payment {
     /// The project's place in the file, from 0.
     pub place: u32,

@@ -3,7 +3,7 @@
 use pb_core::money::Money;
 
 /// How an elected project was paid.
-#[derive(Clone, Copy, Debug, PartialEq, Eq)]
+#[derive(Clone, Copy)]
 pub struct Won {
     /// The round that elected it, from 1.
     pub round: u32,
@@ -16,14 +16,14 @@ pub struct Won {
 }
 
 /// A project that is added by votes to the elected.
-#[derive(Clone, Copy, Debug, PartialEq, Eq)]
+#[derive(Clone, Copy)]
 pub struct Added {
     /// Its number in the order in which projects are added, from 1.
     pub number: u64,
 }
 
 /// What a project that is neither elected nor added lacked.
-#[derive(Clone, Copy, Debug, PartialEq, Eq)]
+#[derive(Clone, Copy)]
 pub struct Lost {
     /// What its supporters have left together, in hundredths.
     pub left: Money,
@@ -32,7 +32,7 @@ pub struct Lost {
 }
 
 /// How a project ended.
-#[derive(Clone, Copy, Debug, PartialEq, Eq)]
+#[derive(Clone, Copy)]
 pub enum Ending {
     /// It is elected.
     Won(Won),
@@ -43,7 +43,7 @@ pub enum Ending {
 }
 
 /// Why a project is elected or added, or is neither.
-#[derive(Clone, Copy, Debug, PartialEq, Eq)]
+#[derive(Clone, Copy)]
 pub struct ProjectReason {
     /// How many ballots approve it.
     pub votes: u32,

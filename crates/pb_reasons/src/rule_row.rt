@@ -7,7 +7,7 @@ ghost use Rattle.pb_reasons.specs.Inner.Comparing.{IsSmall, with_voter};
 use crate::content::Content;
 
 /// What the winners by a rule cost, and what they are to the voters, beside the winners by another rule.
-#[derive(Clone, Copy, Debug, PartialEq, Eq)]
+#[derive(Clone, Copy)]
 pub struct RuleRow {
     /// How many projects win.
     pub projects: usize,

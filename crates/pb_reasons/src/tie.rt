@@ -2,7 +2,7 @@
 
 /// A tie that the order of the file decided: two projects whose prices were as good as each other in a round,
 /// of which the round elected one, and no later round the other.
-#[derive(Clone, Copy, Debug, PartialEq, Eq)]
+#[derive(Clone, Copy)]
 pub struct Tie {
     /// The number of the round, from 1.
     pub round: usize,

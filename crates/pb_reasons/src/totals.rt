@@ -14,7 +14,7 @@ use pb_core::money::Money;
 use pb_rounds::outcome::{Elected, Outcome};
 
 /// What those come to together that a count elects and adds.
-#[derive(Clone, Copy, Debug, PartialEq, Eq)]
+#[derive(Clone, Copy)]
 pub struct Totals {
     /// What they cost, in hundredths.
     pub spent: Money,

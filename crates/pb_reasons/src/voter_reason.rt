@@ -3,7 +3,7 @@
 use pb_core::money::Money;
 
 /// What a voter's ballot came to.
-#[derive(Clone, Copy, Debug, PartialEq, Eq)]
+#[derive(Clone, Copy)]
 pub struct VoterReason {
     /// How many projects the ballot approves.
     pub votes: u32,

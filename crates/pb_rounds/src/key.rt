@@ -9,7 +9,7 @@ use std::marker::Model;
 /// What a round orders projects by: the smaller price over weight comes first, and among equals the project
 /// that stands earlier in the file. (The place decides before the weight, which only tells apart keys that
 /// are made by hand.)
-#[derive(Clone, Copy, Debug, PartialEq, Eq)]
+#[derive(Clone, Copy, PartialEq, Eq)]
 pub struct Key {
     price: Money,
     weight: u64,

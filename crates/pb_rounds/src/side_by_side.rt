@@ -259,19 +259,43 @@ where
             × MatchOption found ⊤ (λ raises. raises ≤ self.now.max_raises)) }
     {
         let pricing = self.pricing;
-        let supporters = pricing.supporters;
-        let processors = processors(pricing.rt);
-        let workers = workers_for_trials(pricing.workers, supporters);
         let opening = opening_share(self.election);
-        let mut front = Front::open(pricing.alloc, pricing.measure, supporters, opening)?;
+        let mut front = Front::open(pricing.alloc, pricing.measure, pricing.supporters, opening)?;
+        let found = self.decide_behind(&mut front, team, from);
+        drop(front);
+        found
+    }
+
+    /// How many raises the completion decides on, from this number on, none before which decides. The front
+    /// is at a share that is no larger, and goes on with the raises.
+    fn decide_behind(
+        &self,
+        front: &mut Front<'_, A>,
+        team: &mut Team<A>,
+        from: u32,
+    ) -> Result<Option<u32>, NoMemory>
+        requires given { CanComplete self.now.election.now self.now.pricing.now.workers
+            self.now.pricing.now.supporters.now self.now.step self.now.max_raises }
+        requires front { IsFront front.old }
+        requires of { IsFrontAt self.now.pricing.now.measure self.now.pricing.now.supporters.now
+            front.old.outcome.share front.old }
+        requires share { front.old.outcome.share ≤ share_after self.now.election.now self.now.step from }
+        requires from { from ≤ self.now.max_raises + 1 }
+        requires few { length team.old.trials.items ≤ 64 }
+        requires tried { (raises : ℕ) → raises < from
+            → is_decisive self.now.pricing.now.measure self.now.election.now self.now.step raises ≡ false }
+        ensures { IfOk result (λ found.
+            (add1_of self.now.pricing.now.measure self.now.election.now self.now.step
+            self.now.max_raises ≡ found)
+            × MatchOption found ⊤ (λ raises. raises ≤ self.now.max_raises)) }
+    {
+        let pricing = self.pricing;
+        let processors = processors(pricing.rt);
+        let workers = workers_for_trials(pricing.workers, pricing.supporters);
         let mut next = from;
         while next <= self.max_raises {
-            let left = self.max_raises + 1 - next;
-            let share = raised_share(opening, next, self.step);
-            pricing.gate.raised(next, share);
-            front.extend(share)?;
-            resize(pricing.alloc, &mut team.trials, workers, processors, left)?;
-            if let Some(raises) = self.try_raises(&front, &mut team.trials, next)? {
+            self.prepare_group(front, &mut team.trials, next, workers, processors)?;
+            if let Some(raises) = self.try_raises(front, &mut team.trials, next)? {
                 return Ok(Some(raises));
             }
             tell_pace(&mut team.pace, team.trials.as_slice());
@@ -284,6 +308,40 @@ where
             )?;
         }
         Ok(None)
+    }
+
+    /// Prepares the group of raises from this number on: the front goes on at the share of the first, and
+    /// there is a trial for each.
+    fn prepare_group(
+        &self,
+        front: &mut Front<'_, A>,
+        trials: &mut Vec<Trial<A>, A>,
+        next: u32,
+        workers: u32,
+        processors: u32,
+    ) -> Result<(), NoMemory>
+        requires given { CanComplete self.now.election.now self.now.pricing.now.workers
+            self.now.pricing.now.supporters.now self.now.step self.now.max_raises }
+        requires front { IsFront front.old }
+        requires of { IsFrontAt self.now.pricing.now.measure self.now.pricing.now.supporters.now
+            front.old.outcome.share front.old }
+        requires share { front.old.outcome.share ≤ share_after self.now.election.now self.now.step next }
+        requires next { next ≤ self.now.max_raises }
+        requires last { length trials.old.items ≤ 64 }
+        requires workers { (0 < workers) × (workers ≤ 64) × (0 < processors) }
+        ensures front { OnOk result (IsFront front.new) }
+        ensures of { OnOk result (IsFrontAt self.now.pricing.now.measure self.now.pricing.now.supporters.now
+            (share_after self.now.election.now self.now.step next) front.new) }
+        ensures some { OnOk result (0 < length trials.new.items) }
+        ensures few { OnOk result (length trials.new.items ≤ 64) }
+        ensures within { OnOk result (next + length trials.new.items ≤ self.now.max_raises + 1) }
+    {
+        let opening = opening_share(self.election);
+        let share = raised_share(opening, next, self.step);
+        self.pricing.gate.raised(next, share);
+        front.extend(share)?;
+        let left = self.max_raises + 1 - next;
+        resize(self.pricing.alloc, trials, workers, processors, left)
     }
 }
 

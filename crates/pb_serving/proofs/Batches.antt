@@ -1,7 +1,7 @@
 -- How a batch grows by a row.
-use Rattle.std.proofs.Common.{◌≡◌, ◌∙◌, zero, suc, ◌<◌, List, [], ◌∷◌, ◌++◌, Bool, true, false, Option, Some, None, refl, sym, ap, subst, arith, append_assoc}
+use Rattle.std.proofs.Common.{◌≡◌, ◌∙◌, ℕ, zero, suc, ◌+◌, ◌<◌, List, [], ◌∷◌, ◌++◌, Bool, true, false, Option, Some, None, Ok, Err, refl, sym, ap, subst, arith, append_assoc}
 use Rattle.std.specs.List.{All, AllZip}
-use Rattle.std.specs.Prelude.{MatchOption, if◌then◌else◌, not}
+use Rattle.std.specs.Prelude.{if◌then◌else◌, not}
 use Rattle.std.proofs.lemmas.List.{append-nil}
 use Rattle.std.proofs.lemmas.List.Elements.{All-append, All-cons, All-nil}
 use Rattle.pb_core.specs.Request.{EntryView, asked}
@@ -13,13 +13,14 @@ use Rattle.pb_script.specs.declared.admission.RowRefusal.TheVariants as refusal
 use Rattle.pb_serving.specs.Inner.OnRoll.{AddsOnRoll}
 use Rattle.pb_desk.specs.Replay.{most_clerks}
 use Rattle.pb_rows.specs.Reading.{Fields, IsNext}
-use Rattle.pb_script.specs.RequestRows.{IsRequestRow}
-use Rattle.pb_script.specs.Inner.ScriptReading.{HaveGone, NoneLeft}
+use Rattle.pb_script.specs.Inner.ScriptReading.{HaveGone}
 use Rattle.pb_script.specs.declared.admission.Admission.{Admission}
-use Rattle.pb_script.specs.declared.request_rows.RequestRow.{RequestRow}
-use Rattle.pb_script.specs.declared.request_rows.RequestRow.TheVariants as row
 use Rattle.pb_durable.specs.declared.clerk_request.ClerkRequest.{ClerkRequest}
-use Rattle.pb_serving.specs.Inner.Batch.{IsRowAsking}
+use Rattle.pb_script.specs.RowsView.{HasFailed, HasGiven, RowsView}
+use Rattle.pb_serving.specs.Inner.Batch.{refused, IsBatch, IsNextAsk, IsRowAsking}
+use Rattle.pb_serving.specs.declared.batch.BatchEnd.{BatchEnd}
+use Rattle.pb_serving.specs.declared.batch.BatchEnd.TheVariants as ends
+use Rattle.pb_serving.proofs.Answering.{gives, not_stopped}
 
 -- these records were read, and ask this
 pub record HasRows (ad : Admission) (left after : Option (List Fields)) (asks : List ClerkRequest) : Type 0 where
@@ -52,16 +53,41 @@ row_more ad left mid after asks a fields h next asked = record {
   gone = gone-more left mid after h.rows fields h.gone next;
 }
 
--- the next record is that of this row
-abbrev Takes : Admission → Option (List Fields) → Option (List Fields) → RequestRow → Type 0
-Takes ad left after row = (fields : Fields) × IsNext left after true fields × IsRequestRow ad fields row
+-- a row that asks was read behind a batch
+pub ask_more : (ad : Admission) (left : Option (List Fields)) (before after : RowsView) (asks : List ClerkRequest) (ask : ClerkRequest) → HasRows ad left before.left asks → IsNextAsk ad before after (Ok ask) → HasRows ad left after.left (asks ++ ask ∷ [])
+ask_more ad left before after asks ask h next = row_more ad left before.left after.left asks ask next.0 h next.1 next.2
 
--- the next row asks this
-pub asks_more : (ad : Admission) (left mid after : Option (List Fields)) (asks : List ClerkRequest) (next : Option RequestRow) (a : ClerkRequest) → next ≡ Some (row.Asks a.clerk a.request)
-    → MatchOption next (NoneLeft mid) (Takes ad mid after) → HasRows ad left mid asks → HasRows ad left after (asks ++ a ∷ [])
-asks_more ad left mid after asks next a is takes h =
-    let t : Takes ad mid after (row.Asks a.clerk a.request) = subst (λ (n : Option RequestRow). MatchOption n (NoneLeft mid) (Takes ad mid after)) is takes in
-    row_more ad left mid after asks a t.0 h t.1 t.2
+-- a batch ends behind these rows
+pub ends_batch : (ad : Admission) (left : Option (List Fields)) (before after : RowsView) (asks : List ClerkRequest) (end : BatchEnd) → HasRows ad left before.left asks → IsNextAsk ad before after (Err end) → IsBatch ad left after.left asks end
+ends_batch ad left before after asks ends.More h next = absurd next
+ends_batch ad left before after asks (ends.Refused why) h next = record {
+  rows = h.rows;
+  each = h.each;
+  goes_on = (next.0, next.2, gone-more left before.left after.left h.rows next.0 h.gone next.1);
+}
+ends_batch ad left before after asks ends.Over h next = record { rows = h.rows; each = h.each; goes_on = (before.left, h.gone, next.0) }
+ends_batch ad left before after asks ends.ReadFailed h next = record { rows = h.rows; each = h.each; goes_on = (before.left, h.gone) }
+ends_batch ad left before after asks ends.NoMemory h next = record { rows = h.rows; each = h.each; goes_on = (before.left, h.gone) }
+
+-- so many rows were given where a batch ends
+pub ends_given : (ad : Admission) (start before after : RowsView) (count : ℕ) (end : BatchEnd) → HasGiven start before count → IsNextAsk ad before after (Err end) → HasGiven start after (count + refused end)
+ends_given ad start before after count ends.More given next = absurd next
+ends_given ad start before after count (ends.Refused why) given next = gives start before after count 1 given next.3
+ends_given ad start before after count ends.Over given next = gives start before after count 0 given (λ fits. omega (arith, next.1))
+ends_given ad start before after count ends.ReadFailed given next = gives start before after count 0 given (λ fits. omega (arith, next.0))
+ends_given ad start before after count ends.NoMemory given next = gives start before after count 0 given (λ fits. omega (arith, next.0))
+
+-- a batch ends by this
+pub ends_by : (ad : Admission) (before after : RowsView) (end this : BatchEnd) → end ≡ this → IsNextAsk ad before after (Err end) → IsNextAsk ad before after (Err this)
+ends_by ad before after end this is next = subst (λ (e : BatchEnd). IsNextAsk ad before after (Err e)) is next
+
+-- where the reader has failed, a batch ends by that
+pub ends_failed : (ad : Admission) (before after : RowsView) (end : BatchEnd) → IsNextAsk ad before after (Err end) → HasFailed after → end ≡ ends.ReadFailed
+ends_failed ad before after ends.More next failed = absurd next
+ends_failed ad before after (ends.Refused why) next failed = absurd (not_stopped after next.4 failed)
+ends_failed ad before after ends.Over next failed = absurd (not_stopped after next.2 failed)
+ends_failed ad before after ends.ReadFailed next failed = refl
+ends_failed ad before after ends.NoMemory next failed = absurd (next.1 failed)
 
 -- the clerks of a batch are of this run
 pub asks_clerks : (ad : Admission) (rows : List Fields) (asks : List ClerkRequest) → AllZip (IsRowAsking ad) rows asks → All (λ (a : ClerkRequest). a.clerk < most_clerks) asks

@@ -2,7 +2,7 @@
 
 ghost use Rattle.std.specs.Prelude.{◌≡◌, ◌<◌, ◌≤◌, ◌+◌, [], length, None};
 ghost use Rattle.pb_script.specs.RowsView.{HasFailed, HasGiven};
-ghost use Rattle.pb_serving.specs.Inner.Batch.{refused, IsBatch};
+ghost use Rattle.pb_serving.specs.Inner.Batch.{refused, IsBatch, IsNextAsk};
 
 use crate::pace::Pace;
 use crate::session::Session;
@@ -15,7 +15,7 @@ use std::io::Read;
 const MOST_ROWS: usize = 4096;
 
 /// Why a batch ends.
-#[derive(Clone, Copy, PartialEq, Eq)]
+#[derive(Clone, Copy)]
 pub(crate) enum BatchEnd {
     /// It is large enough, or no further row is at hand.
     More,
@@ -51,18 +51,30 @@ pub(crate) fn next_batch<R: Read, P: Pace, N: Notice>(
         if asks.reserve(1).is_err() {
             return BatchEnd::NoMemory;
         }
-        match rows.next(alloc, session.admission, session.notice) {
-            Ok(Some(RequestRow::Asks(clerk, request))) => {
-                asks.push_reserved(ClerkRequest { clerk, request });
-            }
-            Ok(Some(RequestRow::Refused(why))) => return BatchEnd::Refused(why),
-            Ok(None) => return BatchEnd::Over,
-            Err(RowsFault::ReadFailed) => return BatchEnd::ReadFailed,
-            Err(RowsFault::NoMemory) => return BatchEnd::NoMemory,
+        match next_ask(alloc, rows, session) {
+            Ok(ask) => asks.push_reserved(ask),
+            Err(end) => return end,
         }
         if !session.pace.has_row() {
             break;
         }
     }
     BatchEnd::More
+}
+
+/// Reads what the next row asks, or why the batch ends before it.
+fn next_ask<R: Read, P: Pace, N: Notice>(
+    alloc: Global,
+    rows: &mut RequestRows<R>,
+    session: &Session<'_, P, N>,
+) -> Result<ClerkRequest, BatchEnd>
+    ensures { IsNextAsk session.now.admission.now rows.old rows.new result }
+{
+    match rows.next(alloc, session.admission, session.notice) {
+        Ok(Some(RequestRow::Asks(clerk, request))) => Ok(ClerkRequest { clerk, request }),
+        Ok(Some(RequestRow::Refused(why))) => Err(BatchEnd::Refused(why)),
+        Ok(None) => Err(BatchEnd::Over),
+        Err(RowsFault::ReadFailed) => Err(BatchEnd::ReadFailed),
+        Err(RowsFault::NoMemory) => Err(BatchEnd::NoMemory),
+    }
 }

@@ -13,7 +13,7 @@ use pb_witness::ids::Known;
 use pb_witness::text::Text;
 use pb_witness::voters::first_rows;
 use pb_witness::witness::{Refused, Witness};
-use std::alloc::{AllocError, Global};
+use std::alloc::Global;
 use std::rt::Files;
 
 /// How to see more of the rows of a text that can't be read again.
@@ -35,7 +35,10 @@ pub fn read_words<R: Files>(
     }
     let mut again = Witness::new(alloc);
     again.look_again(&Text::new(rt, alloc, path));
-    list_words(rt, alloc, path, &faults, &again)
+    let said = list_words(rt, alloc, path, &faults, &again);
+    // Letting go of it by a call keeps this function's proof short.
+    drop(again);
+    said
 }
 
 /// Words for these faults of the .pb file with this path, their records rising; no path is standard input.
@@ -48,35 +51,47 @@ pub fn list_words<R: Files>(
     witness: &Witness,
 ) -> Said {
     let mut out = Words::new(alloc);
-    let text = Text::new(rt, alloc, path);
     if !witness.is_whole {
         out.fail();
     }
-    put_faults(&mut out, &text, faults, witness)?;
+    put_faults(&mut out, &Text::new(rt, alloc, path), faults, witness);
     out.finish()
 }
 
 /// Puts what is said of these faults.
-fn put_faults<R: Files>(
+fn put_faults<R: Files>(out: &mut Words, text: &Text<R>, faults: &[ReadFault], witness: &Witness) {
+    let voters = first_rows(text, witness);
+    match &voters {
+        Ok(voters) => {
+            let known = Known {
+                ids: &witness.ids,
+                voters,
+            };
+            put_each_fault(out, text, faults, witness, &known)
+        }
+        Err(_) => out.fail(),
+    }
+    // Letting go of it by a call keeps this function's proof short.
+    drop(voters)
+}
+
+/// Puts what is said of each of these faults, where so much is known of ids.
+fn put_each_fault<R: Files>(
     out: &mut Words,
     text: &Text<R>,
     faults: &[ReadFault],
     witness: &Witness,
-) -> Result<(), AllocError> {
-    let voters = first_rows(text, witness)?;
-    let known = Known {
-        ids: &witness.ids,
-        voters: &voters,
-    };
+    known: &Known,
+) {
     let can_be_read = text.is_file();
     let mut names_row = false;
     for (place, fault) in faults.iter().enumerate() {
         match witness.refused.get(place) {
             Some(refused) if refused.fault == *fault => {
                 if can_be_read {
-                    put_fault(out, text, &known, refused)
+                    put_fault(out, text, known, refused)
                 } else {
-                    names_row |= put_from_input(out, text, &known, refused);
+                    names_row |= put_from_input(out, text, known, refused);
                 }
             }
             _ => put_unread(out, text, *fault),
@@ -85,7 +100,6 @@ fn put_faults<R: Files>(
     if names_row {
         out.put(ROWS_OF_INPUT);
     }
-    Ok(())
 }
 
 /// Puts what is wrong with a record that was refused, or with the end of the file, and what to do.

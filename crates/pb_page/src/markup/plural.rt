@@ -4,7 +4,7 @@ ghost use Rattle.std.specs.Prelude.{◌≡◌};
 ghost use Rattle.pb_page.specs.Words.{ends_in_few, form_of};
 
 /// How a language chooses among the forms of a noun.
-#[derive(Clone, Copy, Debug, PartialEq, Eq)]
+#[derive(Clone, Copy)]
 pub enum Plural {
     /// By nothing: a noun has one form.
     Same,

@@ -1,5 +1,5 @@
 -- How the ties of a round are looked for, with a lower bound of each price; private contracts speak of it.
-use Rattle.std.specs.Prelude.{◌≡◌, ℕ, ◌+◌, ◌*◌, ◌<◌, ◌≤◌, Bool, false, List, Option, Some, None, filter}
+use Rattle.std.specs.Prelude.{◌≡◌, ℕ, ◌*◌, ◌<◌, ◌≤◌, false, List, Option, Some, None, filter}
 use Rattle.std.specs.Prelude.{if◌then◌else◌, length, map, slice_index_or}
 use Rattle.std.specs.List.{range_with_len}
 use Rattle.pb_price.specs.Price.{price_at}

@@ -1,5 +1,5 @@
 -- What the parts of a search know.
-use Rattle.std.specs.Prelude.{◌≡◌, ◌≢◌, ℕ, ◌+◌, ◌<◌, ◌≤◌, Bool, true, false, Some}
+use Rattle.std.specs.Prelude.{◌≡◌, ◌≢◌, ℕ, ◌+◌, ◌<◌, ◌≤◌, Bool, true, false, Some, length, map, take}
 use Rattle.pb_core.specs.Election.{ElectionView}
 use Rattle.pb_reasons.specs.Counted.{counted, is_selected}
 use Rattle.pb_rounds.specs.CountFault.{refusal_of}
@@ -7,7 +7,8 @@ use Rattle.pb_rounds.specs.Counted.{IsCountOf}
 use Rattle.pb_rounds.specs.Outcome.{OutcomeView}
 use Rattle.pb_rounds.specs.declared.count_fault.CountFault.{CountFault}
 use Rattle.pb_rounds.specs.declared.count_fault.CountFault.TheVariants.{NoMemory, RaisesSpent}
-use Rattle.pb_reasons.specs.WhatIf.{CanBe, IsTrue, Seen}
+use Rattle.pb_reasons.specs.Inner.Numbered.{AreNumbered}
+use Rattle.pb_reasons.specs.WhatIf.{CanBe, IsTrue, Says, Seen, changed, seen}
 use Rattle.pb_reasons.specs.declared.changes.change.Change.{Change}
 use Rattle.pb_reasons.specs.declared.changes.change.Change.TheVariants.{Cost, Voters}
 use Rattle.pb_reasons.specs.declared.changes.change.Row.{Row}
@@ -23,6 +24,12 @@ HasWon e q won = (o : OutcomeView) × IsCountOf e q.rule.options o × (is_select
 abbrev pub further_of : Change → ℕ → ℕ
 further_of Cost value = 0
 further_of Voters value = value
+
+-- an election so changed, whose first voters are those that were lent to it
+pub record IsLent (s : Seen) (change : Change) (place value : ℕ) (e : ElectionView) : Type 0 where
+  pub so_changed : seen e ≡ changed change place value s
+  pub numbered : AreNumbered (length s.costs) (take (length s.ballots) e.voters)
+  pub ballots : map (λ v. v.ballot) (take (length s.ballots) e.voters) ≡ s.ballots
 
 -- a fault that ends a search: out of memory, or options that are out of their ranges
 pub record IsStop (q : Question) (fault : CountFault) : Type 0 where
@@ -60,3 +67,13 @@ pub record AreKnown (s : Seen) (q : Question) (cost : ℕ) (verdict : Verdict) :
   pub own : IsTrue s q Cost (record { value = cost; verdict = verdict })
   pub nobody : IsTrue s q Voters (record { value = 0; verdict = verdict })
   pub can_be : CanBe s Cost cost
+
+-- what the count of an election says that is not refused
+abbrev pub verdict_of : Bool → Verdict
+verdict_of true = Won
+verdict_of false = Lost
+
+-- what is known of the election and its project of this cost once it is known whether it has won
+pub record IsSaid (e : ElectionView) (q : Question) (cost : ℕ) (won : Bool) : Type 0 where
+  pub says : Says e q (verdict_of won)
+  pub known : AreKnown (seen e) q cost (verdict_of won)

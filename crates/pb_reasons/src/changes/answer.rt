@@ -10,7 +10,7 @@ ghost use Rattle.pb_rounds.specs.declared.count_fault.CountFault.TheVariants.{No
 ghost use Rattle.pb_reasons.specs.declared.changes.change.Change.TheVariants.{Cost, Voters};
 ghost use Rattle.pb_reasons.specs.declared.changes.change.Verdict.TheVariants.{Lost, Won};
 ghost use Rattle.pb_reasons.specs.WhatIf.{CanBe, IsFound, IsTrue, IsWhatIf, seen};
-ghost use Rattle.pb_reasons.specs.Inner.Searching.{AreKnown, IsStop};
+ghost use Rattle.pb_reasons.specs.Inner.Searching.{AreKnown, IsSaid, IsStop};
 
 use crate::changes::change::{Change, Row, Verdict};
 use crate::changes::changing::Changing;
@@ -41,19 +41,35 @@ pub fn what_if<T: Threads + Sync, G: Gate>(
         → IsCountFault election recount.now.question.rule.options fault) }
 {
     let cost = election.projects()[recount.question.place as usize].cost();
-    let won = match has_won(recount, &election) {
-        Ok(won) => won,
+    match has_won(recount, &election) {
+        Ok(won) => searched(recount, election, cost, won),
         Err(fault) => {
             drop(election);
-            return Err(fault);
+            Err(fault)
         }
-    };
+    }
+}
+
+/// Searches an election whose project costs so much, and has won or not.
+fn searched<T: Threads + Sync, G: Gate>(
+    recount: &Recount<T, G>,
+    election: Election,
+    cost: Money,
+    won: bool,
+) -> Result<WhatIf, CountFault>
+    requires known { recount.now.question.place < length election.projects }
+    requires said { IsSaid election recount.now.question cost won }
+    ensures found { IfOk result (IsWhatIf election recount.now.question cost) }
+    ensures fault { IfErr result (IsStop recount.now.question) }
+{
     let mut changing = Changing::of(recount.alloc, election)?;
-    if won {
+    let found = if won {
         winner(recount, &mut changing, cost)
     } else {
         loser(recount, &mut changing, cost)
-    }
+    };
+    drop(changing);
+    found
 }
 
 /// Counts an election that is changed once.
@@ -71,7 +87,9 @@ pub fn one_change<T: Threads + Sync, G: Gate>(
         → refusal_of recount.now.question.rule.options ≡ Some fault) }
 {
     let mut changing = Changing::of(recount.alloc, election)?;
-    changing.row(recount, change, value)
+    let row = changing.row(recount, change, value);
+    drop(changing);
+    row
 }
 
 /// What is found for a winner.
@@ -89,19 +107,35 @@ fn winner<T: Threads + Sync, G: Gate>(
         IsFound changing.old recount.now.question Voters 0 0 found.voters.first found.voters.second) }
     ensures fault { IfErr result (IsStop recount.now.question) }
 {
-    let own = row_of(cost.0, Verdict::Won);
     let nobody = row_of(0, Verdict::Won);
-    let most = (10 * cost.0).min(Money::LARGEST.0);
-    let found = if cost.0 < most {
-        let high = changing.row(recount, Change::Cost, most)?;
-        between(recount, changing, Change::Cost, own, high)?
-    } else {
-        alone(own)
-    };
+    let found = dearer(recount, changing, cost)?;
     Ok(WhatIf {
         cost: found,
         voters: alone(nobody),
     })
+}
+
+/// What is found of a winner's cost.
+fn dearer<T: Threads + Sync, G: Gate>(
+    recount: &Recount<T, G>,
+    changing: &mut Changing,
+    cost: Money,
+) -> Result<Found, CountFault>
+    requires known { recount.now.question.place < length changing.old.costs }
+    requires won { AreKnown changing.old recount.now.question cost Won }
+    ensures found { IfOk result (λ found.
+        IsFound changing.old recount.now.question Cost cost (min (10 * cost) largest_money)
+        found.first found.second) }
+    ensures fault { IfErr result (IsStop recount.now.question) }
+{
+    let own = row_of(cost.0, Verdict::Won);
+    let most = (10 * cost.0).min(Money::LARGEST.0);
+    if cost.0 < most {
+        let high = changing.row(recount, Change::Cost, most)?;
+        between(recount, changing, Change::Cost, own, high)
+    } else {
+        Ok(alone(own))
+    }
 }
 
 /// What is found for a loser.

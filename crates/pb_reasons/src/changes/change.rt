@@ -1,7 +1,7 @@
 //! Changes of an election, and what their counts say.
 
 /// What is changed of an election, for the sake of one project.
-#[derive(Clone, Copy, Debug, PartialEq, Eq)]
+#[derive(Clone, Copy)]
 pub enum Change {
     /// The project's cost, in hundredths.
     Cost,
@@ -10,7 +10,7 @@ pub enum Change {
 }
 
 /// What the count of a changed election says of the project.
-#[derive(Clone, Copy, Debug, PartialEq, Eq)]
+#[derive(Clone, Copy)]
 pub enum Verdict {
     /// The count neither elects nor adds it.
     Lost,
@@ -21,7 +21,7 @@ pub enum Verdict {
 }
 
 /// A value that is changed, and what the count of the election so changed says.
-#[derive(Clone, Copy, Debug, PartialEq, Eq)]
+#[derive(Clone, Copy)]
 pub struct Row {
     /// The cost, in hundredths, or the number of further voters.
     pub value: u64,

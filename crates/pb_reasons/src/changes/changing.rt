@@ -1,9 +1,10 @@
 //! An election that is changed for one count at a time.
 
-ghost use Rattle.std.specs.Prelude.{◌≡◌, ◌<◌, ◌≤◌, IfErr, IfOk, length};
+ghost use Rattle.std.specs.Prelude.{◌≡◌, ◌<◌, ◌≤◌, [], IfErr, IfOk, OnOk, length, map, take};
 ghost use Rattle.pb_core.specs.Election.{most_voters};
 ghost use Rattle.pb_reasons.specs.WhatIf.{CanBe, IsTrue, seen};
-ghost use Rattle.pb_reasons.specs.Inner.Searching.{IsStop, further_of};
+ghost use Rattle.pb_reasons.specs.Inner.Numbered.{AreNumbered};
+ghost use Rattle.pb_reasons.specs.Inner.Searching.{IsLent, IsStop, further_of};
 
 use crate::changes::change::{Change, Row};
 use crate::changes::frame::changed_frame;
@@ -81,7 +82,30 @@ impl Changing {
         ensures fault { IfErr result (IsStop recount.now.question) }
     {
         let (alloc, place) = (recount.alloc, recount.question.place);
-        let (own, projects) = (self.voters.len(), self.frame.projects().len());
+        let own = self.voters.len();
+        let changed = self.lend(alloc, change, place, value)?;
+        let verdict = verdict_of(recount, &changed);
+        self.take_back(alloc, changed, own);
+        Ok(Row {
+            value,
+            verdict: verdict?,
+        })
+    }
+
+    /// The election so changed, to which it lends its voters.
+    fn lend(
+        &mut self,
+        alloc: Global,
+        change: Change,
+        place: u32,
+        value: u64,
+    ) -> Result<Election, NoMemory>
+        requires known { place < length self.old.costs }
+        requires can_be { CanBe self.old change value }
+        ensures lent { IfOk result (IsLent self.old change place value) }
+        ensures left { OnOk result (self.new ≡ record self.old { ballots = [] }) }
+    {
+        let projects = self.frame.projects().len();
         let mut changed = changed_frame(alloc, &self.frame, change, place, value)?;
         let mut voters = mem::replace(&mut self.voters, Vec::new(alloc));
         add_further(
@@ -92,12 +116,19 @@ impl Changing {
             projects,
         )?;
         drop(changed.replace_voters(voters));
-        let verdict = verdict_of(recount, &changed)?;
+        Ok(changed)
+    }
+
+    /// Takes so many voters back from a changed election, and lets go of its further ones.
+    fn take_back(&mut self, alloc: Global, changed: Election, own: usize)
+        requires { AreNumbered (length self.old.costs) (take own changed.voters) }
+        ensures { self.new ≡ record self.old { ballots = map (λ v. v.ballot) (take own changed.voters) } }
+    {
+        let mut changed = changed;
         let mut voters = changed.replace_voters(Vec::new(alloc));
         drop(changed);
         voters.truncate(own);
         drop(mem::replace(&mut self.voters, voters));
-        Ok(Row { value, verdict })
     }
 }
 

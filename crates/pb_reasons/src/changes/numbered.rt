@@ -25,10 +25,9 @@ pub(crate) fn numbered(
 {
     let mut own = Vec::with_capacity(alloc, voters.len())?;
     for voter in voters {
-        let id = number_id(alloc, own.len())?;
-        let Voter { id: name, ballot } = voter;
-        drop(name);
-        own.push(Voter { id, ballot })?;
+        let Voter { id, ballot } = voter;
+        drop(id);
+        add_numbered(alloc, &mut own, ballot)?;
     }
     Ok(own)
 }
@@ -49,11 +48,27 @@ pub(crate) fn add_further(
         × (map (λ v. v.ballot) more ≡ replicate further (place ∷ []))) }
 {
     for _further in 0..further {
-        let id = number_id(alloc, voters.len())?;
         let ballot = Ballot::of(alloc, &[place])?;
-        voters.push(Voter { id, ballot })?;
+        add_numbered(alloc, voters, ballot)?;
     }
     Ok(())
+}
+
+/// Adds a voter with this ballot, whose id is the number of the voters before.
+fn add_numbered(alloc: Global, voters: &mut Vec<Voter>, ballot: Ballot) -> Result<(), NoMemory>
+    ensures { OnOk result (voters.new.items ≡ voters.old.items
+        ++ record { id = decimal (length voters.old.items); ballot = ballot } ∷ []) }
+{
+    match number_id(alloc, voters.len()) {
+        Ok(id) => {
+            voters.push(Voter { id, ballot })?;
+            Ok(())
+        }
+        Err(refused) => {
+            drop(ballot);
+            Err(refused)
+        }
+    }
 }
 
 /// The id that a number is.

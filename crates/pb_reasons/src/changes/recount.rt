@@ -2,9 +2,9 @@
 
 ghost use Rattle.std.specs.Prelude.{◌≡◌, IfErr, IfOk};
 ghost use Rattle.pb_rounds.specs.MostVotes.{is_taken};
-ghost use Rattle.pb_reasons.specs.Counted.{is_selected};
+ghost use Rattle.pb_reasons.specs.Counted.{counted, is_selected};
 ghost use Rattle.pb_rounds.specs.Run.{is_elected};
-ghost use Rattle.pb_rounds.specs.Counted.{IsCountFault};
+ghost use Rattle.pb_rounds.specs.Counted.{IsCountFault, IsCountOf};
 ghost use Rattle.pb_reasons.specs.WhatIf.{Says};
 ghost use Rattle.pb_reasons.specs.Inner.Searching.{HasWon, IsStop};
 
@@ -13,9 +13,10 @@ use crate::changes::change::Verdict;
 use crate::changes::question::Question;
 use pb_core::election::Election;
 use pb_core::gate::Gate;
+use pb_core::no_memory::NoMemory;
 use pb_rounds::count::count_watched;
 use pb_rounds::count_fault::CountFault;
-use pb_rounds::outcome::Elected;
+use pb_rounds::outcome::{Elected, Outcome};
 use std::alloc::Global;
 use std::thread::Threads;
 
@@ -55,10 +56,24 @@ pub(crate) fn has_won<T: Threads + Sync, G: Gate>(
     ensures fault { IfErr result (IsCountFault election.now recount.now.question.rule.options) }
 {
     let (rt, alloc) = (recount.rt, recount.alloc);
-    let rule = &recount.question.rule;
-    let outcome = count_watched(rt, alloc, election, &rule.options, recount.gate)?;
-    let counted = Counted::of(alloc, election, outcome, rule.fill_up)?;
-    let won = is_selected(&counted, recount.question.place);
+    let question = &recount.question;
+    let outcome = count_watched(rt, alloc, election, &question.rule.options, recount.gate)?;
+    Ok(is_won_by(alloc, election, outcome, question)?)
+}
+
+/// Whether an outcome elects the project, or it is added to those that the outcome elects.
+fn is_won_by(
+    alloc: Global,
+    election: &Election,
+    outcome: Outcome,
+    question: &Question,
+) -> Result<bool, NoMemory>
+    requires { IsCountOf election.now question.now.rule.options outcome }
+    ensures { IfOk result (λ won. won
+        ≡ is_selected (counted election.now question.now.rule.fill_up outcome) question.now.place) }
+{
+    let counted = Counted::of(alloc, election, outcome, question.rule.fill_up)?;
+    let won = is_selected(&counted, question.place);
     drop(counted);
     Ok(won)
 }

@@ -1,12 +1,13 @@
 -- The rows of the input that are served together.
-use Rattle.std.specs.Prelude.{ℕ, List, Option, Ok, Err, [], ◌∷◌, ◌++◌}
+use Rattle.std.specs.Prelude.{◌≡◌, ℕ, true, List, Option, None, Result, Ok, Err, [], ◌∷◌, ◌++◌}
 use Rattle.std.specs.List.{AllZip}
 use Rattle.pb_core.specs.Request.{asked}
 use Rattle.pb_desk.specs.Replay.{most_clerks}
-use Rattle.pb_rows.specs.Reading.{Fields}
+use Rattle.pb_rows.specs.Reading.{Fields, IsNext}
 use Rattle.pb_script.specs.Admission.{Judges}
 use Rattle.pb_script.specs.declared.admission.Admission.{Admission}
 use Rattle.pb_script.specs.Inner.ScriptReading.{HaveGone, NoneLeft}
+use Rattle.pb_script.specs.RowsView.{HasFailed, HasGiven, RowsView}
 use Rattle.pb_durable.specs.declared.clerk_request.ClerkRequest.{ClerkRequest}
 use Rattle.pb_serving.specs.declared.batch.BatchEnd.{BatchEnd}
 use Rattle.pb_serving.specs.declared.batch.BatchEnd.TheVariants.{More, Refused, Over, ReadFailed, NoMemory}
@@ -19,6 +20,19 @@ refused end = 0
 -- the row asks this
 abbrev pub IsRowAsking : Admission → Fields → ClerkRequest → Type 0
 IsRowAsking a row x = Judges a most_clerks row (Ok (record { clerk = x.clerk; request = asked x.request }))
+
+-- the next row was read, and asks this; or a batch ends there, since the row is refused, or none is left, or
+-- none was given
+abbrev pub IsNextAsk : Admission → RowsView → RowsView → Result ClerkRequest BatchEnd → Type 0
+IsNextAsk a before after (Ok ask) = (row : Fields) × IsNext before.left after.left true row
+    × IsRowAsking a row ask × HasGiven before after 1 × (after.fault ≡ None)
+IsNextAsk a before after (Err (Refused why)) = (row : Fields) × IsNext before.left after.left true row
+    × Judges a most_clerks row (Err why) × HasGiven before after 1 × (after.fault ≡ None)
+IsNextAsk a before after (Err Over) =
+    NoneLeft before.left × (after.count ≡ before.count) × (after.fault ≡ None)
+IsNextAsk a before after (Err ReadFailed) = (after.count ≡ before.count) × HasFailed after
+IsNextAsk a before after (Err NoMemory) = (after.count ≡ before.count) × ¬ HasFailed after
+IsNextAsk a before after (Err More) = ⊥
 
 -- how the records go on behind these rows, of which it was known what was left before and is now
 abbrev pub EndsBy : Admission → BatchEnd → Option (List Fields) → List Fields → Option (List Fields) → Type 0

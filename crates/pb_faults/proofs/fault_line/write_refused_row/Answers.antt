@@ -1,4 +1,4 @@
-use Rattle.std.proofs.Common.{sym, subst, OnOk, ap}
+use Rattle.std.proofs.Common.{sym, subst, OnOk}
 use Rattle.std.specs.Io.KnownBytes.{Appends}
 use Rattle.pb_faults.specs.Fault.{line, told}
 use Rattle.pb_faults.specs.declared.fault.AppFault.TheVariants.{Script}

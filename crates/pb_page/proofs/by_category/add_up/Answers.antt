@@ -1,4 +1,4 @@
-use Rattle.std.proofs.Common.{◌≡◌, ◌∙◌, ◌<◌, ◌≤◌, length, set, sym, arith}
+use Rattle.std.proofs.Common.{◌≡◌, ◌∙◌, ◌<◌, ◌≤◌, ap, length, set, sym, arith}
 use Rattle.std.proofs.lemmas.List.{get_or_default}
 use Rattle.pb_reasons.proofs.PlaceSums.{the_placed}
 use Rattle.pb_reasons.proofs.WinnerSums.{cost_at-known}
@@ -10,6 +10,10 @@ pub loop-place-init : goal.loop-place-init
 loop-place-init c =
     sums_none c.args.election.now c.args.categories.now c.args.winners.now c.in_ok-sums.sums.items
     (c.in_ok-sums.ensures.items_if_clones_equal (λ y same. same))
+
+pub bounds-projects-place : goal.bounds-projects-place
+bounds-projects-place c =
+    omega (arith, c.requires.known c.loop-place.place-index 0 c.loop-place-test.true, ap length c.projects-projects.ensures.projects)
 
 pub with-requires-clause-winners : goal.with-requires-clause-winners
 with-requires-clause-winners c =

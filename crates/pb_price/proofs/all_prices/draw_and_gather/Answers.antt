@@ -1,8 +1,20 @@
-use Rattle.std.proofs.Common.{◌∙◌, ap}
+use Rattle.std.proofs.Common.{◌∙◌, ap, arith}
 use Rattle.std.proofs.lemmas.Result.{on_ok_weaker}
 use Rattle.pb_price.specs.Inner.Claims.{all_joined}
 use Rattle.pb_price.proofs.Workers.{gathers_result, gathers_these}
 use Rattle.pb_price.proofs.all_prices.draw_and_gather.Goals as goal
+
+pub work_side_by_side-requires-clause-batch : goal.work_side_by_side-requires-clause-batch
+work_side_by_side-requires-clause-batch g c κs within = c.requires.batch
+
+pub gather-requires-clause-same : goal.gather-requires-clause-same
+gather-requires-clause-same g c k d l = (c.in_ok-done.ensures.done k d l).0
+
+pub gather-requires-clause-known : goal.gather-requires-clause-known
+gather-requires-clause-known g c k d l i answer here = ((c.in_ok-done.ensures.done k d l).1.right i answer here).is_piece
+
+pub gather-requires-clause-few : goal.gather-requires-clause-few
+gather-requires-clause-few g c k d l = omega (arith, (c.in_ok-done.ensures.done k d l).1.few, c.requires.batch.few)
 
 pub returns-clause-all : goal.returns-clause-all
 returns-clause-all g c =

@@ -1,4 +1,4 @@
-use Rattle.std.proofs.Common.{◌≡◌, ◌<◌, ◌≤◌, ◌∙◌, [], ◌∷◌, length, ap, sym, arith}
+use Rattle.std.proofs.Common.{◌≡◌, ◌<◌, ◌≤◌, ◌∙◌, [], ◌∷◌, length, ap, subst, sym, arith}
 use Rattle.std.specs.Prelude.{All, sum_by}
 use Rattle.std.proofs.lemmas.List.{length-append}
 use Rattle.std.proofs.lemmas.List.Sums.{sum_by_push}
@@ -7,6 +7,17 @@ use Rattle.pb_price.specs.Inner.Claims.{all_joined}
 use Rattle.pb_price.specs.Inner.Working.{gathered}
 use Rattle.pb_price.proofs.Workers.{gathered_popped, joined_popped, length_placed, popped}
 use Rattle.pb_price.proofs.gathering.gather.Goals as goal
+
+pub take_in-priced-requires-clause-worker : goal.take_in-priced-requires-clause-worker
+take_in-priced-requires-clause-worker g c =
+    (popped (λ w. w.claim.seat.table_id ≡ c.args.claims.now.table.shared.table_id) c.loop-worker.done.items c.pop.new.self.items c.in-Some.worker
+    c.in-Some.ensures.items c.loop-worker.invariant.claims).1
+
+pub take_in-priced-requires-clause-known : goal.take_in-priced-requires-clause-known
+take_in-priced-requires-clause-known g c =
+    subst (λ pieces. All (λ answer. answer.piece < pieces) c.in-Some.worker.answers.items) (sym c.loop-worker.invariant.one_each)
+    (popped (λ w. All (λ answer. answer.piece < c.args.pieces) w.answers.items) c.loop-worker.done.items c.pop.new.self.items c.in-Some.worker
+    c.in-Some.ensures.items c.loop-worker.invariant.known).1
 
 pub loop-worker-preserved : goal.loop-worker-preserved
 loop-worker-preserved g c =

@@ -1,5 +1,6 @@
-use Rattle.std.proofs.Common.{◌≡◌, List, ℕ, map, subst}
+use Rattle.std.proofs.Common.{◌≡◌, List, ℕ, map, subst, arith}
 use Rattle.std.specs.Prelude.{filter, nat_lt, slice_index}
+use Rattle.std.proofs.lemmas.Grind.{common_steps}
 use Rattle.std.proofs.lemmas.List.{take_all}
 use Rattle.std.proofs.lemmas.List.Filters.{dedup_is}
 use Rattle.std.proofs.lemmas.Map.Keys.{IsStrictlyIncreasing-dedup}
@@ -17,3 +18,6 @@ returns-clause-members c =
     rw (take_all c.loop-place.place-index c.args.ballot.now c.loop-place-test.false) at c.loop-place.invariant in
     let sorted : HasSameMembers c.loop-place.due.items c.dedup.new.self.items = rw (dedup_is eqb _ _ c.dedup.ensures.filtered) (HasSameMembers-sorted _ _ c.sort_unstable.ensures.permutation) in
     subst (λ (xs : List ℕ). HasSameMembers xs c.dedup.new.self.items) all sorted
+
+pub loop-place-preserved : goal.loop-place-preserved
+loop-place-preserved c = grind (arith, common_steps)

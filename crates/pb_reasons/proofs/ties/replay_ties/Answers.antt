@@ -1,11 +1,10 @@
-use Rattle.std.proofs.Common.{◌≡◌, ℕ, ◌+◌, ◌<◌, ◌≤◌, ◌++◌, drop, take, get_or, length, replicate, ◌∙◌, ap, sym, arith}
+use Rattle.std.proofs.Common.{◌≡◌, ℕ, ◌+◌, ◌++◌, drop, take, get_or, length, replicate, ◌∙◌, ap, sym, arith}
 use Rattle.std.specs.Prelude.{flat_map}
 use Rattle.std.specs.List.{range_with_len}
 use Rattle.pb_price.proofs.SupporterLists.{known_voters, supporters_increase}
 use Rattle.pb_price.specs.Supporters.{supporters_at}
 use Rattle.pb_rounds.proofs.BoundQueue.{charged_falls, opening_rests}
 use Rattle.pb_rounds.proofs.Progress.{AreRests-charged}
-use Rattle.pb_rounds.specs.Cheapest.{rests_after}
 use Rattle.pb_rounds.specs.Run.{ElectedView, charged}
 use Rattle.pb_reasons.specs.Inner.Rounds.{ties_with}
 use Rattle.pb_reasons.specs.Ties.{ties_in}

@@ -9,6 +9,12 @@ no_voter voters budget none = rw (eq-eqb voters 0 none) refl
 some_voter : (voters budget : ℕ) → (voters ≡ 0 → ⊥) → (n k : ℕ) → n ≡ budget → k ≡ voters → n / k ≡ (if voters == 0 then 0 else budget / voters)
 some_voter voters budget some n k n_is k_is = rw (n_is, k_is, ne_eqb voters 0 some) refl
 
+pub returns-then-voters-eq0-clause-is_election : goal.returns-then-voters-eq0-clause-is_election
+returns-then-voters-eq0-clause-is_election g c = c.voters.ensures.is_election
+
+pub returns-clause-is_election : goal.returns-clause-is_election
+returns-clause-is_election g c = c.voters.ensures.is_election
+
 pub returns-then-voters-eq0-clause-share : goal.returns-then-voters-eq0-clause-share
 returns-then-voters-eq0-clause-share g c =
     no_voter (length c.args.election.now.voters) c.args.election.now.budget (ap length (sym c.voters.ensures.voters) ∙ c.if-voters-eq0.true)

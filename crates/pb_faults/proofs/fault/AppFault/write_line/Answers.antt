@@ -1,14 +1,33 @@
-use Rattle.std.proofs.Common.{◌≡◌, ◌∙◌, ap, sym, subst, ℕ, List, OnOk}
+use Rattle.std.proofs.Common.{◌≡◌, ◌∙◌, ap, refl, sym, subst, ℕ, List, Option, OnOk}
+use Rattle.std.specs.Prelude.{Result}
 use Rattle.std.specs.Io.KnownBytes.{Appends}
 use Rattle.pb_faults.proofs.CountFields.{count_fields}
-use Rattle.pb_faults.specs.Fault.{line, merged, told}
-use Rattle.pb_faults.specs.declared.fault.AppFault.TheVariants.{Count}
+use Rattle.pb_faults.specs.Fault.{line, told}
+use Rattle.pb_faults.specs.declared.fault.AppFault.{AppFault}
+use Rattle.pb_faults.specs.declared.fault.AppFault.TheVariants.{Read, ClerkCount, OpenDesk, Count, Open}
 use Rattle.pb_faults.proofs.fault.AppFault.write_line.Goals as goal
+
+-- the line of a fault is written where that of its fields is
+of_fields : {E : Type 0} (r : Result (Unit {0}) E) (before after : Option (List ℕ)) (fault other : AppFault) (fields : List (List ℕ)) → fault ≡ other
+    → (told other).1 ≡ fields → OnOk r (Appends before after (line fields)) → OnOk r (Appends before after (line (told fault).1))
+of_fields r before after fault other fields is same said =
+    subst (λ (l : List (List ℕ)). OnOk r (Appends before after (line l))) (sym (ap (λ (fault : AppFault). (told fault).1) is ∙ same)) said
+
+pub returns-in-Read : goal.returns-in-Read
+returns-in-Read g c =
+    let said = rw (c.number.ensures, c.name.ensures, c.from-at.ensures) at c.write_at.ensures in
+    of_fields c.write_at.result _ _ _ (Read c.in-Read.fault) _ (sym c.merged.ensures ∙ c.in-Read.is) refl said
+
+pub returns-in-ClerkCount : goal.returns-in-ClerkCount
+returns-in-ClerkCount g c = of_fields c.write_fields.result _ _ _ ClerkCount _ (sym c.merged.ensures ∙ c.in-ClerkCount.is) refl c.write_fields.ensures
 
 pub returns-in-Count : goal.returns-in-Count
 returns-in-Count g c =
-    let is : merged c.args.self.now ≡ Count c.in-Count.fault = cc (c.merged.ensures, c.in-Count.is) in
-    let fields = ap (λ fault. (told fault).1) is ∙ count_fields c.in-Count.fault in
     let said = rw (c.number-in-Count.ensures, c.name-in-Count.ensures) at c.write_numbered.ensures in
-    subst (λ (l : List (List ℕ)). OnOk c.write_numbered.result (Appends (g.W.Write.contents c.args.writer.now) (g.W.Write.contents c.write_numbered.new.writer) (line l)))
-    (sym fields) said
+    of_fields c.write_numbered.result _ _ _ (Count c.in-Count.fault) _ (sym c.merged.ensures ∙ c.in-Count.is) (count_fields c.in-Count.fault) said
+
+pub returns-in-Open : goal.returns-in-Open
+returns-in-Open g c = of_fields c.write_of_file.result _ _ _ (Open c.in-Open.number) _ (sym c.merged.ensures ∙ c.in-Open.is) refl c.write_of_file.ensures
+
+pub returns-in-OpenDesk : goal.returns-in-OpenDesk
+returns-in-OpenDesk g c = of_fields c.write_fields-in-OpenDesk.result _ _ _ OpenDesk _ (sym c.merged.ensures ∙ c.in-OpenDesk.is) refl c.write_fields-in-OpenDesk.ensures

@@ -1,8 +1,11 @@
-use Rattle.std.proofs.Common.{length, ap, refl}
+use Rattle.std.proofs.Common.{length, ap, refl, arith}
 use Rattle.std.proofs.lemmas.Result.{IfOk-from_err}
 use Rattle.pb_price.proofs.SupporterLists.{support_form}
 use Rattle.pb_price.specs.Supporters.{IsSupport, support_of}
 use Rattle.pb_price.proofs.supporters.Supporters.build.Goals as goal
+
+pub overflow_cast-voters : goal.overflow_cast-voters
+overflow_cast-voters g c = omega (arith, ap length c.voters.ensures.voters, c.voters.ensures.is_election.few_voters)
 
 pub invariant_of-result : goal.invariant_of-result
 invariant_of-result g c =

@@ -12,9 +12,9 @@ pub loop-project-preserved : goal.loop-project-preserved
 loop-project-preserved c =
     let projects = c.projects-project-items.result.now in
     let differ : AllPairs (λ a b. a ≢ b) (ids_of projects) = subst (λ ps. AllPairs (λ a b. a ≢ b) (ids_of ps)) (sym c.projects-project-items.ensures.projects) c.projects-project-items.ensures.is_election.projects_differ in
-    let size : c.len.result ≡ length c.loop-project.ids.items = search rules in
-    HasIds-more c.loop-project.table c.insert.new.self _ _ projects c.loop-project.project-index _ c.project-item.result c.id-id.result.now c.loop-project.invariant
-    differ (search rules) c.project-item.is c.id-id.ensures.id (size ∙ sym (length-map c.loop-project.ids.items string_bytes)) c.in_ok-insert.ensures.ok (ap (map string_bytes) c.in_ok-push.ensures.items ∙ map_push string_bytes c.loop-project.ids.items _ ∙ ap (λ text. map string_bytes c.loop-project.ids.items ++ text ∷ []) (search rules))
+    let size : c.len-place.result ≡ length c.loop-project.ids.items = search rules in
+    HasIds-more c.loop-project.table _ _ _ projects c.loop-project.project-index _ c.project-item.result c.id.result.now c.loop-project.invariant
+    differ (search rules) c.project-item.is c.id.ensures.id (size ∙ sym (length-map c.loop-project.ids.items string_bytes)) c.in_ok-note.ensures.table c.in_ok-note.ensures.ids
 
 pub invariant_of-result : goal.invariant_of-result
 invariant_of-result c =

@@ -1,4 +1,4 @@
-use Rattle.std.proofs.Common.{◌≡◌, ◌<◌, ◌∙◌, length, take, ap, sym, arith}
+use Rattle.std.proofs.Common.{◌<◌, ◌∙◌, length, take, ap, sym, arith}
 use Rattle.std.proofs.lemmas.List.{append-nil, take_all, take_at}
 use Rattle.pb_reasons.specs.declared.tie.Tie.{Tie}
 use Rattle.pb_reasons.proofs.TiedRounds.{no_tie_more, one_bound, short_take, tie_more}

@@ -99,3 +99,47 @@ returns-clause-payments c =
     let paid : HasPaid o.elected ballot o.share amounts = rw c.amounts.ensures (rw (elected, share) at c.in_ok-pay.ensures.paid) in
     let told = payments_told e o c.self.invariant.0 rounds amounts ballot numbered one_each voter is_voter read known paid c.list_payments.new.payments.items c.in_ok-elected.ensures.listed in
     subst (λ (p : ElectionView × OutcomeView). c.list_payments.new.payments.items ≡ voter_payments p.0 p.1 voter) c.self.view_is told
+
+pub invariant_of-self : goal.invariant_of-self
+invariant_of-self c =
+    let elected = c.as_slice.ensures.value ∙ ap (λ (v : OutcomeView). v.elected) c.outcome.view_is in
+    (c.self.invariant.0, c.self.invariant.1, c.pay.ensures.one_each ∙ ap length elected)
+
+pub invariant_of-self-2 : goal.invariant_of-self-2
+invariant_of-self-2 c =
+    let elected = c.as_slice.ensures.value ∙ ap (λ (v : OutcomeView). v.elected) c.outcome.view_is in
+    (c.self.invariant.0, c.self.invariant.1, c.pay.ensures.one_each ∙ ap length elected)
+
+pub invariant_of-self-in_err-elected : goal.invariant_of-self-in_err-elected
+invariant_of-self-in_err-elected c =
+    let elected = c.as_slice.ensures.value ∙ ap (λ (v : OutcomeView). v.elected) c.outcome.view_is in
+    (c.self.invariant.0, c.self.invariant.1, c.pay.ensures.one_each ∙ ap length elected)
+
+pub index-left-requires : goal.index-left-requires
+index-left-requires c =
+    let voter = c.args.voter in
+    let is_voter = subst (λ (p : ElectionView × OutcomeView). voter < length p.0.voters) (sym c.self.view_is) c.requires in
+    let many : voter < length c.outcome.inside.rests.items = rw (ap (λ (v : OutcomeView). v.rests) c.outcome.view_is, c.self.invariant.0.one_each) is_voter in
+    omega (arith, many, c.outcome.inside.rests.ok.0)
+
+pub pay-requires-clause-known : goal.pay-requires-clause-known
+pay-requires-clause-known c = λ k d below.
+    let e = c.self.inside.election.now in
+    let voter = c.args.voter in
+    let is_voter = subst (λ (p : ElectionView × OutcomeView). voter < length p.0.voters) (sym c.self.view_is) c.requires in
+    let ballot = c.places-ballot.result.now in
+    let read = ballot_read e c.voters.result.now voter c.index-voters-voter.result ballot c.voters.ensures.voters (rw c.voters.ensures.voters is_voter)
+    c.index-voters-voter.is (c.places-ballot.ensures.places ∙ ap (λ v. v.ballot) c.owner.view_is) in
+    let known = ballot_known e voter ballot c.voters.ensures.is_election is_voter read in
+    omega (arith, known k d below, c.self.invariant.1.one_each, ap length c.as_slice-rounds.ensures.value)
+
+pub list_payments-requires-clause-known : goal.list_payments-requires-clause-known
+list_payments-requires-clause-known c = λ k d below.
+    let e = c.self.inside.election.now in
+    let voter = c.args.voter in
+    let is_voter = subst (λ (p : ElectionView × OutcomeView). voter < length p.0.voters) (sym c.self.view_is) c.requires in
+    let ballot = c.places-ballot.result.now in
+    let read = ballot_read e c.voters.result.now voter c.index-voters-voter.result ballot c.voters.ensures.voters (rw c.voters.ensures.voters is_voter)
+    c.index-voters-voter.is (c.places-ballot.ensures.places ∙ ap (λ v. v.ballot) c.owner.view_is) in
+    let known = ballot_known e voter ballot c.voters.ensures.is_election is_voter read in
+    omega (arith, known k d below, c.self.invariant.1.one_each, ap length c.as_slice-rounds.ensures.value)

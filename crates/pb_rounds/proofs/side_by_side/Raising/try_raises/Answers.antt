@@ -1,9 +1,12 @@
-use Rattle.std.proofs.Common.{◌+◌, ◌-◌, ◌*◌, ◌<◌, ◌≤◌, ◌≡◌, length, get_or, ap, ◌∙◌, arith}
+use Rattle.std.proofs.Common.{ℕ, ◌+◌, ◌-◌, ◌*◌, ◌<◌, ◌≤◌, ◌≡◌, None, Some, length, get_or, ap, sym, ◌∙◌, arith}
 use Rattle.std.proofs.lemmas.List.{get_or_default}
 use Rattle.pb_rounds.specs.Count.{elected_after}
 use Rattle.pb_rounds.specs.Inner.RaiseEnds.{IsTried}
 use Rattle.pb_rounds.proofs.Trials.{ended, exhausted_decides, goes_on, goes_on_elects, over_decides, raised_once}
 use Rattle.pb_rounds.proofs.side_by_side.Raising.try_raises.Goals as goal
+
+no_number_is_none : (n : ℕ) → Some n ≡ None → ⊥
+no_number_is_none n same = cc
 
 pub overflow_sub-result : goal.overflow_sub-result
 overflow_sub-result g c =
@@ -38,6 +41,12 @@ returns-in-Exhausted-clause-decided g c =
           c.budget.result c.budget.ensures.budget _ c.in_ok-end.end end c.in-Exhausted.is c.args.self.now.max_raises within,
     )
 
+pub returns-in-Over-clause-last : goal.returns-in-Over-clause-last
+returns-in-Over-clause-last g c d none = absurd (no_number_is_none _ none)
+
+pub returns-in-Exhausted-clause-last : goal.returns-in-Exhausted-clause-last
+returns-in-Exhausted-clause-last g c d none = absurd (no_number_is_none _ none)
+
 pub loop-i-init : goal.loop-i-init
 loop-i-init g c = record {
   tried = λ raises below. c.requires.tried raises (omega (arith, below));
@@ -68,3 +77,10 @@ loop-i-preserved g c =
 pub returns-clause-decided : goal.returns-clause-decided
 returns-clause-decided g c raises below =
     c.loop-i.invariant.tried raises (omega (arith, below, c.loop-i-test.false, c.len-i-end.ensures, c.try_group.ensures.len))
+
+pub returns-clause-last : goal.returns-clause-last
+returns-clause-last g c d none =
+    let all : c.loop-i.i ≡ length c.args.trials.now.items = omega (arith, c.loop-i-test.false, c.loop-i.auto.i-end, c.len-i-end.ensures, c.try_group.ensures.len) in
+    ap (λ count. (get_or c.try_group.new.trials.items (count - 1) d).outcome.elected) (sym all)
+    ∙ c.loop-i.invariant.elects d (omega (arith, all, c.requires.some))
+    ∙ ap (λ count. elected_after c.args.self.now.pricing.now.measure c.args.self.now.election.now c.args.self.now.step (c.args.next + count - 1)) all

@@ -1,7 +1,7 @@
 use Rattle.std.proofs.Common.{◌≡◌, ℕ, ◌+◌, ◌-◌, ◌<◌, ◌≤◌, false, length}
 use Rattle.pb_rounds.specs.Count.{is_decisive, share_after}
 use Rattle.pb_rounds.specs.Inner.Front.{IsFront, IsFrontAt}
-use Rattle.pb_rounds.proofs.side_by_side.Raising.decide.Given as goal
+use Rattle.pb_rounds.proofs.side_by_side.Raising.decide_behind.Given as goal
 
 abbrev pub invariant-loop-next : goal.invariant-loop-next
 invariant-loop-next g l = record {
