@@ -47,30 +47,20 @@ pub fn heading_words<R: Files>(
     file: Option<&str>,
     journal: Option<&str>,
 ) -> Said {
-    let voter = voter_like_a_heading(&Text::new(rt, alloc, journal))?;
     let mut out = Words::new(alloc);
-    match &voter {
-        Some(voter) => put_voter_like_a_heading(&mut out, journal, voter.as_str()),
-        None => put_id_like_a_heading(&mut out, file),
+    match voter_like_a_heading(&Text::new(rt, alloc, journal))? {
+        Some(voter) => {
+            out.fill(
+                "{}: the voter {} can't be written into a .pb file, because this id is a heading there.\nGive this voter another id in copies of the file and the journal (tools/replace_ids.py does it), and export these.\n",
+                &[Name(journal), Quoted(voter.as_str())],
+            )
+        }
+        None => out.fill(
+            "{}: the id of a voter or a project is META, PROJECTS or VOTES. It can't be written into a .pb file, because it is a heading there.\nGive the voter or project another id in a copy of the file, and export this.\n",
+            &[Name(file)],
+        ),
     }
-    drop(voter);
     out.finish()
-}
-
-/// Puts that this voter of a journal has a heading as the id.
-fn put_voter_like_a_heading(out: &mut Words, journal: Option<&str>, voter: &str) {
-    out.fill(
-        "{}: the voter {} can't be written into a .pb file, because this id is a heading there.\nGive this voter another id in copies of the file and the journal (tools/replace_ids.py does it), and export these.\n",
-        &[Name(journal), Quoted(voter)],
-    )
-}
-
-/// Puts that somebody or something in a file has a heading as the id.
-fn put_id_like_a_heading(out: &mut Words, file: Option<&str>) {
-    out.fill(
-        "{}: the id of a voter or a project is META, PROJECTS or VOTES. It can't be written into a .pb file, because it is a heading there.\nGive the voter or project another id in a copy of the file, and export this.\n",
-        &[Name(file)],
-    )
 }
 
 /// Words for an election with a vote for a project whose id has a comma; whether its ballots are those of a

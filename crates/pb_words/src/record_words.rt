@@ -18,7 +18,7 @@ use pb_witness::fields::text_at;
 use pb_witness::heads::{head_of, section_of};
 use pb_witness::ids::{Ids, Known};
 use pb_witness::mark::Mark;
-use pb_witness::quote::{Span, span_of};
+use pb_witness::quote::span_of;
 use pb_witness::text::Text;
 use std::rt::Files;
 
@@ -72,84 +72,47 @@ pub(crate) fn put_found<R: Files>(
 
 /// Puts what is wrong with a record, and what to do.
 fn put_record<R: Files>(out: &mut Words, text: &Text<R>, known: &Known, faulty: &FaultyRecord) {
-    let like_head = faulty.like_head(text);
-    match &like_head {
-        Some(records) => {
-            let _ = put_mark(out, text, records.mark());
-            put_like_a_head(out, text_at(&records.last, 0))
-        }
-        None => put_row(out, text, known, faulty),
+    let (ids, id) = (known.ids, faulty.id());
+    if let Some(records) = faulty.like_head(text) {
+        let _ = put_mark(out, text, records.mark());
+        return out.fill(LIKE_A_HEAD, &[Quoted(text_at(&records.last, 0))]);
     }
-    // Letting go of it by a call keeps this function's proof short.
-    drop(like_head)
-}
-
-/// Puts that a row with this first field is read as a heading.
-fn put_like_a_head(out: &mut Words, first: &str) {
-    out.fill(LIKE_A_HEAD, &[Quoted(first)])
-}
-
-/// Puts what is wrong with a record that is not read as a heading by mistake, and what to do.
-fn put_row<R: Files>(out: &mut Words, text: &Text<R>, known: &Known, faulty: &FaultyRecord) {
     let span = put_mark(out, text, faulty.mark);
-    if put_form(out, faulty, span) {
+    if faulty.is_quoted_meta() {
+        return out.put(": a quotation mark is before META. Delete it.\n");
+    }
+    if put_unclosed(out, span) {
+        return out.put(CLOSE_IT);
+    }
+    if let Some(section) = faulty.head_with_names() {
+        return out.fill(OWN_LINE, &[Own(head_of(section))]);
+    }
+    if id.contains('\n') && put_over(out, span, false) {
         return;
     }
-    let remedy = put_fault(out, text, known, faulty);
+    let mut remedy = words_of(faulty.kind).1;
+    match faulty.kind {
+        ReadKind::UnknownProject => remedy = put_unknown(out, text, ids, faulty),
+        ReadKind::NoHeader if faulty.is_same_head() => out.fill(
+            ": the heading {} is on line {} already.\n",
+            &[
+                Own(head_of(section_of(faulty.stage))),
+                Number(line_of(text, faulty.seen.last)),
+            ],
+        ),
+        ReadKind::RepeatedProject => put_repeated(
+            out,
+            faulty,
+            line_at(text, ids.projects.mark(id)),
+        ),
+        ReadKind::RepeatedVoter => put_repeated(out, faulty, line_at(text, known.voters.mark(id))),
+        _ => put_what(out, faulty),
+    }
     // Where a field is missing, the quotation mark may have taken it.
     if faulty.kind != ReadKind::MissingField || span.over.is_none() {
         put_remedy(out, text, faulty, remedy);
     }
     let _ = put_over(out, span, true);
-}
-
-/// Puts what is wrong with a record's quotation marks, or with a heading that has column names behind it;
-/// answers whether something is.
-fn put_form(out: &mut Words, faulty: &FaultyRecord, span: Span) -> bool {
-    if faulty.is_quoted_meta() {
-        out.put(": a quotation mark is before META. Delete it.\n");
-        return true;
-    }
-    if put_unclosed(out, span) {
-        out.put(CLOSE_IT);
-        return true;
-    }
-    match faulty.head_with_names() {
-        Some(section) => {
-            out.fill(OWN_LINE, &[Own(head_of(section))]);
-            true
-        }
-        None => faulty.id().contains('\n') && put_over(out, span, false),
-    }
-}
-
-/// Puts what is wrong with a record behind its line; answers what to do.
-fn put_fault<R: Files>(
-    out: &mut Words,
-    text: &Text<R>,
-    known: &Known,
-    faulty: &FaultyRecord,
-) -> &'static str {
-    let id = faulty.id();
-    match faulty.kind {
-        ReadKind::UnknownProject => return put_unknown(out, text, known.ids, faulty),
-        ReadKind::NoHeader if faulty.is_same_head() => put_same_head(out, text, faulty),
-        ReadKind::RepeatedProject => {
-            put_repeated(out, faulty, line_at(text, known.ids.projects.mark(id)))
-        }
-        ReadKind::RepeatedVoter => put_repeated(out, faulty, line_at(text, known.voters.mark(id))),
-        _ => put_what(out, faulty),
-    }
-    words_of(faulty.kind).1
-}
-
-/// Puts that the heading before this one is the same.
-fn put_same_head<R: Files>(out: &mut Words, text: &Text<R>, faulty: &FaultyRecord) {
-    let (section, line) = (section_of(faulty.stage), line_of(text, faulty.seen.last));
-    out.fill(
-        ": the heading {} is on line {} already.\n",
-        &[Own(head_of(section)), Number(line)],
-    )
 }
 
 /// Puts what to do about a record.
