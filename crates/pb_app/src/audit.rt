@@ -6,21 +6,13 @@ use crate::kinship::Kinship;
 use crate::perform::Notes;
 use pb_command_line::AuditRun;
 use pb_commands::run_audit::{AuditInputs, run_audit_watched};
-use pb_commands::{AppFault, Counting, Demand, write_out};
-use pb_streams::{Digested, Hex, Progress};
-use std::alloc::Global;
+use pb_commands::{AppFault, Counting, Demand, Digests, write_digested, write_out};
+use pb_streams::{Digested, Progress};
 use std::cell::Cell;
 use std::fs::File;
 use std::io::{Read, Write};
 use std::rt::{Clock, Files};
 use std::thread::Threads;
-
-/// The digests of what was read.
-#[derive(Clone, Copy)]
-struct Digests {
-    file: Hex,
-    journal: Hex,
-}
 
 /// Audits a journal on a .pb file. Nothing is written before the whole text is there: a refusal is its line
 /// alone.
@@ -52,9 +44,13 @@ where
     };
     let mut report = Vec::new(counting.alloc);
     let passed = match audit_read(counting, inputs, &mut report, notes) {
-        Ok(()) => match digests_of(kinship.file.get(), of_journal.get()) {
-            Some(digests) => write_digested(counting.alloc, digests, report.as_slice(), writer),
-            None => write_out(writer, report.as_slice(), AppFault::Write),
+        Ok(()) => match (kinship.file.get(), of_journal.get()) {
+            (Some(file), Some(journal)) => {
+                let (file, journal) = (file.text(), journal.text());
+                let digests = Digests { file, journal };
+                write_digested(counting.alloc, &digests, report.as_slice(), writer)
+            }
+            _ => write_out(writer, report.as_slice(), AppFault::Write),
         },
         // A text in memory is refused for memory alone.
         Err(AppFault::Write) => Err(AppFault::Memory),
@@ -87,26 +83,4 @@ where
     let audited = run_audit_watched(counting, inputs, &answers, &mut notes.seen, writer);
     notes.audited = answers.counts();
     audited
-}
-
-/// The digests of a file and a journal that were read to their ends.
-fn digests_of(file: Option<Hex>, journal: Option<Hex>) -> Option<Digests> {
-    Some(Digests {
-        file: file?,
-        journal: journal?,
-    })
-}
-
-/// Writes the rows of the digests and the report, as one text.
-fn write_digested<W: Write>(
-    alloc: Global,
-    digests: Digests,
-    report: &[u8],
-    writer: &mut W,
-) -> Result<(), AppFault> {
-    let (file, journal) = (digests.file.text(), digests.journal.text());
-    let rows = format!(in alloc; "digest;file;sha256;{file}\ndigest;journal;sha256;{journal}\n")?;
-    let mut text = rows.into_bytes();
-    text.extend_from_slice(report)?;
-    write_out(writer, text.as_slice(), AppFault::Write)
 }

@@ -25,7 +25,7 @@ mod worded;
 mod words;
 
 use crate::perform::{Notes, Refusal, perform};
-use crate::worded::{words_status, write_words_fault};
+use crate::worded::refusal_of;
 use pb_command_line::parse::parse;
 use pb_command_line::{Asked, Parsed};
 use pb_commands::{AppFault, BAD_ARGUMENTS, ServingFault, rows_status};
@@ -166,8 +166,9 @@ fn write_line<R: Print>(rt: &R, refusal: &Refusal) -> u8 {
         }
         Refusal::Moved(_) => write_fault(rt, AppFault::Serving(ServingFault::Moved)),
         Refusal::Words(fault) => {
-            let _ = write_words_fault(&mut io::writer(rt), fault);
-            words_status(fault)
+            let refusal = refusal_of(fault);
+            let _ = refusal.write_line(&mut io::writer(rt));
+            refusal.status()
         }
         // Words alone say it, as of all arguments that are refused.
         Refusal::Barred | Refusal::WhatIf(_) => BAD_ARGUMENTS,

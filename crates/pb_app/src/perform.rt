@@ -132,16 +132,16 @@ where
 }
 
 /// Does what the arguments ask for, and writes the result, which is put in its place later.
-fn write_result<'a, R>(
+fn write_result<'a, R, W: Write>(
     rt: &R,
     asked: &'a Asked<'a>,
-    output: &mut Output<'a, R>,
+    output: &mut W,
     notes: &mut Notes,
     progress: &Progress<'_, R>,
     terminals: Terminals,
 ) -> Result<(), Refusal>
 where
-    R: Files<File = File> + Input + Print + Eprint + Clock + AllocGlobal + Threads + Sync,
+    R: Files<File = File> + Input + Eprint + Clock + AllocGlobal + Threads + Sync,
 {
     let counting = Counting {
         rt,

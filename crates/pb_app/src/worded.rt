@@ -1,28 +1,23 @@
 //! What is said where the file with the words of a page is refused.
 
+use pb_commands::{WordsPlace, WordsRefusal};
 use pb_page::{Entry, Key, Plural, WordsFault, WordsLine, entry_at};
 use pb_witness::text::Text;
 use pb_words::Value::{Name, Number, Own, Quoted};
 use pb_words::{NO_MEMORY, Value, Words, unread_words};
 use std::alloc::{AllocError, Global};
-use std::io::{self, Write};
 use std::rt::Files;
 
-/// Writes the line of a fault.
-pub(crate) fn write_words_fault<W: Write>(writer: &mut W, fault: &WordsFault) -> io::Result<()> {
-    let name = name_of(fault);
-    match (line_of(fault), key_of(fault)) {
-        (Some(line), _) => writeln!(writer, "fault;words;{name};{line}"),
-        (None, Some(key)) => writeln!(writer, "fault;words;{name};{key}"),
-        (None, None) => writeln!(writer, "fault;words;{name}"),
-    }
-}
-
-/// The status of a fault.
-pub(crate) fn words_status(fault: &WordsFault) -> u8 {
-    match fault {
-        WordsFault::ReadFailed | WordsFault::NoMemory => 3,
-        _ => 1,
+/// What the line of a fault says: its name, and its line or its key.
+pub(crate) fn refusal_of(fault: &WordsFault) -> WordsRefusal {
+    let place = match (line_of(fault), key_of(fault)) {
+        (Some(line), _) => WordsPlace::Line(line),
+        (None, Some(key)) => WordsPlace::Key(key),
+        (None, None) => WordsPlace::Nowhere,
+    };
+    WordsRefusal {
+        name: fault.name(),
+        place,
     }
 }
 
@@ -48,24 +43,6 @@ fn key_of(fault: &WordsFault) -> Option<&'static str> {
     match *fault {
         WordsFault::MissingKey(key) | WordsFault::UnusedKey(key, _) => Some(key.text()),
         _ => None,
-    }
-}
-
-/// The name of a fault.
-fn name_of(fault: &WordsFault) -> &'static str {
-    match fault {
-        WordsFault::NotText(_) => "NotText",
-        WordsFault::BadLine(_) => "BadLine",
-        WordsFault::UnknownKey(_) => "UnknownKey",
-        WordsFault::RepeatedKey(_) => "RepeatedKey",
-        WordsFault::Markup(_) => "Markup",
-        WordsFault::UnknownPlace(_) | WordsFault::LoneBrace(_) => "UnknownPlace",
-        WordsFault::MissingPlace(..) | WordsFault::RepeatedPlace(..) => "MissingPlace",
-        WordsFault::BadValue(_) => "BadValue",
-        WordsFault::MissingKey(_) => "MissingKey",
-        WordsFault::UnusedKey(..) => "UnusedKey",
-        WordsFault::ReadFailed => "ReadFailed",
-        WordsFault::NoMemory => "NoMemory",
     }
 }
 

@@ -274,3 +274,17 @@ pub(crate) const VOTERS: Argument = Argument {
     takes: Takes::Number("N"),
     help: "Tries only N further voters, who approve this project and no other; N can be 0",
 };
+
+/// The options of a count, which stand together in each help.
+pub(crate) fn of_count() -> &'static [Argument] {
+    OF_COUNT
+}
+
+const OF_COUNT: &[Argument] = &[WORKERS, STEP, RAISES, PLAIN, COMPLETION, MEASURE];
+
+/// The options of what prints the result of a count, which stand together too.
+pub(crate) fn of_result() -> &'static [Argument] {
+    OF_RESULT
+}
+
+const OF_RESULT: &[Argument] = &[STRICT, OUTPUT, QUIET, PROGRESS];

@@ -2,7 +2,7 @@
 
 use crate::argument::{Argument, Takes};
 use crate::arguments::{AGAINST, PLAIN, VOTERS};
-use crate::commands::{CommandForm, tables};
+use crate::commands::{CommandForm, forms};
 use crate::helps::{ABOUT, AFTER_HELP};
 use crate::rule::is_of_count;
 use clap::{Arg, ArgAction, Command};
@@ -17,25 +17,20 @@ const VERSION: &str = "1.0.0 (built from source; which commit is not recorded)";
 
 /// The command line that the program reads.
 pub(crate) fn command_line<'a>(alloc: Global) -> Result<Command<'a>, AllocError> {
-    let program = Command::new(alloc, "pb_app").bin_name("pb_app")?;
-    let mut program = program.version(VERSION).about(ABOUT).after_help(AFTER_HELP);
-    for forms in tables() {
-        program = with_commands(alloc, program, forms)?;
+    let mut program = program(alloc)?;
+    for form in forms() {
+        program = with_command(alloc, program, form)?;
     }
     Ok(program)
 }
 
-/// The program with the commands of these forms.
-fn with_commands<'a>(
-    alloc: Global,
-    program: Command<'a>,
-    forms: &[CommandForm],
-) -> Result<Command<'a>, AllocError> {
-    let mut program = program;
-    for form in forms {
-        program = with_command(alloc, program, form)?;
-    }
-    Ok(program)
+/// The program without its commands.
+fn program<'a>(alloc: Global) -> Result<Command<'a>, AllocError> {
+    Command::new(alloc, "pb_app")
+        .version(VERSION)
+        .about(ABOUT)
+        .after_help(AFTER_HELP)
+        .bin_name("pb_app")
 }
 
 /// The program with one command more, of this form.
@@ -44,10 +39,7 @@ fn with_command<'a>(
     program: Command<'a>,
     form: &CommandForm,
 ) -> Result<Command<'a>, AllocError> {
-    let command = Command::new(alloc, form.name)
-        .about(form.about)
-        .after_help(form.notes);
-    match with_arguments(alloc, command, form.arguments) {
+    match command_of(alloc, form) {
         Ok(command) => program.subcommand(command),
         Err(refused) => {
             drop(program);
@@ -56,13 +48,25 @@ fn with_command<'a>(
     }
 }
 
-/// A command with these arguments more.
+/// The command of this form, with its arguments.
+fn command_of<'a>(alloc: Global, form: &CommandForm) -> Result<Command<'a>, AllocError> {
+    let asks_against = form.has(AGAINST.name);
+    let mut command = Command::new(alloc, form.name)
+        .about(form.about)
+        .after_help(form.notes);
+    for part in form.parts {
+        command = with_arguments(alloc, command, part.arguments(), asks_against)?;
+    }
+    Ok(command)
+}
+
+/// A command with these arguments more. Where it has `--against`, the options of a count need it.
 fn with_arguments<'a>(
     alloc: Global,
     command: Command<'a>,
     arguments: &[Argument],
+    asks_against: bool,
 ) -> Result<Command<'a>, AllocError> {
-    let asks_against = has(arguments, AGAINST.name);
     let mut command = command;
     for argument in arguments {
         let needs_against = asks_against && is_of_count(argument.name);
@@ -89,16 +93,6 @@ fn with_argument<'a>(
             Err(refused)
         }
     }
-}
-
-/// Whether one of these arguments has this name.
-fn has(arguments: &[Argument], name: &str) -> bool {
-    for argument in arguments {
-        if argument.name == name {
-            return true;
-        }
-    }
-    false
 }
 
 /// An argument, as `clap` takes it.

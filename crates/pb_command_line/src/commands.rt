@@ -2,10 +2,10 @@
 
 use crate::argument::Argument;
 use crate::arguments::{
-    AGAINST, BY_ID, BY_PROJECT, CLERKS, COMPARE, COMPLETION, COST, CURRENCY, DIGESTS, DURABLE,
-    ELECTION, JOURNAL, KEEP_VOTERS, LEAST, LEFT_BY, MEASURE, OTHER_FILE, OUTPUT, PLAIN, PROGRESS,
-    PROJECT, QUIET, QUIET_BALLOTS, QUIET_DESK, QUIET_SERVE, RAISES, RECOUNT, REQUIRE_SHUT, ROLL,
-    SCRIPT, SERVED, SHUT, STEP, STRICT, TITLE, VOTER, VOTERS, WORDS, WORKERS,
+    AGAINST, BY_ID, BY_PROJECT, CLERKS, COMPARE, COST, CURRENCY, DIGESTS, DURABLE, ELECTION,
+    JOURNAL, KEEP_VOTERS, LEAST, LEFT_BY, OTHER_FILE, OUTPUT, PROGRESS, PROJECT, QUIET,
+    QUIET_BALLOTS, QUIET_DESK, QUIET_SERVE, RECOUNT, REQUIRE_SHUT, ROLL, SCRIPT, SERVED, SHUT,
+    STRICT, TITLE, VOTER, VOTERS, WORDS, of_count, of_result,
 };
 use crate::helps::{AFTER_BALLOTS, AFTER_SERVE};
 
@@ -16,198 +16,235 @@ pub(crate) struct CommandForm {
     /// What stands below its arguments.
     pub(crate) notes: &'static str,
     pub(crate) about: &'static str,
-    pub(crate) arguments: &'static [Argument],
+    /// Its arguments, in the order in which its help lists them.
+    pub(crate) parts: &'static [Part],
 }
 
-/// The tables of all commands, in the order in which the help lists them. A function that names a table is
-/// checked with all its texts, so each table is short, and a function of its own names it.
-pub(crate) fn tables() -> [&'static [CommandForm]; 6] {
+/// Arguments that stand together in the help of a command.
+#[derive(Clone, Copy)]
+pub(crate) enum Part {
+    /// These, which the command names itself.
+    Own(&'static [Argument]),
+    /// The options of a count.
+    OfCount,
+    /// The options of a command that prints the result of a count.
+    OfResult,
+}
+
+impl Part {
+    /// The arguments, in the order in which the help lists them.
+    pub(crate) fn arguments(&self) -> &'static [Argument] {
+        match *self {
+            Part::Own(arguments) => arguments,
+            Part::OfCount => of_count(),
+            Part::OfResult => of_result(),
+        }
+    }
+}
+
+/// The forms of all commands, in the order in which the help lists them. A function that names a form is
+/// checked with all its texts, so a function of its own names each.
+pub(crate) fn forms() -> [&'static CommandForm; 12] {
     [
-        counts(),
-        comparisons(),
-        publications(),
-        checks(),
-        journals(),
-        servings(),
+        count(),
+        projects(),
+        voters(),
+        compare(),
+        what_if(),
+        page(),
+        export(),
+        check(),
+        desk(),
+        audit(),
+        ballots(),
+        serve(),
     ]
 }
 
-/// The commands that show one count.
-fn counts() -> &'static [CommandForm] {
-    COUNTS
+/// The command that counts.
+fn count() -> &'static CommandForm {
+    COUNT
 }
 
-const COUNTS: &[CommandForm] = &[
-    CommandForm {
-        name: "count",
-        notes: "Manual pages: man pb_app-election, man pb_app-report, man pb_app-counting.",
-        about: "Counts a .pb file, and prints the report",
-        arguments: &[
-            ELECTION, WORKERS, STEP, RAISES, PLAIN, COMPLETION, MEASURE, STRICT, OUTPUT, QUIET,
-            PROGRESS,
-        ],
-    },
-    CommandForm {
-        name: "projects",
-        notes: "Manual pages: man pb_app-election, man 5 pb_app-projects, man pb_app-counting.",
-        about: "Counts a .pb file, and prints who won and why, and how much money the other projects lacked",
-        arguments: &[
-            ELECTION, LEFT_BY, OTHER_FILE, WORKERS, STEP, RAISES, PLAIN, COMPLETION, MEASURE,
-            STRICT, OUTPUT, QUIET, PROGRESS,
-        ],
-    },
-    CommandForm {
-        name: "voters",
-        notes: "Manual pages: man pb_app-election, man 5 pb_app-voters, man pb_app-counting.",
-        about: "Counts a .pb file, and prints what each voter paid, and for what",
-        arguments: &[
-            ELECTION, LEFT_BY, OTHER_FILE, WORKERS, STEP, RAISES, PLAIN, COMPLETION, MEASURE,
-            STRICT, OUTPUT, QUIET, PROGRESS,
-        ],
-    },
-];
+const COUNT: &CommandForm = &CommandForm {
+    name: "count",
+    notes: "Manual pages: man pb_app-election, man pb_app-report, man pb_app-counting.",
+    about: "Counts a .pb file, and prints the report",
+    parts: &[Part::Own(&[ELECTION]), Part::OfCount, Part::OfResult],
+};
 
-/// The commands that count more than once.
-fn comparisons() -> &'static [CommandForm] {
-    COMPARISONS
+/// The command that shows the projects of a count.
+fn projects() -> &'static CommandForm {
+    PROJECTS
 }
 
-const COMPARISONS: &[CommandForm] = &[
-    CommandForm {
-        name: "compare",
-        notes: "Manual pages: man pb_app-election, man 5 pb_app-compare, man pb_app-counting.",
-        about: "Counts a .pb file, and compares the winners with those of another rule: most votes first",
-        arguments: &[
-            ELECTION, BY_PROJECT, LEFT_BY, OTHER_FILE, WORKERS, STEP, RAISES, PLAIN, COMPLETION,
-            MEASURE, STRICT, OUTPUT, QUIET, PROGRESS,
-        ],
-    },
-    CommandForm {
-        name: "whatif",
-        notes: "Each row is one change: another cost, or further voters. For each row the whole election was counted again. The table says nothing about a cost or a number of voters that has no row: try it with --cost or --voters.\n\nManual pages: man pb_app-election, man 5 pb_app-whatif, man pb_app-proposers.",
-        about: "Counts a .pb file again and again, and prints at which cost, or with how many further voters, a project wins",
-        arguments: &[
-            ELECTION, PROJECT, COST, VOTERS, LEFT_BY, OTHER_FILE, WORKERS, STEP, RAISES, PLAIN,
-            COMPLETION, MEASURE, STRICT, OUTPUT, QUIET, PROGRESS,
-        ],
-    },
-];
+const PROJECTS: &CommandForm = &CommandForm {
+    name: "projects",
+    notes: "Manual pages: man pb_app-election, man 5 pb_app-projects, man pb_app-counting.",
+    about: "Counts a .pb file, and prints who won and why, and how much money the other projects lacked",
+    parts: &[
+        Part::Own(&[ELECTION, LEFT_BY, OTHER_FILE]),
+        Part::OfCount,
+        Part::OfResult,
+    ],
+};
 
-/// The commands that make a file for others.
-fn publications() -> &'static [CommandForm] {
-    PUBLICATIONS
+/// The command that shows the voters of a count.
+fn voters() -> &'static CommandForm {
+    VOTERS_PAID
 }
 
-const PUBLICATIONS: &[CommandForm] = &[
-    CommandForm {
-        name: "page",
-        notes: "Manual pages: man pb_app-election, man 5 pb_app-page, man pb_app-counting.",
-        about: "Counts a .pb file, and prints the result as a web page for the public",
-        arguments: &[
-            ELECTION, LEFT_BY, OTHER_FILE, TITLE, RECOUNT, WORDS, CURRENCY, COMPARE, WORKERS, STEP,
-            RAISES, PLAIN, COMPLETION, MEASURE, STRICT, OUTPUT, QUIET, PROGRESS,
-        ],
-    },
-    CommandForm {
-        name: "export",
-        notes: "Manual pages: man pb_app-election, man 5 pb_app-export, man pb_app-counting.",
-        about: "Counts a .pb file, and prints ballots and result as a new .pb file; counting that file with the same options gives the same result",
-        arguments: &[
-            ELECTION,
-            LEFT_BY,
-            OTHER_FILE,
-            KEEP_VOTERS,
-            WORKERS,
-            STEP,
-            RAISES,
-            PLAIN,
-            COMPLETION,
-            MEASURE,
-            STRICT,
-            OUTPUT,
-            QUIET,
-            PROGRESS,
-        ],
-    },
-];
+const VOTERS_PAID: &CommandForm = &CommandForm {
+    name: "voters",
+    notes: "Manual pages: man pb_app-election, man 5 pb_app-voters, man pb_app-counting.",
+    about: "Counts a .pb file, and prints what each voter paid, and for what",
+    parts: &[
+        Part::Own(&[ELECTION, LEFT_BY, OTHER_FILE]),
+        Part::OfCount,
+        Part::OfResult,
+    ],
+};
 
-/// The commands that check a .pb file, or try its desk.
-fn checks() -> &'static [CommandForm] {
-    CHECKS
+/// The command that counts by another rule too.
+fn compare() -> &'static CommandForm {
+    COMPARISON
 }
 
-const CHECKS: &[CommandForm] = &[
-    CommandForm {
-        name: "check",
-        notes: "Manual pages: man pb_app-election, man pb_app-faults.",
-        about: "Lists the faults for which a .pb file is refused, and warns of what is probably a mistake",
-        arguments: &[
-            ELECTION, AGAINST, WORKERS, STEP, RAISES, PLAIN, COMPLETION, MEASURE, OUTPUT, QUIET,
-            PROGRESS,
-        ],
-    },
-    CommandForm {
-        name: "desk",
-        notes: "Manual pages: man pb_app-election, man pb_app-script, man pb_app-journal.",
-        about: "Runs a file of requests (a script) on a new desk, and prints the journal",
-        arguments: &[
-            ELECTION, SCRIPT, CLERKS, SHUT, BY_ID, ROLL, LEAST, OUTPUT, QUIET_DESK, PROGRESS,
-        ],
-    },
-];
+const COMPARISON: &CommandForm = &CommandForm {
+    name: "compare",
+    notes: "Manual pages: man pb_app-election, man 5 pb_app-compare, man pb_app-counting.",
+    about: "Counts a .pb file, and compares the winners with those of another rule: most votes first",
+    parts: &[
+        Part::Own(&[ELECTION, BY_PROJECT, LEFT_BY, OTHER_FILE]),
+        Part::OfCount,
+        Part::OfResult,
+    ],
+};
 
-/// The commands that read the journal of a desk.
-fn journals() -> &'static [CommandForm] {
-    JOURNALS
+/// The command that counts changed elections.
+fn what_if() -> &'static CommandForm {
+    WHAT_IF
 }
 
-const JOURNALS: &[CommandForm] = &[
-    CommandForm {
-        name: "audit",
-        notes: "Manual pages: man pb_app-election, man pb_app-journal, man pb_app-report, man pb_app-counting.",
-        about: "Checks a journal against its .pb file; if the desk is shut, counts its ballots and prints the report",
-        arguments: &[
-            ELECTION,
-            JOURNAL,
-            OTHER_FILE,
-            WORKERS,
-            STEP,
-            RAISES,
-            PLAIN,
-            COMPLETION,
-            MEASURE,
-            REQUIRE_SHUT,
-            DIGESTS,
-            STRICT,
-            OUTPUT,
-            QUIET_DESK,
-            PROGRESS,
-        ],
-    },
-    CommandForm {
-        name: "ballots",
-        notes: AFTER_BALLOTS,
-        about: "Checks a journal against its .pb file, and prints the ballots that the voters have now",
-        arguments: &[
-            ELECTION,
-            JOURNAL,
-            VOTER,
-            OTHER_FILE,
-            OUTPUT,
-            QUIET_BALLOTS,
-            PROGRESS,
-        ],
-    },
-];
+const WHAT_IF: &CommandForm = &CommandForm {
+    name: "whatif",
+    notes: "Each row is one change: another cost, or further voters. For each row the whole election was counted again. The table says nothing about a cost or a number of voters that has no row: try it with --cost or --voters.\n\nManual pages: man pb_app-election, man 5 pb_app-whatif, man pb_app-proposers.",
+    about: "Counts a .pb file again and again, and prints at which cost, or with how many further voters, a project wins",
+    parts: &[
+        Part::Own(&[ELECTION, PROJECT, COST, VOTERS, LEFT_BY, OTHER_FILE]),
+        Part::OfCount,
+        Part::OfResult,
+    ],
+};
+
+/// The command that makes a page.
+fn page() -> &'static CommandForm {
+    PAGE
+}
+
+const PAGE: &CommandForm = &CommandForm {
+    name: "page",
+    notes: "Manual pages: man pb_app-election, man 5 pb_app-page, man pb_app-counting.",
+    about: "Counts a .pb file, and prints the result as a web page for the public",
+    parts: &[
+        Part::Own(&[
+            ELECTION, LEFT_BY, OTHER_FILE, TITLE, RECOUNT, WORDS, CURRENCY, COMPARE,
+        ]),
+        Part::OfCount,
+        Part::OfResult,
+    ],
+};
+
+/// The command that makes another .pb file.
+fn export() -> &'static CommandForm {
+    EXPORT
+}
+
+const EXPORT: &CommandForm = &CommandForm {
+    name: "export",
+    notes: "Manual pages: man pb_app-election, man 5 pb_app-export, man pb_app-counting.",
+    about: "Counts a .pb file, and prints ballots and result as a new .pb file; counting that file with the same options gives the same result",
+    parts: &[
+        Part::Own(&[ELECTION, LEFT_BY, OTHER_FILE, KEEP_VOTERS]),
+        Part::OfCount,
+        Part::OfResult,
+    ],
+};
+
+/// The command that checks a .pb file.
+fn check() -> &'static CommandForm {
+    CHECK
+}
+
+const CHECK: &CommandForm = &CommandForm {
+    name: "check",
+    notes: "Manual pages: man pb_app-election, man pb_app-faults.",
+    about: "Lists the faults for which a .pb file is refused, and warns of what is probably a mistake",
+    parts: &[
+        Part::Own(&[ELECTION, AGAINST]),
+        Part::OfCount,
+        Part::Own(&[OUTPUT, QUIET, PROGRESS]),
+    ],
+};
+
+/// The command that tries a desk.
+fn desk() -> &'static CommandForm {
+    DESK
+}
+
+const DESK: &CommandForm = &CommandForm {
+    name: "desk",
+    notes: "Manual pages: man pb_app-election, man pb_app-script, man pb_app-journal.",
+    about: "Runs a file of requests (a script) on a new desk, and prints the journal",
+    parts: &[Part::Own(&[
+        ELECTION, SCRIPT, CLERKS, SHUT, BY_ID, ROLL, LEAST, OUTPUT, QUIET_DESK, PROGRESS,
+    ])],
+};
+
+/// The command that checks a journal.
+fn audit() -> &'static CommandForm {
+    AUDIT
+}
+
+const AUDIT: &CommandForm = &CommandForm {
+    name: "audit",
+    notes: "Manual pages: man pb_app-election, man pb_app-journal, man pb_app-report, man pb_app-counting.",
+    about: "Checks a journal against its .pb file; if the desk is shut, counts its ballots and prints the report",
+    parts: &[
+        Part::Own(&[ELECTION, JOURNAL, OTHER_FILE]),
+        Part::OfCount,
+        Part::Own(&[REQUIRE_SHUT, DIGESTS, STRICT, OUTPUT, QUIET_DESK, PROGRESS]),
+    ],
+};
+
+/// The command that shows the ballots that a journal leaves.
+fn ballots() -> &'static CommandForm {
+    BALLOTS
+}
+
+const BALLOTS: &CommandForm = &CommandForm {
+    name: "ballots",
+    notes: AFTER_BALLOTS,
+    about: "Checks a journal against its .pb file, and prints the ballots that the voters have now",
+    parts: &[Part::Own(&[
+        ELECTION,
+        JOURNAL,
+        VOTER,
+        OTHER_FILE,
+        OUTPUT,
+        QUIET_BALLOTS,
+        PROGRESS,
+    ])],
+};
 
 /// The command that writes the journal of a desk.
-fn servings() -> &'static [CommandForm] {
-    SERVINGS
+fn serve() -> &'static CommandForm {
+    SERVE
 }
 
-const SERVINGS: &[CommandForm] = &[CommandForm {
+const SERVE: &CommandForm = &CommandForm {
     name: "serve",
     notes: AFTER_SERVE,
     about: "Runs a desk: takes requests from standard input, and writes each to the journal on disk before it answers",
-    arguments: &[SERVED, DURABLE, OTHER_FILE, BY_ID, ROLL, LEAST, QUIET_SERVE],
-}];
+    parts: &[Part::Own(&[SERVED, DURABLE, OTHER_FILE, BY_ID, ROLL, LEAST, QUIET_SERVE])],
+};

@@ -1,7 +1,7 @@
 //! Options that a command does not have.
 
-use crate::argument::Takes;
-use crate::commands::{CommandForm, tables};
+use crate::argument::Argument;
+use crate::commands::{CommandForm, forms};
 use crate::rule::is_of_count;
 use std::alloc::{AllocError, Global};
 
@@ -15,12 +15,17 @@ pub(crate) fn without_dashes(alloc: Global, text: &str) -> Result<String, AllocE
     let mut is_blank = false;
     for line in text.split('\n') {
         if !line.starts_with(DASHES) && !(line.is_empty() && is_blank) {
-            out.push_str(if out.is_empty() { "" } else { "\n" })?;
-            out.push_str(line)?;
+            push_behind(&mut out, "\n", line)?;
             is_blank = line.is_empty();
         }
     }
     Ok(out)
+}
+
+/// Puts a text at the end of another, with this between them where there is another.
+fn push_behind(out: &mut String, between: &str, text: &str) -> Result<(), AllocError> {
+    out.push_str(if out.is_empty() { "" } else { between })?;
+    out.push_str(text)
 }
 
 /// Words for the first of these arguments that is an option of other commands, and not of the one that is
@@ -112,23 +117,9 @@ fn is_listed(commands: &str, command: &str) -> bool {
 /// The names of the commands that have this option, with commas between them.
 fn owners_of(alloc: Global, option: &str) -> Result<String, AllocError> {
     let mut names = String::new(alloc);
-    for forms in tables() {
-        names = with_owners(names, forms, option)?;
-    }
-    Ok(names)
-}
-
-/// These names, and behind them those of these commands that have this option.
-fn with_owners(
-    names: String,
-    commands: &[CommandForm],
-    option: &str,
-) -> Result<String, AllocError> {
-    let mut names = names;
-    for form in commands {
+    for form in forms() {
         if form.has(option) {
-            names.push_str(if names.is_empty() { "" } else { ", " })?;
-            names.push_str(form.name)?;
+            push_behind(&mut names, ", ", form.name)?;
         }
     }
     Ok(names)
@@ -136,12 +127,22 @@ fn with_owners(
 
 impl CommandForm {
     /// Whether an option of this name is among the command's arguments.
-    fn has(&self, option: &str) -> bool {
-        for argument in self.arguments {
-            if argument.name == option && !argument.is_path() {
+    pub(crate) fn has(&self, option: &str) -> bool {
+        for part in self.parts {
+            if has(part.arguments(), option) {
                 return true;
             }
         }
         false
     }
+}
+
+/// Whether an option of this name is among these arguments.
+fn has(arguments: &[Argument], option: &str) -> bool {
+    for argument in arguments {
+        if argument.name == option && !argument.is_path() {
+            return true;
+        }
+    }
+    false
 }

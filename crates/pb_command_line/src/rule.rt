@@ -1,5 +1,6 @@
 //! The options of a count, and the rule that they name.
 
+use crate::arguments::of_count;
 use clap::ArgMatches;
 use pb_core::money::Money;
 use pb_rounds::measure::Measure;
@@ -7,20 +8,10 @@ use pb_rounds::options::{Completion, CountOptions};
 use pb_rounds::rule::{FillUp, Rule};
 use pb_rounds::rule_names::{completion_named, measure_named};
 
-/// The names of the options of a count.
-const OF_COUNT: &[&str] = &[
-    "workers",
-    "step",
-    "raises",
-    "plain",
-    "completion",
-    "measure",
-];
-
 /// Whether an argument of this name is an option of a count.
 pub(crate) fn is_of_count(name: &str) -> bool {
-    for option in OF_COUNT {
-        if *option == name {
+    for option in of_count() {
+        if option.name == name {
             return true;
         }
     }

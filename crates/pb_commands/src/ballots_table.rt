@@ -10,6 +10,7 @@ ghost use Rattle.pb_rows.specs.Writing.{text_of_row, text_of_rows};
 ghost use Rattle.pb_commands.specs.Ballots.{ballot_row, ballots_table, given_to, last_given};
 ghost use Rattle.pb_commands.specs.Inner.Ballots.{ballot_columns, ids_text, is_asked};
 
+use crate::report::{put_row, whole};
 use itoa::Buffer;
 use pb_core::answer::Answer;
 use pb_core::entry::Entry;
@@ -37,16 +38,6 @@ pub(crate) fn ballots_text(
             drop(rows);
             Err(refused)
         }
-    }
-}
-
-/// The text of these rows.
-fn whole(rows: RowsWriter) -> Result<Vec<u8>, NoMemory>
-    ensures { IfOk result (λ text. text.items ≡ rows.text) }
-{
-    match rows.finish() {
-        Ok(text) => Ok(text),
-        Err(_) => Err(NoMemory),
     }
 }
 
@@ -186,8 +177,7 @@ fn put_ballot(
 {
     let mut digits = Buffer::new();
     match number {
-        Some(number) => rows.put_row(&[id, digits.format(number), ids])?,
-        None => rows.put_row(&[id, "", ids])?,
+        Some(number) => put_row(rows, &[id, digits.format(number), ids]),
+        None => put_row(rows, &[id, "", ids]),
     }
-    Ok(())
 }

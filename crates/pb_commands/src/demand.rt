@@ -1,7 +1,7 @@
 //! What an audit demands of the desk.
 
 /// What an audit demands of the desk.
-#[derive(Clone, Copy, Debug, PartialEq, Eq)]
+#[derive(Clone, Copy)]
 pub enum Demand {
     /// The desk may be open.
     Any,

@@ -14,7 +14,7 @@ use crate::counting::Counting;
 use pb_core::election::Election;
 use pb_core::no_memory::NoMemory;
 use pb_export::write_pb::write_pb;
-use pb_export::{Carried, Told};
+use pb_export::{Carried, Further, Told};
 use pb_faults::AppFault;
 use pb_reasons::{Counted, Ending, ProjectTeller};
 use pb_rounds::rule::Rule;
@@ -33,12 +33,31 @@ pub(crate) fn export_text<T, G>(
     ensures fault { IfErr result (IsStopped election.now) }
     ensures merged { IfErr result (λ fault. merged fault ≡ fault) }
 {
-    let alloc = counting.alloc;
     let further = carried.further()?;
+    let teller = ProjectTeller::of(counting.alloc, election, counted)?;
+    let text = told_text(counting, election, &teller, further);
+    drop(teller);
+    text
+}
+
+/// The file of an election, with what this teller tells of its projects and with what was kept.
+fn told_text<T, G>(
+    counting: &Counting<T, G>,
+    election: &Election,
+    teller: &ProjectTeller,
+    further: &Further,
+) -> Result<Vec<u8>, AppFault>
+    requires own { teller.now.0 ≡ election.now }
+    requires counted { IsCountBy counting.now.rule.now election.now teller.now.1 }
+    ensures ok { IfOk result (λ text. IsExportOf counting.now.rule.now further.now election.now
+        text.items) }
+    ensures fault { IfErr result (IsStopped election.now) }
+    ensures merged { IfErr result (λ fault. merged fault ≡ fault) }
+{
+    let alloc = counting.alloc;
     let comment = comment_text(alloc, counting.rule, further.comment())?;
-    let teller = ProjectTeller::of(alloc, election, counted)?;
-    let votes = votes_of(alloc, election, &teller)?;
-    let selected = selected_of(alloc, election, &teller)?;
+    let votes = votes_of(alloc, election, teller)?;
+    let selected = selected_of(alloc, election, teller)?;
     let told = Told {
         rule: counting.rule.word(),
         comment: comment.as_str(),

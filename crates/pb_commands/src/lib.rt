@@ -9,6 +9,7 @@ mod ballots_table;
 mod counted_election;
 mod counting;
 pub mod demand;
+mod digested;
 mod export_text;
 mod inputs;
 pub mod laws;
@@ -31,7 +32,10 @@ pub mod what_if_rows;
 pub use counted_election::{CountedElection, count_inputs};
 pub use counting::Counting;
 pub use demand::Demand;
+pub use digested::{Digests, write_digested};
 pub use inputs::{Inputs, election_of};
-pub use pb_faults::{AppFault, BAD_ARGUMENTS, ServingFault, rows_status, write_out};
+pub use pb_faults::{
+    AppFault, BAD_ARGUMENTS, ServingFault, WordsPlace, WordsRefusal, rows_status, write_out,
+};
 pub use table::Table;
 pub use what_if_rows::{Changes, WhatIfFault, what_if_text};

@@ -11,6 +11,7 @@ ghost use Rattle.pb_reasons.specs.Counted.{IsCounted};
 ghost use Rattle.pb_commands.specs.Tables.{ending_fields, project_table_row};
 ghost use Rattle.pb_commands.specs.Inner.Tables.{project_columns};
 
+use crate::report::put_row;
 use itoa::Buffer;
 use pb_core::election::Election;
 use pb_core::no_memory::NoMemory;
@@ -288,6 +289,5 @@ fn put_texts(
         FillUp::Nothing => 11,
         FillUp::MostVotes => 12,
     };
-    rows.put_row(&fields[..width])?;
-    Ok(())
+    put_row(rows, &fields[..width])
 }

@@ -28,6 +28,15 @@ pub(crate) fn whole(rows: RowsWriter) -> Result<Vec<u8>, NoMemory>
     }
 }
 
+/// Writes a row of these fields.
+pub(crate) fn put_row(rows: &mut RowsWriter, fields: &[&str]) -> Result<(), NoMemory>
+    ensures { OnOk result (rows.new.text
+        ≡ rows.old.text ++ text_of_row (map (λ field. field.now) fields.now)) }
+{
+    rows.put_row(fields)?;
+    Ok(())
+}
+
 /// Writes the report of a count of this election after the rows that stand there.
 ///
 /// It fails only where memory is refused, and then no text comes of the rows.
@@ -45,8 +54,7 @@ pub(crate) fn put_report(
     put_opening(rows, alloc, election, counted)?;
     put_elected(rows, alloc, election, counted.elected())?;
     put_added(rows, alloc, election, counted.added())?;
-    put_closing(rows, alloc, Totals::of(election, counted))?;
-    Ok(())
+    put_closing(rows, alloc, Totals::of(election, counted))
 }
 
 /// The rows above the elected projects.
@@ -62,8 +70,7 @@ fn put_opening(
     put_amount(rows, alloc, "budget", election.budget())?;
     put_number(rows, "voters", election.voters().len() as u64)?;
     put_amount(rows, alloc, "share", counted.share())?;
-    put_number(rows, "raises", u64::from(counted.raised()))?;
-    Ok(())
+    put_number(rows, "raises", u64::from(counted.raised()))
 }
 
 /// One row for each elected project.
@@ -141,8 +148,10 @@ fn put_one_added(
 {
     let mut digits = Buffer::new();
     let cost = project.cost().text(alloc)?;
-    rows.put_row(&["added", project.id(), cost.as_str(), digits.format(votes)])?;
-    Ok(())
+    put_row(
+        rows,
+        &["added", project.id(), cost.as_str(), digits.format(votes)],
+    )
 }
 
 /// The sums below.
@@ -150,8 +159,7 @@ fn put_closing(rows: &mut RowsWriter, alloc: Global, totals: Totals) -> Result<(
     ensures { OnOk result (rows.new.text ≡ rows.old.text ++ text_of_rows (closing_rows totals)) }
 {
     put_amount(rows, alloc, "spent", totals.spent)?;
-    put_amount(rows, alloc, "surplus", totals.surplus)?;
-    Ok(())
+    put_amount(rows, alloc, "surplus", totals.surplus)
 }
 
 /// A row of a name and an amount.
@@ -164,8 +172,7 @@ fn put_amount(
     ensures { OnOk result (rows.new.text ≡ rows.old.text ++ text_of_row (name.now ∷ money_text amount ∷ [])) }
 {
     let text = amount.text(alloc)?;
-    rows.put_row(&[name, text.as_str()])?;
-    Ok(())
+    put_row(rows, &[name, text.as_str()])
 }
 
 /// A row of a name and a number.
@@ -173,6 +180,5 @@ fn put_number(rows: &mut RowsWriter, name: &str, number: u64) -> Result<(), NoMe
     ensures { OnOk result (rows.new.text ≡ rows.old.text ++ text_of_row (name.now ∷ decimal number ∷ [])) }
 {
     let mut digits = Buffer::new();
-    rows.put_row(&[name, digits.format(number)])?;
-    Ok(())
+    put_row(rows, &[name, digits.format(number)])
 }

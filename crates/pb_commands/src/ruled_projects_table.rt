@@ -10,6 +10,7 @@ ghost use Rattle.pb_rows.specs.Writing.{text_of_row, text_of_rows};
 ghost use Rattle.pb_commands.specs.Compared.{ruled_project_row};
 ghost use Rattle.pb_commands.specs.Inner.Compared.{ruled_columns};
 
+use crate::report::put_row;
 use itoa::Buffer;
 use pb_core::election::Election;
 use pb_core::no_memory::NoMemory;
@@ -129,14 +130,16 @@ fn put_project(
     let mut win_digit = Buffer::new();
     let mut other_digit = Buffer::new();
     let cost = project.cost().text(alloc)?;
-    rows.put_row(&[
-        place_digits.format(ruled.place),
-        project.id(),
-        project.name(),
-        cost.as_str(),
-        vote_digits.format(ruled.votes),
-        win_digit.format(u32::from(ruled.wins)),
-        other_digit.format(u32::from(ruled.wins_otherwise)),
-    ])?;
-    Ok(())
+    put_row(
+        rows,
+        &[
+            place_digits.format(ruled.place),
+            project.id(),
+            project.name(),
+            cost.as_str(),
+            vote_digits.format(ruled.votes),
+            win_digit.format(u32::from(ruled.wins)),
+            other_digit.format(u32::from(ruled.wins_otherwise)),
+        ],
+    )
 }

@@ -7,6 +7,7 @@ ghost use Rattle.pb_rows.specs.Writing.{text_of_row, text_of_rows};
 ghost use Rattle.pb_commands.specs.Compared.{rule_fields};
 ghost use Rattle.pb_commands.specs.Inner.Compared.{rule_columns};
 
+use crate::report::put_row;
 use itoa::Buffer;
 use pb_core::election::Election;
 use pb_core::no_memory::NoMemory;
@@ -53,18 +54,20 @@ fn put_rule(rows: &mut RowsWriter, alloc: Global, rule: &str, row: RuleRow) -> R
     let spent = amount_text(alloc, row.spent)?;
     let left = amount_text(alloc, row.left)?;
     let worth = amount_text(alloc, row.worth)?;
-    rows.put_row(&[
-        rule,
-        projects.format(row.projects),
-        spent.as_str(),
-        left.as_str(),
-        without.format(row.without),
-        choices.format(row.choices),
-        worth.as_str(),
-        more_choices.format(row.more_choices),
-        more_worth.format(row.more_worth),
-    ])?;
-    Ok(())
+    put_row(
+        rows,
+        &[
+            rule,
+            projects.format(row.projects),
+            spent.as_str(),
+            left.as_str(),
+            without.format(row.without),
+            choices.format(row.choices),
+            worth.as_str(),
+            more_choices.format(row.more_choices),
+            more_worth.format(row.more_worth),
+        ],
+    )
 }
 
 /// An amount in hundredths as text, which may be larger than those that are read: whole units, a point and

@@ -13,7 +13,7 @@ ghost use Rattle.pb_commands.specs.Inner.Checked.{warning_row};
 ghost use Rattle.pb_commands.specs.Ends.{HasWritten, IsOutsideFault};
 
 use crate::counting::{Counting, counted};
-use crate::report::whole;
+use crate::report::{put_row, whole};
 use itoa::Buffer;
 use pb_core::election::Election;
 use pb_core::gate::Gate;
@@ -237,14 +237,16 @@ fn put_fault(rows: &mut RowsWriter, fault: &ReadFault) -> Result<(), NoMemory>
     let mut number_digits = Buffer::new();
     let mut at_digits = Buffer::new();
     let number = number_digits.format(fault.number());
-    rows.put_row(&[
-        "fault",
-        "read",
-        number,
-        fault.name(),
-        at_digits.format(fault.at),
-    ])?;
-    Ok(())
+    put_row(
+        rows,
+        &[
+            "fault",
+            "read",
+            number,
+            fault.name(),
+            at_digits.format(fault.at),
+        ],
+    )
 }
 
 /// Puts a row for each warning.
@@ -265,12 +267,11 @@ fn put_warning(rows: &mut RowsWriter, warning: &WarningRow) -> Result<(), NoMemo
     match warning {
         WarningRow::Of(warning) => {
             let number = digits.format(warning.at);
-            rows.put_row(&["warning", warning.oddity.name(), number])?;
+            put_row(rows, &["warning", warning.oddity.name(), number])
         }
         WarningRow::MoreOf(oddity, more) => {
             let number = digits.format(*more);
-            rows.put_row(&["warning", "MoreOf", oddity.name(), number])?;
+            put_row(rows, &["warning", "MoreOf", oddity.name(), number])
         }
     }
-    Ok(())
 }

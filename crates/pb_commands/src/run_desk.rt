@@ -90,9 +90,18 @@ pub fn run_admitted_desk<
 {
     let election = match own_election(alloc, file, &mut NoWatch) {
         Ok(election) => election,
-        Err(fault) => return Err(fault),
+        Err(fault) => {
+            drop(rules);
+            return Err(fault);
+        }
     };
-    let admission = admission_of(alloc, rules, &election)?;
+    let admission = match admission_of(alloc, rules, &election) {
+        Ok(admission) => admission,
+        Err(_) => {
+            drop(election);
+            return Err(AppFault::Memory);
+        }
+    };
     let served = serve_admitted(
         rt, alloc, election, script, clerks, shuts, gate, &admission, notice,
     );

@@ -1,7 +1,7 @@
 //! The tables that a run writes.
 
 /// A table that a run writes.
-#[derive(Clone, Copy, Debug, PartialEq, Eq)]
+#[derive(Clone, Copy)]
 pub enum Table {
     /// Who won and why, and who lost and by how much: a row for each project.
     Projects,

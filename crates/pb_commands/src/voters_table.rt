@@ -8,6 +8,7 @@ ghost use Rattle.pb_reasons.specs.Counted.{IsCounted};
 ghost use Rattle.pb_commands.specs.Tables.{payments_text, voter_table_row};
 ghost use Rattle.pb_commands.specs.Inner.Tables.{voter_columns};
 
+use crate::report::put_row;
 use itoa::Buffer;
 use pb_core::election::Election;
 use pb_core::money::Money;
@@ -94,15 +95,17 @@ fn put_voter(
     write_money(&mut texts.paid, reason.paid)?;
     write_money(&mut texts.left, reason.left)?;
     write_payments(&mut texts.payments, payments)?;
-    rows.put_row(&[
-        id,
-        vote_digits.format(reason.votes),
-        elected_digits.format(reason.elected),
-        texts.paid.as_str(),
-        texts.left.as_str(),
-        texts.payments.as_str(),
-    ])?;
-    Ok(())
+    put_row(
+        rows,
+        &[
+            id,
+            vote_digits.format(reason.votes),
+            elected_digits.format(reason.elected),
+            texts.paid.as_str(),
+            texts.left.as_str(),
+            texts.payments.as_str(),
+        ],
+    )
 }
 
 /// Writes an amount in place of what the text held.

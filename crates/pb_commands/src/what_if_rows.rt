@@ -15,6 +15,7 @@ ghost use Rattle.pb_reasons.specs.WhatIf.{CanBe, seen};
 ghost use Rattle.pb_reasons.specs.declared.changes.change.Change.TheVariants.{Cost, Voters};
 
 use crate::counting::Counting;
+use crate::report::{put_row, whole};
 use itoa::Buffer;
 use pb_core::election::{Election, MOST_VOTERS};
 use pb_core::gate::Gate;
@@ -178,7 +179,7 @@ fn found_text(alloc: Global, found: &WhatIf) -> Result<Vec<u8>, NoMemory>
     put_columns(&mut text)?;
     put_found(alloc, &mut text, Change::Cost, &found.cost)?;
     put_found(alloc, &mut text, Change::Voters, &found.voters)?;
-    Ok(text.finish()?)
+    whole(text)
 }
 
 /// One row as text, below the columns.
@@ -188,15 +189,14 @@ fn row_text(alloc: Global, change: Change, row: Row) -> Result<Vec<u8>, NoMemory
     let mut text = RowsWriter::start(alloc);
     put_columns(&mut text)?;
     put_one(alloc, &mut text, change, row)?;
-    Ok(text.finish()?)
+    whole(text)
 }
 
 /// Writes the columns.
 fn put_columns(text: &mut RowsWriter) -> Result<(), NoMemory>
     ensures { OnOk result (text.new.text ≡ text.old.text ++ text_of_row what_if_columns) }
 {
-    text.put_row(&["change", "value", "won"])?;
-    Ok(())
+    put_row(text, &["change", "value", "won"])
 }
 
 /// Writes the two rows of one kind of change, or the one where its range is one value.
@@ -225,8 +225,7 @@ fn put_one(alloc: Global, text: &mut RowsWriter, change: Change, row: Row) -> Re
         value.as_str(),
         verdict_text(row.verdict),
     ];
-    text.put_row(&fields)?;
-    Ok(())
+    put_row(text, &fields)
 }
 
 /// What is changed, in a word.

@@ -311,6 +311,13 @@ module _ (slot_of : List ℕ → Option ℕ) (slots : List (Option (List ℕ × 
         by None gap stood = absurd (true≢false (sym stood))
         by (Some b) filled stood = IsListing-removed slot_of slots count is voter s b known filled
 
+    pub IsListing-gap_kept : (now : Option (List ℕ × Source)) → now ≡ None → is_some slot ≡ false → IsListing slot_of (slice_set slots s now) count
+    IsListing-gap_kept now emptied none_stood = rw emptied (by slot at none_stood)
+      where
+        by : (there : Option (List ℕ × Source)) → slice_get slots s ≡ Some there → is_some there ≡ false → IsListing slot_of (slice_set slots s None) count
+        by None gap none_stood = subst (λ os. IsListing slot_of os count) (sym (set_same slots s None gap)) is
+        by (Some b) filled none_stood = absurd (true≢false none_stood)
+
     pub some_stood : is_some slot ≡ true → zero < count
     some_stood stood = by slot at stood
       where

@@ -1,6 +1,7 @@
 //! Elections, written as .pb files.
 
-ghost use Rattle.std.specs.Prelude.{◌≡◌, ◌<◌, ◌++◌, [], ℕ, All, IfErr, IfOk, OnOk, length, map, string_bytes};
+ghost use Rattle.std.specs.Prelude.{◌≡◌, ◌<◌, ◌++◌, ◌∷◌, [], ℕ, All, IfErr, IfOk, OnOk, length, map};
+ghost use Rattle.std.specs.Prelude.{string_bytes};
 ghost use Rattle.csv.specs.Records.{AllText};
 ghost use Rattle.pb_core.specs.Election.{project_ids};
 ghost use Rattle.pb_read.specs.StandsFor.{StandsFor};
@@ -91,8 +92,7 @@ fn put_file(
     put_meta(rows, alloc, election, told.rule, told.comment)?;
     put_keys(rows, told.further.keys.keys())?;
     put_projects(rows, alloc, election.projects(), told)?;
-    put_votes(rows, alloc, election, told.further)?;
-    Ok(())
+    put_votes(rows, alloc, election, told.further)
 }
 
 /// Writes META but for further keys.
@@ -111,12 +111,19 @@ fn put_meta(
     let projects = project_digits.format(election.projects().len() as u32);
     let voters = voter_digits.format(election.voters().len() as u32);
     rows.put_row(&["META"])?;
-    rows.put_row(&["key", "value"])?;
+    put_pair(rows, "key", "value")?;
     put_terms(rows, alloc, election.terms())?;
-    rows.put_row(&["num_projects", projects])?;
-    rows.put_row(&["num_votes", voters])?;
-    rows.put_row(&["rule", rule])?;
-    rows.put_row(&["comment", comment])?;
+    put_pair(rows, "num_projects", projects)?;
+    put_pair(rows, "num_votes", voters)?;
+    put_pair(rows, "rule", rule)?;
+    put_pair(rows, "comment", comment)
+}
+
+/// Writes a row of META: a key and its value.
+fn put_pair(rows: &mut RowsWriter, key: &str, value: &str) -> Result<(), NoMemory>
+    ensures { OnOk result (Grows ((key.now ∷ value.now ∷ []) ∷ []) rows.old.text rows.new.text) }
+{
+    rows.put_row(&[key, value])?;
     Ok(())
 }
 
@@ -135,7 +142,7 @@ fn put_key(rows: &mut RowsWriter, key: &Key) -> Result<(), NoMemory>
     ensures { OnOk result (Grows (key_row key.now) rows.old.text rows.new.text) }
 {
     if may_follow(key.name.as_str().trim()) {
-        rows.put_row(&[key.name.as_str(), key.value.as_str()])?;
+        put_pair(rows, key.name.as_str(), key.value.as_str())?;
     }
     Ok(())
 }
@@ -145,10 +152,9 @@ fn put_terms(rows: &mut RowsWriter, alloc: Global, terms: Terms) -> Result<(), N
     ensures { OnOk result (Grows (terms_rows terms) rows.old.text rows.new.text) }
 {
     let budget = amount_text(alloc, terms.budget)?;
-    rows.put_row(&[MetaKey::Budget.text(), budget.as_str()])?;
-    rows.put_row(&[MetaKey::VoteType.text(), "approval"])?;
-    put_limit(rows, terms.max_length)?;
-    Ok(())
+    put_pair(rows, MetaKey::Budget.text(), budget.as_str())?;
+    put_pair(rows, MetaKey::VoteType.text(), "approval")?;
+    put_limit(rows, terms.max_length)
 }
 
 /// Writes the row of META on how long a ballot may be, where there is a limit.
@@ -157,7 +163,7 @@ fn put_limit(rows: &mut RowsWriter, max_length: Option<u32>) -> Result<(), NoMem
 {
     if let Some(most) = max_length {
         let mut digits = Buffer::new();
-        rows.put_row(&[MetaKey::MaxLength.text(), digits.format(most)])?;
+        put_pair(rows, MetaKey::MaxLength.text(), digits.format(most))?;
     }
     Ok(())
 }
@@ -215,8 +221,7 @@ fn put_project(
         project.name(),
         selected,
     ];
-    put_with(rows, alloc, &own, further)?;
-    Ok(())
+    put_with(rows, alloc, &own, further)
 }
 
 /// Writes VOTES.

@@ -19,6 +19,8 @@ use Rattle.pb_faults.specs.declared.fault.AppFault.TheVariants.{Read, Script, Cl
 use Rattle.pb_faults.specs.declared.fault.AppFault.TheVariants.{OpenDesk, Count, Export, Open, Write, Memory}
 use Rattle.pb_faults.specs.declared.fault.AppFault.TheVariants.{Warned, Roll, Serving}
 use Rattle.pb_faults.specs.declared.serving_fault.ServingFault.TheVariants.{Spelling, Moved, Locked, Output}
+use Rattle.pb_faults.specs.declared.words_refusal.WordsPlace.{WordsPlace}
+use Rattle.pb_faults.specs.declared.words_refusal.WordsPlace.TheVariants.{Line, Key, Nowhere}
 
 -- the same fault, in which out of memory is one case, whichever crate met it
 abbrev pub merged : AppFault → AppFault
@@ -42,7 +44,7 @@ told_at what number name at = (if number == 1 then 3 else 1, what ∷ decimal nu
 -- What is told of a merged fault: the status that the program ends with, and the fields of its line. The
 -- status is 3 where a device failed, memory was refused, or the journal is not this run's; 2 where the
 -- arguments are refused, the options of a count among them; 1 where what was read is, or its count. Options
--- in range can still be too few raises for a file.
+-- in range can still be too few raises for a file. What is left for the last line is that memory was refused.
 abbrev pub told : AppFault → ℕ × List (List ℕ)
 told (Read fault) = told_at (codes "read") (of_read fault.kind).0 (of_read fault.kind).1 fault.at
 told (Script fault) = told_at (codes "script") (of_script fault).0 (of_script fault).1 (script_row fault)
@@ -56,22 +58,23 @@ told (Count fault) = (2, codes "count" ∷ decimal (of_count fault).0 ∷ (of_co
 told (Export fault) = (1, codes "export" ∷ decimal (of_export fault).0 ∷ (of_export fault).1 ∷ [])
 told (Open number) = (3, codes "open" ∷ decimal number ∷ [])
 told Write = (3, codes "write" ∷ [])
-told Memory = (3, codes "memory" ∷ [])
 told (Warned warning) = (1, codes "warning" ∷ name_of warning.oddity ∷ decimal warning.at ∷ [])
 told (Roll (roll.ReadFailed row)) = (3, codes "roll" ∷ codes "ReadFailed" ∷ decimal row ∷ [])
 told (Roll (roll.NotText row)) = (1, codes "roll" ∷ codes "NotText" ∷ decimal row ∷ [])
 told (Roll (roll.TooManyIds row)) = (1, codes "roll" ∷ codes "TooManyIds" ∷ decimal row ∷ [])
-told (Roll roll.NoMemory) = (3, codes "memory" ∷ [])
 told (Serving Spelling) = (1, codes "spelling" ∷ [])
 told (Serving Moved) = (3, codes "moved" ∷ codes "2" ∷ [])
 told (Serving (Locked number)) = (3, codes "locked" ∷ decimal number ∷ [])
 told (Serving Output) = (3, codes "write" ∷ [])
+told memory = (3, codes "memory" ∷ [])
+
+-- what is told of a refused file with the words of a page, for a fault of this name: it has a line, or it is of
+-- a key that the file lacks or has in vain, or the file could not be read
+abbrev pub told_words : (name : List ℕ) → WordsPlace → ℕ × List (List ℕ)
+told_words name (Line number) = (1, codes "words" ∷ name ∷ decimal number ∷ [])
+told_words name (Key key) = (1, codes "words" ∷ name ∷ key.now ∷ [])
+told_words name Nowhere = (3, codes "words" ∷ name ∷ [])
 
 -- the line of these fields: a `;` stands before each
 abbrev pub line : List (List ℕ) → List ℕ
 line fields = codes "fault" ++ (flat_map (λ field. codes ";" ++ field) fields ++ codes "\n")
-
--- the status of a run that has answered all its rows, of which so many were refused: each of these has its
--- line already
-abbrev pub rows_status : ℕ → ℕ
-rows_status refused = if refused == 0 then 0 else 1

@@ -2,7 +2,7 @@
 
 ghost use Rattle.std.specs.Prelude.{◌≡◌, ◌++◌, ◌∷◌, ◌==◌, [], OnOk, codes, decimal, if◌then◌else◌, map};
 ghost use Rattle.std.specs.Io.KnownBytes.{Appends};
-ghost use Rattle.pb_faults.specs.Fault.{line, merged, rows_status, told, told_at};
+ghost use Rattle.pb_faults.specs.Fault.{line, merged, told, told_at};
 ghost use Rattle.pb_script.specs.ScriptReading.{fault_of_row};
 
 use crate::fault::AppFault;
@@ -14,11 +14,11 @@ use std::io;
 use std::io::Write;
 
 /// What was read, or its count, is refused.
-const REFUSED: u8 = 1;
+pub(crate) const REFUSED: u8 = 1;
 /// The arguments of the command line are refused.
 pub const BAD_ARGUMENTS: u8 = 2;
 /// A device failed, memory was refused, or another run has the journal.
-const NO_DEVICE: u8 = 3;
+pub(crate) const NO_DEVICE: u8 = 3;
 
 impl AppFault {
     /// Writes the fault's line. It needs no memory, and fails only where the writer does; then some of
@@ -102,9 +102,10 @@ fn read_status(number: u32) -> u8
     if number == 1 { NO_DEVICE } else { REFUSED }
 }
 
-/// The status of a run that has answered all its rows, of which so many were refused.
+/// The status of a run that has answered all its rows, of which so many were refused. Each of these has its
+/// line already.
 pub fn rows_status(refused: u64) -> u8
-    ensures { result ≡ rows_status refused }
+    ensures { result ≡ (if refused == 0 then 0 else 1) }
 {
     if refused == 0 { 0 } else { REFUSED }
 }
@@ -171,7 +172,12 @@ fn write_of_file<W: Write>(writer: &mut W, what: &str, number: u32) -> io::Resul
 }
 
 /// Writes the line of what has this name, in this record.
-fn write_named<W: Write>(writer: &mut W, what: &str, name: &str, at: u64) -> io::Result<()>
+pub(crate) fn write_named<W: Write>(
+    writer: &mut W,
+    what: &str,
+    name: &str,
+    at: u64,
+) -> io::Result<()>
     ensures { OnOk result (Appends (W.contents writer.old) (W.contents writer.new)
         (line (what.now ∷ name.now ∷ decimal at ∷ []))) }
 {
@@ -180,7 +186,7 @@ fn write_named<W: Write>(writer: &mut W, what: &str, name: &str, at: u64) -> io:
 }
 
 /// Writes the line of these fields.
-fn write_fields<W: Write>(writer: &mut W, fields: &[&str]) -> io::Result<()>
+pub(crate) fn write_fields<W: Write>(writer: &mut W, fields: &[&str]) -> io::Result<()>
     ensures { OnOk result (Appends (W.contents writer.old) (W.contents writer.new)
         (line (map (λ field. field.now) fields.now))) }
 {

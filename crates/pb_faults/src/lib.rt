@@ -7,10 +7,12 @@ pub mod fault;
 mod fault_line;
 pub mod laws;
 mod serving_fault;
+mod words_refusal;
 mod writing;
 
 pub use desk_row::put_entries;
 pub use fault::AppFault;
 pub use fault_line::{BAD_ARGUMENTS, rows_status, write_refused_row};
 pub use serving_fault::ServingFault;
+pub use words_refusal::{WordsPlace, WordsRefusal};
 pub use writing::write_out;

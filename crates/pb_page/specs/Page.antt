@@ -156,13 +156,12 @@ won_row facts whole place p votes (Lost lost) = []
 
 -- the row of a project that did not win; what won has none
 abbrev pub lost_row : Facts → (place : ℕ) → ProjectView → (votes : ℕ) → Ending → List Filling
-lost_row facts place p votes (Won w) = []
-lost_row facts place p votes (Added a) = []
 lost_row facts place p votes (Lost lost) = let l = facts.language in between (filling OTHER.now
     (p.id ∷ p.name ∷ decimal (width lost.left p.cost) ∷ at l key.COST ∷ money_text p.cost ∷ shown l.costs p.cost
     ∷ at l key.VOTES ∷ decimal votes ∷ at l key.LEFT ∷ money_text lost.left ∷ shown l.amounts lost.left ∷ at l key.MISSING
     ∷ money_text lost.missing ∷ [])) (filling OTHER_CLOSING.now []) l key.SHORT (text (shown l.amounts lost.missing) ∷ [])
     ++ row_end facts place
+lost_row facts place p votes won = []
 
 -- one of these rows, of the project at this place
 abbrev pub row_of : (ℕ → ProjectView → ℕ → Ending → List Filling) → ElectionView → CountedView → ℕ → List Filling

@@ -1,11 +1,32 @@
 //! Why a file of words is refused.
 
 ghost use Rattle.std.specs.Prelude.{◌≡◌};
+ghost use Rattle.pb_core.specs.Numbered.{numbered};
+ghost use Rattle.pb_page.specs.contracts.words_fault.WordsFault.{the_type};
 
 use crate::markup::Plural;
 use crate::table::entry_at;
+use pb_core::names::name_at;
 use pb_core::no_memory::NoMemory;
 use std::alloc::{AllocError, AllocFailed};
+
+/// The names of `WordsFault`, in the order of its variants. Two have that of the one before them.
+pub const NAMES: [&str; 14] = [
+    "NotText",
+    "BadLine",
+    "UnknownKey",
+    "RepeatedKey",
+    "Markup",
+    "UnknownPlace",
+    "UnknownPlace",
+    "MissingPlace",
+    "MissingPlace",
+    "BadValue",
+    "MissingKey",
+    "UnusedKey",
+    "ReadFailed",
+    "NoMemory",
+];
 
 /// A key of a file of words.
 #[derive(Clone, Copy)]
@@ -76,6 +97,37 @@ pub enum WordsFault {
     ReadFailed,
     /// Memory was refused.
     NoMemory,
+}
+
+impl WordsFault {
+    /// The fault's number, from 1.
+    fn number(&self) -> u32
+        ensures { result ≡ (numbered the_type NAMES self.now).0 }
+    {
+        match self {
+            WordsFault::NotText(_) => 1,
+            WordsFault::BadLine(_) => 2,
+            WordsFault::UnknownKey(_) => 3,
+            WordsFault::RepeatedKey(_) => 4,
+            WordsFault::Markup(_) => 5,
+            WordsFault::UnknownPlace(_) => 6,
+            WordsFault::LoneBrace(_) => 7,
+            WordsFault::MissingPlace(..) => 8,
+            WordsFault::RepeatedPlace(..) => 9,
+            WordsFault::BadValue(_) => 10,
+            WordsFault::MissingKey(_) => 11,
+            WordsFault::UnusedKey(..) => 12,
+            WordsFault::ReadFailed => 13,
+            WordsFault::NoMemory => 14,
+        }
+    }
+
+    /// The fault's name, as its line has it.
+    pub fn name(&self) -> &'static str
+        ensures { result.now ≡ (numbered the_type NAMES self.now).1 }
+    {
+        name_at(&NAMES, self.number() as usize - 1)
+    }
 }
 
 impl From<NoMemory> for WordsFault {

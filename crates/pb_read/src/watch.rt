@@ -71,7 +71,7 @@ pub trait Heed: Watch {
 }
 
 /// Nobody looks on.
-#[derive(Clone, Copy, Debug)]
+#[derive(Clone, Copy)]
 pub struct NoWatch;
 
 impl Watch for NoWatch {

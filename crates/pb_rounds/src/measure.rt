@@ -7,7 +7,7 @@ use pb_price::supporters::Supporters;
 use std::alloc::Allocator;
 
 /// What an elected project is worth to a voter who approves it: its utility in Equal Shares.
-#[derive(Clone, Copy, Debug, PartialEq, Eq)]
+#[derive(Clone, Copy)]
 pub enum Measure {
     /// One for each approved project: a round elects the least price.
     Votes,

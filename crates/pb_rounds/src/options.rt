@@ -15,7 +15,7 @@ pub const LARGEST_STEP: Money = Money(1_000_000_000);
 pub const MOST_RAISES: u32 = 1_000_000;
 
 /// What is done with the money that a first run leaves.
-#[derive(Clone, Copy, Debug, PartialEq, Eq)]
+#[derive(Clone, Copy)]
 pub enum Completion {
     /// Nothing: the outcome at the opening share stands.
     Plain,
@@ -25,7 +25,7 @@ pub enum Completion {
 }
 
 /// How to count.
-#[derive(Clone, Copy, Debug, PartialEq, Eq)]
+#[derive(Clone, Copy)]
 pub struct CountOptions {
     /// By how much a raise lifts everyone's share, in hundredths: 1 to 1,000,000,000.
     pub step: Money,

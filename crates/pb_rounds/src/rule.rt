@@ -6,7 +6,7 @@ ghost use Rattle.pb_rounds.specs.RuleNames.{fills_up};
 use crate::options::CountOptions;
 
 /// What is done with what the elected leave of the budget.
-#[derive(Clone, Copy, Debug, PartialEq, Eq)]
+#[derive(Clone, Copy)]
 pub enum FillUp {
     /// Nothing.
     Nothing,
@@ -27,7 +27,7 @@ impl FillUp {
 }
 
 /// By which rule the winners of an election are chosen.
-#[derive(Clone, Copy, Debug, PartialEq, Eq)]
+#[derive(Clone, Copy)]
 pub struct Rule {
     /// How projects are elected.
     pub options: CountOptions,

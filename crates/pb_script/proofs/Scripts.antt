@@ -8,6 +8,7 @@ use Rattle.std.proofs.lemmas.List.Elements.{All-cons, All-nil, filter-append}
 use Rattle.std.proofs.lemmas.List.Sums.{count_by-le-length, length-filter}
 use Rattle.pb_core.specs.Request.{RequestView}
 use Rattle.pb_rows.specs.Reading.{Fields, IsNext}
+use Rattle.pb_rows.specs.Inner.Reading.{HasReadAtMost}
 use Rattle.pb_script.specs.Inner.Admission.{Admits, IsAdmitted, Refuses}
 use Rattle.pb_script.specs.Script.{ScriptRowView, most_rows}
 use Rattle.pb_script.specs.declared.admission.Admission.{Admission}
@@ -154,6 +155,14 @@ records_are_rows a clerks (r ∷ rs) [] rows = absurd rows
 records_are_rows a clerks (r ∷ rs) (x ∷ xs) rows = let more = records_are_rows a clerks rs xs rows.1 in omega arith
 
 -- no clerk asks more than a script has rows
+pub HaveAsked-read : (a : Admission) (clerks : ℕ) (all left after : Option (List Fields)) (count : ℕ) (lists : List (List RequestView)) → HaveAsked a clerks all left count lists → count ≤ most_rows →
+    HasReadAtMost 1 left after → HasReadAtMost 2000001 all after
+HaveAsked-read a clerks None left after count lists have few one = tt
+HaveAsked-read a clerks (Some all) None after count lists have few one = absurd have.have_gone
+HaveAsked-read a clerks (Some all) (Some rest) None count lists have few one = tt
+HaveAsked-read a clerks (Some all) (Some rest) (Some more) count lists have few one =
+    omega (arith, ap length have.have_gone, length-append have.gone rest, have.count_is, few, one)
+
 pub HaveAsked-few : (a : Admission) (clerks : ℕ) (all left : Option (List Fields)) (count : ℕ) (lists : List (List RequestView)) → HaveAsked a clerks all left count lists → count ≤ most_rows →
     All (λ list. length list ≤ most_rows) lists
 HaveAsked-few a clerks all left count lists have few = λ k d below.

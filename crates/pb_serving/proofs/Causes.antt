@@ -10,6 +10,7 @@ use Rattle.pb_durable.specs.declared.device_fault.DeviceFault.{DeviceFault}
 use Rattle.pb_durable.specs.declared.device_fault.DeviceFault.TheVariants as device
 use Rattle.pb_durable.specs.declared.durable_fault.DurableFault.{DurableFault}
 use Rattle.pb_durable.specs.declared.durable_fault.DurableFault.TheVariants as durable
+use Rattle.pb_serving.proofs.Apart.{same_err}
 use Rattle.pb_serving.specs.Answered.{HasNoRoom, IsBehind}
 use Rattle.pb_faults.specs.declared.fault.AppFault.{AppFault}
 use Rattle.pb_faults.specs.declared.fault.AppFault.TheVariants.{ClerkCount, Count, Audit, Export, Memory, Open, OpenDesk, OtherFile, Read, Roll, Script, Serving, Warned, Write}
@@ -36,6 +37,11 @@ not_failed before now later none = elim (cases_lt before now) [
 pub err_is : {T E : Type 0} (r : Result T E) (why e : E) → IsErrAnd r (λ x. x ≡ why) → why ≡ e → r ≡ Err e
 err_is (Ok x) why e is same = absurd is
 err_is (Err x) why e is same = ap Err (is ∙ same)
+
+-- the other way round: the error that is told is this one
+pub told_is : {T E : Type 0} {r : Result T E} {why e : E} → IsErrAnd r (λ x. x ≡ why) → r ≡ Err e → why ≡ e
+told_is {r = Ok x} is said = absurd is
+told_is {r = Err x} is said = sym is ∙ same_err refl said
 
 -- a batch was not answered: the device failed, or there was no room for it
 pub has_cause : (first before now : ℕ) (d new : DeskView) (count : ℕ) (more : List EntryView) → before ≡ first → count ≤ 4096 → new.room ≡ d.room → new.opening ≡ d.opening

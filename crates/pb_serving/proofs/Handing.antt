@@ -1,5 +1,5 @@
 -- What a reader that hands out a row at a time has left.
-use Rattle.std.proofs.Common.{◌≡◌, ◌∙◌, ℕ, ◌+◌, ◌-◌, ◌≤◌, List, [], ◌++◌, length, take, drop, Option, None, Some, Result, Ok, Err, IsErrAnd, sym, ap, arith}
+use Rattle.std.proofs.Common.{◌≡◌, ◌∙◌, ℕ, ◌+◌, ◌-◌, ◌≤◌, List, [], ◌++◌, length, take, drop, length-append, Option, None, Some, Result, Ok, Err, IsErrAnd, sym, ap, arith}
 use Rattle.std.proofs.Math.Seq.{take-add}
 use Rattle.std.proofs.lemmas.List.{drop-drop, length-drop, length-take, take_at}
 use Rattle.std.specs.Io.KnownBytes.{prepend_known, Keeps, ReadConsumes}
@@ -27,3 +27,8 @@ pub read_failed : {E : Type 0} (r : Result ℕ E) (why : E) (before after buf : 
     → ReadConsumes (prepend_known before known) (prepend_known after now) r buf
 read_failed (Ok n) why before after buf known now is none still keeps = absurd is
 read_failed (Err e) why before after buf known now is none still keeps = kept before after known now none still keeps
+
+-- a chunk is as long as before where its front was read anew
+pub refilled : (chunk front : List ℕ) (len : ℕ) → len ≡ length chunk → length front ≡ length chunk → length (take len (front ++ drop (length front) chunk)) ≡ length chunk
+refilled chunk front len all same =
+    omega (arith, length-take len (front ++ drop (length front) chunk), length-append front (drop (length front) chunk), length-drop (length front) chunk)

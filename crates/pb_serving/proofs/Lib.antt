@@ -1,5 +1,6 @@
 -- The lemmas that the proofs of this crate share.
 mod Answering
+mod Apart
 mod Batches
 mod Causes
 mod Handing

@@ -7,7 +7,7 @@ ghost use Rattle.pb_serving.specs.Inner.Batch.{refused, IsBatch, IsNextAsk};
 use crate::pace::Pace;
 use crate::session::Session;
 use pb_durable::ClerkRequest;
-use pb_script::{Notice, RequestRow, RequestRows, RowRefusal, RowsFault};
+use pb_script::{Admission, Notice, RequestRow, RequestRows, RowRefusal, RowsFault};
 use std::alloc::Global;
 use std::io::Read;
 
@@ -51,7 +51,7 @@ pub(crate) fn next_batch<R: Read, P: Pace, N: Notice>(
         if asks.reserve(1).is_err() {
             return BatchEnd::NoMemory;
         }
-        match next_ask(alloc, rows, session) {
+        match next_ask(alloc, rows, session.admission, session.notice) {
             Ok(ask) => asks.push_reserved(ask),
             Err(end) => return end,
         }
@@ -63,14 +63,15 @@ pub(crate) fn next_batch<R: Read, P: Pace, N: Notice>(
 }
 
 /// Reads what the next row asks, or why the batch ends before it.
-fn next_ask<R: Read, P: Pace, N: Notice>(
+fn next_ask<R: Read, N: Notice>(
     alloc: Global,
     rows: &mut RequestRows<R>,
-    session: &Session<'_, P, N>,
+    admission: &Admission,
+    notice: &N,
 ) -> Result<ClerkRequest, BatchEnd>
-    ensures { IsNextAsk session.now.admission.now rows.old rows.new result }
+    ensures { IsNextAsk admission.now rows.old rows.new result }
 {
-    match rows.next(alloc, session.admission, session.notice) {
+    match rows.next(alloc, admission, notice) {
         Ok(Some(RequestRow::Asks(clerk, request))) => Ok(ClerkRequest { clerk, request }),
         Ok(Some(RequestRow::Refused(why))) => Err(BatchEnd::Refused(why)),
         Ok(None) => Err(BatchEnd::Over),

@@ -51,18 +51,11 @@ pub(crate) fn bar_of<'a, R: Files<File = File> + AllocGlobal>(
 /// The text of a task that is read from this file, where one is.
 fn text_of<'a, R: Files>(rt: &R, task: &Task<'a>, target: FileId) -> Result<Option<Source<'a>>> {
     let (file, second) = task.texts();
-    if target.has_text(rt, &file)? {
-        return Ok(Some(file));
-    }
-    if let Some(text) = second {
-        if target.has_text(rt, &text)? {
-            return Ok(Some(text));
-        }
-    }
-    if let Some(path) = task.roll() {
-        let roll = Source::File(path);
-        if target.has_text(rt, &roll)? {
-            return Ok(Some(roll));
+    for text in &[Some(file), second, task.roll().map(Source::File)] {
+        if let Some(text) = text {
+            if target.has_text(rt, text)? {
+                return Ok(Some(*text));
+            }
         }
     }
     Ok(None)

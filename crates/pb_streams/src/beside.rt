@@ -2,13 +2,14 @@
 
 use crate::file_id::{FileId, INPUT};
 use pb_command_line::Source;
+use std::fmt::Display;
 use std::fs;
 use std::io::{ErrorKind, Result};
 use std::path::Path;
 use std::rt::Files;
 
 /// The ends of the names that the program gives beside a journal; the last one may have a number behind it.
-const ENDS: [&str; 3] = [".torn", ".file", ".kept"];
+const ENDS: &[&str] = &[".torn", ".file", ".kept"];
 
 /// So many files with a number are looked for.
 const MOST_KEPT: u32 = 10_000;
@@ -90,10 +91,7 @@ fn is_linked<R: Files + AllocGlobal>(rt: &R, target: FileId, journal: &str) -> R
         }
     }
     for number in 1..MOST_KEPT {
-        let digits = format!(in rt.alloc(); "{number}")?;
-        let id = named(rt, journal, ".kept", digits.as_str());
-        drop(digits);
-        match id? {
+        match named(rt, journal, ".kept", number)? {
             Some(id) if id == target => return Ok(true),
             Some(_) => {}
             None => return Ok(false),
@@ -102,12 +100,12 @@ fn is_linked<R: Files + AllocGlobal>(rt: &R, target: FileId, journal: &str) -> R
     Ok(false)
 }
 
-/// The file beside a journal whose name has this end and this number.
-fn named<R: Files + AllocGlobal>(
+/// The file beside a journal whose name has this end and this number, or an empty text in its place.
+fn named<R: Files + AllocGlobal, N: Display + Copy>(
     rt: &R,
     journal: &str,
     end: &str,
-    number: &str,
+    number: N,
 ) -> Result<Option<FileId>> {
     let path = format!(in rt.alloc(); "{journal}{end}{number}")?;
     let id = FileId::at(rt, path.as_str());

@@ -13,22 +13,35 @@ use std::rt::Files;
 /// Where the first rows of the voters stand whose ids are repeated, if the text is a file. A witness keeps no
 /// table of all voters, so the rows of VOTES are read again for them, until each was found.
 pub fn first_rows<R: Files>(text: &Text<'_, R>, witness: &Witness) -> Result<Firsts, AllocError> {
-    let mut found = Firsts::new(text.alloc);
     let wanted = repeated(text.alloc, witness)?;
-    if wanted.len() > 0 {
-        if let Some(records) = text.record_at(witness.names_mark()) {
-            let mut search = Search {
-                alloc: text.alloc,
-                records,
-                wanted: &wanted,
-            };
-            let searched = search.find(witness.refused.as_slice(), &mut found);
-            drop(search);
-            searched?;
-        }
-    }
+    let mut found = Firsts::new(text.alloc);
+    let searched = find_rows(text, witness, &wanted, &mut found);
     drop(wanted);
+    searched?;
     Ok(found)
+}
+
+/// Finds the first rows that have these ids, if the text is a file.
+fn find_rows<R: Files>(
+    text: &Text<'_, R>,
+    witness: &Witness,
+    wanted: &Firsts,
+    found: &mut Firsts,
+) -> Result<(), AllocError> {
+    if wanted.len() == 0 {
+        return Ok(());
+    }
+    let Some(records) = text.record_at(witness.names_mark()) else {
+        return Ok(());
+    };
+    let mut search = Search {
+        alloc: text.alloc,
+        records,
+        wanted,
+    };
+    let searched = search.find(witness.refused.as_slice(), found);
+    drop(search);
+    searched
 }
 
 /// The ids that are repeated.

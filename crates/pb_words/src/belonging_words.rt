@@ -1,7 +1,7 @@
 //! Words for a journal and the file that it belongs to.
 
 use crate::words::Value::{Name, Own};
-use crate::words::{Said, Words, failed, said};
+use crate::words::{Said, failed, said};
 use std::alloc::Global;
 use std::io::Error;
 
@@ -14,24 +14,19 @@ pub fn other_file_words(
     beside: &str,
     text: &[u8],
 ) -> Said {
-    let mut out = Words::new(alloc);
     let start = text.iter().take(64);
     if start.filter(|byte| byte.is_ascii_hexdigit()).count() == 64 {
-        out.fill(
-            "{} was made with another .pb file: the SHA-256 of {} differs from the one noted in {}.\n",
-            &[Name(journal), Name(file), Name(Some(beside))],
-        );
-        out.fill(
-            "The journal names each project only by its position in the .pb file (0, 1, ..). In another file, the same position may be another project. Run the command again with the .pb file with which the desk was opened.\nIf you want to use {}, give `--other-file`. Do so only if all projects of the old file are in it, in the same order. Their names and costs may differ. New projects may only come after the old ones.\n",
-            &[Name(file)],
-        );
-    } else {
-        out.fill(
-            "{} should begin with the SHA-256 of the .pb file, but it does not. So the program can't tell to which .pb file {} belongs.\nGet {} from last evening's copy.\n",
-            &[Name(Some(beside)), Name(journal), Name(Some(beside))],
+        return said(
+            alloc,
+            "{} was made with another .pb file: the SHA-256 of {} differs from the one noted in {}.\nThe journal names each project only by its position in the .pb file (0, 1, ..). In another file, the same position may be another project. Run the command again with the .pb file with which the desk was opened.\nIf you want to use {}, give `--other-file`. Do so only if all projects of the old file are in it, in the same order. Their names and costs may differ. New projects may only come after the old ones.\n",
+            &[Name(journal), Name(file), Name(Some(beside)), Name(file)],
         );
     }
-    out.finish()
+    said(
+        alloc,
+        "{} should begin with the SHA-256 of the .pb file, but it does not. So the program can't tell to which .pb file {} belongs.\nGet {} from last evening's copy.\n",
+        &[Name(Some(beside)), Name(journal), Name(Some(beside))],
+    )
 }
 
 /// Words for a journal with entries beside which nothing stood, and that now belongs to the file with this

@@ -1,7 +1,7 @@
 //! Words for an exported file: what it lacks, and why there is none.
 
 use crate::words::Value::{Name, Own, Quoted};
-use crate::words::{Said, Words};
+use crate::words::{Said, Words, said};
 use pb_witness::text::Text;
 use pb_witness::unwritable::{project_with_comma, voter_like_a_heading};
 use std::alloc::Global;
@@ -47,20 +47,18 @@ pub fn heading_words<R: Files>(
     file: Option<&str>,
     journal: Option<&str>,
 ) -> Said {
-    let mut out = Words::new(alloc);
     match voter_like_a_heading(&Text::new(rt, alloc, journal))? {
-        Some(voter) => {
-            out.fill(
-                "{}: the voter {} can't be written into a .pb file, because this id is a heading there.\nGive this voter another id in copies of the file and the journal (tools/replace_ids.py does it), and export these.\n",
-                &[Name(journal), Quoted(voter.as_str())],
-            )
-        }
-        None => out.fill(
+        Some(voter) => said(
+            alloc,
+            "{}: the voter {} can't be written into a .pb file, because this id is a heading there.\nGive this voter another id in copies of the file and the journal (tools/replace_ids.py does it), and export these.\n",
+            &[Name(journal), Quoted(voter.as_str())],
+        ),
+        None => said(
+            alloc,
             "{}: the id of a voter or a project is META, PROJECTS or VOTES. It can't be written into a .pb file, because it is a heading there.\nGive the voter or project another id in a copy of the file, and export this.\n",
             &[Name(file)],
         ),
     }
-    out.finish()
 }
 
 /// Words for an election with a vote for a project whose id has a comma; whether its ballots are those of a

@@ -1,3 +1,4 @@
+use Rattle.std.proofs.lemmas.Result.{on_ok_weaker}
 use Rattle.pb_reasons.proofs.Results.{result_is_added}
 use Rattle.pb_reasons.proofs.Tellable.{count_can_be_told}
 use Rattle.pb_commands.specs.Report.{report_of}
@@ -9,8 +10,8 @@ unfolding report_of
 returns c =
     let elected = rw c.elected.ensures at c.in_ok-put_elected.ensures in
     let added = rw c.added.ensures at c.in_ok-put_added.ensures in
-    let closing = rw c.of.ensures at c.in_ok-put_closing.ensures in
-    rows_grown _ _ _ _ _ c.in_ok-put_opening.ensures (rows_grown _ _ _ _ _ elected (rows_grown _ _ _ _ _ added closing))
+    on_ok_weaker c.put_closing.result (λ closing. rows_grown _ _ _ _ _ c.in_ok-put_opening.ensures (rows_grown _ _ _ _ _ elected (rows_grown _ _ _ _ _ added closing)))
+    (rw c.of.ensures at c.put_closing.ensures)
 
 pub put_elected-requires : goal.put_elected-requires
 put_elected-requires c =

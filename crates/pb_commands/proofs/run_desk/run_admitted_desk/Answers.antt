@@ -3,7 +3,7 @@ use Rattle.pb_rows.specs.Reading.{records_of}
 use Rattle.pb_script.specs.Served.{IsServeFault, IsServed}
 use Rattle.pb_script.specs.declared.admission.Admission.{Admission}
 use Rattle.pb_commands.proofs.DeskRuns.{desk_known, own_passes, script_ends}
-use Rattle.pb_commands.proofs.Endings.{memory_end, run_ended, run_given, run_written}
+use Rattle.pb_commands.proofs.Endings.{memory_end, run_ended, run_written}
 use Rattle.pb_commands.specs.DeskRun.{DeskRefuses, DeskWrites}
 use Rattle.pb_faults.specs.declared.fault.AppFault.TheVariants.{Memory}
 use Rattle.pb_commands.proofs.run_desk.run_admitted_desk.Goals as goal
@@ -15,13 +15,12 @@ returns-in-Err g c =
     run_ended (λ bytes rows. DeskWrites c.args.rules bytes rows c.args.clerks c.args.shuts) (λ _ rows. DeskRefuses c.args.rules rows c.args.clerks) files scripts None g.W.Write.contents _ c.in-Err.fault
     (own_passes c.args.rules c.args.clerks c.args.shuts files scripts c.in-Err.fault c.in-Err.ensures.reads c.in-Err.ensures.ends)
 
-pub returns-in_err-admission : goal.returns-in_err-admission
-returns-in_err-admission g c =
+pub returns-in-Err-admission_of : goal.returns-in-Err-admission_of
+returns-in-Err-admission_of g c =
     let files = g.P.Read.remaining c.args.file in
     let scripts = g.S.Read.remaining c.args.script in
     let file = c.in-Ok.ensures.ends.judges in
-    run_given (λ bytes rows. DeskWrites c.args.rules bytes rows c.args.clerks c.args.shuts) (λ _ rows. DeskRefuses c.args.rules rows c.args.clerks) files scripts None g.W.Write.contents _ _ Memory
-    c.from_residual.ensures.1
+    run_ended (λ bytes rows. DeskWrites c.args.rules bytes rows c.args.clerks c.args.shuts) (λ _ rows. DeskRefuses c.args.rules rows c.args.clerks) files scripts None g.W.Write.contents _ Memory
     (memory_end (λ bytes rows. DeskWrites c.args.rules bytes rows c.args.clerks c.args.shuts) (λ _ rows. DeskRefuses c.args.rules rows c.args.clerks) files scripts None file.1 file.0)
 
 pub returns-in-Err-served : goal.returns-in-Err-served
@@ -32,7 +31,7 @@ returns-in-Err-served g c =
     let fault = c.in-Err-served.fault in
     run_ended (λ bytes rows. DeskWrites c.args.rules bytes rows c.args.clerks c.args.shuts) (λ _ rows. DeskRefuses c.args.rules rows c.args.clerks) files scripts None g.W.Write.contents _ c.unserved.result
     (script_ends c.args.rules c.args.clerks c.args.shuts files scripts e c.in-Ok.ensures.ok fault c.unserved.result c.unserved.ensures
-    (subst (λ (a : Admission). IfSome scripts (λ rows. IsServeFault a c.args.clerks (records_of rows) fault)) c.in_ok-admission.ensures c.in-Err-served.ensures.fault))
+    (subst (λ (a : Admission). IfSome scripts (λ rows. IsServeFault a c.args.clerks (records_of rows) fault)) c.in-Ok-admission_of.ensures c.in-Err-served.ensures.fault))
 
 pub returns : goal.returns
 returns g c =
@@ -44,4 +43,4 @@ returns g c =
     run_written (λ bytes rows. DeskWrites c.args.rules bytes rows c.args.clerks c.args.shuts) (λ _ rows. DeskRefuses c.args.rules rows c.args.clerks) files scripts None g.W.Write.contents _ _ text _
     (rw c.as_slice.ensures.value at c.write_out.ensures.ok) c.write_out.ensures.fault file.1 file.0
     (desk_known c.args.rules c.args.clerks c.args.shuts files scripts e c.in-Ok.ensures.ok text
-    (subst (λ (a : Admission). IfSome scripts (λ rows. IsServed a e c.args.clerks c.args.shuts (records_of rows) text)) c.in_ok-admission.ensures c.in-Ok-served.ensures.ok))
+    (subst (λ (a : Admission). IfSome scripts (λ rows. IsServed a e c.args.clerks c.args.shuts (records_of rows) text)) c.in-Ok-admission_of.ensures c.in-Ok-served.ensures.ok))

@@ -1,4 +1,5 @@
 use Rattle.std.proofs.Common.{◌∷◌, [], List, codes, append_assoc, decimal, length, subst}
+use Rattle.std.proofs.lemmas.Result.{on_ok_weaker}
 use Rattle.pb_core.specs.Election.{terms_of}
 use Rattle.pb_rows.specs.Reading.{Fields}
 use Rattle.pb_export.specs.FileRows.{key_rows, terms_rows}
@@ -19,4 +20,5 @@ returns c =
     (codes "num_projects" ∷ decimal (length e.projects) ∷ []) ∷ (codes "num_votes" ∷ decimal (length e.voters) ∷ []) ∷ (codes "rule" ∷ told.rule.now ∷ []) ∷ (codes "comment" ∷ told.comment.now ∷ []) ∷ [] in
     let meta = subst (λ (rows : List Fields). Grows rows old c.put_keys.new.rows.text) (append_assoc front last (key_rows told.further.now.keys))
     (grown _ _ old c.put_meta.new.rows.text c.put_keys.new.rows.text c.in_ok-put_meta.ensures keys) in
-    grown _ _ old c.put_projects.new.rows.text c.put_votes.new.rows.text (grown _ _ old c.put_keys.new.rows.text c.put_projects.new.rows.text meta projects) c.in_ok-put_votes.ensures
+    on_ok_weaker c.put_votes.result (λ votes. grown _ _ old c.put_projects.new.rows.text c.put_votes.new.rows.text (grown _ _ old c.put_keys.new.rows.text c.put_projects.new.rows.text meta projects) votes)
+    c.put_votes.ensures

@@ -1,21 +1,18 @@
-use Rattle.std.proofs.Common.{◌≡◌, ◌∷◌, ◌++◌, [], List, true, false, ap, ◌∙◌, subst, sym}
+use Rattle.std.proofs.Common.{◌≡◌, ◌∷◌, [], List, true, false, ap, ◌∙◌, subst, sym}
 use Rattle.std.specs.Str.{trim}
 use Rattle.std.proofs.lemmas.Bool.{cond-false, cond-true}
-use Rattle.csv.specs.Records.{AllText}
 use Rattle.pb_rows.specs.Reading.{Fields}
-use Rattle.pb_rows.specs.Writing.{text_of_row}
 use Rattle.pb_export.specs.FileRows.{may_follow}
 use Rattle.pb_export.specs.Further.{KeyView}
 use Rattle.pb_export.specs.Inner.Growing.{Grows}
-use Rattle.pb_export.proofs.Grown.{none_grown, row_grown}
+use Rattle.pb_export.proofs.Grown.{none_grown}
 use Rattle.pb_export.proofs.write_pb.put_key.Goals as goal
 
-pub returns-in_ok-put_row : goal.returns-in_ok-put_row
-unfolding AllText
-returns-in_ok-put_row c =
+pub returns-in_ok-put_pair : goal.returns-in_ok-put_pair
+returns-in_ok-put_pair c =
     let key : KeyView = c.args.key.now in
     let old = c.args.rows.now.text in
-    let new = c.put_row.new.self.text in
+    let new = c.put_pair.new.rows.text in
     let trimmed = c.trim.ensures.trim ∙ ap trim (c.as_str.ensures.value ∙ ap (λ (k : KeyView). k.name) c.key.view_is) in
     let follows : may_follow (trim key.name) ≡ true = sym (c.may_follow.ensures ∙ ap may_follow trimmed) ∙ c.if-may_follow.true in
     let name : c.as_str-then-may_follow.result.now ≡ key.name = c.as_str-then-may_follow.ensures.value ∙ ap (λ (k : KeyView). k.name) c.key.view_is in
@@ -24,8 +21,7 @@ returns-in_ok-put_row c =
     let rows : List Fields = (key.name ∷ key.value ∷ []) ∷ [] in
     let none : List Fields = [] in
     subst (λ (rows : List Fields). Grows rows old new) (sym (cond-true (may_follow (trim key.name)) rows none follows))
-    (row_grown [] (key.name ∷ key.value ∷ []) old old new (none_grown old) (c.in_ok-put_row.ensures.text ∙ ap (λ (fields : Fields). old ++ text_of_row fields) row)
-    (subst AllText row (c.as_str-then-may_follow.utf8, (c.as_str-then-may_follow-2.utf8, tt))))
+    (subst (λ (fields : Fields). Grows (fields ∷ []) old new) row c.in_ok-put_pair.ensures)
 
 pub returns-else-may_follow : goal.returns-else-may_follow
 returns-else-may_follow c =

@@ -1,5 +1,5 @@
 use Rattle.std.proofs.Common.{◌∷◌, [], ap}
-use Rattle.std.proofs.lemmas.List.{get_or_default}
+use Rattle.std.proofs.lemmas.List.{get_or_default, take_all}
 use Rattle.pb_core.specs.Election.{ProjectView}
 use Rattle.pb_reasons.proofs.PlaceSums.{the_placed}
 use Rattle.pb_page.specs.Inner.Pieces.{only_then}
@@ -20,3 +20,6 @@ loop-place-preserved c =
     let placed = the_placed e places _ _ _ _ c.requires c.loop-place-test.true here c.projects-projects.ensures.projects c.index-projects-place.is in
     let row = ap (λ (p : ProjectView). only_then l p ∷ []) (the_project e _ _ placed.known placed.project) in
     item_more (λ place. only_then l (project_at e place)) _ _ _ _ _ _ placed.below placed.here c.loop-place.invariant (grown_as _ _ _ _ row c.in_ok-put_project.ensures)
+
+pub returns : goal.returns
+returns c = rw (take_all c.loop-place.place-index c.args.places.now c.loop-place-test.false) at c.loop-place.invariant

@@ -1,5 +1,5 @@
-use Rattle.std.proofs.Common.{◌≡◌, ◌∙◌, arith, refl}
-use Rattle.std.proofs.lemmas.List.{get_or_default}
+use Rattle.std.proofs.Common.{◌≡◌, ◌∙◌, arith, refl, ap, length}
+use Rattle.std.proofs.lemmas.List.{get_or_default, take_all}
 use Rattle.pb_reasons.proofs.PlaceSums.{costs_more, costs_more_le, the_placed}
 use Rattle.pb_page.proofs.Grown.{none}
 use Rattle.pb_page.proofs.Rows.{block_more}
@@ -24,3 +24,10 @@ loop-place-preserved c =
       before = omega (arith, costs_more _ _ _ _ _ placed, c.loop-place.invariant.before);
       grown = block_more c.args.costs.now _ _ _ _ _ _ _ _ _ placed c.loop-place.invariant.before c.loop-place.invariant.grown (rw c.budget-budget.ensures.budget at c.in_ok-put_block.ensures);
     }
+
+pub bounds-projects-place : goal.bounds-projects-place
+bounds-projects-place c =
+    omega (arith, c.requires.known c.loop-place.place-index 0 c.loop-place-test.true, ap length c.projects-projects.ensures.projects)
+
+pub returns : goal.returns
+returns c = rw (take_all c.loop-place.place-index c.args.winners.now c.loop-place-test.false) at c.loop-place.invariant.grown

@@ -1,4 +1,4 @@
-use Rattle.std.proofs.Common.{◌≡◌, ◌∙◌, ◌++◌, ◌∷◌, [], List, ℕ, ap, map, sym, take, rules}
+use Rattle.std.proofs.Common.{◌≡◌, ◌∙◌, ◌++◌, ◌∷◌, [], List, ℕ, ap, map, sym, take, take_all, rules}
 use Rattle.std.proofs.lemmas.List.{map_more}
 use Rattle.pb_rounds.specs.Run.{ElectedView}
 use Rattle.pb_reasons.proofs.counted.places_of.Goals as goal
@@ -14,3 +14,6 @@ loop-winner-preserved c =
     ∙ ap (λ (l : List ℕ). l ++ winner.place ∷ []) c.loop-winner.invariant
     ∙ ap (λ (w : ElectedView). map place (take i elected) ++ w.place ∷ []) c.winner-item.is
     ∙ sym (map_more place elected i winner c.loop-winner-test.true)
+
+pub returns : goal.returns
+returns c = c.loop-winner.invariant ∙ ap (map (λ (w : ElectedView). w.place)) (take_all c.loop-winner.winner-index c.args.elected.now c.loop-winner-test.false)

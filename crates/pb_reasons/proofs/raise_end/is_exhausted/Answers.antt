@@ -1,6 +1,6 @@
-use Rattle.std.proofs.Common.{◌≡◌, ◌&&◌, ◌-◌, Bool, List, ℕ, length, map, sym, ◌∙◌, ap, arith}
+use Rattle.std.proofs.Common.{◌≡◌, ◌&&◌, ◌-◌, ◌<◌, All, Bool, List, ℕ, get_or, length, map, subst, sym, ◌∙◌, ap, arith}
 use Rattle.std.specs.List.{list_any, range_with_len}
-use Rattle.pb_core.specs.Election.{ProjectView, VoterView}
+use Rattle.pb_core.specs.Election.{ElectionView, IsVoter, ProjectView, VoterView}
 use Rattle.pb_price.specs.Supporters.{support_of}
 use Rattle.pb_rounds.specs.Count.{spent_on}
 use Rattle.pb_rounds.specs.Outcome.{OutcomeView}
@@ -45,3 +45,10 @@ returns c =
           (w.has_room-is ∙ w.if-leave_room_for_any_project.false
           ∙ sym (ap (λ b. b && by_ballots e.voters) (sym found ∙ w.if-leave_room_for_any_project.false)))
     ]
+
+pub leave_room_for_any_voter-has_room-requires : goal.leave_room_for_any_voter-has_room-requires
+leave_room_for_any_voter-has_room-requires c =
+    let e = c.args.election.now in
+    let are_voters = subst (λ (vs : List VoterView). All (IsVoter (length e.projects)) vs) (sym c.voters.ensures.voters) c.voters.ensures.is_election.are_voters in
+    λ k d below. subst (λ (n : ℕ). All (λ place. place < n) (get_or c.voters.result.now k d).ballot) (sym (ap (λ (p : ElectionView × List ℕ). length p.0.projects) c.in_ok-winners.ensures))
+    (are_voters k d below).ballot_known

@@ -1,8 +1,8 @@
-use Rattle.std.proofs.Common.{◌≡◌, ◌+◌, ◌∙◌, get_or, length, refl, subst, sym, take, arith}
-use Rattle.std.specs.Prelude.{nat_lt, slice_index}
+use Rattle.std.proofs.Common.{◌≡◌, ◌+◌, ◌∙◌, ap, get_or, length, length-take-le, refl, subst, sym, take, take_all, arith}
+use Rattle.std.specs.Prelude.{count_by, nat_lt, slice_index}
 use Rattle.std.proofs.lemmas.Bool.{le-ltb, lt-ltb}
 use Rattle.std.proofs.lemmas.List.{get_or_default}
-use Rattle.std.proofs.lemmas.List.Sums.{count_by_more_no, count_by_more_yes}
+use Rattle.std.proofs.lemmas.List.Sums.{count_by-le-length, count_by_more_no, count_by_more_yes}
 use Rattle.pb_reasons.specs.Inner.Turns.{amount_at}
 use Rattle.pb_reasons.proofs.Listing.{IsListing, listing_more, listing_same}
 use Rattle.pb_reasons.proofs.voter_teller.list_payments.Goals.{then-round-amounts+else-amount-gt0, then-round-amounts+then-amount-gt0+in_ok-push, else-round-amounts}
@@ -46,3 +46,20 @@ loop-place-preserved c =
             listed = listing_same (amount_at rounds amounts) ballot i within c.loop-place.payments.items h.listed (rw is refl);
           })
     ]
+
+pub overflow_add-elected : goal.overflow_add-elected
+overflow_add-elected c =
+    let i = c.loop-place.place-index in
+    let ballot = c.args.ballot.now in
+    let few = count_by-le-length (λ place. nat_lt (slice_index c.args.rounds.now place) (length c.args.amounts.now)) (take i ballot) in
+    omega (arith, few, length-take-le i ballot c.loop-place.auto.place-index-end, c.loop-place.invariant.elected, c.loop-place-test.true, c.requires.few)
+
+pub returns-clause-elected : goal.returns-clause-elected
+returns-clause-elected c =
+    c.loop-place.invariant.elected
+    ∙ ap (count_by (λ place. nat_lt (slice_index c.args.rounds.now place) (length c.args.amounts.now))) (take_all c.loop-place.place-index c.args.ballot.now c.loop-place-test.false)
+
+pub returns-clause-listed : goal.returns-clause-listed
+returns-clause-listed c =
+    (subst (λ places. IsListing (amount_at c.args.rounds.now c.args.amounts.now) places c.loop-place.payments.items)
+    (take_all c.loop-place.place-index c.args.ballot.now c.loop-place-test.false) c.loop-place.invariant.listed).is

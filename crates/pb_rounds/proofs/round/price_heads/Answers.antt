@@ -46,3 +46,6 @@ returns-clause-fresh g c =
     c.loop-i.invariant.fresh
     ∙ ap (λ xs. c.args.fresh.now.keys.items ++ keys_at c.args.pricing.now.measure c.args.pricing.now.supporters.now c.args.rests.now xs)
     (take_all c.loop-i.i c.args.heads.now c.loop-i-test.false)
+
+pub weight-weight-requires : goal.weight-weight-requires
+weight-weight-requires g c = c.requires.known c.loop-i.i 0 c.loop-i-test.true

@@ -1,5 +1,5 @@
 use Rattle.std.proofs.Common.{arith}
-use Rattle.pb_script.proofs.Scripts.{HaveAsked-fault, HaveAsked-few, HaveAsked-more, HaveAsked-start}
+use Rattle.pb_script.proofs.Scripts.{HaveAsked-fault, HaveAsked-few, HaveAsked-more, HaveAsked-read, HaveAsked-start}
 use Rattle.pb_script.proofs.script.read_rows.Goals as goal
 
 pub rows-init : goal.rows-init
@@ -21,3 +21,12 @@ returns-in-Ok-None-clause-few g c =
 pub returns-in-Err-clause-fault : goal.returns-in-Err-clause-fault
 returns-in-Err-clause-fault g c =
     HaveAsked-fault c.args.admission.now c.args.clerks c.args.records.now.left c.rows.records.left c.rows.rows c.rows.lists.items c.in-Err.fault c.rows.invariant.1 c.in-Err.ensures.fault
+
+pub returns-in_err-put_row-in-Ok-Some-clause-read : goal.returns-in_err-put_row-in-Ok-Some-clause-read
+returns-in_err-put_row-in-Ok-Some-clause-read g c = HaveAsked-read c.args.admission.now c.args.clerks c.args.records.now.left c.rows.records.left c.next_row.new.records.left c.rows.rows c.rows.lists.items c.rows.invariant.1 c.rows.invariant.0 c.next_row.ensures.one
+
+pub returns-in-Err-clause-read : goal.returns-in-Err-clause-read
+returns-in-Err-clause-read g c = HaveAsked-read c.args.admission.now c.args.clerks c.args.records.now.left c.rows.records.left c.next_row.new.records.left c.rows.rows c.rows.lists.items c.rows.invariant.1 c.rows.invariant.0 c.next_row.ensures.one
+
+pub returns-in-Ok-None-clause-read : goal.returns-in-Ok-None-clause-read
+returns-in-Ok-None-clause-read g c = HaveAsked-read c.args.admission.now c.args.clerks c.args.records.now.left c.rows.records.left c.next_row.new.records.left c.rows.rows c.rows.lists.items c.rows.invariant.1 c.rows.invariant.0 c.next_row.ensures.one

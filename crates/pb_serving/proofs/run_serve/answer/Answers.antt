@@ -1,15 +1,20 @@
-use Rattle.std.proofs.Common.{◌≡◌, ◌∙◌, ◌++◌, ◌+◌, ◌≤◌, ℕ, length, List, [], Err, IsErrAnd, arith, refl, ap, sym, subst}
+use Rattle.std.proofs.Common.{◌≡◌, ◌∙◌, ◌++◌, ◌+◌, ◌≤◌, ℕ, length, List, [], Err, IsErrAnd, inl, arith, refl, ap, sym, subst}
 use Rattle.pb_durable.proofs.Openings.{if_err}
 use Rattle.pb_durable.specs.declared.durable_fault.DurableFault.{DurableFault}
+use Rattle.pb_durable.proofs.Durable.{stays}
+use Rattle.pb_durable.proofs.Moments.{started}
+use Rattle.pb_durable.specs.Inner.Either.{StandsForEither}
+use Rattle.pb_desk.specs.Rows.{journal_text}
 use Rattle.pb_faults.specs.declared.fault.AppFault.{AppFault}
 use Rattle.pb_faults.specs.declared.fault.AppFault.TheVariants.{Serving, Write}
 use Rattle.pb_faults.specs.declared.serving_fault.ServingFault.TheVariants.{Output}
 use Rattle.pb_serving.specs.Answered.{IsBehind}
 use Rattle.pb_faults.specs.Durable.{of_durable}
-use Rattle.pb_serving.proofs.Causes.{behind_durable, cause_of, err_is, not_durable, not_output}
+use Rattle.pb_serving.proofs.Causes.{behind_durable, cause_of, err_is, not_durable, not_output, told_is}
 use Rattle.std.specs.Io.KnownBytes.{Appends}
 use Rattle.pb_desk.specs.declared.version.Version.TheVariants.{One}
 use Rattle.pb_durable.specs.DurableDesk.{entries_of}
+use Rattle.pb_serving.proofs.Apart.{ok_not_err, output_not_read}
 use Rattle.pb_serving.proofs.Answering.{nothing_said, said_rows}
 use Rattle.pb_durable.specs.declared.clerk_request.ClerkRequest.{ClerkRequest}
 use Rattle.std.proofs.lemmas.List.{append-nil, nil_from_length}
@@ -85,3 +90,107 @@ returns-in_err-answers-clause-write g c = λ tells said.
     let is : Write ≡ of_durable why = subst (λ r. IsErrAnd r (λ x. x ≡ of_durable why)) said c.from_residual.ensures.1 in
     cause_of why _ _ _ is (λ at. c.serve_all.ensures.failed tells (c.in_err-answers.was ∙ ap (λ (f : DurableFault). Err f) at)) (λ at. c.serve_all.ensures.journal_full (c.in_err-answers.was ∙ ap (λ (f : DurableFault). Err f) at))
     (λ at. c.serve_all.ensures.full tells (c.in_err-answers.was ∙ ap (λ (f : DurableFault). Err f) at))
+
+pub returns-clause-output : goal.returns-clause-output
+returns-clause-output g c = λ tells said. absurd (ok_not_err said)
+
+pub returns-clause-write : goal.returns-clause-write
+returns-clause-write g c = λ tells said. absurd (ok_not_err said)
+
+pub returns-then-is_empty-clause-output : goal.returns-then-is_empty-clause-output
+returns-then-is_empty-clause-output g c = λ tells said. absurd (ok_not_err said)
+
+pub returns-then-is_empty-clause-write : goal.returns-then-is_empty-clause-write
+returns-then-is_empty-clause-write g c = λ tells said. absurd (ok_not_err said)
+
+pub returns-clause-not_read : goal.returns-clause-not_read
+returns-clause-not_read g c = λ i said. ok_not_err said
+
+pub returns-then-is_empty-clause-not_read : goal.returns-then-is_empty-clause-not_read
+returns-then-is_empty-clause-not_read g c = λ i said. ok_not_err said
+
+pub returns-clause-steady : goal.returns-clause-steady
+returns-clause-steady g c = λ tells. c.serve_all.ensures.steady tells
+
+pub returns-clause-asked : goal.returns-clause-asked
+returns-clause-asked g c =
+    let answered = c.in_ok-answers.ensures.answered in
+    (c.in_ok-answers.field-0.answers.items, answered.1, λ said. answered.0)
+
+pub returns-clause-told : goal.returns-clause-told
+returns-clause-told g c = λ tells failed. absurd (ok_not_err (sym c.in_ok-answers.was ∙ c.serve_all.ensures.told tells failed))
+
+pub serve_all-requires-clause-clerks : goal.serve_all-requires-clause-clerks
+serve_all-requires-clause-clerks g c = c.requires.clerks
+
+pub returns-in_err-write_out-clause-output : goal.returns-in_err-write_out-clause-output
+returns-in_err-write_out-clause-output g c = λ tells said. c.in_ok-answers.ensures.durable tells
+
+pub returns-then-is_empty-clause-any_moment : goal.returns-then-is_empty-clause-any_moment
+returns-then-is_empty-clause-any_moment g c = λ tells.
+    let d = c.args.desk.now in
+    let was = c.requires.durable tells in
+    let text = journal_text d.desk.opening.version d.desk.journal in
+    started g.D.Device.moment g.D.Device.left_since d.file.device (StandsForEither text text)
+    (λ f left. inl (stays g.D.Device.seen g.D.Device.may_leave d.file text was.settled was.written f (g.met.D.Device.only_now d.file.device f left)))
+
+pub returns-then-is_empty-clause-asked : goal.returns-then-is_empty-clause-asked
+returns-then-is_empty-clause-asked g c =
+    let asks = c.args.asks.items in
+    let old = c.args.desk.now.desk.journal in
+    let none : asks ≡ [] = nil_from_length asks (grind (arith, common_steps, c.is_empty.ensures, c.if-is_empty.true)) in
+    ([], subst (λ (a : List ClerkRequest). old ≡ old ++ entries_of a []) (sym none) (sym (append-nil old)), λ said. absurd (ok_not_err said))
+
+pub returns-clause-opening : goal.returns-clause-opening
+returns-clause-opening g c = c.serve_all.ensures.opening
+
+pub returns-clause-room : goal.returns-clause-room
+returns-clause-room g c = c.serve_all.ensures.room
+
+pub returns-clause-legal : goal.returns-clause-legal
+returns-clause-legal g c = c.serve_all.ensures.legal
+
+pub returns-clause-any_moment : goal.returns-clause-any_moment
+returns-clause-any_moment g c = λ tells. c.serve_all.ensures.any_moment tells
+
+pub returns-in_err-write_out-clause-opening : goal.returns-in_err-write_out-clause-opening
+returns-in_err-write_out-clause-opening g c = c.serve_all.ensures.opening
+
+pub returns-in_err-write_out-clause-room : goal.returns-in_err-write_out-clause-room
+returns-in_err-write_out-clause-room g c = c.serve_all.ensures.room
+
+pub returns-in_err-write_out-clause-legal : goal.returns-in_err-write_out-clause-legal
+returns-in_err-write_out-clause-legal g c = c.serve_all.ensures.legal
+
+pub returns-in_err-write_out-clause-any_moment : goal.returns-in_err-write_out-clause-any_moment
+returns-in_err-write_out-clause-any_moment g c = λ tells. c.serve_all.ensures.any_moment tells
+
+pub returns-in_err-write_out-clause-steady : goal.returns-in_err-write_out-clause-steady
+returns-in_err-write_out-clause-steady g c = λ tells. c.serve_all.ensures.steady tells
+
+pub returns-in_err-answers-clause-opening : goal.returns-in_err-answers-clause-opening
+returns-in_err-answers-clause-opening g c = c.serve_all.ensures.opening
+
+pub returns-in_err-answers-clause-room : goal.returns-in_err-answers-clause-room
+returns-in_err-answers-clause-room g c = c.serve_all.ensures.room
+
+pub returns-in_err-answers-clause-legal : goal.returns-in_err-answers-clause-legal
+returns-in_err-answers-clause-legal g c = c.serve_all.ensures.legal
+
+pub returns-in_err-answers-clause-any_moment : goal.returns-in_err-answers-clause-any_moment
+returns-in_err-answers-clause-any_moment g c = λ tells. c.serve_all.ensures.any_moment tells
+
+pub returns-in_err-answers-clause-steady : goal.returns-in_err-answers-clause-steady
+returns-in_err-answers-clause-steady g c = λ tells. c.serve_all.ensures.steady tells
+
+pub returns-clause-durable : goal.returns-clause-durable
+returns-clause-durable g c = λ tells. c.in_ok-answers.ensures.durable tells
+
+pub returns-in_err-write_out-clause-not_read : goal.returns-in_err-write_out-clause-not_read
+returns-in_err-write_out-clause-not_read g c = λ i said. output_not_read c.in_err-write_out.ensures.fault (told_is c.from_residual-in_err-write_out.ensures.1 said)
+
+pub returns-in_err-write_out-clause-told : goal.returns-in_err-write_out-clause-told
+returns-in_err-write_out-clause-told g c = λ tells failed. absurd (ok_not_err (sym c.in_ok-answers.was ∙ c.serve_all.ensures.told tells failed))
+
+pub returns-in_err-answers-clause-output : goal.returns-in_err-answers-clause-output
+returns-in_err-answers-clause-output g c = λ tells said. absurd (not_output c.in_err-answers.field-0.0 (sym (told_is c.from_residual.ensures.1 said)))

@@ -3,15 +3,20 @@ use Rattle.std.specs.Io.KnownBytes.{Appends}
 use Rattle.std.proofs.KnownBytes.{Appends-trans}
 use Rattle.pb_desk.specs.Desk.{DeskView}
 use Rattle.pb_durable.proofs.Openings.{if_err}
+use Rattle.pb_desk.specs.Rows.{journal_text}
+use Rattle.pb_durable.specs.declared.durable_fault.DurableFault.TheVariants as durable
 use Rattle.pb_durable.specs.Device.{LeavesOnly}
 use Rattle.pb_serving.specs.Answered.{heading, Halts, StandsWithin}
 use Rattle.pb_faults.specs.Durable.{of_device}
 use Rattle.pb_faults.specs.declared.fault.AppFault.{AppFault}
 use Rattle.pb_faults.specs.declared.fault.AppFault.TheVariants.{Memory, Serving, Write}
 use Rattle.pb_faults.specs.declared.serving_fault.ServingFault.TheVariants.{Output}
+use Rattle.pb_desk.specs.Replay.{IsLegal}
 use Rattle.pb_serving.proofs.Answering.{halts_behind_all, halts_unbegun, not_stopped, HasAnswered}
+use Rattle.pb_serving.proofs.Apart.{ok_not_err, output_not_read, output_not_write, same_err}
 use Rattle.pb_serving.proofs.Batches.{adds_none}
-use Rattle.pb_serving.proofs.Causes.{behind_device}
+use Rattle.pb_serving.proofs.Causes.{behind_device, err_is, not_durable, not_output, told_is}
+use Rattle.pb_serving.specs.Inner.OnRoll.{AddsOnRoll}
 use Rattle.pb_serving.proofs.Standings.{begins, closes, kept_all, kept_closing}
 use Rattle.pb_serving.proofs.run_serve.run_serve.Goals as goal
 
@@ -120,3 +125,84 @@ pub returns-in_err-refused-clause-write : goal.returns-in_err-refused-clause-wri
 returns-in_err-refused-clause-write g c = λ tells said.
     let is : Write ≡ c.in_err-refused.field-0.0 = subst (λ r. IsErrAnd r (λ x. x ≡ c.in_err-refused.field-0.0)) said c.from_residual-in_err-refused.ensures.1 in
     c.serve_rows.ensures.write tells (c.in_err-refused.was ∙ ap (λ (f : AppFault). Err f) (sym is))
+
+pub returns-clause-on_roll : goal.returns-clause-on_roll
+returns-clause-on_roll g c = subst (λ (d : DeskView). AddsOnRoll c.args.session.now.admission.now c.args.desk.now.desk.journal d.journal) (sym c.close.ensures.desk) c.serve_rows.ensures.grown
+
+pub returns-clause-legal : goal.returns-clause-legal
+returns-clause-legal g c = subst (λ (d : DeskView). IsLegal d.opening d.journal) (sym c.close.ensures.desk) c.serve_rows.ensures.legal
+
+pub returns-in_err-close-clause-on_roll : goal.returns-in_err-close-clause-on_roll
+returns-in_err-close-clause-on_roll g c = subst (λ (d : DeskView). AddsOnRoll c.args.session.now.admission.now c.args.desk.now.desk.journal d.journal) (sym c.close.ensures.desk) c.serve_rows.ensures.grown
+
+pub returns-in_err-close-clause-legal : goal.returns-in_err-close-clause-legal
+returns-in_err-close-clause-legal g c = subst (λ (d : DeskView). IsLegal d.opening d.journal) (sym c.close.ensures.desk) c.serve_rows.ensures.legal
+
+pub returns-clause-output : goal.returns-clause-output
+returns-clause-output g c = λ tells said. absurd (ok_not_err said)
+
+pub returns-clause-write : goal.returns-clause-write
+returns-clause-write g c = λ tells said. absurd (ok_not_err said)
+
+pub returns-in_err-close-clause-output : goal.returns-in_err-close-clause-output
+returns-in_err-close-clause-output g c = λ tells said. absurd (not_output (durable.Device c.in_err-close.field-0.0) (sym (told_is c.from_residual-in_err-close.ensures.1 said)))
+
+pub returns-in_err-close-clause-blame : goal.returns-in_err-close-clause-blame
+returns-in_err-close-clause-blame g c = λ i said. absurd (not_durable (durable.Device c.in_err-close.field-0.0) i (sym (told_is c.from_residual-in_err-close.ensures.1 said)))
+
+pub returns-in_err-refused-clause-output : goal.returns-in_err-refused-clause-output
+returns-in_err-refused-clause-output g c = λ tells said. c.serve_rows.ensures.output tells (c.in_err-refused.was ∙ ap (λ (f : AppFault). Err f) (told_is c.from_residual-in_err-refused.ensures.1 said))
+
+pub returns-in_err-refused-clause-blame : goal.returns-in_err-refused-clause-blame
+returns-in_err-refused-clause-blame g c = λ i said. c.serve_rows.ensures.blame i (c.in_err-refused.was ∙ ap (λ (f : AppFault). Err f) (told_is c.from_residual-in_err-refused.ensures.1 said))
+
+pub returns-in_err-refused-clause-on_roll : goal.returns-in_err-refused-clause-on_roll
+returns-in_err-refused-clause-on_roll g c = c.serve_rows.ensures.grown
+
+pub returns-in_err-refused-clause-any_moment : goal.returns-in_err-refused-clause-any_moment
+returns-in_err-refused-clause-any_moment g c = λ tells. c.serve_rows.ensures.any_moment tells
+
+pub returns-clause-closed : goal.returns-clause-closed
+returns-clause-closed g c = λ tells. subst (λ (d : DeskView). g.D.Device.seen c.close.new.self.file.device ≡ journal_text d.opening.version d.journal) (sym c.close.ensures.desk) (c.in_ok-close.ensures.closed tells)
+
+pub returns-clause-durable : goal.returns-clause-durable
+returns-clause-durable g c = λ tells. c.in_ok-close.ensures.durable tells
+
+pub returns-clause-opening : goal.returns-clause-opening
+returns-clause-opening g c = ap (λ (d : DeskView). d.opening) c.close.ensures.desk ∙ c.serve_rows.ensures.opening
+
+pub returns-in_err-close-clause-opening : goal.returns-in_err-close-clause-opening
+returns-in_err-close-clause-opening g c = ap (λ (d : DeskView). d.opening) c.close.ensures.desk ∙ c.serve_rows.ensures.opening
+
+pub returns-clause-read : goal.returns-clause-read
+returns-clause-read g c = c.in_ok-refused.ensures.read
+
+pub returns-clause-blame : goal.returns-clause-blame
+returns-clause-blame g c = λ i said. absurd (ok_not_err said)
+
+pub returns-in_err-write_out-clause-write : goal.returns-in_err-write_out-clause-write
+returns-in_err-write_out-clause-write g c = λ tells said. absurd (output_not_write c.in_err-write_out.ensures.fault (told_is c.from_residual-in_err-write_out.ensures.1 said))
+
+pub serve_rows-requires-clause-legal : goal.serve_rows-requires-clause-legal
+serve_rows-requires-clause-legal g c = subst (λ (d : DeskView). IsLegal d.opening d.journal) c.desk.ensures c.entries-entries.ensures.legal
+
+pub returns-in_err-refused-clause-opening : goal.returns-in_err-refused-clause-opening
+returns-in_err-refused-clause-opening g c = c.serve_rows.ensures.opening
+
+pub returns-in_err-refused-clause-legal : goal.returns-in_err-refused-clause-legal
+returns-in_err-refused-clause-legal g c = c.serve_rows.ensures.legal
+
+pub returns-in_err-refused-clause-told : goal.returns-in_err-refused-clause-told
+returns-in_err-refused-clause-told g c = λ tells failed. err_is c.from_residual-in_err-refused.result c.in_err-refused.field-0.0 Write c.from_residual-in_err-refused.ensures.1 (same_err c.in_err-refused.was (c.serve_rows.ensures.told tells failed))
+
+pub returns-in_err-write_out-clause-output : goal.returns-in_err-write_out-clause-output
+returns-in_err-write_out-clause-output g c = λ tells said. c.requires tells
+
+pub returns-in_err-opened-clause-output : goal.returns-in_err-opened-clause-output
+returns-in_err-opened-clause-output g c = λ tells said. c.requires tells
+
+pub returns-in_err-write_out-clause-legal : goal.returns-in_err-write_out-clause-legal
+returns-in_err-write_out-clause-legal g c = subst (λ (d : DeskView). IsLegal d.opening d.journal) c.desk.ensures c.entries-entries.ensures.legal
+
+pub returns-in_err-write_out-clause-blame : goal.returns-in_err-write_out-clause-blame
+returns-in_err-write_out-clause-blame g c = λ i said. absurd (output_not_read c.in_err-write_out.ensures.fault (told_is c.from_residual-in_err-write_out.ensures.1 said))

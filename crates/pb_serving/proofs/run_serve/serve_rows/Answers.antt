@@ -10,8 +10,9 @@ use Rattle.pb_serving.specs.Inner.Batch.{refused, EndsBy}
 use Rattle.pb_serving.specs.declared.batch.BatchEnd.{BatchEnd}
 use Rattle.pb_serving.specs.declared.batch.BatchEnd.TheVariants as end
 use Rattle.pb_serving.proofs.Answering.{bad_more, batch_more, done, gives, gone_mid, halts, halts_here, moved, started, text_so_far, Outcome}
+use Rattle.pb_serving.proofs.Apart.{cons_not_nil, memory_not_failed, memory_not_read, memory_not_write, more_not_failed, ok_not_err, output_not_read, output_not_write, refused_not_failed, same_err, script_not_write}
 use Rattle.pb_serving.proofs.Batches.{adds_more, adds_none, asks_clerks, entries_on_roll}
-use Rattle.pb_serving.proofs.Causes.{err_is, has_cause, not_failed}
+use Rattle.pb_serving.proofs.Causes.{err_is, has_cause, not_failed, told_is}
 use Rattle.pb_serving.proofs.Standings.{begins, goes_on, kept_all, kept_first}
 use Rattle.pb_serving.proofs.Unanswered.{unanswered}
 use Rattle.pb_script.specs.declared.script_fault.ScriptFault.TheVariants.{TooManyRows}
@@ -180,7 +181,7 @@ returns-in-NoMemory-clause-stopped g c =
       halts_here c.args.session.now.admission.now Memory c.args.rows.now c.next_batch-end.new.rows ends.0 old.desk.journal new.desk.journal (g.W.Write.contents c.args.writer.now) (g.W.Write.contents c.answer.new.writer) (c.loop.row + length asks) c.loop.refused so_far
           (subst (λ (n : ℕ). HasGiven c.args.rows.now c.next_batch-end.new.rows n) sizes given)
           (λ answered is. omega arith)
-          (λ sound failed. absurd (cc (c.in-NoMemory.is, c.next_batch-end.ensures.told (inv.sound sound) failed))),
+          (λ sound failed. absurd (memory_not_failed c.in-NoMemory.is (c.next_batch-end.ensures.told (inv.sound sound) failed))),
       λ other. so_far.said,
       λ tells f left. kept_all g.D.Device.moment g.D.Device.left_since g.D.Device.seen g.D.Device.may_leave new (c.in_ok-answer.ensures.durable tells) f left,
     )
@@ -211,7 +212,7 @@ loop-preserved g c =
     let ends : (e : BatchEnd) → c.next_batch-end.result ≡ e → EndsBy c.args.session.now.admission.now e left batch.rows after = λ e is. subst (λ (x : BatchEnd). EndsBy c.args.session.now.admission.now x left batch.rows after) is batch.goes_on in
     let opening = c.answer.ensures.opening ∙ inv.opening in
     let failures : g.D.Device.tells → g.D.Device.failures new.file.device ≡ g.D.Device.failures old.file.device = λ tells.
-    not_failed (g.D.Device.failures mid.file.device) (g.D.Device.failures new.file.device) (c.answer.ensures.steady tells) (λ rise. cc (c.in_ok-answer.ensures.told tells rise)) ∙ inv.failures tells in
+    not_failed (g.D.Device.failures mid.file.device) (g.D.Device.failures new.file.device) (c.answer.ensures.steady tells) (λ rise. ok_not_err (c.in_ok-answer.ensures.told tells rise)) ∙ inv.failures tells in
     let on_roll = entries_on_roll c.args.session.now.admission.now batch.rows asks said.0 batch.each in
     let entries : AddsOnRoll c.args.session.now.admission.now old.desk.journal new.desk.journal = adds_more c.args.session.now.admission.now old.desk.journal mid.desk.journal new.desk.journal (entries_of asks said.0) inv.grown grown on_roll in
     elim c.match-end.branch [
@@ -223,7 +224,7 @@ loop-preserved g c =
             few = omega (arith, row, size, few, before);
             many = omega (arith, row, size, some, many);
             fewer = omega (arith, row, bad, size, fewer);
-            sound = λ sound failed. cc (w.in-More.is, c.next_batch-end.ensures.told (inv.sound sound) failed);
+            sound = λ sound failed. more_not_failed w.in-More.is (c.next_batch-end.ensures.told (inv.sound sound) failed);
             failures = failures;
             legal = c.answer.ensures.legal;
             given = subst (λ (n : ℕ). HasGiven c.args.rows.now c.next_batch-end.new.rows n) (omega (arith, row, size)) (gives c.args.rows.now c.loop.rows c.next_batch-end.new.rows c.loop.row (length asks + refused end.More) inv.given
@@ -248,7 +249,7 @@ loop-preserved g c =
             few = omega (arith, row, size, few, before);
             many = omega (arith, row, size, many);
             fewer = omega (arith, row, bad, size, fewer);
-            sound = λ sound failed. cc (w.in-Refused.is, c.next_batch-end.ensures.told (inv.sound sound) failed);
+            sound = λ sound failed. refused_not_failed w.in-Refused.is (c.next_batch-end.ensures.told (inv.sound sound) failed);
             failures = failures;
             legal = c.answer.ensures.legal;
             given = subst (λ (n : ℕ). HasGiven c.args.rows.now c.next_batch-end.new.rows n) (omega (arith, row, size)) (gives c.args.rows.now c.loop.rows c.next_batch-end.new.rows c.loop.row (length asks + refused (end.Refused w.in-Refused.why)) inv.given
@@ -310,7 +311,7 @@ returns-in_err-say_refused-in-Refused-clause-stopped g c =
       halts ad why c.args.rows.now c.next_batch-end.new.rows between.0 c.next_batch-end.new.rows.left old.desk.journal new.desk.journal new.desk.journal (contents c.args.writer.now) (contents c.answer.new.writer) (c.loop.row + length asks) c.loop.refused
           (here.0 ∷ []) [] whys so_far between.2 (here.1, tt) (sym (append-nil new.desk.journal)) (subst (λ (n : ℕ). HasGiven c.args.rows.now c.next_batch-end.new.rows n) sizes given)
           (λ answered same. subst (λ (fault : AppFault). IsBehind fault answered 1 0) (sym is) (omega arith, refl))
-          (λ sound failed none. absurd (cc none)),
+          (λ sound failed none. absurd (cons_not_nil none)),
       λ other. absurd (other is),
       λ tells f left. kept_all g.D.Device.moment g.D.Device.left_since g.D.Device.seen g.D.Device.may_leave new (c.in_ok-answer.ensures.durable tells) f left,
     )
@@ -373,5 +374,133 @@ returns-in_err-answer-clause-told g c = λ tells failed.
     let inv = c.loop.invariant in
     let before = inv.failures tells in
     let said = c.answer.ensures.told tells (omega (arith, before, failed)) in
-    let same : Write ≡ c.in_err-answer.field-0.0 = cc (said, c.in_err-answer.was) in
-    err_is c.from_residual.result c.in_err-answer.field-0.0 Write c.from_residual.ensures.1 (sym same)
+    err_is c.from_residual.result c.in_err-answer.field-0.0 Write c.from_residual.ensures.1 (same_err c.in_err-answer.was said)
+
+pub returns-in-Over-clause-output : goal.returns-in-Over-clause-output
+returns-in-Over-clause-output g c = λ tells said. c.in_ok-answer.ensures.durable tells
+
+pub returns-in-ReadFailed-clause-output : goal.returns-in-ReadFailed-clause-output
+returns-in-ReadFailed-clause-output g c = λ tells said. c.in_ok-answer.ensures.durable tells
+
+pub returns-in-NoMemory-clause-output : goal.returns-in-NoMemory-clause-output
+returns-in-NoMemory-clause-output g c = λ tells said. c.in_ok-answer.ensures.durable tells
+
+pub returns-clause-output : goal.returns-clause-output
+returns-clause-output g c = λ tells said. c.loop.invariant.durable tells
+
+pub returns-in-Over-clause-steady : goal.returns-in-Over-clause-steady
+returns-in-Over-clause-steady g c = λ tells. subst (λ (n : ℕ). n ≤ g.D.Device.failures c.answer.new.desk.file.device) (c.loop.invariant.failures tells) (c.answer.ensures.steady tells)
+
+pub returns-in-ReadFailed-clause-steady : goal.returns-in-ReadFailed-clause-steady
+returns-in-ReadFailed-clause-steady g c = λ tells. subst (λ (n : ℕ). n ≤ g.D.Device.failures c.answer.new.desk.file.device) (c.loop.invariant.failures tells) (c.answer.ensures.steady tells)
+
+pub returns-in-NoMemory-clause-steady : goal.returns-in-NoMemory-clause-steady
+returns-in-NoMemory-clause-steady g c = λ tells. subst (λ (n : ℕ). n ≤ g.D.Device.failures c.answer.new.desk.file.device) (c.loop.invariant.failures tells) (c.answer.ensures.steady tells)
+
+pub returns-in_err-answer-clause-steady : goal.returns-in_err-answer-clause-steady
+returns-in_err-answer-clause-steady g c = λ tells. subst (λ (n : ℕ). n ≤ g.D.Device.failures c.answer.new.desk.file.device) (c.loop.invariant.failures tells) (c.answer.ensures.steady tells)
+
+pub returns-in_err-say_refused-in-Refused-clause-steady : goal.returns-in_err-say_refused-in-Refused-clause-steady
+returns-in_err-say_refused-in-Refused-clause-steady g c = λ tells. subst (λ (n : ℕ). n ≤ g.D.Device.failures c.answer.new.desk.file.device) (c.loop.invariant.failures tells) (c.answer.ensures.steady tells)
+
+pub returns-in-Over-clause-write : goal.returns-in-Over-clause-write
+returns-in-Over-clause-write g c = λ tells said. absurd (ok_not_err said)
+
+pub returns-in-ReadFailed-clause-write : goal.returns-in-ReadFailed-clause-write
+returns-in-ReadFailed-clause-write g c = λ tells said. absurd (script_not_write c.read_failed.ensures (same_err refl said))
+
+pub returns-in-NoMemory-clause-write : goal.returns-in-NoMemory-clause-write
+returns-in-NoMemory-clause-write g c = λ tells said. absurd (memory_not_write (same_err refl said))
+
+pub returns-in-Over-clause-opening : goal.returns-in-Over-clause-opening
+returns-in-Over-clause-opening g c = c.answer.ensures.opening ∙ c.loop.invariant.opening
+
+pub returns-in-Over-clause-legal : goal.returns-in-Over-clause-legal
+returns-in-Over-clause-legal g c = c.answer.ensures.legal
+
+pub returns-in-ReadFailed-clause-opening : goal.returns-in-ReadFailed-clause-opening
+returns-in-ReadFailed-clause-opening g c = c.answer.ensures.opening ∙ c.loop.invariant.opening
+
+pub returns-in-ReadFailed-clause-legal : goal.returns-in-ReadFailed-clause-legal
+returns-in-ReadFailed-clause-legal g c = c.answer.ensures.legal
+
+pub returns-in-NoMemory-clause-opening : goal.returns-in-NoMemory-clause-opening
+returns-in-NoMemory-clause-opening g c = c.answer.ensures.opening ∙ c.loop.invariant.opening
+
+pub returns-in-NoMemory-clause-legal : goal.returns-in-NoMemory-clause-legal
+returns-in-NoMemory-clause-legal g c = c.answer.ensures.legal
+
+pub returns-in_err-say_refused-in-Refused-clause-opening : goal.returns-in_err-say_refused-in-Refused-clause-opening
+returns-in_err-say_refused-in-Refused-clause-opening g c = c.answer.ensures.opening ∙ c.loop.invariant.opening
+
+pub returns-in_err-say_refused-in-Refused-clause-legal : goal.returns-in_err-say_refused-in-Refused-clause-legal
+returns-in_err-say_refused-in-Refused-clause-legal g c = c.answer.ensures.legal
+
+pub returns-in_err-answer-clause-opening : goal.returns-in_err-answer-clause-opening
+returns-in_err-answer-clause-opening g c = c.answer.ensures.opening ∙ c.loop.invariant.opening
+
+pub returns-in_err-answer-clause-legal : goal.returns-in_err-answer-clause-legal
+returns-in_err-answer-clause-legal g c = c.answer.ensures.legal
+
+pub returns-in-Over-clause-told : goal.returns-in-Over-clause-told
+returns-in-Over-clause-told g c = λ tells failed. absurd (ok_not_err (c.in_ok-answer.ensures.told tells (subst (λ (n : ℕ). n < g.D.Device.failures c.answer.new.desk.file.device) (sym (c.loop.invariant.failures tells)) failed)))
+
+pub returns-in-ReadFailed-clause-told : goal.returns-in-ReadFailed-clause-told
+returns-in-ReadFailed-clause-told g c = λ tells failed. absurd (ok_not_err (c.in_ok-answer.ensures.told tells (subst (λ (n : ℕ). n < g.D.Device.failures c.answer.new.desk.file.device) (sym (c.loop.invariant.failures tells)) failed)))
+
+pub returns-in-NoMemory-clause-told : goal.returns-in-NoMemory-clause-told
+returns-in-NoMemory-clause-told g c = λ tells failed. absurd (ok_not_err (c.in_ok-answer.ensures.told tells (subst (λ (n : ℕ). n < g.D.Device.failures c.answer.new.desk.file.device) (sym (c.loop.invariant.failures tells)) failed)))
+
+pub returns-in_err-say_refused-in-Refused-clause-told : goal.returns-in_err-say_refused-in-Refused-clause-told
+returns-in_err-say_refused-in-Refused-clause-told g c = λ tells failed. absurd (ok_not_err (c.in_ok-answer.ensures.told tells (subst (λ (n : ℕ). n < g.D.Device.failures c.answer.new.desk.file.device) (sym (c.loop.invariant.failures tells)) failed)))
+
+pub returns-in-Over-clause-blame : goal.returns-in-Over-clause-blame
+returns-in-Over-clause-blame g c = λ i said. absurd (ok_not_err said)
+
+pub returns-in-NoMemory-clause-blame : goal.returns-in-NoMemory-clause-blame
+returns-in-NoMemory-clause-blame g c = λ i said. absurd (memory_not_read (same_err refl said))
+
+pub returns-in-ReadFailed-clause-blame : goal.returns-in-ReadFailed-clause-blame
+returns-in-ReadFailed-clause-blame g c = λ i said. c.next_batch-end.ensures.blame c.in-ReadFailed.is
+
+pub returns-in_err-say_refused-in-Refused-clause-blame : goal.returns-in_err-say_refused-in-Refused-clause-blame
+returns-in_err-say_refused-in-Refused-clause-blame g c = λ i said. absurd (output_not_read c.in_err-say_refused-in-Refused.ensures.fault (told_is c.from_residual-in_err-say_refused-in-Refused.ensures.1 said))
+
+pub returns-in_err-say_refused-in-Refused-clause-write : goal.returns-in_err-say_refused-in-Refused-clause-write
+returns-in_err-say_refused-in-Refused-clause-write g c = λ tells said. absurd (output_not_write c.in_err-say_refused-in-Refused.ensures.fault (told_is c.from_residual-in_err-say_refused-in-Refused.ensures.1 said))
+
+pub returns-in_err-say_refused-in-Refused-clause-output : goal.returns-in_err-say_refused-in-Refused-clause-output
+returns-in_err-say_refused-in-Refused-clause-output g c = λ tells said. c.in_ok-answer.ensures.durable tells
+
+pub returns-in_err-answer-clause-blame : goal.returns-in_err-answer-clause-blame
+returns-in_err-answer-clause-blame g c = λ i said. absurd (c.answer.ensures.not_read i (c.in_err-answer.was ∙ ap (λ (f : AppFault). Err f) (told_is c.from_residual.ensures.1 said)))
+
+pub returns-in_err-answer-clause-output : goal.returns-in_err-answer-clause-output
+returns-in_err-answer-clause-output g c = λ tells said. c.answer.ensures.output tells (c.in_err-answer.was ∙ ap (λ (f : AppFault). Err f) (told_is c.from_residual.ensures.1 said))
+
+pub returns-in-Over-clause-read : goal.returns-in-Over-clause-read
+returns-in-Over-clause-read g c = c.next_batch-end.ensures.over c.in-Over.is
+
+pub returns-in-Over-clause-durable : goal.returns-in-Over-clause-durable
+returns-in-Over-clause-durable g c = λ tells. c.in_ok-answer.ensures.durable tells
+
+pub returns-in-ReadFailed-clause-read : goal.returns-in-ReadFailed-clause-read
+returns-in-ReadFailed-clause-read g c = tt
+
+pub returns-in-ReadFailed-clause-answered : goal.returns-in-ReadFailed-clause-answered
+returns-in-ReadFailed-clause-answered g c = tt
+
+pub returns-in-ReadFailed-clause-durable : goal.returns-in-ReadFailed-clause-durable
+returns-in-ReadFailed-clause-durable g c = λ tells. tt
+
+pub returns-in-NoMemory-clause-read : goal.returns-in-NoMemory-clause-read
+returns-in-NoMemory-clause-read g c = tt
+
+pub returns-in-NoMemory-clause-answered : goal.returns-in-NoMemory-clause-answered
+returns-in-NoMemory-clause-answered g c = tt
+
+pub returns-in-NoMemory-clause-durable : goal.returns-in-NoMemory-clause-durable
+returns-in-NoMemory-clause-durable g c = λ tells. tt
+
+pub returns-in-Over-clause-stopped : goal.returns-in-Over-clause-stopped
+returns-in-Over-clause-stopped g c = tt

@@ -1,4 +1,4 @@
-use Rattle.std.proofs.Common.{◌≡◌, ◌∙◌, length, ap, sym}
+use Rattle.std.proofs.Common.{◌≡◌, ◌∙◌, length, ap, sym, arith}
 use Rattle.std.proofs.lemmas.List.{length-map}
 use Rattle.pb_desk.specs.Inner.Legal.{voters_of}
 use Rattle.pb_desk.specs.Inner.Sources.{ballot_at, ballots_at, BoxView}
@@ -51,3 +51,6 @@ returns g c =
     ∙ ap (λ (b : BoxView). voters_of b.standing.ballots) c.self.view_is in
     c.replace_voters.ensures.replaced ∙ (λ j. record (c.replace_voters-opening.ensures.replaced j) { voters = is j })
     ∙ ap (λ (b : BoxView). record b.election { voters = voters_of c.args.self.standing.ballots }) c.self.view_is
+
+pub replace_voters-opening-requires-clause-differ : goal.replace_voters-opening-requires-clause-differ
+replace_voters-opening-requires-clause-differ g c = rw c.new.ensures.items (λ i j d before below. absurd (omega (arith, below)))

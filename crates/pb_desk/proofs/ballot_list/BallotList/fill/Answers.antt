@@ -1,5 +1,6 @@
-use Rattle.std.proofs.Common.{◌+◌, ap, arith}
+use Rattle.std.proofs.Common.{◌+◌, ◌∙◌, ap, arith, take_all}
 use Rattle.pb_core.specs.Election.{VoterView}
+use Rattle.pb_desk.specs.Inner.Sources.{opened_from}
 use Rattle.pb_desk.proofs.Openings.{new_at_opening, opened_turn}
 use Rattle.pb_desk.proofs.ballot_list.BallotList.fill.Goals as goal
 
@@ -17,3 +18,6 @@ loop-voter-preserved g c = (
       c.loop-voter.invariant.0 c.in_ok-push.ensures.ok,
   ap (λ n. n + 1) c.loop-voter.invariant.1,
 )
+
+pub returns : goal.returns
+returns g c = c.loop-voter.invariant.0 ∙ ap (opened_from 0) (take_all c.loop-voter.voter-index c.args.voters.now c.loop-voter-test.false)

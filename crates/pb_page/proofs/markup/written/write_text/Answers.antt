@@ -1,5 +1,5 @@
 use Rattle.std.proofs.Common.{◌∙◌, ◌++◌, List, ℕ, ap, get_or, sym, take}
-use Rattle.std.proofs.lemmas.List.{flat_map_more, take_more}
+use Rattle.std.proofs.lemmas.List.{flat_map_more, take_more, take_all}
 use Rattle.pb_page.specs.Markup.{character, written}
 use Rattle.pb_page.proofs.markup.written.write_text.Goals as goal
 
@@ -13,3 +13,7 @@ loop-byte-preserved c =
     ∙ ap (λ (l : List ℕ). l ++ character byte) c.loop-byte.invariant
     ∙ flat_map_more character old (take i bytes) byte
     ∙ ap (λ (l : List ℕ). old ++ written l) (sym (take_more bytes i 0 c.loop-byte-test.true))
+
+pub returns : goal.returns
+returns c =
+    rw (take_all c.loop-byte.byte-index c.as_bytes-bytes.result.now c.loop-byte-test.false, c.as_bytes-bytes.ensures.value) at c.loop-byte.invariant

@@ -59,3 +59,6 @@ returns-clause-ok c =
         voter_ids_are = subst (Finds c.args.self.now.voter_ids) (ap voter_ids (sym after)) c.requires.tied.voter_ids_are;
       },
     )
+
+pub add_project-requires-clause-room : goal.add_project-requires-clause-room
+add_project-requires-clause-room c = omega (arith, ap length c.projects-place.ensures.projects, c.if-place-ge-MOST_PROJECTS.false)

@@ -1,5 +1,7 @@
-use Rattle.std.proofs.Common.{Bool, Result, refl, subst, sym}
+use Rattle.std.proofs.Common.{◌<◌, ◌∙◌, ℕ, Bool, Result, ap, length, refl, subst, sym}
 use Rattle.std.specs.Prelude.{IfOk}
+use Rattle.std.proofs.lemmas.List.{length-map}
+use Rattle.pb_core.specs.Election.{ProjectView}
 use Rattle.pb_rounds.specs.declared.count_fault.CountFault.{CountFault}
 use Rattle.pb_reasons.specs.WhatIf.{IsWhatIf, Says, Seen, seen}
 use Rattle.pb_reasons.specs.declared.changes.found.WhatIf.{WhatIf}
@@ -36,3 +38,13 @@ returns-clause-found g c =
           (lost_found e q c.in_ok-changing.changing cost cost w.loser-found.result c.in_ok-changing.ensures refl
           (subst (λ (b : Bool). Says e q (verdict_of b)) w.if-won.false c.requires.said.says) w.loser-found.ensures.cost w.loser-found.ensures.voters)
     ]
+
+pub winner-found-requires-clause-known : goal.winner-found-requires-clause-known
+winner-found-requires-clause-known g c κs within =
+    let costs = ap (λ (s : Seen). length s.costs) c.in_ok-changing.ensures ∙ length-map c.args.election.projects (λ (p : ProjectView). p.cost) in
+    subst (λ (n : ℕ). c.args.recount.now.question.place < n) (sym costs) c.requires.known
+
+pub loser-found-requires-clause-known : goal.loser-found-requires-clause-known
+loser-found-requires-clause-known g c κs within =
+    let costs = ap (λ (s : Seen). length s.costs) c.in_ok-changing.ensures ∙ length-map c.args.election.projects (λ (p : ProjectView). p.cost) in
+    subst (λ (n : ℕ). c.args.recount.now.question.place < n) (sym costs) c.requires.known

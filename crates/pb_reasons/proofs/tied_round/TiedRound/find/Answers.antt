@@ -1,5 +1,6 @@
-use Rattle.std.proofs.Common.{◌<◌, ◌∙◌, length, take, ap, sym, arith}
-use Rattle.std.proofs.lemmas.List.{append-nil, take_all, take_at}
+use Rattle.std.proofs.Common.{◌<◌, ◌∙◌, None, length, take, ap, subst, sym, arith}
+use Rattle.std.proofs.lemmas.List.{append-nil, get_or_default, take_all, take_at}
+use Rattle.pb_reasons.specs.Inner.Rounds.{IsTieBound}
 use Rattle.pb_reasons.specs.declared.tie.Tie.{Tie}
 use Rattle.pb_reasons.proofs.TiedRounds.{no_tie_more, one_bound, short_take, tie_more}
 use Rattle.pb_reasons.proofs.tied_round.TiedRound.find.Goals as goal
@@ -35,3 +36,13 @@ loop-place-preserved c =
             (sym c.look-look.ensures.tied ∙ w.if-look.false) c.loop-place.invariant.ties)
       ];
     }
+
+pub look-look-requires-clause-bound : goal.look-look-requires-clause-bound
+look-look-requires-clause-bound c =
+    let r = c.args.self.now in
+    let place = c.loop-place.place in
+    let bounds = c.loop-place.bounds.items in
+    let are = c.loop-place.invariant.bounds in
+    let known : place < length r.supporters.now.costs = omega (arith, c.loop-place-test.true, c.projects-place-end.ensures.projects) in
+    let there : place < length bounds = omega (arith, known, are.one_each) in
+    subst (IsTieBound r.supporters.now r.elected.now c.args.rests.now place) (sym (c.index.ensures ∙ get_or_default bounds place c.index.result.now None there)) (are.each place known)

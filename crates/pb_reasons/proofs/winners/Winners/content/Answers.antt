@@ -1,4 +1,4 @@
-use Rattle.std.proofs.Common.{◌≡◌, ◌<◌, ◌∙◌, get_or, length, sym, arith}
+use Rattle.std.proofs.Common.{◌≡◌, ◌<◌, ◌∙◌, ℕ, ap, get_or, length, subst, sym, arith}
 use Rattle.pb_price.specs.Supporters.{cost_at, support_of}
 use Rattle.pb_reasons.proofs.WinnerSums.{cost_at-known}
 use Rattle.pb_reasons.proofs.Comparing.{chosen_more, flag_tells, passed_over}
@@ -37,3 +37,9 @@ loop-place-preserved c =
             small = omega (arith, h.small);
           })
     ]
+
+pub bounds-projects-place : goal.bounds-projects-place
+bounds-projects-place c =
+    let place = get_or c.args.ballot.now c.loop-place.place-index 0 in
+    let known : place < length c.self.inside.election.now.projects = rw (← c.self.view_is) at (c.requires.known c.loop-place.place-index 0 c.loop-place-test.true) in
+    subst (λ (n : ℕ). place < n) (ap length (sym c.projects-projects.ensures.projects)) known

@@ -42,3 +42,17 @@ pub take_next-requires-clause-rests : goal.take_next-requires-clause-rests
 take_next-requires-clause-rests g c =
     subst (λ (f : FrontView). length f.outcome.rests ≡ f.support.voters) (sym c.self-in-loop-head.view_is)
     (rests_here c.loop-head.self c.loop-head.invariant.front).one_each
+
+pub loop-head-preserved : goal.loop-head-preserved
+loop-head-preserved g c =
+    let at = c.loop-head.invariant.at in
+    let after = c.in_ok-elect.ensures.of in
+    let same = c.self-in-loop-head.view_is in
+    record {
+      front = c.in_ok-elect.ensures.front;
+      at = record {
+        of_measure = after.of_measure ∙ ap (λ (f : FrontView). f.measure) same ∙ at.of_measure;
+        of_support = after.of_support ∙ ap (λ (f : FrontView). f.support) same ∙ at.of_support;
+        at_share = after.at_share ∙ ap (λ (f : FrontView). f.outcome.share) same ∙ at.at_share;
+      };
+    }

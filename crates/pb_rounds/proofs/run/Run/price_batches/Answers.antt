@@ -1,6 +1,8 @@
 use Rattle.std.proofs.Common.{◌<◌, ◌≤◌, ◌∙◌, ◌++◌, sym, ap, subst, ℕ, List, length, arith}
 use Rattle.std.specs.Prelude.{All}
+use Rattle.std.proofs.lemmas.List.{length-append}
 use Rattle.pb_core.specs.Election.{most_projects}
+use Rattle.pb_rounds.specs.Inner.Queue.{places_of}
 use Rattle.pb_rounds.specs.Run.{keys_at}
 use Rattle.pb_rounds.proofs.QueueSteps.{counted_more, cut_off, fewer_left, heads_more, heads_none, none_taken, taken_few, taken_known}
 use Rattle.pb_rounds.proofs.run.Run.price_batches.Goals as goal
@@ -57,3 +59,8 @@ returns-then-len-before-clause-done g c =
     (none_taken c.args.pricing.now.measure c.args.pricing.now.supporters.now c.args.rests.now c.args.most c.args.self.now.queue.keys c.loop-self.self.queue.keys
     c.loop-self.self.places.items c.loop-self.self.fresh.keys.items c.loop-self.self.fresh.best c.loop-self.invariant.heads c.take_heads.new.queue.keys c.take_heads.new.places.items
     c.in_ok-take_heads.ensures (omega (arith, c.if-len-before.true, c.len.ensures, c.len-before.ensures, c.loop-self.self.places.ok.0, c.take_heads.new.places.ok.0))).1
+
+pub slice_bounds-heads-count : goal.slice_bounds-heads-count
+slice_bounds-heads-count g c =
+    let taken = c.in_ok-take_heads.ensures in
+    omega (arith, c.len-before.ensures, c.loop-self.self.places.ok.0, ap length (c.deref.ensures.value ∙ taken.placed), length-append c.loop-self.self.places.items (places_of taken.heads))

@@ -1,4 +1,5 @@
 use Rattle.std.proofs.Common.{◌≡◌, ℕ, ◌+◌, List, length, None, Some, true, set, subst, sym, ◌∙◌, ap, rules, arith}
+use Rattle.pb_price.specs.Price.{AreRests}
 use Rattle.pb_price.specs.Supporters.{IsSupport, SupportView, cost_at}
 use Rattle.pb_rounds.specs.Inner.Front.{FrontView}
 use Rattle.pb_rounds.specs.Inner.RaiseEnds.{IsTried}
@@ -143,3 +144,11 @@ returns g c =
     subst (λ (s : SupportView). IsTried c.args.front.now.measure s c.args.budget c.args.share c.loop-best.outcome.elected GoesOn) support
     (ends_going_on c.args.front.now.measure c.front.inside.supporters.now c.loop-best.invariant.is_support c.args.share c.args.budget c.loop-best.queue.keys c.next_best.new.queue.keys c.loop-best.outcome c.loop-best.marks.items c.loop-best.spent t c.loop-best.invariant.within found c.is_exhausted.result
     (λ elected marks spent. c.is_exhausted.ensures elected (subst (AreMarked c.front.inside.supporters.now elected) (sym marked) marks) spent) c.if-is_exhausted.false)
+
+pub next_best-requires-clause-rests : goal.next_best-requires-clause-rests
+next_best-requires-clause-rests g c =
+    let same : c.as_slice.result.now ≡ c.loop-best.outcome.rests = search rules in
+    subst (AreRests c.front.inside.supporters.now.voters) (sym same) c.loop-best.invariant.trying.bounded.progress.rests_are
+
+pub elect-requires-clause-rests : goal.elect-requires-clause-rests
+elect-requires-clause-rests g c = c.loop-best.invariant.trying.bounded.progress.rests_are

@@ -1,4 +1,6 @@
 use Rattle.std.proofs.Common.{◌≡◌, ℕ, List, Some, None, subst, sym, ◌∙◌, ap, rules, true}
+use Rattle.std.proofs.lemmas.Bool.{true≢false}
+use Rattle.pb_price.specs.Price.{AreRests}
 use Rattle.pb_rounds.specs.Inner.Bounds.{HasBounds}
 use Rattle.pb_rounds.specs.Key.{KeyView, is_before}
 use Rattle.pb_rounds.specs.Run.{key_of, weight_of, without}
@@ -55,3 +57,20 @@ returns g c m left b _ =
       elects = c.in_ok-elect.ensures;
       bounds = later.1;
     }
+
+pub next_best-requires-2-clause-rests : goal.next_best-requires-2-clause-rests
+next_best-requires-2-clause-rests g c =
+    let same : c.as_slice-rests.result.now ≡ c.args.self.now.outcome.rests = search rules in
+    subst (AreRests c.args.supporters.now.voters) (sym same) c.requires.rests
+
+pub elect-requires-clause-rests : goal.elect-requires-clause-rests
+elect-requires-clause-rests g c = c.requires.rests
+
+pub returns-in_default : goal.returns-in_default
+returns-in_default g c m left b it_follows = absurd (true≢false (sym it_follows))
+
+pub returns-then-place-last : goal.returns-then-place-last
+returns-then-place-last g c m left b it_follows = absurd (true≢false (sym it_follows))
+
+pub returns-then-is_some : goal.returns-then-is_some
+returns-then-is_some g c m left b it_follows = absurd (true≢false (sym it_follows))

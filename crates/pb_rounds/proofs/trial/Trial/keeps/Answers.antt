@@ -1,4 +1,6 @@
-use Rattle.std.proofs.Common.{◌≡◌, None, subst, sym, ◌∙◌, rules}
+use Rattle.std.proofs.Common.{◌≡◌, ℕ, List, None, subst, sym, ◌∙◌, rules}
+use Rattle.std.proofs.lemmas.Bool.{true≢false}
+use Rattle.pb_price.specs.Price.{AreRests}
 use Rattle.pb_rounds.specs.Inner.Bounds.{HasBounds}
 use Rattle.pb_rounds.proofs.BoundQueue.{found_at}
 use Rattle.pb_rounds.proofs.TrialRounds.{following_more, following_open, keeps_all, keeps_ends}
@@ -46,3 +48,33 @@ returns-clause-elected g c it_is =
     (found_at c.args.measure c.args.supporters.now c.loop-elected.self.outcome.rests c.as_slice-rests.result.now f.bounded.left same None c.loop-elected.self.queue.keys c.next_best.new.queue.keys
     c.in_ok-more.more None (λ h. c.in_ok-more.ensures c.args.measure f.bounded.left
     (subst (HasBounds c.args.measure c.args.supporters.now c.as_slice-rests.result.now f.bounded.left) (sym kept) h)) nobody f.bounded.bounds)
+
+pub follows-requires-clause-rests : goal.follows-requires-clause-rests
+follows-requires-clause-rests g c = c.loop-elected.invariant.following.bounded.progress.rests_are
+
+pub follows-requires-clause-bounds : goal.follows-requires-clause-bounds
+follows-requires-clause-bounds g c =
+    let f = c.loop-elected.invariant.following in
+    (c.args.measure, f.bounded.left, f.bounded.bounds)
+
+pub returns-then-not-branch-clause-keeps : goal.returns-then-not-branch-clause-keeps
+returns-then-not-branch-clause-keeps g c it_keeps = absurd (true≢false (sym it_keeps))
+
+pub returns-then-not-branch-clause-elected : goal.returns-then-not-branch-clause-elected
+returns-then-not-branch-clause-elected g c it_keeps = absurd (true≢false (sym it_keeps))
+
+pub next_best-requires-clause-rests : goal.next_best-requires-clause-rests
+next_best-requires-clause-rests g c =
+    let same : c.as_slice-rests.result.now ≡ c.loop-elected.self.outcome.rests = search rules in
+    subst (AreRests c.args.supporters.now.voters) (sym same) c.loop-elected.invariant.following.bounded.progress.rests_are
+
+pub next_best-requires-clause-bounds : goal.next_best-requires-clause-bounds
+next_best-requires-clause-bounds g c =
+    let f = c.loop-elected.invariant.following in
+    let same : c.as_slice-rests.result.now ≡ c.loop-elected.self.outcome.rests = search rules in
+    let kept : c.self.inside.0.0.keys ≡ c.loop-elected.self.queue.keys = search rules in (
+      c.args.measure,
+      f.bounded.left,
+      subst (λ (rs : List ℕ). HasBounds c.args.measure c.args.supporters.now rs f.bounded.left c.self.inside.0.0.keys) (sym same)
+          (subst (HasBounds c.args.measure c.args.supporters.now c.loop-elected.self.outcome.rests f.bounded.left) (sym kept) f.bounded.bounds),
+    )

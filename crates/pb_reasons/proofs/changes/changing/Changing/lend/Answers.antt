@@ -1,8 +1,11 @@
-use Rattle.std.proofs.Common.{◌≡◌, ◌∙◌, ◌++◌, ℕ, All, List, ap, length, map, refl, subst, sym, take, rules}
+use Rattle.std.proofs.Common.{◌≡◌, ◌∙◌, ◌++◌, ◌+◌, ◌<◌, ◌≤◌, ℕ, All, List, ap, length, map, refl, subst, sym, take, arith, rules}
 use Rattle.std.proofs.Math.Seq.{take_at}
 use Rattle.std.proofs.lemmas.List.{length-map, map-append}
-use Rattle.pb_core.specs.Election.{ElectionView, IsVoter, ProjectView, VoterView}
-use Rattle.pb_reasons.specs.WhatIf.{Seen, changed, seen}
+use Rattle.pb_core.specs.Election.{ElectionView, IsVoter, ProjectView, VoterView, most_voters}
+use Rattle.pb_reasons.specs.WhatIf.{CanBe, Seen, changed, seen}
+use Rattle.pb_reasons.specs.Inner.Searching.{further_of}
+use Rattle.pb_reasons.specs.declared.changes.change.Change.{Change}
+use Rattle.pb_reasons.specs.declared.changes.change.Change.TheVariants.{Cost, Voters}
 use Rattle.pb_reasons.specs.Inner.Numbered.{AreNumbered}
 use Rattle.pb_reasons.proofs.Changed.{as_many, changed_seen}
 use Rattle.pb_reasons.proofs.NumberedIds.{numbers_differ}
@@ -40,3 +43,27 @@ returns-clause-lent c =
       numbered = subst (AreNumbered (length s.costs)) (sym first) (subst (λ (n : ℕ). AreNumbered n own) projects c.self.invariant.1);
       ballots = ap (map (λ (v : VoterView). v.ballot)) first ∙ cast;
     }
+
+pub changed_frame-requires-clause-known : goal.changed_frame-requires-clause-known
+changed_frame-requires-clause-known c =
+    let many : length c.self.inside.frame.projects ≡ length c.args.self.now.costs = sym (length-map c.self.inside.frame.projects (λ (p : ProjectView). p.cost))
+    ∙ ap (λ (s : Seen). length s.costs) c.self.view_is in
+    subst (λ (n : ℕ). c.args.place < n) (sym many) c.requires.known
+
+pub add_further-requires-clause-known : goal.add_further-requires-clause-known
+add_further-requires-clause-known c =
+    let many : length c.self.inside.frame.projects ≡ length c.args.self.now.costs = sym (length-map c.self.inside.frame.projects (λ (p : ProjectView). p.cost))
+    ∙ ap (λ (s : Seen). length s.costs) c.self.view_is in
+    subst (λ (n : ℕ). c.args.place < n) (sym (ap length c.projects-projects.ensures.projects ∙ many)) c.requires.known
+
+-- a change that can be has no more voters than an election may have
+further_fits : (s : Seen) (change : Change) (value : ℕ) → length s.ballots ≤ most_voters → CanBe s change value → length s.ballots + further_of change value ≤ most_voters
+further_fits s Cost value few can_be = omega (arith, few)
+further_fits s Voters value few can_be = can_be
+
+pub add_further-requires-clause-few : goal.add_further-requires-clause-few
+add_further-requires-clause-few c =
+    let own = sym (length-map c.self.inside.voters.items (λ (v : VoterView). v.ballot)) ∙ ap (λ (s : Seen). length s.ballots) c.self.view_is in
+    let lent = ap (λ voters. length voters.items) c.replace-voters.ensures.value in
+    let fits = further_fits c.args.self.now c.args.change c.args.value (omega (arith, own, c.self.invariant.1.few)) c.requires.can_be in
+    omega (arith, fits, own, lent, c.further_of.ensures)
