@@ -66,7 +66,7 @@ told (Serving Spelling) = (1, codes "spelling" ∷ [])
 told (Serving Moved) = (3, codes "moved" ∷ codes "2" ∷ [])
 told (Serving (Locked number)) = (3, codes "locked" ∷ decimal number ∷ [])
 told (Serving Output) = (3, codes "write" ∷ [])
-told memory = (3, codes "memory" ∷ [])
+told fault = (3, codes "memory" ∷ [])
 
 -- what is told of a refused file with the words of a page, for a fault of this name: it has a line, or it is of
 -- a key that the file lacks or has in vain, or the file could not be read
