@@ -93,9 +93,7 @@ impl<R: Files + Eprint + AllocGlobal> Notice for RefusalNotice<'_, '_, R> {
             }
             return;
         }
-        let mut by_rule = self.by_rule.get();
-        by_rule.take(why);
-        self.by_rule.set(by_rule);
+        self.by_rule.set(with_one_more(self.by_rule.get(), why));
         let refused = RefusedRow {
             row,
             why,
@@ -113,6 +111,18 @@ impl<R: Files + Eprint + AllocGlobal> Notice for RefusalNotice<'_, '_, R> {
         answers.add(answer);
         self.answers.set(answers);
     }
+}
+
+/// The counts once a row is refused for this reason. A row that does not have the form of one breaks none of
+/// the rules.
+fn with_one_more(mut counts: RuleCounts, why: RowRefusal) -> RuleCounts {
+    match why {
+        RowRefusal::Bad => {}
+        RowRefusal::UnknownId => counts.unknown_id = counts.unknown_id.saturating_add(1),
+        RowRefusal::NotOnRoll => counts.not_on_roll = counts.not_on_roll.saturating_add(1),
+        RowRefusal::TooFew => counts.too_few = counts.too_few.saturating_add(1),
+    }
+    counts
 }
 
 /// The rules that the command line gives; a voters' roll is read.

@@ -4,12 +4,11 @@ use csv::ByteRecord;
 use pb_read::{Heed, Part, ReadFault, Stage, Warning, Watch};
 use pb_witness::page_notes::PageNotes;
 use std::alloc::Global;
-use std::mem;
 
 /// Looks on at the file of a page, for its warnings and for what the page shows that no count uses.
 #[derive(Drop)]
 pub(crate) struct PageWatch<'w, H> {
-    warnings: &'w mut H,
+    pub(crate) warnings: &'w mut H,
     notes: PageNotes,
 }
 
@@ -22,9 +21,9 @@ impl<'w, H> PageWatch<'w, H> {
         }
     }
 
-    /// What was kept; it keeps nothing of that.
-    pub(crate) fn take_notes(&mut self, alloc: Global) -> PageNotes {
-        mem::replace(&mut self.notes, PageNotes::new(alloc))
+    /// What was kept.
+    pub(crate) fn notes(&self) -> &PageNotes {
+        &self.notes
     }
 }
 

@@ -69,6 +69,11 @@ pub(crate) enum Refusal {
 }
 
 impl From<AppFault> for Refusal {
+    ghost use Rattle.std.specs.Prelude.{◌≡◌};
+    ghost use Rattle.pb_app.specs.declared.perform.Refusal.TheVariants.{Fault};
+
+    ghost from_gives = { λ fault refusal. refusal ≡ Fault fault };
+
     fn from(fault: AppFault) -> Refusal {
         Refusal::Fault(fault)
     }

@@ -1,11 +1,11 @@
 -- A file and a journal are those of one desk at most, which has one text; and what refuses them then comes from outside.
-use Rattle.std.proofs.Common.{◌≡◌, ℕ, ◌++◌, List, [], Option, Some, Bool, true, false, refl, sym, ◌∙◌, ap, subst, arith}
-use Rattle.std.specs.Prelude.{IfSome, MatchBool}
+use Rattle.std.proofs.Common.{◌≡◌, ℕ, ◌≤◌, ◌++◌, List, [], Some, Bool, true, false, length, refl, sym, ◌∙◌, ap, subst, arith}
+use Rattle.std.specs.Prelude.{MatchBool}
 use Rattle.pb_core.specs.Election.{ElectionView}
 use Rattle.pb_core.specs.Request.{EntryView}
 use Rattle.pb_desk.proofs.AuditLaws.{no_fault, small_numbers}
 use Rattle.pb_desk.proofs.RowLaws.{journal_rows-injective}
-use Rattle.pb_desk.specs.Audit.{IsFaultOfJournal, IsSound}
+use Rattle.pb_desk.specs.Audit.{IsAudited, IsFaultOfJournal, IsSound}
 use Rattle.pb_desk.specs.Desk.{DeskView, closed_election, standing_of}
 use Rattle.pb_desk.specs.Opening.{OpeningView}
 use Rattle.pb_desk.specs.Rows.{journal_rows}
@@ -33,12 +33,10 @@ use Rattle.pb_commands.proofs.Accepted.{count_from_outside, one_report}
 pub one_desk : (bytes journal : List ℕ) (d other : DeskView) → IsDeskOf bytes journal d → IsDeskOf bytes journal other → d ≡ other
 one_desk bytes journal d other first second =
     let election = one_election (records_of bytes) d.opening.election other.opening.election first.stands second.stands in
-    let room : d.room ≡ other.room = first.room ∙ sym second.room in
-    let few : d.room ≡ 4294967295 = first.room in
-    let few' : other.room ≡ 4294967295 = second.room in
-    let fits = first.sound.fits in
-    let fits' = second.sound.fits in
-    let same = journal_rows-injective d.opening.version other.opening.version d.journal other.journal (omega arith) (omega arith) (small_numbers _ first.sound.entries) (small_numbers _ second.sound.entries) (sym first.rows ∙ second.rows) in
+    let room : d.room ≡ other.room = first.audited.room ∙ sym second.audited.room in
+    let fits : length d.journal ≤ 4294967295 = first.audited.sound.fits in
+    let fits' : length other.journal ≤ 4294967295 = second.audited.sound.fits in
+    let same = journal_rows-injective d.opening.version other.opening.version d.journal other.journal (omega arith) (omega arith) (small_numbers _ first.audited.sound.entries) (small_numbers _ second.audited.sound.entries) (sym first.audited.rows ∙ second.audited.rows) in
     λ i. record { opening = record { election = election i; version = same.0 i }; room = room i; journal = same.1 i }
 
 -- the rows of a sound journal have no fault, so that the fault is none of theirs
@@ -60,20 +58,12 @@ desk_from_outside rule d text written fault refused =
     let count = report.1 in
     count_from_outside (closed_election d) rule.options count.0 count.1 fault refused.1
 
--- what is known of a desk that an audit answered
-pub record IsAudited (files journals : Option (List ℕ)) (e : ElectionView) (d : DeskView) : Type 0 where
-  pub stands : IfSome files (λ bytes. StandsFor (records_of bytes) e)
-  pub election : d.opening.election ≡ e
-  pub room : d.room ≡ program_room
-  pub sound : IsSound d.opening program_room d.journal
-  pub rows : IfSome journals (λ journal. records_of journal ≡ journal_rows d.opening.version d.journal)
-
-pub desk_of : (bytes journal : List ℕ) (e : ElectionView) (d : DeskView) → IsAudited (Some bytes) (Some journal) e d → IsDeskOf bytes journal d
-desk_of bytes journal e d is = record {
-  stands = rw is.election is.stands;
-  room = is.room;
-  rows = is.rows;
-  sound = rw is.room is.sound;
+-- the desk that an audit answers to a file's election
+pub desk_of : (bytes journal : List ℕ) (e : ElectionView) (d : DeskView) → StandsFor (records_of bytes) e → IsAudited e program_room (Some journal) d
+    → IsDeskOf bytes journal d
+desk_of bytes journal e d stands is = record {
+  stands = subst (StandsFor (records_of bytes)) (sym is.election) stands;
+  audited = record { election = refl; room = is.room; sound = is.sound; rows = is.rows };
 }
 
 -- a desk has one text

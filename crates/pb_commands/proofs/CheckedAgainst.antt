@@ -1,5 +1,5 @@
 -- A check against a count: what it hands out is the election of the file, and how it fails.
-use Rattle.std.proofs.Common.{◌≡◌, ℕ, List, [], ◌∷◌, Option, Some, None, Ok, Err, refl, subst, arith}
+use Rattle.std.proofs.Common.{◌≡◌, ◌⊎◌, inl, inr, ℕ, List, [], ◌∷◌, Option, Some, None, Ok, Err, refl, subst, sym}
 use Rattle.std.specs.Prelude.{IfErr, IfSome, IsErrAnd, Result}
 use Rattle.pb_core.specs.Election.{ElectionView}
 use Rattle.pb_read.specs.Listed.{IsHandedOut}
@@ -13,10 +13,9 @@ use Rattle.pb_rounds.specs.declared.options.CountOptions.{CountOptions}
 use Rattle.pb_rows.specs.Reading.{Fields, records_of}
 use Rattle.pb_commands.proofs.Accepted.{given_fault}
 use Rattle.pb_commands.specs.Checked.{CheckFails}
-use Rattle.pb_commands.specs.Ends.{IsOutsideFault}
 use Rattle.pb_faults.specs.Fault.{merged}
 use Rattle.pb_faults.specs.declared.fault.AppFault.{AppFault}
-use Rattle.pb_faults.specs.declared.fault.AppFault.TheVariants.{Count, Memory}
+use Rattle.pb_faults.specs.declared.fault.AppFault.TheVariants.{Count, Memory, Write}
 
 -- the election that is handed out is the one for which the records stand
 handed_stands : (records : List Fields) (faults : List ReadFault) (e : ElectionView) → IsHandedOut records faults (Some e) → StandsFor records e
@@ -55,7 +54,7 @@ known_fails (Some bytes) faults election options app handed fails = fails_of (re
 -- memory was refused
 memory_fails : (known : Option (List ℕ)) (options : CountOptions) → IfSome known (λ bytes. CheckFails (StandsFor (records_of bytes)) options Memory)
 memory_fails None options = tt
-memory_fails (Some bytes) options = refl
+memory_fails (Some bytes) options = inr refl
 
 pub memory_refused : {T : Type 0} (known : Option (List ℕ)) (options : CountOptions) (r : Result T AppFault) → IsErrAnd r (λ app. app ≡ Memory)
     → IfErr r (λ app. IfSome known (λ bytes. CheckFails (StandsFor (records_of bytes)) options app))
@@ -63,7 +62,7 @@ memory_refused known options r is = given_fault (λ app. IfSome known (λ bytes.
 
 -- a count is refused
 count_fails : (IsIt : ElectionView → Type 0) (e : ElectionView) (options : CountOptions) (fault : CountFault) → IsIt e → IsCountFault e options fault → CheckFails IsIt options (merged (Count fault))
-count_fails IsIt e options count.NoMemory is fails = refl
+count_fails IsIt e options count.NoMemory is fails = inr refl
 count_fails IsIt e options fault is fails = (e, is, fails)
 
 pub count_refused : {T : Type 0} (IsIt : ElectionView → Type 0) (e : ElectionView) (options : CountOptions) (fault : CountFault) (r : Result T AppFault)
@@ -72,17 +71,13 @@ count_refused IsIt e options fault r from is fails = given_fault (CheckFails IsI
 
 -- memory was refused beside a count
 pub out_of_memory : {T : Type 0} (IsIt : ElectionView → Type 0) (options : CountOptions) (r : Result T AppFault) → IsErrAnd r (λ app. app ≡ Memory) → IfErr r (CheckFails IsIt options)
-out_of_memory IsIt options r from = given_fault (CheckFails IsIt options) r Memory from refl
+out_of_memory IsIt options r from = given_fault (CheckFails IsIt options) r Memory from (inr refl)
 
--- a fault from outside is none of a count
-outside_fails : (IsIt : ElectionView → Type 0) (options : CountOptions) (app : AppFault) → IsOutsideFault app → CheckFails IsIt options app
-outside_fails IsIt options (Count count.WorkerCount) out = absurd (omega (arith, out))
-outside_fails IsIt options (Count count.StepRange) out = absurd (omega (arith, out))
-outside_fails IsIt options (Count count.RaisesRange) out = absurd (omega (arith, out))
-outside_fails IsIt options (Count count.RaisesSpent) out = absurd (omega (arith, out))
-outside_fails IsIt options (Count count.NoMemory) out = absurd (omega (arith, out))
-outside_fails IsIt options app out = out
+-- the writer failed, or memory was refused: neither is a count's
+outside_fails : (IsIt : ElectionView → Type 0) (options : CountOptions) (app : AppFault) → (app ≡ Write) ⊎ (app ≡ Memory) → CheckFails IsIt options app
+outside_fails IsIt options app (inl is) = subst (λ x. CheckFails IsIt options x) (sym is) (inl refl)
+outside_fails IsIt options app (inr is) = subst (λ x. CheckFails IsIt options x) (sym is) (inr refl)
 
-pub outside_refused : {T : Type 0} (IsIt : ElectionView → Type 0) (options : CountOptions) (r : Result T AppFault) → IfErr r IsOutsideFault → IfErr r (CheckFails IsIt options)
+pub outside_refused : {T : Type 0} (IsIt : ElectionView → Type 0) (options : CountOptions) (r : Result T AppFault) → IfErr r (λ app. (app ≡ Write) ⊎ (app ≡ Memory)) → IfErr r (CheckFails IsIt options)
 outside_refused IsIt options (Ok done) out = tt
 outside_refused IsIt options (Err app) out = outside_fails IsIt options app out

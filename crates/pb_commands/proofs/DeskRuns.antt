@@ -9,7 +9,7 @@ use Rattle.pb_rows.specs.Reading.{Fields, records_of}
 use Rattle.pb_read.proofs.Uniqueness.{one_election}
 use Rattle.pb_script.proofs.ScriptForms.{not_both}
 use Rattle.pb_script.specs.Inner.Admission.{Admits, IsAdmitted, Refuses}
-use Rattle.pb_script.specs.Script.{ScriptRowView}
+use Rattle.pb_desk.specs.Rows.{ScriptRowView}
 use Rattle.pb_script.specs.Scripts.{IsScript}
 use Rattle.pb_script.specs.ScriptReading.{IsFaultOfScript, IsNextScriptFault}
 use Rattle.pb_script.specs.declared.admission.Admission.{Admission}

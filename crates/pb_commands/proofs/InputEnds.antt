@@ -4,7 +4,7 @@ use Rattle.std.specs.Prelude.{IfErr, IfOk, IfSome, IsErrAnd, Result}
 use Rattle.std.proofs.lemmas.Bool.{true≢false}
 use Rattle.std.proofs.lemmas.Option.{none-some}
 use Rattle.pb_core.specs.Election.{ElectionView}
-use Rattle.pb_desk.specs.Audit.{IsFaultOfJournal}
+use Rattle.pb_desk.specs.Audit.{IsAudited, IsFaultOfJournal}
 use Rattle.pb_desk.specs.Desk.{DeskView, closed_election, standing_of}
 use Rattle.pb_desk.specs.Rows.{journal_rows}
 use Rattle.pb_desk.specs.declared.audit_fault.AuditFault.{AuditFault}
@@ -19,7 +19,7 @@ use Rattle.pb_read.specs.declared.warning.Warning.{Warning}
 use Rattle.pb_rows.specs.Reading.{records_of}
 use Rattle.pb_script.specs.Serving.{program_room}
 use Rattle.pb_commands.proofs.Accepted.{audit_again, read_again, read_from_outside}
-use Rattle.pb_commands.proofs.AuditAccepted.{IsAudited, desk_of, journal_from_outside, one_desk}
+use Rattle.pb_commands.proofs.AuditAccepted.{desk_of, journal_from_outside, one_desk}
 use Rattle.pb_commands.proofs.Endings.{Bars, FailsAs, IsElectionFile, IsLate, given, given_end, known_map, late_end, memory_end, passed_on}
 use Rattle.pb_commands.specs.Audited.{IsDeskOf}
 use Rattle.pb_commands.specs.Closed.{Demanding, Leaves, LeavesNone}
@@ -129,9 +129,8 @@ module _ (files journals : Option (List ℕ)) (warning : Option Warning) where
       → (d : DeskView) → IsDeskOf bytes rows d → IsOutsideFault (merged (Audit fault))
   journal_bars e fault bytes rows stands fails d is =
       let election = one_election (records_of bytes) e d.opening.election stands is.stands in
-      let sound = rw is.room at is.sound in
       let P : ElectionView → Type 0 = λ e. IsFaultOfJournal e program_room (journal_rows d.opening.version d.journal) fault in
-      journal_from_outside d.opening d.journal sound fault (subst P election (rw is.rows at fails))
+      journal_from_outside d.opening d.journal is.audited.sound fault (subst P election (rw is.audited.rows at fails))
 
   both : (P : List ℕ → List ℕ → Type 0) (e : ElectionView) (fault : AuditFault) (files journals : Option (List ℕ)) → IfSome files (λ bytes. StandsFor (records_of bytes) e)
       → IfSome journals (λ rows. IsFaultOfJournal e program_room (records_of rows) fault)
@@ -149,13 +148,15 @@ module _ (files journals : Option (List ℕ)) (warning : Option Warning) where
       (both (FailsAs IsDeskOf (λ bytes rows. Demanding Any (LeavesNone bytes (Some rows))) (merged (Audit fault))) e fault files journals stands fails (journal_fails e fault))
       (both (Bars IsDeskOf (λ bytes rows. Demanding Any (LeavesNone bytes (Some rows))) (merged (Audit fault))) e fault files journals stands fails (journal_bars e fault)))
 
-  pub desk_is : (e : ElectionView) (d : DeskView) → IsAudited files journals e d → IfBothKnown files journals (λ bytes rows. IsDeskOf bytes rows d)
-  desk_is e d audited = by files journals audited
+  pub desk_is : (e : ElectionView) (d : DeskView) → IfSome files (λ bytes. StandsFor (records_of bytes) e) → IsAudited e program_room journals d
+      → IfBothKnown files journals (λ bytes rows. IsDeskOf bytes rows d)
+  desk_is e d stands audited = by files journals stands audited
     where
-      by : (files journals : Option (List ℕ)) → IsAudited files journals e d → IfBothKnown files journals (λ bytes rows. IsDeskOf bytes rows d)
-      by None journals audited = tt
-      by (Some bytes) None audited = tt
-      by (Some bytes) (Some rows) audited = desk_of bytes rows e d audited
+      by : (files journals : Option (List ℕ)) → IfSome files (λ bytes. StandsFor (records_of bytes) e) → IsAudited e program_room journals d
+          → IfBothKnown files journals (λ bytes rows. IsDeskOf bytes rows d)
+      by None journals stands audited = tt
+      by (Some bytes) None stands audited = tt
+      by (Some bytes) (Some rows) stands audited = desk_of bytes rows e d stands audited
 
 -- what refuses a desk refuses what it leaves
 pub journal_leaves_none : (bytes rows : List ℕ) (e : ElectionView) (fault : AppFault) → Demanding Any (LeavesNone bytes (Some rows)) e fault → LeavesNone bytes (Some rows) e fault

@@ -1,8 +1,7 @@
 -- What a run of `audit` writes.
-use Rattle.std.specs.Prelude.{◌≡◌, ℕ, ◌++◌, MatchBool, List, [], true}
-use Rattle.pb_desk.specs.Audit.{IsSound}
+use Rattle.std.specs.Prelude.{◌≡◌, ℕ, ◌++◌, MatchBool, List, [], Some, true}
+use Rattle.pb_desk.specs.Audit.{IsAudited}
 use Rattle.pb_desk.specs.Desk.{DeskView, closed_election, standing_of}
-use Rattle.pb_desk.specs.Rows.{journal_rows}
 use Rattle.pb_read.specs.StandsFor.{StandsFor}
 use Rattle.pb_rounds.specs.declared.rule.Rule.{Rule}
 use Rattle.pb_rows.specs.Reading.{records_of}
@@ -17,9 +16,7 @@ use Rattle.pb_faults.specs.DeskRow.{entries_row}
 -- the election that it opened with, and the rows are its journal's
 pub record IsDeskOf (bytes journal : List ℕ) (d : DeskView) : Type 0 where
   pub stands : StandsFor (records_of bytes) d.opening.election
-  pub room : d.room ≡ program_room
-  pub rows : records_of journal ≡ journal_rows d.opening.version d.journal
-  pub sound : IsSound d.opening d.room d.journal
+  pub audited : IsAudited d.opening.election program_room (Some journal) d
 
 -- what is written of a desk: its row, and then, where it is shut, the report of the ballots that its journal
 -- leaves

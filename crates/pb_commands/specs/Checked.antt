@@ -1,5 +1,5 @@
 -- What a run of `check` writes.
-use Rattle.std.specs.Prelude.{◌≡◌, ℕ, List, ◌∷◌, ◌++◌, codes, map}
+use Rattle.std.specs.Prelude.{◌≡◌, ◌⊎◌, ℕ, List, ◌∷◌, ◌++◌, codes, map}
 use Rattle.pb_core.specs.Election.{ElectionView}
 use Rattle.pb_read.specs.declared.fault.ReadFault.{ReadFault}
 use Rattle.pb_rounds.specs.Counted.{IsCountFault}
@@ -9,8 +9,7 @@ use Rattle.pb_rows.specs.Reading.{Fields}
 use Rattle.pb_rows.specs.Writing.{text_of_rows}
 use Rattle.pb_faults.specs.Fault.{told}
 use Rattle.pb_faults.specs.declared.fault.AppFault.{AppFault}
-use Rattle.pb_faults.specs.declared.fault.AppFault.TheVariants.{Count, Read}
-use Rattle.pb_commands.specs.Ends.{IsOutsideFault}
+use Rattle.pb_faults.specs.declared.fault.AppFault.TheVariants.{Count, Memory, Read, Write}
 
 -- the row of a fault
 abbrev pub fault_row : ReadFault → Fields
@@ -22,9 +21,9 @@ IsTextOfCheck faults text =
     (warnings : List Fields)
     × (text ≡ text_of_rows (map fault_row faults ++ map (λ row. codes "warning" ∷ row) warnings))
 
--- why a check against a count fails: the count of such an election is refused; or the fault comes from
--- outside, as out of memory does in a count too
+-- why a check against a count fails: the count of such an election is refused; or the writer failed; or
+-- memory was refused, in the count too
 abbrev pub CheckFails : (ElectionView → Type 0) → CountOptions → AppFault → Type 0
 CheckFails IsIt options (Count count.NoMemory) = ⊥
 CheckFails IsIt options (Count fault) = (e : ElectionView) × IsIt e × IsCountFault e options fault
-CheckFails IsIt options fault = IsOutsideFault fault
+CheckFails IsIt options fault = (fault ≡ Write) ⊎ (fault ≡ Memory)

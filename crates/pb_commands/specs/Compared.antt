@@ -22,8 +22,7 @@ rule_fields rule r =
 -- or not
 abbrev pub ruled_project_row : ElectionView → (winners other : List ℕ) → ℕ → Fields
 ruled_project_row e winners other place =
-    decimal place ∷ slice_index_or (project_ids e) place []
-    ∷ slice_index_or (map (λ p. p.name) e.projects) place []
+    decimal place ∷ slice_index_or (project_ids e) place [] ∷ slice_index_or (map (λ p. p.name) e.projects) place []
     ∷ money_text (cost_at (support_of e) place) ∷ decimal (votes_at (support_of e) place)
     ∷ decimal (if is_taken winners place then 1 else 0) ∷ decimal (if is_taken other place then 1 else 0) ∷ []
 

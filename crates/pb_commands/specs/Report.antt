@@ -37,7 +37,5 @@ closing_rows totals =
 
 -- the report of a count, as text: the elected stand in order of election, and then the added in their order
 unfoldable pub report_of : ElectionView → CountedView → List ℕ
-report_of e c =
-    text_of_rows
-    (opening_rows e c.outcome
+report_of e c = text_of_rows (opening_rows e c.outcome
     ++ (map (elected_row e) c.outcome.elected ++ (map (added_row e) c.added ++ closing_rows (totals_of e c))))

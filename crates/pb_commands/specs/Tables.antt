@@ -32,8 +32,7 @@ ending_fields (Lost l) = [] ∷ [] ∷ [] ∷ [] ∷ money_text l.left ∷ money
 -- outcome is filled up
 abbrev pub project_table_row : ElectionView → CountedView → ℕ → Fields
 project_table_row e c place =
-    let r = project_reason e c place in
-    take (if fills_up c.fill_up then 12 else 11)
+    let r = project_reason e c place in take (if fills_up c.fill_up then 12 else 11)
     (decimal place ∷ slice_index_or (project_ids e) place [] ∷ name_at e place ∷ money_text (cost_at (support_of e) place)
     ∷ decimal r.votes ∷ ending_fields r.ending)
 
@@ -44,8 +43,7 @@ payments_text payments =
 
 -- the row of the voter at this position
 abbrev pub voter_table_row : ElectionView → CountedView → ℕ → Fields
-voter_table_row e c voter =
-    let r = voter_reason e c voter in
+voter_table_row e c voter = let r = voter_reason e c voter in
     slice_index_or (voter_ids e) voter [] ∷ decimal r.votes ∷ decimal r.elected ∷ money_text r.paid
     ∷ money_text r.left ∷ payments_text (voter_payments e c.outcome voter) ∷ []
 

@@ -1,5 +1,5 @@
 -- What would have made a project win, as text.
-use Rattle.std.specs.Prelude.{◌≡◌, ◌≢◌, ℕ, Contains, List, [], ◌∷◌, ◌++◌, ◌==◌, Some, codes, decimal}
+use Rattle.std.specs.Prelude.{◌≡◌, ◌≢◌, ℕ, Contains, List, [], ◌∷◌, ◌++◌, ◌+◌, ◌==◌, Some, codes, decimal}
 use Rattle.std.specs.Prelude.{if◌then◌else◌}
 use Rattle.pb_core.specs.Election.{ElectionView, project_ids}
 use Rattle.pb_core.specs.MoneyText.{money_text}
@@ -52,10 +52,11 @@ IsWhatIfText e q (One change value) text = (row : Row) × (row.value ≡ value) 
     × (text ≡ what_if_text (what_if_row change row ∷ []))
 
 -- when each fault comes, out of memory aside: no project has the id; the count of the election is refused, or
--- the options are out of their ranges; the election can't be changed so
+-- the options are out of their ranges; the election can't be changed so, and to this value at most
 abbrev pub WhatIfRefuses : ElectionView → CountOptions → (id : List ℕ) → Changes → WhatIfFault → Type 0
 WhatIfRefuses e options id changes NoProject = ¬ Contains (project_ids e) id
 WhatIfRefuses e options id Searched (Count fault) = fault ≢ NoMemory → IsCountFault e options fault
 WhatIfRefuses e options id Searched (OutOfRange most) = ⊥
 WhatIfRefuses e options id (One change value) (Count fault) = fault ≢ NoMemory → refusal_of options ≡ Some fault
-WhatIfRefuses e options id (One change value) (OutOfRange most) = ¬ CanBe (seen e) change value
+WhatIfRefuses e options id (One change value) (OutOfRange most) =
+    (¬ CanBe (seen e) change value) × CanBe (seen e) change most × (¬ CanBe (seen e) change (most + 1))

@@ -1,6 +1,6 @@
 //! The command `check`: all that is wrong with a file, and what is probably not meant.
 
-ghost use Rattle.std.specs.Prelude.{◌≡◌, ◌≢◌, ◌++◌, ℕ, List, [], Some, IfErr, IfOk, IfSome, OnOk, map};
+ghost use Rattle.std.specs.Prelude.{◌≡◌, ◌≢◌, ◌⊎◌, ◌++◌, ℕ, List, [], Some, IfErr, IfOk, IfSome, OnOk, map};
 ghost use Rattle.pb_core.specs.Election.{ElectionView};
 ghost use Rattle.pb_reasons.specs.Counted.{CountedView, IsCountBy, winners_of};
 ghost use Rattle.pb_rounds.specs.Counted.{IsCountFault};
@@ -10,7 +10,7 @@ ghost use Rattle.pb_read.specs.Listed.{AreListed};
 ghost use Rattle.pb_read.specs.StandsFor.{StandsFor};
 ghost use Rattle.pb_commands.specs.Checked.{CheckFails, IsTextOfCheck, fault_row};
 ghost use Rattle.pb_commands.specs.Inner.Checked.{warning_row};
-ghost use Rattle.pb_commands.specs.Ends.{HasWritten, IsOutsideFault};
+ghost use Rattle.pb_commands.specs.Ends.{HasWritten};
 
 use crate::counting::{Counting, counted};
 use crate::report::{put_row, whole};
@@ -44,8 +44,9 @@ pub fn run_check<R: Read + Drop, W: Write, N: Warn>(
     ensures written { IfOk result (λ faults.
         HasWritten (IsTextOfCheck faults.items) (W.contents writer.old) (W.contents writer.new)) }
 
-    // A fault of the run comes from outside, and writes nothing, unless it is the writer's.
-    ensures fault { IfErr result IsOutsideFault }
+    // It fails only where the writer fails or memory is refused. It writes nothing, unless the fault is the
+    // writer's.
+    ensures fault { IfErr result (λ fault. (fault ≡ AppFault.Write) ⊎ (fault ≡ AppFault.Memory)) }
     ensures unchanged { IfErr result (λ fault. fault ≢ AppFault.Write → writer.new ≡ writer.old) }
 {
     let faults = list_faults(alloc, reader, notes)?;
@@ -164,7 +165,7 @@ fn put_out<W: Write, N: Warn>(
 ) -> Result<(), AppFault>
     ensures ok { OnOk result (HasWritten (IsTextOfCheck faults.now) (W.contents writer.old)
         (W.contents writer.new)) }
-    ensures fault { IfErr result IsOutsideFault }
+    ensures fault { IfErr result (λ fault. (fault ≡ AppFault.Write) ⊎ (fault ≡ AppFault.Memory)) }
     ensures unchanged { IfErr result (λ fault. fault ≢ AppFault.Write → writer.new ≡ writer.old) }
 {
     let warnings = notes.warnings()?;
@@ -182,7 +183,7 @@ fn put_rows<W: Write>(
 ) -> Result<(), AppFault>
     ensures ok { OnOk result (HasWritten (IsTextOfCheck faults.now) (W.contents writer.old)
         (W.contents writer.new)) }
-    ensures fault { IfErr result IsOutsideFault }
+    ensures fault { IfErr result (λ fault. (fault ≡ AppFault.Write) ⊎ (fault ≡ AppFault.Memory)) }
     ensures unchanged { IfErr result (λ fault. fault ≢ AppFault.Write → writer.new ≡ writer.old) }
 {
     let text = check_text(alloc, faults, warnings)?;

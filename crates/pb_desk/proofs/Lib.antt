@@ -15,6 +15,10 @@ pub mod RowFields
 pub mod RowForms
 pub mod Asking
 pub mod RowTexts
+pub mod SortedPlaces
+pub mod PlacesTexts
+pub mod FieldConditions
+pub mod RowFlaws
 pub mod Audits
 pub mod Closings
 pub mod RowLaws

@@ -3,6 +3,7 @@
 pub mod AuditSteps
 pub mod Desk
 pub mod Legal
+pub mod RowFlaw
 pub mod RowReading
 pub mod Slots
 pub mod Sources

@@ -2,6 +2,7 @@
 pub mod Desk
 pub mod Replay
 pub mod Rows
+pub mod RowFlaw
 pub mod Standing
 pub mod StartFault
 pub mod Step

@@ -37,6 +37,7 @@ mod journal_audit;
 mod journal_rows;
 pub mod laws;
 pub mod request_fields;
+pub mod row_flaw;
 mod row_reader;
 mod source;
 pub mod standing_ballots;

@@ -107,7 +107,7 @@ impl<A: Allocator> KeptIds<A> {
         Ok(before)
     }
 
-    /// The same of an id for which its table has no room, or that is kept in order already.
+    /// Stores a place for an id that its table has no room for, or that is kept in order already.
     fn insert_crowded(&mut self, alloc: A, id: &str, place: u32) -> Result<Option<u32>, AllocError>
     where
         A: Copy,

@@ -72,10 +72,10 @@ pub enum ReadKind {
     /// The budget, at PROJECTS' head, or a project's cost is no money text.
     #[error("an amount is malformed")]
     BadMoney,
-    /// The same is finer than a hundredth.
+    /// The budget or a project's cost is finer than a hundredth.
     #[error("an amount is finer than a hundredth")]
     MoneyTooFine,
-    /// The same is above the largest amount.
+    /// The budget or a project's cost is above the largest amount.
     #[error("an amount is too large")]
     MoneyTooLarge,
     /// A project's cost is 0.

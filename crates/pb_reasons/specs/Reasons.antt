@@ -27,15 +27,13 @@ round_of elected place = position_or_len (λ w. w.place == place) elected
 
 -- what a voter paid for the project at this place; 0 where it is not elected
 abbrev pub paid_for : ElectionView → OutcomeView → (place voter : ℕ) → ℕ
-paid_for e o place voter =
-    slice_index (slice_index_or (all_payments e o) (round_of o.elected place) []) voter
+paid_for e o place voter = slice_index (slice_index_or (all_payments e o) (round_of o.elected place) []) voter
 
 -- how a project ended: elected, added, or neither
 abbrev pub ending_of : ElectionView → CountedView → ℕ → Option ElectedView → Ending
 ending_of e c place (Some w) =
     let supporters = supporters_at (support_of e) place in
-    Won
-    (record {
+    Won (record {
       round = round_of c.outcome.elected place + 1;
       price = w.price;
       collected = w.collected;

@@ -3,7 +3,7 @@ use Rattle.std.proofs.Common.{◌≡◌, ℕ, Option, Some, None, Ok, Err, refl,
 use Rattle.pb_core.specs.Request.{RequestView, Cast, Replace, Withdraw, Shut}
 use Rattle.pb_rows.specs.Reading.{Fields}
 use Rattle.pb_script.specs.Admission.{Judges, open_to_all, refusal_of}
-use Rattle.pb_script.specs.Script.{IsScriptRow, ScriptRowView}
+use Rattle.pb_desk.specs.Rows.{IsScriptRow, ScriptRowView}
 use Rattle.pb_script.specs.declared.admission.RowRefusal.{RowRefusal}
 use Rattle.pb_script.specs.declared.admission.RowRefusal.TheVariants.{Bad, UnknownId, NotOnRoll, TooFew}
 

@@ -10,7 +10,8 @@ use Rattle.pb_core.specs.Request.{RequestView}
 use Rattle.pb_rows.specs.Reading.{Fields, IsNext}
 use Rattle.pb_rows.specs.Inner.Reading.{HasReadAtMost}
 use Rattle.pb_script.specs.Inner.Admission.{Admits, IsAdmitted, Refuses}
-use Rattle.pb_script.specs.Script.{ScriptRowView, most_rows}
+use Rattle.pb_script.specs.Script.{most_rows}
+use Rattle.pb_desk.specs.Rows.{ScriptRowView}
 use Rattle.pb_script.specs.declared.admission.Admission.{Admission}
 use Rattle.pb_script.specs.declared.admission.RowRefusal.{RowRefusal}
 use Rattle.pb_script.specs.declared.admission.RowRefusal.TheVariants as refusal

@@ -9,13 +9,12 @@ use Rattle.pb_desk.specs.Audit.{IsSound}
 use Rattle.pb_desk.specs.Desk.{DeskView}
 use Rattle.pb_desk.specs.Opening.{OpeningView}
 use Rattle.pb_desk.specs.Replay.{IsLegal}
-use Rattle.pb_desk.specs.Rows.{journal_text}
+use Rattle.pb_desk.specs.Rows.{journal_text, ScriptRowView}
 use Rattle.pb_rows.specs.Reading.{Fields, records_of}
 use Rattle.pb_script.specs.Inner.ScriptReading.{SplitsScript}
 use Rattle.pb_script.specs.declared.admission.Admission.{Admission}
 use Rattle.pb_script.specs.Served.{IsServeFault, IsServed}
 use Rattle.pb_shared.specs.Clerk.{AreClerks}
-use Rattle.pb_script.specs.Script.{ScriptRowView}
 use Rattle.pb_script.specs.Serving.{program_room}
 use Rattle.pb_script.specs.Inner.Serving.{IsServingFault, ServesAll, ServesScript, ShutAtEnd, opening_of}
 use Rattle.pb_script.specs.declared.script_fault.ScriptFault.TheVariants as script

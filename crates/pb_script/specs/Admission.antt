@@ -6,11 +6,11 @@ use Rattle.std.specs.Option.{option_map_or}
 use Rattle.csv.specs.Records.{AllText}
 use Rattle.pb_core.specs.Request.{RequestView, Withdraw, Shut}
 use Rattle.pb_desk.specs.Step.{places_of, voter_of}
+use Rattle.pb_desk.specs.Rows.{IsScriptRow, ScriptRowView}
 use Rattle.pb_read.specs.Rows.{field}
 use Rattle.pb_read.specs.Voting.{ballot_of, names_only}
 use Rattle.pb_rows.specs.Numbers.{places_text}
 use Rattle.pb_rows.specs.Reading.{Fields}
-use Rattle.pb_script.specs.Script.{IsScriptRow, ScriptRowView}
 use Rattle.pb_script.specs.declared.admission.Admission.{Admission}
 use Rattle.pb_script.specs.declared.admission.RowRefusal.{RowRefusal}
 use Rattle.pb_script.specs.declared.admission.RowRefusal.TheVariants.{Bad, UnknownId, NotOnRoll, TooFew}

@@ -3,7 +3,8 @@ use Rattle.std.specs.Prelude.{ℕ, ◌≤◌, List, length, Ok}
 use Rattle.std.specs.List.{AllZip}
 use Rattle.pb_rows.specs.Reading.{Fields}
 use Rattle.pb_script.specs.Admission.{Judges}
-use Rattle.pb_script.specs.Script.{ScriptRowView, most_rows}
+use Rattle.pb_script.specs.Script.{most_rows}
+use Rattle.pb_desk.specs.Rows.{ScriptRowView}
 use Rattle.pb_script.specs.declared.admission.Admission.{Admission}
 
 -- the records are a script for this many clerks, whose rows are admitted and say this

@@ -3,11 +3,10 @@ use Rattle.std.specs.Prelude.{◌≡◌, ℕ, ◌<◌, ◌==◌, ◌++◌, Bool,
 use Rattle.pb_core.specs.Election.{ElectionView}
 use Rattle.pb_core.specs.Request.{EntryView, Shut}
 use Rattle.pb_desk.specs.Audit.{IsSound}
-use Rattle.pb_desk.specs.Rows.{journal_text}
+use Rattle.pb_desk.specs.Rows.{journal_text, ScriptRowView}
 use Rattle.pb_desk.specs.declared.version.Version.TheVariants.{Two}
 use Rattle.pb_rows.specs.Reading.{Fields}
 use Rattle.pb_shared.specs.Clerk.{AreClerks, entries_by}
-use Rattle.pb_script.specs.Script.{ScriptRowView}
 use Rattle.pb_script.specs.Scripts.{IsScript}
 use Rattle.pb_script.specs.ScriptReading.{IsFaultOfScript}
 use Rattle.pb_script.specs.Serving.{program_room}

@@ -3,7 +3,7 @@
 ghost use Rattle.std.specs.Prelude.{◌≡◌, ℕ, Ok, Err};
 ghost use Rattle.pb_rows.specs.Reading.{Fields};
 ghost use Rattle.pb_script.specs.Admission.{Judges, open_to_all};
-ghost use Rattle.pb_script.specs.Script.{IsScriptRow, ScriptRowView};
+ghost use Rattle.pb_desk.specs.Rows.{IsScriptRow, ScriptRowView};
 
 use crate::admission::RowRefusal;
 

@@ -38,7 +38,7 @@ pub(crate) fn stands_beside<R: Files + AllocGlobal>(
     }
 }
 
-/// The same of this path of the journal, and of the file that the other path leads to.
+/// Whether a path, which leads to the file `target`, is one of the names beside the journal with this path.
 fn is_beside<R: Files + AllocGlobal>(
     rt: &R,
     path: &str,

@@ -1,6 +1,7 @@
 //! The fields of a record, trimmed as the readers trim them.
 
 use csv::ByteRecord;
+use pb_rows::read_number;
 use std::str;
 
 /// The bytes of a field; none where the record ends before it.
@@ -52,6 +53,20 @@ pub fn place_of_no_text(record: &ByteRecord) -> Option<usize> {
         }
     }
     None
+}
+
+/// The number that a field is, if it is one.
+pub fn number_in(field: &[u8]) -> Option<u32> {
+    match str::from_utf8(field) {
+        Ok(text) => read_number(text),
+        Err(_) => None,
+    }
+}
+
+/// Whether a row seems to be one of a journal: that of its version, or an entry.
+pub fn is_of_journal(row: &ByteRecord) -> bool {
+    let is_entry = row.len() == 6 && number_in(bytes_at(row, 0)).is_some();
+    is_entry || raw_text(row, 0) == "journal"
 }
 
 /// Why a whole row is one field.

@@ -27,7 +27,6 @@ pub mod quote;
 pub mod records;
 mod result_columns;
 mod result_oddities;
-pub mod row_flaw;
 pub mod rule_counts;
 pub mod seen;
 pub mod swallowed;

@@ -1,7 +1,5 @@
 //! How many rows each rule of a desk has refused.
 
-use pb_script::RowRefusal;
-
 /// How many rows each rule of a desk has refused.
 #[derive(Clone, Copy)]
 pub struct RuleCounts {
@@ -20,17 +18,6 @@ impl RuleCounts {
             unknown_id: 0,
             not_on_roll: 0,
             too_few: 0,
-        }
-    }
-
-    /// Takes a row that is refused for this reason; a row that has not the form of one breaks none of these
-    /// rules.
-    pub fn take(&mut self, why: RowRefusal) {
-        match why {
-            RowRefusal::Bad => {}
-            RowRefusal::UnknownId => self.unknown_id = self.unknown_id.saturating_add(1),
-            RowRefusal::NotOnRoll => self.not_on_roll = self.not_on_roll.saturating_add(1),
-            RowRefusal::TooFew => self.too_few = self.too_few.saturating_add(1),
         }
     }
 

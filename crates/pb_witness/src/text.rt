@@ -78,7 +78,8 @@ impl<'a, R: Files> Text<'a, R> {
         joined
     }
 
-    /// The same of the record behind that with this mark; behind the start of the text it is the first.
+    /// Why the record behind the one with this mark is one field that seems to be a whole row, if it is one.
+    /// Behind the start of the text it is the first record.
     pub fn joined_behind(&self, mark: Mark) -> Option<JoinedBy> {
         let mut records = self.record_at(mark)?;
         let joined = if records.advance() {

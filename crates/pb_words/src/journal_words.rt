@@ -12,12 +12,12 @@ use pb_core::row_words::{
 };
 use pb_desk::AuditFault;
 use pb_desk::desk::MOST_CLERKS;
+use pb_desk::row_flaw::{Condition, flaw_of_journal_row};
 use pb_script::ROOM;
 use pb_witness::audited::{AuditPaths, Audited};
 use pb_witness::desk_answer::DeskAnswer;
 use pb_witness::fields::{bytes_at, raw_text};
 use pb_witness::mark::Mark;
-use pb_witness::row_flaw::{Condition, flaw_of_journal_row};
 use std::alloc::Global;
 use std::rt::Files;
 

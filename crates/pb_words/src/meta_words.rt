@@ -40,7 +40,7 @@ pub(crate) const TYPED: &str =
 const NO_QUOTES: &str =
     "Quotation marks around the whole row turn it into one field. Delete these quotation marks.\n";
 
-/// The same, where the row on this line is one.
+/// What to do about rows that are one field in quotes, such as the one on this line.
 const NO_QUOTES_AT: &str =
     "Quotation marks around whole rows turn each row into one field, for example on line {}. Delete these quotation marks.\n";
 

@@ -4,7 +4,8 @@ use crate::words::Value::{Bytes, Count, Number, Numbers, Own};
 use crate::words::Words;
 use csv::ByteRecord;
 use pb_desk::desk::MOST_CLERKS;
-use pb_witness::row_flaw::{Condition, RowFlaw};
+use pb_desk::row_flaw::{Condition, RowFlaw};
+use pb_witness::fields::number_in;
 
 /// The fields of a script's row.
 pub(crate) const SCRIPT_FIELDS: &[&str] = &["clerk", "request", "voter", "places"];
@@ -77,7 +78,7 @@ pub(crate) fn put_clerk_remedy(out: &mut Words, is_shut: bool, flaw: &RowFlaw, c
     } else {
         "Write one of these numbers"
     });
-    let number = flaw.number().unwrap_or(MOST_CLERKS);
+    let number = number_in(flaw.value).unwrap_or(MOST_CLERKS);
     if is_shut {
         out.put(
             ". If several clerks should work, give their number with `--clerks`, delete this row, and shut the desk with `--shut`",

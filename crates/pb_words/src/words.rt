@@ -26,7 +26,7 @@ pub enum Value<'v> {
     /// A text from outside, in quotes and cut after 60 characters; three dots behind them say that it goes
     /// on.
     Quoted(&'v str),
-    /// The same of bytes, which may be no text.
+    /// Bytes from outside, which may be no text, in quotes and cut after 60 characters.
     Bytes(&'v [u8]),
     /// The name of a file as it was given; none is standard input.
     Name(Option<&'v str>),

@@ -5,7 +5,7 @@ use Rattle.pb_read.specs.Voting.{ballot_of, names_only}
 use Rattle.pb_rows.specs.Numbers.{places_text}
 use Rattle.pb_rows.specs.Reading.{Fields}
 use Rattle.pb_script.specs.Admission.{Judges}
-use Rattle.pb_script.specs.Script.{ScriptRowView}
+use Rattle.pb_desk.specs.Rows.{ScriptRowView}
 use Rattle.pb_script.specs.declared.admission.Admission.{Admission}
 use Rattle.pb_script.specs.declared.admission.RowRefusal.{RowRefusal}
 

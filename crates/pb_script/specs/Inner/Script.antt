@@ -3,7 +3,7 @@ use Rattle.std.specs.Prelude.{◌≡◌, ℕ, ◌<◌, ◌==◌, List, [], ◌�
 use Rattle.std.specs.Prelude.{slice_index_or, slice_set}
 use Rattle.pb_core.specs.Request.{RequestView}
 use Rattle.pb_desk.specs.Replay.{most_clerks}
-use Rattle.pb_script.specs.Script.{ScriptRowView}
+use Rattle.pb_desk.specs.Rows.{ScriptRowView}
 
 -- a run has this many clerks at most
 abbrev pub clerks_within : ℕ → ℕ

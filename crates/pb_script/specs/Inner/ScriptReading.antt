@@ -6,7 +6,7 @@ use Rattle.pb_rows.specs.Reading.{Fields, IsNext}
 use Rattle.pb_rows.specs.declared.fault.RecordsFault.{RecordsFault}
 use Rattle.pb_rows.specs.declared.fault.RecordsFault.TheVariants as stop
 use Rattle.pb_script.specs.Admission.{Judges}
-use Rattle.pb_script.specs.Script.{ScriptRowView}
+use Rattle.pb_desk.specs.Rows.{ScriptRowView}
 use Rattle.pb_script.specs.Scripts.{IsScript}
 use Rattle.pb_script.specs.declared.admission.Admission.{Admission}
 use Rattle.pb_script.specs.Inner.Script.{AreAsked}

@@ -6,13 +6,13 @@ use Rattle.pb_core.specs.Request.{EntryView, RequestView, Shut}
 use Rattle.pb_core.specs.declared.answer.Answer.{Answer}
 use Rattle.pb_desk.specs.Opening.{OpeningView}
 use Rattle.pb_desk.specs.declared.version.Version.TheVariants.{Two}
+use Rattle.pb_desk.specs.Rows.{ScriptRowView}
 use Rattle.pb_shared.specs.Clerk.{AreClerks, ClerkView, SharedView, entries_by}
 use Rattle.pb_shared.specs.declared.share_fault.ShareFault.{ShareFault}
 use Rattle.pb_shared.specs.declared.share_fault.ShareFault.TheVariants as share
 use Rattle.pb_script.specs.declared.script_fault.ScriptFault.TheVariants as script
 use Rattle.pb_script.specs.declared.serve_fault.ServeFault.{ServeFault}
 use Rattle.pb_script.specs.declared.serve_fault.ServeFault.TheVariants.{Script, ClerkCount}
-use Rattle.pb_script.specs.Script.{ScriptRowView}
 use Rattle.pb_script.specs.Inner.Script.{asked_by}
 
 -- what a clerk asked in a journal, in order

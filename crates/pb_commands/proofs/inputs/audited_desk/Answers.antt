@@ -16,9 +16,8 @@ returns-clause-ends g c =
 
 pub returns-clause-ok : goal.returns-clause-ok
 returns-clause-ok g c =
-    let desk = c.in_ok-audit.ensures in
     desk_is (g.P.Read.remaining c.args.file) (g.J.Read.remaining c.args.journal) None c.in-Ok.election c.in_ok-audit.field-0
-    (record { stands = c.in-Ok.ensures.ok; election = desk.opening; room = desk.room; sound = desk.sound; rows = desk.rows })
+    c.in-Ok.ensures.ok c.in_ok-audit.ensures.audited
 
 pub returns-in_err-audit-clause-ends : goal.returns-in_err-audit-clause-ends
 returns-in_err-audit-clause-ends g c =

@@ -1,6 +1,6 @@
 use Rattle.std.proofs.Common.{◌∙◌, sym}
 use Rattle.csv.specs.Records.{fields_of}
-use Rattle.pb_script.proofs.ScriptForms.{four_are}
+use Rattle.pb_desk.proofs.RowFields.{four_are}
 use Rattle.pb_script.proofs.script.four_fields.Goals as goal
 
 pub returns : goal.returns

@@ -1,0 +1,46 @@
+use Rattle.std.proofs.Common.{ℕ, List, subst}
+use Rattle.pb_core.specs.Election.{ElectionView}
+use Rattle.pb_reasons.specs.Counted.{IsCountBy}
+use Rattle.pb_rounds.specs.Counted.{IsCountOf}
+use Rattle.pb_rounds.specs.Outcome.{OutcomeView}
+use Rattle.pb_rounds.specs.declared.rule.Rule.{Rule}
+use Rattle.pb_commands.proofs.Endings.{memory_end, run_ended, run_written}
+use Rattle.pb_commands.proofs.RunEnds.{counts_pass, writes_of}
+use Rattle.pb_commands.specs.Closed.{CountRefuses, WritesOf}
+use Rattle.pb_commands.specs.Ends.{known}
+use Rattle.pb_app.specs.Inner.Page.{IsPageBy}
+use Rattle.pb_app.proofs.run_page.run_page.Goals as goal
+
+page_counts : (rule : Rule) (e : ElectionView) (text : List ℕ) → IsPageBy rule e text → (o : OutcomeView) × IsCountOf e rule.options o
+page_counts rule e text page =
+    let count = subst (λ (rule : Rule). IsCountBy rule e page.2.0) page.1 page.2.1 in
+    (count.0, count.1)
+
+pub returns-in-Err-clause-runs : goal.returns-in-Err-clause-runs
+returns-in-Err-clause-runs g c =
+    let rule = c.args.counting.now.rule.now in
+    let files = g.P.Read.remaining c.args.inputs.file in
+    let journals = known g.J.Read.remaining c.args.inputs.journal in
+    run_ended (WritesOf (IsPageBy rule)) (CountRefuses rule.options) files journals _ g.W.Write.contents _ c.in-Err.fault
+    (counts_pass (IsPageBy rule) rule.options files journals _ (page_counts rule) c.in-Err.fault c.in-Err.ensures.reads c.in-Err.ensures.ends)
+
+pub returns-in-Ok-made-clause-runs : goal.returns-in-Ok-made-clause-runs
+returns-in-Ok-made-clause-runs g c =
+    let rule = c.args.counting.now.rule.now in
+    let files = g.P.Read.remaining c.args.inputs.file in
+    let journals = known g.J.Read.remaining c.args.inputs.journal in
+    let e = c.in-Ok.count.election in
+    let file = c.in-Ok.ensures.ends.judges in
+    let text = c.in-Ok-made.text.items in
+    run_written (WritesOf (IsPageBy rule)) (CountRefuses rule.options) files journals _ g.W.Write.contents _ _ text _
+    (rw c.as_slice.ensures.value at c.write_out.ensures.ok) c.write_out.ensures.fault file.1 file.0
+    (writes_of (IsPageBy rule) files journals e text c.in-Ok.ensures.left c.in-Ok-made.ensures)
+
+pub returns-in-Err-made-clause-runs : goal.returns-in-Err-made-clause-runs
+returns-in-Err-made-clause-runs g c =
+    let rule = c.args.counting.now.rule.now in
+    let files = g.P.Read.remaining c.args.inputs.file in
+    let journals = known g.J.Read.remaining c.args.inputs.journal in
+    let file = c.in-Ok.ensures.ends.judges in
+    run_ended (WritesOf (IsPageBy rule)) (CountRefuses rule.options) files journals _ g.W.Write.contents _ _
+    (memory_end (WritesOf (IsPageBy rule)) (CountRefuses rule.options) files journals _ file.1 file.0)

@@ -1,0 +1,2 @@
+-- The words that contracts speak of.
+pub mod Inner

@@ -1,0 +1,163 @@
+//! Who makes a page of a count.
+
+ghost use Rattle.std.specs.Prelude.{◌≡◌, IfOk};
+ghost use Rattle.pb_reasons.specs.Counted.{IsCountBy};
+ghost use Rattle.pb_app.specs.Inner.Page.{IsPageBy};
+
+use crate::kinship::Kinship;
+use crate::page_watch::PageWatch;
+use crate::tongue::Tongue;
+use pb_command_line::{PROGRAM, PageRun, Source};
+use pb_commands::{CountedElection, Counting};
+use pb_core::election::Election;
+use pb_core::gate::Gate;
+use pb_core::money::Money;
+use pb_core::no_memory::NoMemory;
+use pb_page::{Categories, Facts, Language, ReadText, page_of};
+use pb_rounds::rule::Rule;
+use pb_streams::Hex;
+use pb_witness::page_notes::PageNotes;
+use std::cell::Cell;
+use std::path::Path;
+use std::thread::Threads;
+
+/// What standard input is called.
+const INPUT: &str = "standard input";
+
+/// Makes the page that a run asks for.
+#[derive(Drop)]
+pub(crate) struct PageMaker<'a, S> {
+    pub(crate) run: PageRun<'a>,
+    pub(crate) speech: &'a S,
+    /// It has the digest of the .pb file, once that is read.
+    pub(crate) kinship: &'a Kinship,
+    /// The digest of the journal, once one is read.
+    pub(crate) journal: &'a Cell<Option<Hex>>,
+}
+
+/// What was asked and read for a page, but for what is counted.
+#[derive(Clone, Copy)]
+struct Seen<'a> {
+    run: PageRun<'a>,
+    /// The digest of the .pb file.
+    file: Option<Hex>,
+    /// That of the journal, if there is one.
+    journal: Option<Hex>,
+    notes: &'a PageNotes,
+    /// The different categories of the projects.
+    categories: &'a [&'a str],
+}
+
+impl<S: Tongue> PageMaker<'_, S> {
+    /// The page of this count, once this one has looked on at the whole file.
+    pub(crate) fn text_of<T: Threads + Sync, G: Gate, H>(
+        &self,
+        counting: &Counting<T, G>,
+        watch: &PageWatch<'_, H>,
+        count: &CountedElection,
+    ) -> Result<Vec<u8>, NoMemory>
+        requires { IsCountBy counting.now.rule.now count.now.election count.now.counted }
+        ensures { IfOk result (λ text. IsPageBy counting.now.rule.now count.now.election text.items) }
+    {
+        let notes = watch.notes();
+        if !notes.is_whole() {
+            return Err(NoMemory);
+        }
+        let categories = notes.categories()?;
+        let seen = Seen {
+            run: self.run,
+            file: self.kinship.file.get(),
+            journal: self.journal.get(),
+            notes,
+            categories: categories.as_slice(),
+        };
+        let page = page_with(counting, count, self.speech, &seen);
+        drop(categories);
+        page
+    }
+}
+
+/// The page of this count in this language, with what was seen besides.
+fn page_with<'a, T: Threads + Sync, G: Gate, S: Tongue>(
+    counting: &Counting<T, G>,
+    count: &CountedElection,
+    speech: &'a S,
+    seen: &'a Seen<'a>,
+) -> Result<Vec<u8>, NoMemory>
+    requires { IsCountBy counting.now.rule.now count.now.election count.now.counted }
+    ensures { IfOk result (λ text. IsPageBy counting.now.rule.now count.now.election text.items) }
+{
+    let (rt, alloc, gate) = (counting.rt, counting.alloc, counting.gate);
+    let said = speech.said(alloc, seen.run.currency.or(seen.notes.currency()))?;
+    let title = seen.run.title.unwrap_or(said.title);
+    let language = said.language(is_whole(&count.election));
+    let facts = facts_of(counting.rule, seen, title, language);
+    let page = page_of(rt, alloc, gate, &count.election, &count.counted, &facts);
+    drop(said);
+    page
+}
+
+/// What the page says beside the outcome, with this title and in this language.
+fn facts_of<'a>(
+    rule: &Rule,
+    seen: &'a Seen<'a>,
+    title: &'a str,
+    language: Language<'a>,
+) -> Facts<'a>
+    ensures rule { result.rule ≡ rule.now }
+{
+    let run = &seen.run;
+    let journal = match (&run.ballots.journal, &seen.journal) {
+        (Some(given), Some(digest)) => Some(source_of(given, Some(digest))),
+        _ => None,
+    };
+    Facts {
+        title,
+        file: source_of(&run.ballots.file, seen.file.as_ref()),
+        journal,
+        recount: run.recount,
+        rule: *rule,
+        compares: run.compares,
+        categories: categories_of(seen),
+        program: PROGRAM,
+        language,
+    }
+}
+
+/// The categories of the projects, if a project has one.
+fn categories_of<'a>(seen: &'a Seen<'a>) -> Option<Categories<'a>> {
+    if !seen.notes.has_categories() {
+        return None;
+    }
+    Some(Categories {
+        names: seen.categories,
+        of_project: seen.notes.of_project(),
+    })
+}
+
+/// Whether the budget and all costs are whole.
+fn is_whole(election: &Election) -> bool {
+    let mut is_whole = has_no_decimals(election.budget());
+    for project in election.projects() {
+        is_whole = is_whole && has_no_decimals(project.cost());
+    }
+    is_whole
+}
+
+/// Whether an amount is whole.
+fn has_no_decimals(amount: Money) -> bool {
+    amount.0 % 100 == 0
+}
+
+/// A text that was read, by its name without its folders.
+fn source_of<'a>(given: &Source<'a>, digest: Option<&'a Hex>) -> ReadText<'a> {
+    let name = match given.path() {
+        Some(path) => Path::new(path).file_name().unwrap_or(path),
+        None => INPUT,
+    };
+    let digest = match digest {
+        Some(digest) => digest.text(),
+        None => "",
+    };
+    ReadText { name, digest }
+}

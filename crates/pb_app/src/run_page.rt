@@ -1,0 +1,57 @@
+//! The run that writes the page of a count.
+
+ghost use Rattle.std.specs.Prelude.{OnOk};
+ghost use Rattle.pb_core.specs.Election.{ElectionView};
+ghost use Rattle.pb_commands.specs.Closed.{CountRefuses, WritesOf};
+ghost use Rattle.pb_commands.specs.Ends.{HasWritten, Runs, known};
+ghost use Rattle.pb_app.specs.Inner.Page.{IsPageBy};
+
+use crate::page_maker::PageMaker;
+use crate::page_watch::PageWatch;
+use crate::tongue::Tongue;
+use pb_commands::{AppFault, Counting, Inputs, count_inputs, write_out};
+use pb_core::gate::Gate;
+use pb_read::Heed;
+use std::io::{Read, Write};
+use std::thread::Threads;
+
+/// Reads an election, counts it by the rule, and writes the page that this one makes of the count.
+///
+/// The file is refused before the journal, the journal before an open desk, and that before the options.
+/// Nothing is written but the whole page. Where the fault is `Write` some of the page may have gone out; on
+/// any other fault the writer is as it was. A warning may refuse the file, before the journal is judged.
+pub(crate) fn run_page<
+    T: Threads + Sync,
+    P: Read + Drop,
+    J: Read + Drop,
+    G: Gate,
+    H: Heed,
+    S: Tongue,
+    W: Write,
+>(
+    counting: &Counting<T, G>,
+    inputs: Inputs<P, J>,
+    watch: &mut PageWatch<'_, H>,
+    writer: &mut W,
+    maker: &PageMaker<'_, S>,
+) -> Result<(), AppFault>
+    ensures runs { Runs (WritesOf (IsPageBy counting.now.rule.now))
+        (CountRefuses counting.now.rule.now.options) (P.remaining inputs.file)
+        (known J.remaining inputs.journal)
+        (H.refused_for watch.new.warnings.now) W.contents writer.old writer.new result }
+
+    // Whether or not the bytes are known that were read.
+    ensures written { OnOk result ((e : ElectionView) × HasWritten (IsPageBy counting.now.rule.now e)
+        (W.contents writer.old) (W.contents writer.new)) }
+{
+    let count = match count_inputs(counting, inputs, watch) {
+        Ok(count) => count,
+        Err(fault) => return Err(fault),
+    };
+    let made = maker.text_of(counting, &*watch, &count);
+    drop(count);
+    match made {
+        Ok(text) => write_out(writer, text.as_slice(), AppFault::Write),
+        Err(_) => Err(AppFault::Memory),
+    }
+}
