@@ -146,10 +146,10 @@ class Browser:
         nodes = self.call('Accessibility.getFullAXTree')['nodes']
         return collections.Counter(node['role']['value'] for node in nodes if not node['ignored'])
 
-    def picture(self, path):
-        """Writes the page as a picture, the first 12,000 pixels of its height."""
+    def picture(self, path, most=12_000):
+        """Writes the page as a picture, at most so many pixels of its height."""
         size = self.call('Page.getLayoutMetrics')['cssContentSize']
-        clip = {'x': 0, 'y': 0, 'width': size['width'], 'height': min(size['height'], 12_000), 'scale': 1}
+        clip = {'x': 0, 'y': 0, 'width': size['width'], 'height': min(size['height'], most), 'scale': 1}
         shot = self.call('Page.captureScreenshot', format='png', captureBeyondViewport=True, clip=clip)
         path.write_bytes(base64.b64decode(shot['data']))
 
