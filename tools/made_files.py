@@ -66,6 +66,82 @@ def dearest():
     return ''.join(row + '\n' for row in rows).encode()
 
 
+def far_oddities(record=60_000):
+    """A file with records up to 10 behind this one, which is a vote with a field more than its columns; 5 behind it a vote
+    names no project. All else is in order."""
+    rows = ['META', 'key;value', 'budget;100', 'vote_type;approval', 'PROJECTS', 'project_id;cost', 'a;30', 'b;60',
+            'VOTES', 'voter_id;vote']
+    rows += [f'{at};a,b' for at in range(11, record + 11)]
+    rows[record - 1] += ';a'
+    rows[record + 4] = f'{record + 5};'
+    return ''.join(row + '\n' for row in rows).encode()
+
+
+def many_projects(is_exported=False, keeps_voters=False):
+    """A file with 300 projects, each with a category, a street and a supporter of its own, who has an age; or what an export of it
+    has to be, by the method alone.
+
+    Of the budget each of the 300 voters has 1.00. That pays for the projects at even places, which cost 1, and for none at odd
+    places, which cost 2."""
+    rows = ['META', 'key;value', 'budget;300', 'vote_type;approval']
+    if is_exported:
+        rows += ['num_projects;300', 'num_votes;300', 'rule;equalshares', 'comment;equal shares by price, no raises', 'PROJECTS',
+                 'project_id;cost;votes;name;selected;category;street']
+        rows += [f'p{at};{1 + at % 2};1;project {at};{1 - at % 2};c{at};s{at}' for at in range(300)]
+    else:
+        rows += ['PROJECTS', 'category;project_id;name;cost;street']
+        rows += [f'c{at};p{at};project {at};{1 + at % 2};s{at}' for at in range(300)]
+    has_age = keeps_voters or not is_exported
+    rows += ['VOTES', 'voter_id;vote' + ';age' * has_age]
+    rows += [f'v{at};p{at}' + f';{18 + at}' * has_age for at in range(300)]
+    return ''.join(row + '\n' for row in rows).encode()
+
+
+def long_city():
+    """A file without a vote, for the long journal."""
+    return three_voters().replace(b'budget;100', b'budget;100000').replace(b'a;30', b'a;30000').replace(
+        b'b;60', b'b;60000').partition(b'v1;')[0]
+
+
+def long_journal():
+    """A journal of 6 MB, of a desk that is shut: 100,000 voters cast for a, every other one, from the first, for b too.
+
+    Of the budget each has 1.00. a takes 0.30 of it; the 50,000 who want b have 0.70 left, of the 1.20 that it needs of each.
+    With a share of 2.00 they pay it too. Then all projects are elected."""
+    rows = [f'{at};0;cast;{long_id(at)};{"0,1" if at % 2 else "0"};done\n' for at in range(1, 100_001)]
+    return ('journal;2\n' + ''.join(rows) + '100001;0;shut;;;done\n').encode()
+
+
+def long_id(at):
+    return f'voter {at:06} of Mill Lane, Lipowo, 1st door'
+
+
+def long_ballots():
+    """The ballots that this journal leaves."""
+    rows = [f'{long_id(at)};{at};{"a,b" if at % 2 else "a"}\n' for at in range(1, 100_001)]
+    return ('voter_id;entry;project_ids\n' + ''.join(rows)).encode()
+
+
+def long_report(size):
+    """A file whose report has so many bytes: its one project has a long id, and wins."""
+    file = b'META\nkey;value\nbudget;10\nvote_type;approval\nPROJECTS\nproject_id;cost\n%s;10\nVOTES\nvoter_id;vote\nv1;%s\n'
+    name = b'p' * (size - len(report_of(b'')))
+    return file % (name, name)
+
+
+def report_of(name):
+    """Its report: the voter has 10.00, and pays it."""
+    return (b'budget;10.00\nvoters;1\nshare;10.00\nraises;0\nelected;%s;10.00;10.00\nspent;10.00\nsurplus;0.00\n' % name)
+
+
+def text_of_report(size):
+    """The report of so many bytes."""
+    return report_of(b'p' * (size - len(report_of(b''))))
+
+
+# Texts as long as a page of memory, as 16 of them and as 256, and a byte less and more.
+SIZES = [pages * 4_096 + more for pages in (1, 16, 256) for more in (-1, 0, 1)]
+
 MADE = {
     'large.pb': lambda: city(100_000),
     'largest.pb': lambda: city(1_000_000),
@@ -82,7 +158,16 @@ MADE = {
     'faulty.rows': listed_faults,
     'two-clerks.script': lambda: two_clerks(True),
     'two-clerks.rows': lambda: two_clerks(False),
+    'far.pb': far_oddities,
+    'many.pb': many_projects,
+    'many.exported': lambda: many_projects(True),
+    'many-voters.exported': lambda: many_projects(True, True),
+    'long.pb': long_city,
+    'long.journal': long_journal,
+    'long.ballots': long_ballots,
+    **{f'report-{size}.pb': lambda size=size: long_report(size) for size in SIZES},
+    **{f'report-{size}.rows': lambda size=size: text_of_report(size) for size in SIZES},
 }
 
 # Those that `rt try` would be slow on: it copies each file for each case, and runs with checks.
-LARGE = {'large.pb', 'largest.pb', 'records.pb', 'records-and-one.pb', 'full.roll', 'full-and-one.roll'}
+LARGE = {'large.pb', 'largest.pb', 'records.pb', 'records-and-one.pb', 'full.roll', 'full-and-one.roll', 'far.pb', 'long.journal'}

@@ -20,7 +20,8 @@ SHIM = r'''
 #include <unistd.h>
 
 /* What is written down of a call: o opened and perhaps made, w written, c cut, s synced, r renamed, a answered; the file, j the
-   journal, t what is kept beside, f what says which file it belongs to, d a folder; where it was written, or how long the file became; and how many bytes follow. */
+   journal, t what is kept beside, f what says which file it belongs to, k the text of a moved journal, p a result that has not
+   got its name yet, d a folder; where it was written, or how long the file became; and how many bytes follow. */
 struct event { char what, file; char pad[6]; int64_t at, size; };
 
 static struct { long calls, refused, allocations; } *seen;
@@ -70,6 +71,8 @@ static int opened(int folder, const char *path, int flags, mode_t mode) {
     char file = length > 5 && !strcmp(path + length - 5, ".torn") ? 't'
         : length > 9 && !strcmp(path + length - 9, ".file.new") ? 'f'
         : length > 8 && !strcmp(path + length - 8, ".journal") ? 'j' : 0;
+    if (strstr(path, ".journal.kept")) file = 'k';
+    if (strstr(path, ".part")) file = 'p';
     if (file && (flags & O_CREAT)) {
         if (fails('o', EACCES)) return -1;
         note('o', file, (flags & O_TRUNC) != 0, 0, 0);
@@ -103,7 +106,7 @@ static ssize_t taken(char file, int64_t at, const void *from, size_t size) {
 
 ssize_t write(int to, const void *from, size_t size) {
     char file = file_of(to);
-    if (file == 'j' || file == 't' || file == 'f' || file == 'a') {
+    if (file && file != 'd') {
         ssize_t some = taken(file, file == 'a' ? 0 : syscall(SYS_lseek, to, 0, SEEK_CUR), from, size);
         if (some < 0) return -1;
         size = some;
