@@ -1,5 +1,8 @@
 """The large files that cases name, made on the fly: each is a function that gives its bytes. What the program has to
 answer to them was worked by hand, as at each function."""
+import hashlib, pathlib
+
+DATA = pathlib.Path(__file__).resolve().parent.parent / 'crates/pb_app/cases/data'
 
 
 def three_voters(more_of_meta=(), more_fields=0, tail=''):
@@ -82,19 +85,54 @@ def many_projects(is_exported=False, keeps_voters=False):
     has to be, by the method alone.
 
     Of the budget each of the 300 voters has 1.00. That pays for the projects at even places, which cost 1, and for none at odd
-    places, which cost 2."""
-    rows = ['META', 'key;value', 'budget;300', 'vote_type;approval']
+    places, which cost 2, the last one 2.50. META has 150 further keys."""
+    costs = [1 + at % 2 for at in range(299)] + ['2.50']
+    further = [f'key{at};value {at}' for at in range(150)]
+    rows = ['META', 'key;value', *([] if is_exported else further), 'budget;300', 'vote_type;approval']
     if is_exported:
-        rows += ['num_projects;300', 'num_votes;300', 'rule;equalshares', 'comment;equal shares by price, no raises', 'PROJECTS',
-                 'project_id;cost;votes;name;selected;category;street']
-        rows += [f'p{at};{1 + at % 2};1;project {at};{1 - at % 2};c{at};s{at}' for at in range(300)]
+        rows += ['num_projects;300', 'num_votes;300', 'rule;equalshares', 'comment;equal shares by price, no raises', *further,
+                 'PROJECTS', 'project_id;cost;votes;name;selected;category;street']
+        rows += [f'p{at};{cost};1;project {at};{1 - at % 2};c{at};s{at}' for at, cost in enumerate(costs)]
     else:
         rows += ['PROJECTS', 'category;project_id;name;cost;street']
-        rows += [f'c{at};p{at};project {at};{1 + at % 2};s{at}' for at in range(300)]
+        rows += [f'c{at};p{at};project {at};{cost};s{at}' for at, cost in enumerate(costs)]
     has_age = keeps_voters or not is_exported
     rows += ['VOTES', 'voter_id;vote' + ';age' * has_age]
     rows += [f'v{at};p{at}' + f';{18 + at}' * has_age for at in range(300)]
     return ''.join(row + '\n' for row in rows).encode()
+
+
+def many_claims():
+    """The exported file, in which record 411 says that project 250 was not elected, and record 421 that project 260 has two votes:
+    158 records are META's, two the head of PROJECTS."""
+    return many_projects(True).replace(b'p250;1;1;project 250;1;', b'p250;1;1;project 250;0;').replace(
+        b'p260;1;1;', b'p260;1;2;')
+
+
+def heavy_city():
+    """The three voters' file with 6 MB of META above its ballots."""
+    return three_voters(['k;' + 100_000 * 'v'] * 60)
+
+
+def digested(file, journal, report):
+    """A report below the digests of a .pb file and its journal."""
+    named = ((b'file', file), (b'journal', journal))
+    digests = [b'digest;%s;sha256;%s\n' % (name, hashlib.sha256(text).hexdigest().encode()) for name, text in named]
+    return b''.join(digests) + report
+
+
+def report_of_heavy():
+    """An audit of all-known.journal on that file, with the digests. The ballots count as in cases/audit.txt."""
+    report = (b'entries;4;shut\nbudget;100.00\nvoters;3\nshare;38.33\nraises;5\nelected;a;30.00;15.00\n'
+              b'elected;b;60.00;36.67\nspent;90.00\nsurplus;0.00\n')
+    return digested(heavy_city(), (DATA / 'all-known.journal').read_bytes(), report)
+
+
+def report_of_long():
+    """An audit of the long journal, with the digests."""
+    report = (b'entries;100001;shut\nbudget;100000.00\nvoters;100000\nshare;2.00\nraises;1\nelected;a;30000.00;0.30\n'
+              b'elected;b;60000.00;1.20\nspent;90000.00\nsurplus;0.00\n')
+    return digested(long_city(), long_journal(), report)
 
 
 def long_city():
@@ -162,7 +200,11 @@ MADE = {
     'many.pb': many_projects,
     'many.exported': lambda: many_projects(True),
     'many-voters.exported': lambda: many_projects(True, True),
+    'many-claims.pb': many_claims,
+    'heavy.pb': heavy_city,
+    'heavy.rows': report_of_heavy,
     'long.pb': long_city,
+    'long.rows': report_of_long,
     'long.journal': long_journal,
     'long.ballots': long_ballots,
     **{f'report-{size}.pb': lambda size=size: long_report(size) for size in SIZES},
