@@ -69,12 +69,12 @@ def dearest():
     return ''.join(row + '\n' for row in rows).encode()
 
 
-def far_oddities(record=60_000):
-    """A file with records up to 10 behind this one, which is a vote with a field more than its columns; 5 behind it a vote
-    names no project. All else is in order."""
-    rows = ['META', 'key;value', 'budget;100', 'vote_type;approval', 'PROJECTS', 'project_id;cost', 'a;30', 'b;60',
-            'VOTES', 'voter_id;vote']
-    rows += [f'{at};a,b' for at in range(11, record + 11)]
+def far_oddities(record=60_000, records=70_000):
+    """A file with so many records, of which this one is a vote with a field more than its columns; 5 behind it a vote names no
+    project. All else is in order, also how many projects and votes META says that there are."""
+    rows = ['META', 'key;value', 'budget;100', 'vote_type;approval', 'num_projects;2', f'num_votes;{records - 12}',
+            'PROJECTS', 'project_id;cost', 'a;30', 'b;60', 'VOTES', 'voter_id;vote']
+    rows += [f'{at};a,b' for at in range(13, records + 1)]
     rows[record - 1] += ';a'
     rows[record + 4] = f'{record + 5};'
     return ''.join(row + '\n' for row in rows).encode()

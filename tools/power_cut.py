@@ -21,7 +21,7 @@ SHIM = r'''
 
 /* What is written down of a call: o opened and perhaps made, w written, c cut, s synced, r renamed, a answered; the file, j the
    journal, t what is kept beside, f what says which file it belongs to, k the text of a moved journal, p a result that has not
-   got its name yet, d a folder; where it was written, or how long the file became; and how many bytes follow. */
+   got its name yet, d a folder; where it was written, how long the file became, or which file was synced, by its inode; and how many bytes follow. */
 struct event { char what, file; char pad[6]; int64_t at, size; };
 
 static struct { long calls, refused, allocations; } *seen;
@@ -136,7 +136,8 @@ int ftruncate64(int fd, off_t size) { return ftruncate(fd, size); }
 static int synced(int fd) {
     if (!file_of(fd)) return 0;
     if (file_of(fd) != 'd' && fails('s', EIO)) return -1;
-    note('s', file_of(fd), 0, 0, 0);
+    struct stat stat;
+    note('s', file_of(fd), fstat(fd, &stat) ? 0 : stat.st_ino, 0, 0);
     return 0;
 }
 
