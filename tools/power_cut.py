@@ -20,8 +20,7 @@ SHIM = r'''
 #include <unistd.h>
 
 /* What is written down of a call: o opened and perhaps made, w written, c cut, s synced, r renamed, a answered; the file, j the
-   journal, t what is kept beside, f what says which file it belongs to, k the text of a moved journal, p a result that has not
-   got its name yet, d a folder; where it was written, how long the file became, or which file was synced, by its inode; and how many bytes follow. */
+   journal, t what is kept beside, f what says which file it belongs to, d a folder; where it was written, or how long the file became; and how many bytes follow. */
 struct event { char what, file; char pad[6]; int64_t at, size; };
 
 static struct { long calls, refused, allocations; } *seen;
@@ -71,11 +70,14 @@ static int opened(int folder, const char *path, int flags, mode_t mode) {
     char file = length > 5 && !strcmp(path + length - 5, ".torn") ? 't'
         : length > 9 && !strcmp(path + length - 9, ".file.new") ? 'f'
         : length > 8 && !strcmp(path + length - 8, ".journal") ? 'j' : 0;
-    if (strstr(path, ".journal.kept")) file = 'k';
-    if (strstr(path, ".part")) file = 'p';
     if (file && (flags & O_CREAT)) {
         if (fails('o', EACCES)) return -1;
         note('o', file, (flags & O_TRUNC) != 0, 0, 0);
+    }
+    if (!file && (flags & O_CREAT)) {
+        /* p is a result that has not got its name yet, k the text of a moved journal. */
+        file = strstr(path, ".journal.kept") ? 'k' : strstr(path, ".part") ? 'p' : 0;
+        if (file) note('o', file, 0, 0, 0);
     }
     int fd = syscall(SYS_openat, folder, path, flags, mode);
     struct stat stat;
@@ -133,6 +135,7 @@ int ftruncate(int fd, off_t size) {
 
 int ftruncate64(int fd, off_t size) { return ftruncate(fd, size); }
 
+/* Of a sync the number of the file is written down. */
 static int synced(int fd) {
     if (!file_of(fd)) return 0;
     if (file_of(fd) != 'd' && fails('s', EIO)) return -1;
