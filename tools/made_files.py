@@ -71,9 +71,9 @@ def dearest():
 
 def far_oddities(record=60_000, records=70_000):
     """A file with so many records, of which this one is a vote with a field more than its columns; 5 behind it a vote names no
-    project. All else is in order, also how many projects and votes META says that there are."""
+    project. All else is in order, also how many projects and votes META says that there are, and how many votes each project has."""
     rows = ['META', 'key;value', 'budget;100', 'vote_type;approval', 'num_projects;2', f'num_votes;{records - 12}',
-            'PROJECTS', 'project_id;cost', 'a;30', 'b;60', 'VOTES', 'voter_id;vote']
+            'PROJECTS', 'project_id;cost;votes', f'a;30;{records - 13}', f'b;60;{records - 13}', 'VOTES', 'voter_id;vote']
     rows += [f'{at};a,b' for at in range(13, records + 1)]
     rows[record - 1] += ';a'
     rows[record + 4] = f'{record + 5};'
