@@ -1,5 +1,8 @@
 """The large files that cases name, made on the fly: each is a function that gives its bytes. What the program has to
 answer to them was worked by hand, as at each function."""
+import hashlib, pathlib
+
+DATA = pathlib.Path(__file__).resolve().parent.parent / 'crates/pb_app/cases/data'
 
 
 def three_voters(more_of_meta=(), more_fields=0, tail=''):
@@ -66,6 +69,117 @@ def dearest():
     return ''.join(row + '\n' for row in rows).encode()
 
 
+def far_oddities(record=60_000, records=70_000):
+    """A file with so many records, of which this one is a vote with a field more than its columns; 5 behind it a vote names no
+    project. All else is in order, also how many projects and votes META says that there are, and how many votes each project has."""
+    rows = ['META', 'key;value', 'budget;100', 'vote_type;approval', 'num_projects;2', f'num_votes;{records - 12}',
+            'PROJECTS', 'project_id;cost;votes', f'a;30;{records - 13}', f'b;60;{records - 13}', 'VOTES', 'voter_id;vote']
+    rows += [f'{at};a,b' for at in range(13, records + 1)]
+    rows[record - 1] += ';a'
+    rows[record + 4] = f'{record + 5};'
+    return ''.join(row + '\n' for row in rows).encode()
+
+
+def many_projects(is_exported=False, keeps_voters=False):
+    """A file with 300 projects, each with a category, a street and a supporter of its own, who has an age; or what an export of it
+    has to be, by the method alone.
+
+    Of the budget each of the 300 voters has 1.00. That pays for the projects at even places, which cost 1, and for none at odd
+    places, which cost 2, the last one 2.50. META has 150 further keys."""
+    costs = [1 + at % 2 for at in range(299)] + ['2.50']
+    further = [f'key{at};value {at}' for at in range(150)]
+    rows = ['META', 'key;value', *([] if is_exported else further), 'budget;300', 'vote_type;approval']
+    if is_exported:
+        rows += ['num_projects;300', 'num_votes;300', 'rule;equalshares', 'comment;equal shares by price, no raises', *further,
+                 'PROJECTS', 'project_id;cost;votes;name;selected;category;street']
+        rows += [f'p{at};{cost};1;project {at};{1 - at % 2};c{at};s{at}' for at, cost in enumerate(costs)]
+    else:
+        rows += ['PROJECTS', 'category;project_id;name;cost;street']
+        rows += [f'c{at};p{at};project {at};{cost};s{at}' for at, cost in enumerate(costs)]
+    has_age = keeps_voters or not is_exported
+    rows += ['VOTES', 'voter_id;vote' + ';age' * has_age]
+    rows += [f'v{at};p{at}' + f';{18 + at}' * has_age for at in range(300)]
+    return ''.join(row + '\n' for row in rows).encode()
+
+
+def many_claims():
+    """The exported file, in which record 411 says that project 250 was not elected, and record 421 that project 260 has two votes:
+    158 records are META's, two the head of PROJECTS."""
+    return many_projects(True).replace(b'p250;1;1;project 250;1;', b'p250;1;1;project 250;0;').replace(
+        b'p260;1;1;', b'p260;1;2;')
+
+
+def heavy_city():
+    """The three voters' file with 6 MB of META above its ballots."""
+    return three_voters(['k;' + 100_000 * 'v'] * 60)
+
+
+def digested(file, journal, report):
+    """A report below the digests of a .pb file and its journal."""
+    named = ((b'file', file), (b'journal', journal))
+    digests = [b'digest;%s;sha256;%s\n' % (name, hashlib.sha256(text).hexdigest().encode()) for name, text in named]
+    return b''.join(digests) + report
+
+
+def report_of_heavy():
+    """An audit of all-known.journal on that file, with the digests. The ballots count as in cases/audit.txt."""
+    report = (b'entries;4;shut\nbudget;100.00\nvoters;3\nshare;38.33\nraises;5\nelected;a;30.00;15.00\n'
+              b'elected;b;60.00;36.67\nspent;90.00\nsurplus;0.00\n')
+    return digested(heavy_city(), (DATA / 'all-known.journal').read_bytes(), report)
+
+
+def report_of_long():
+    """An audit of the long journal, with the digests."""
+    report = (b'entries;100001;shut\nbudget;100000.00\nvoters;100000\nshare;2.00\nraises;1\nelected;a;30000.00;0.30\n'
+              b'elected;b;60000.00;1.20\nspent;90000.00\nsurplus;0.00\n')
+    return digested(long_city(), long_journal(), report)
+
+
+def long_city():
+    """A file without a vote, for the long journal."""
+    return three_voters().replace(b'budget;100', b'budget;100000').replace(b'a;30', b'a;30000').replace(
+        b'b;60', b'b;60000').partition(b'v1;')[0]
+
+
+def long_journal():
+    """A journal of 6 MB, of a desk that is shut: 100,000 voters cast for a, every other one, from the first, for b too.
+
+    Of the budget each has 1.00. a takes 0.30 of it; the 50,000 who want b have 0.70 left, of the 1.20 that it needs of each.
+    With a share of 2.00 they pay it too. Then all projects are elected."""
+    rows = [f'{at};0;cast;{long_id(at)};{"0,1" if at % 2 else "0"};done\n' for at in range(1, 100_001)]
+    return ('journal;2\n' + ''.join(rows) + '100001;0;shut;;;done\n').encode()
+
+
+def long_id(at):
+    return f'voter {at:06} of Mill Lane, Lipowo, 1st door'
+
+
+def long_ballots():
+    """The ballots that this journal leaves."""
+    rows = [f'{long_id(at)};{at};{"a,b" if at % 2 else "a"}\n' for at in range(1, 100_001)]
+    return ('voter_id;entry;project_ids\n' + ''.join(rows)).encode()
+
+
+def long_report(size):
+    """A file whose report has so many bytes: its one project has a long id, and wins."""
+    file = b'META\nkey;value\nbudget;10\nvote_type;approval\nPROJECTS\nproject_id;cost\n%s;10\nVOTES\nvoter_id;vote\nv1;%s\n'
+    name = b'p' * (size - len(report_of(b'')))
+    return file % (name, name)
+
+
+def report_of(name):
+    """Its report: the voter has 10.00, and pays it."""
+    return (b'budget;10.00\nvoters;1\nshare;10.00\nraises;0\nelected;%s;10.00;10.00\nspent;10.00\nsurplus;0.00\n' % name)
+
+
+def text_of_report(size):
+    """The report of so many bytes."""
+    return report_of(b'p' * (size - len(report_of(b''))))
+
+
+# Texts as long as a page of memory, as 16 of them and as 256, and a byte less and more.
+SIZES = [pages * 4_096 + more for pages in (1, 16, 256) for more in (-1, 0, 1)]
+
 MADE = {
     'large.pb': lambda: city(100_000),
     'largest.pb': lambda: city(1_000_000),
@@ -82,7 +196,20 @@ MADE = {
     'faulty.rows': listed_faults,
     'two-clerks.script': lambda: two_clerks(True),
     'two-clerks.rows': lambda: two_clerks(False),
+    'far.pb': far_oddities,
+    'many.pb': many_projects,
+    'many.exported': lambda: many_projects(True),
+    'many-voters.exported': lambda: many_projects(True, True),
+    'many-claims.pb': many_claims,
+    'heavy.pb': heavy_city,
+    'heavy.rows': report_of_heavy,
+    'long.pb': long_city,
+    'long.rows': report_of_long,
+    'long.journal': long_journal,
+    'long.ballots': long_ballots,
+    **{f'report-{size}.pb': lambda size=size: long_report(size) for size in SIZES},
+    **{f'report-{size}.rows': lambda size=size: text_of_report(size) for size in SIZES},
 }
 
 # Those that `rt try` would be slow on: it copies each file for each case, and runs with checks.
-LARGE = {'large.pb', 'largest.pb', 'records.pb', 'records-and-one.pb', 'full.roll', 'full-and-one.roll'}
+LARGE = {'large.pb', 'largest.pb', 'records.pb', 'records-and-one.pb', 'full.roll', 'full-and-one.roll', 'far.pb', 'long.journal'}

@@ -74,6 +74,11 @@ static int opened(int folder, const char *path, int flags, mode_t mode) {
         if (fails('o', EACCES)) return -1;
         note('o', file, (flags & O_TRUNC) != 0, 0, 0);
     }
+    if (!file && (flags & O_CREAT)) {
+        /* p is a result that has not got its name yet, k the text of a moved journal. */
+        file = strstr(path, ".journal.kept") ? 'k' : strstr(path, ".part") ? 'p' : 0;
+        if (file) note('o', file, 0, 0, 0);
+    }
     int fd = syscall(SYS_openat, folder, path, flags, mode);
     struct stat stat;
     if (fd >= 0 && !file && !fstat(fd, &stat) && S_ISDIR(stat.st_mode)) file = 'd';
@@ -103,7 +108,7 @@ static ssize_t taken(char file, int64_t at, const void *from, size_t size) {
 
 ssize_t write(int to, const void *from, size_t size) {
     char file = file_of(to);
-    if (file == 'j' || file == 't' || file == 'f' || file == 'a') {
+    if (file && file != 'd') {
         ssize_t some = taken(file, file == 'a' ? 0 : syscall(SYS_lseek, to, 0, SEEK_CUR), from, size);
         if (some < 0) return -1;
         size = some;
@@ -130,10 +135,12 @@ int ftruncate(int fd, off_t size) {
 
 int ftruncate64(int fd, off_t size) { return ftruncate(fd, size); }
 
+/* Of a sync the number of the file is written down. */
 static int synced(int fd) {
     if (!file_of(fd)) return 0;
     if (file_of(fd) != 'd' && fails('s', EIO)) return -1;
-    note('s', file_of(fd), 0, 0, 0);
+    struct stat stat;
+    note('s', file_of(fd), fstat(fd, &stat) ? 0 : stat.st_ino, 0, 0);
     return 0;
 }
 
