@@ -1,19 +1,30 @@
 #!/usr/bin/env python3
 """Writes an election and its journal with ids drawn at random, the same for a voter in both.
 
-usage: replace_ids.py FILE JOURNAL NEW_FILE NEW_JOURNAL
+usage: replace_ids.py FILE JOURNAL NEW_FILE NEW_JOURNAL [--keep NAME]..
 
-The new files are made for this account alone. It replaces no file, and writes none where it refuses: the status is then 1,
+The new files are made for this account alone. It replaces no file, and leaves none where it refuses: the status is then 1,
 and one line on standard error says why. Where there is no journal, /dev/null stands for it.
-"""
-import argparse, csv, io, os, secrets, sys
 
-SECTIONS = ('META', 'PROJECTS', 'VOTES')
+Columns of VOTES that are headed voter_id, or have the voter's own id in each row, get the new ids. It refuses a file that has
+an id of a voter anywhere else: as the value of a key, or in another column. Delete what says who somebody is. Where a text
+only happens to be some voter's id, as an age can be, name its key or column with --keep.
+"""
+import argparse, csv, errno, os, re, secrets, sys
+
+SECTIONS = ('meta', 'projects', 'votes')
+WHITE_SPACE = ''.join(map(chr, [*range(0x9, 0xE), 0x20, 0x85, 0xA0, 0x1680, *range(0x2000, 0x200B), 0x2028, 0x2029,
+                                0x202F, 0x205F, 0x3000]))
+SMALL_LETTERS = {letter: letter + 32 for letter in range(ord('A'), ord('Z') + 1)}
+AMOUNTS, AMOUNT = {('meta', 'budget'), ('projects', 'cost')}, re.compile('[0-9]+(?:[.,][0-9]+)?')
+# The fields of a journal's row but the voter: the number, the clerk, the request, the places and the answer.
+ENTRY = re.compile('[0-9]+;[0-9]+;(?:cast|replace|withdraw|shut);[0-9,]*;[a-z-]+(?: [0-9]+)?')
+NO_COLUMN = 'a field without a column'
 csv.field_size_limit(1 << 30)
 
 
 class Refused(Exception):
-    """Nothing was written; the text says why."""
+    """No new file was left; the text says why."""
 
 
 class Ids(dict):
@@ -32,87 +43,220 @@ class Ids(dict):
         return token
 
 
+def trimmed(text):
+    """The text without the white space at its ends that the program leaves out."""
+    return text.strip(WHITE_SPACE)
+
+
+def small(text):
+    """The trimmed text with the 26 ASCII letters small, and no other character changed."""
+    return trimmed(text).translate(SMALL_LETTERS)
+
+
 def rows_of(path):
-    """The rows of a file, blank ones left out."""
+    """The records of a file."""
     try:
         with open(path, encoding='utf-8-sig', newline='') as file:
-            return [row for row in csv.reader(file, delimiter=';') if any(field.strip() for field in row)]
+            return [row for row in csv.reader(file, delimiter=';') if row]
     except (OSError, UnicodeDecodeError, csv.Error) as why:
         raise Refused(f'{path}: {why}') from None
 
 
-def column_of(row, path):
-    """The column of the voters' ids, by the header of VOTES."""
-    names = [name.strip().lower() for name in row]
-    if 'voter_id' not in names:
-        raise Refused(f'{path}: the header of VOTES has no column voter_id')
-    return names.index('voter_id')
+def columns_of(header):
+    """The name of each column of a header, and whether it is the first of this name, which is the one that counts."""
+    names, firsts = [small(name) for name in header], {}
+    for at, name in enumerate(names):
+        firsts.setdefault(name, at)
+    return [(name, firsts[name] == at) for at, name in enumerate(names)]
+
+
+def place_of(columns, name):
+    """Where the column of this name stands; None where there is none."""
+    return columns.index((name, True)) if (name, True) in columns else None
+
+
+def placed(rows, path):
+    """Each row that is no head and no header: its number, its section, its columns, and itself."""
+    due, section, columns = list(SECTIONS), None, None
+    for number, row in enumerate(rows, 1):
+        if not any(map(trimmed, row)):
+            continue
+        if small(row[0]) in SECTIONS:
+            section, columns = small(row[0]), None
+            if due[:1] != [section]:
+                raise Refused(f'{path}: record {number} is the head of a section that is out of order')
+            del due[0], row[1:]
+        elif section is None:
+            raise Refused(f'{path}: record {number} is not in a section')
+        elif columns is None:
+            columns = columns_of(row)
+            if section == 'votes' and place_of(columns, 'voter_id') is None:
+                raise Refused(f'{path}: the header of VOTES has no column voter_id')
+        else:
+            yield number, section, columns, row
+    if due or columns is None:
+        raise Refused(f'{path}: it does not end with a VOTES section')
 
 
 def replace_in_election(rows, ids, path):
-    """Replaces the ids of the VOTES section."""
-    section, column = None, None
-    for number, row in enumerate(rows, 1):
-        head = row[0].strip().upper()
-        if head in SECTIONS:
-            section, column = head, None
-        elif section == 'VOTES' and column is None:
-            column = column_of(row, path)
-        elif section == 'VOTES' and column >= len(row):
+    """Replaces the ids of the VOTES section, in each column that has them."""
+    voters, always, alike = [], [], None
+    for number, section, columns, row in placed(rows, path):
+        if section != 'votes':
+            continue
+        place = place_of(columns, 'voter_id')
+        voter = trimmed(row[place]) if place < len(row) else ''
+        if not voter:
             raise Refused(f'{path}: record {number} has no voter_id')
-        elif section == 'VOTES':
-            row[column] = ids[row[column].strip()]
-    if section != 'VOTES' or column is None:
-        raise Refused(f'{path}: it does not end with a VOTES section')
+        if alike is None:
+            always = [at for at, (name, _) in enumerate(columns) if name == 'voter_id']
+            alike = [at for at, (name, _) in enumerate(columns) if name not in ('voter_id', 'vote')]
+        alike = [at for at in alike if at >= len(row) or trimmed(row[at]) in ('', voter)]
+        voters.append(row)
+    for row in voters:
+        for at in always + alike:
+            if at < len(row) and trimmed(row[at]):
+                row[at] = ids[trimmed(row[at])]
 
 
 def replace_in_journal(rows, ids, path):
     """Replaces the ids of the entries; the version's row is one of two fields."""
     for number, row in enumerate(rows, 1):
-        if len(row) != 6 and not (number == 1 and row[0] == 'journal'):
+        if number == 1 and row == ['journal', '2']:
+            continue
+        is_entry = len(row) == 6 and ENTRY.fullmatch(';'.join(row[:3] + row[4:])) and row[3] == trimmed(row[3])
+        if not is_entry:
             raise Refused(f'{path}: record {number} is no row of a journal')
-        if len(row) == 6 and row[3]:
+        if row[3]:
             row[3] = ids[row[3]]
 
 
-def write(path, rows):
-    text = io.StringIO(newline='')
-    csv.writer(text, delimiter=';', lineterminator='\n').writerows(rows)
+def texts_of(section, columns, row):
+    """The texts of a row that can be ids, each with the name of its key or column. Amounts that the count needs can't."""
+    if section == 'meta':
+        columns = [(None, True), (small(row[0]), True)]
+    for at, field in enumerate(row):
+        name, counts = columns[at] if at < len(columns) else (NO_COLUMN, False)
+        if (section, name) == ('votes', 'vote') and counts:
+            yield from ((name, trimmed(piece)) for piece in field.split(','))
+        elif name is not None and not ((section, name) in AMOUNTS and counts and AMOUNT.fullmatch(trimmed(field))):
+            yield name, trimmed(field)
+
+
+def refuse_ids(rows, ids, path, kept):
+    """Refuses a file in which an old id still stands. A vote names projects: what is the id of one is judged there."""
+    found, projects = {}, set()
+    for number, section, columns, row in placed(rows, path):
+        if section == 'projects' and (place := place_of(columns, 'project_id')) is not None:
+            projects.update(map(trimmed, row[place:place + 1]))
+        for name, text in texts_of(section, columns, row):
+            if text in ids and name not in kept and not (name == 'vote' and text in projects):
+                found.setdefault(name, number)
+    if found:
+        listed = ', '.join(f'{name} (record {number})' for name, number in found.items())
+        raise Refused(f'{path}: ids of voters also stand in: {listed}. Delete each that says who somebody is, and name each '
+                      'other one with --keep, such as --keep age')
+
+
+def text_of(rows):
+    """The rows as they are written: a field with a mark or a line end is in quotes."""
+    def written(field):
+        return '"' + field.replace('"', '""') + '"' if re.search('[;"\r\n]', field) else field
+    return ''.join(';'.join(map(written, row)) + '\n' for row in rows).encode()
+
+
+def write_beside(path, text):
+    """Writes a new file beside this path, and answers its name, once it is on the disk."""
+    beside = f'{path}.{secrets.token_hex(4)}.new'
+    descriptor = os.open(beside, os.O_WRONLY | os.O_CREAT | os.O_EXCL, 0o600)
     try:
-        descriptor = os.open(path, os.O_WRONLY | os.O_CREAT | os.O_EXCL, 0o600)
-        with open(descriptor, 'w', encoding='utf-8', newline='') as file:
-            file.write(text.getvalue())
-    except OSError as why:
-        raise Refused(f'{path}: {why.strerror}') from None
+        with open(descriptor, 'wb') as file:
+            file.write(text)
+            file.flush()
+            os.fsync(file.fileno())
+    except BaseException:
+        os.unlink(beside)
+        raise
+    return beside
 
 
-def replace(file, journal, new_file, new_journal):
-    ids, election, entries = Ids(), rows_of(file), rows_of(journal)
-    replace_in_election(election, ids, file)
-    replace_in_journal(entries, ids, journal)
-    for path in (new_file, new_journal):
-        if os.path.lexists(path) or new_file == new_journal:
-            raise Refused(f'{path}: it is there already')
-    write(new_file, election)
-    write(new_journal, entries)
+def sync_folder(path):
+    """Puts the names of the folder of this path on the disk."""
+    descriptor = os.open(os.path.dirname(path) or '.', os.O_RDONLY)
+    try:
+        os.fsync(descriptor)
+    finally:
+        os.close(descriptor)
+
+
+def give_name(beside, path):
+    """Gives a file that was written beside this path its name, which no file may have."""
+    try:
+        os.link(beside, path)
+    except FileExistsError:
+        raise
+    except OSError:
+        # Some file systems have no links.
+        if os.path.lexists(path):
+            raise FileExistsError(errno.EEXIST, os.strerror(errno.EEXIST)) from None
+        os.rename(beside, path)
+
+
+def write_all(texts):
+    """Makes these new files, all or none of them: each gets its name when all are whole and on the disk."""
+    beside, made, path = {}, [], None
+    try:
+        for path, text in texts:
+            if os.path.lexists(path) or path in beside:
+                raise FileExistsError(errno.EEXIST, os.strerror(errno.EEXIST))
+            beside[path] = write_beside(path, text)
+        for path, name in beside.items():
+            give_name(name, path)
+            made.append(path)
+            sync_folder(path)
+    except BaseException as why:
+        delete(made)
+        if isinstance(why, OSError):
+            raise Refused(f'{path}: {why.strerror}') from None
+        raise
+    finally:
+        delete(beside.values())
+
+
+def delete(paths):
+    for path in paths:
+        if os.path.lexists(path):
+            os.unlink(path)
+
+
+def replace(given):
+    ids, election, entries = Ids(), rows_of(given.file), rows_of(given.journal)
+    replace_in_election(election, ids, given.file)
+    replace_in_journal(entries, ids, given.journal)
+    refuse_ids(election, ids, given.file, set(map(small, given.keep)))
+    write_all([(given.new_file, text_of(election)), (given.new_journal, text_of(entries))])
 
 
 def given_arguments():
-    parser = argparse.ArgumentParser(prog='replace_ids.py', description=__doc__.split('\n\n')[0], epilog=__doc__.split('\n\n')[2])
+    parts = __doc__.split('\n\n')
+    parser = argparse.ArgumentParser(prog='replace_ids.py', description=parts[0], epilog=' '.join(parts[2:]))
     parser.error = lambda said: parser.exit(2, f'replace_ids.py: {said}; `replace_ids.py --help` says what it takes\n')
     parser.add_argument('file', metavar='FILE', help="the election's .pb file")
     parser.add_argument('journal', metavar='JOURNAL', help="the desk's journal; /dev/null, where there is none")
     parser.add_argument('new_file', metavar='NEW_FILE', help='the file that is made, with new ids')
     parser.add_argument('new_journal', metavar='NEW_JOURNAL', help='the journal that is made, with the same new ids')
+    parser.add_argument('--keep', metavar='NAME', action='append', default=[],
+                        help="a key or a column whose texts are kept, also those that happen to be some voter's id")
     return parser.parse_args()
 
 
 def main():
     given = given_arguments()
     try:
-        replace(given.file, given.journal, given.new_file, given.new_journal)
+        replace(given)
     except Refused as why:
-        print(f'replace_ids: {why}', file=sys.stderr)
+        said = ''.join(it if it.isprintable() else f'\\u{{{ord(it):x}}}' for it in str(why))
+        print(f'replace_ids: {said}', file=sys.stderr)
         return 1
     return 0
 

@@ -1,6 +1,7 @@
 //! Arguments that are refused although each has its form.
 
 use crate::address::{is_address, lacks_scheme};
+use crate::currency::is_currency;
 use crate::task::{OneChange, PageRun, Source, Task, WhatIfRun};
 use pb_core::money::Money;
 
@@ -17,6 +18,8 @@ pub(crate) enum Flaw<'a> {
     Address(&'a str),
     /// A link would lead to a file with this name, which seems to be meant as the address of a site.
     NoScheme(&'a str),
+    /// This text would be read as a part of an amount.
+    Currency(&'a str),
     /// No project can have the one cost that is tried.
     Cost,
 }
@@ -34,6 +37,9 @@ impl<'a> Flaw<'a> {
             return Some(Flaw::Piped(name));
         }
         if let Some(flaw) = bad_address(task) {
+            return Some(flaw);
+        }
+        if let Some(flaw) = bad_currency(task) {
             return Some(flaw);
         }
         if has_no_cost(task) {
@@ -59,6 +65,9 @@ impl<'a> Flaw<'a> {
             ),
             Flaw::NoScheme(address) => eprintln!(rt;
                 "error: --recount {address:?} lacks https:// at its beginning. Give --recount https://{address}, or --recount ./{address} if it is a file in a folder beside the page."
+            ),
+            Flaw::Currency(currency) => eprintln!(rt;
+                "error: --currency {currency:?} has a digit, which would be read as a part of the amount. Give letters or a sign, such as EUR or €."
             ),
             Flaw::Cost => eprintln!(rt;
                 "error: --cost must be an amount from 0.01 to 10000000000000. Write it with digits only, like 53.66: no currency, nothing between thousands, at most two decimals."
@@ -98,6 +107,19 @@ fn bad_address<'a>(task: &Task<'a>) -> Option<Flaw<'a>> {
                 None
             }
         }
+        _ => None,
+    }
+}
+
+/// What is wrong with the currency that a page would show, if something is.
+fn bad_currency<'a>(task: &Task<'a>) -> Option<Flaw<'a>> {
+    match task {
+        Task::Page(
+            PageRun {
+                currency: Some(currency),
+                ..
+            },
+        ) if !is_currency(currency) => Some(Flaw::Currency(*currency)),
         _ => None,
     }
 }

@@ -7,6 +7,7 @@ mod arguments;
 mod asked;
 mod command_line;
 mod commands;
+pub mod currency;
 mod elsewhere;
 mod flaw;
 mod helps;

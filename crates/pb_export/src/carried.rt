@@ -19,6 +19,9 @@ const OWN_OF_PROJECTS: [&str; 5] = ["project_id", "cost", "votes", "name", "sele
 /// The columns of VOTES that an exported file has of its own.
 const OWN_OF_VOTES: [&str; 2] = ["voter_id", "vote"];
 
+/// The place of a key that is not kept.
+const NO_PLACE: u32 = u32::MAX;
+
 /// Names that came so far, in small letters of ASCII.
 #[derive(Drop)]
 struct Names {
@@ -44,6 +47,19 @@ impl Names {
         self.came.get(name).is_some()
     }
 
+    /// The number that a name came with, if it came; otherwise it comes now, with this one.
+    fn number_of(&mut self, name: &str, number: u32) -> Result<Option<u32>, NoMemory> {
+        let small = name.to_ascii_lowercase(self.alloc)?;
+        let before = self.came.get(small.as_str());
+        let taken = match before {
+            Some(_) => Ok(None),
+            None => self.came.insert(self.alloc, small.as_str(), number),
+        };
+        drop(small);
+        let _ = taken?;
+        Ok(before)
+    }
+
     /// Takes a name, and answers whether it had not come before.
     fn take(&mut self, name: &str) -> Result<bool, NoMemory> {
         let small = name.to_ascii_lowercase(self.alloc)?;
@@ -66,7 +82,8 @@ pub trait Carry {
 }
 
 /// Looks on while a .pb file is read, and keeps what the count does not use: further keys of META, and
-/// further columns. Of a name that an export writes itself, or that came before, nothing is kept.
+/// further columns. Of a name that an export writes itself nothing is kept. Of a repeated key the last value
+/// is kept, where the key came first; of a repeated column the first.
 #[derive(Drop)]
 pub struct Carried {
     alloc: Global,
@@ -164,7 +181,7 @@ impl Carried {
         }
     }
 
-    /// Takes a row of META. Of a repeated comment the last one counts.
+    /// Takes a row of META. Of a repeated key the last value counts.
     fn keep_key(&mut self, record: &ByteRecord) -> Result<(), NoMemory> {
         let (name, value) = (text_at(record, 0), text_at(record, 1));
         if name.eq_ignore_ascii_case("comment") {
@@ -175,12 +192,22 @@ impl Carried {
         let Some(keys) = &mut self.keys else {
             return Err(NoMemory);
         };
-        if !keys.take(name)? || !may_follow(name) {
-            return Ok(());
-        }
-        let name = String::from_str(self.alloc, name)?;
+        let number = if may_follow(name) {
+            self.further.keys.next_place()
+        } else {
+            NO_PLACE
+        };
+        let before = keys.number_of(name, number)?;
         let value = String::from_str(self.alloc, value)?;
-        self.further.keys.push(Key { name, value })
+        match before {
+            Some(place) => self.further.keys.set(place, value),
+            None if number == NO_PLACE => drop(value),
+            None => {
+                let name = String::from_str(self.alloc, name)?;
+                self.further.keys.push(Key { name, value })?
+            }
+        }
+        Ok(())
     }
 
     /// Takes a row of VOTES.

@@ -5,6 +5,7 @@ ghost use Rattle.std.specs.Prelude.{◌≡◌, ◌≤◌, length};
 use pb_core::no_memory::NoMemory;
 use std::alloc::Global;
 use std::marker::Model;
+use std::mem;
 
 /// The most further keys of META that are kept.
 const MOST_KEYS: usize = 900_000;
@@ -58,6 +59,19 @@ impl Keys {
             drop(key);
         }
         Ok(())
+    }
+
+    /// The place that the next key gets, if it is kept.
+    pub(crate) fn next_place(&self) -> u32 {
+        u32::try_from(self.keys.len()).unwrap_or(u32::MAX)
+    }
+
+    /// Gives the key at this place another value, if one is kept there.
+    pub(crate) fn set(&mut self, place: u32, value: String) {
+        match self.keys.get_mut(place as usize) {
+            Some(key) => drop(mem::replace(&mut key.value, value)),
+            None => drop(value),
+        }
     }
 
     /// The keys.

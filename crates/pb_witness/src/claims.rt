@@ -4,6 +4,7 @@ use crate::fields::text_at;
 use crate::mark::Mark;
 use csv::ByteRecord;
 use pb_core::money::Money;
+use pb_core::money_fault::MoneyFault;
 use pb_read::MetaKey;
 
 /// A number that a row of META says.
@@ -11,7 +12,7 @@ use pb_read::MetaKey;
 pub struct Claim {
     /// Where its record begins.
     pub mark: Mark,
-    /// None where the value is no whole number.
+    /// None where the value is no whole number; the largest `u64` for one above every amount.
     pub number: Option<u64>,
 }
 
@@ -45,7 +46,10 @@ impl Claims {
         let claim = if value.is_empty() {
             None
         } else {
-            Some(Claim { mark, number })
+            Some(Claim {
+                mark,
+                number: claimed_number(value),
+            })
         };
         match MetaKey::of(key) {
             Some(MetaKey::Budget) => {
@@ -56,6 +60,7 @@ impl Claims {
             }
             Some(MetaKey::VoteType) => {}
             Some(MetaKey::MaxLength) => self.max_length = number,
+            None if key.eq_ignore_ascii_case("min_length") => self.min_length = number,
             None => self.take_beside(key, claim),
         }
     }
@@ -66,11 +71,6 @@ impl Claims {
             self.votes = claim;
         } else if key.eq_ignore_ascii_case("num_projects") {
             self.projects = claim;
-        } else if key.eq_ignore_ascii_case("min_length") {
-            self.min_length = match claim {
-                Some(claim) => claim.number,
-                None => None,
-            };
         }
     }
 }
@@ -82,6 +82,14 @@ pub fn broken(claim: Option<Claim>, count: u64) -> Option<Claim> {
         return None;
     }
     Some(claim)
+}
+
+/// The number of rows that a value names. One above every amount is the largest `u64`: no file has so many.
+fn claimed_number(value: &str) -> Option<u64> {
+    match Money::read(value) {
+        Err(MoneyFault::MoneyTooLarge) => Some(u64::MAX),
+        _ => whole_number(value),
+    }
 }
 
 /// The whole number that a value names, perhaps with zeros as decimals.

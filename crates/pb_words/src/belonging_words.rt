@@ -42,6 +42,6 @@ pub fn adopted_words(alloc: Global, journal: &str, beside: &str, digest: &str) -
 /// Words for the file beside a journal, which could not be read, for this reason.
 pub fn unread_file_words(alloc: Global, beside: &str, reason: &Error) -> Said {
     let remedy =
-        "This file says to which .pb file the journal belongs. Get permission to read it.\n";
+        "This file says to which .pb file the journal belongs. Get permission to read it, or get it from last evening's copy.\n";
     failed(alloc, beside, Some(reason), "", remedy)
 }

@@ -34,7 +34,7 @@ const OTHER_FILE: &str =
     If it is the journal, it is not as the desk wrote it.";
 
 const INCOMPLETE: &str =
-    "If the power failed, run `pb_app serve` first: it cuts off the incomplete end. \
+    "If the power failed or the disk was full, run `pb_app serve` first: it cuts off the incomplete end. \
     If not, the journal is not as the desk wrote it.";
 
 const NEWER: &str =

@@ -103,7 +103,7 @@ pub fn torn_words(alloc: Global, path: &str, bytes: &[u8]) -> Said {
     };
     said(
         alloc,
-        "The journal was read up to its first empty line or incomplete row. After that, {} {} cut off, and kept in {}.\nIf the power failed, this is normal: send again each request that got no answer. If not, somebody changed the journal: compare it with last evening's copy.\n{}",
+        "The journal was read up to its first empty line or incomplete row. After that, {} {} cut off, and kept in {}.\nIf the power failed, the disk was full or the program was ended, this is normal: send again each request that got no answer. If not, compare the journal with last evening's copy.\n{}",
         &[
             Number(bytes.len() as u64),
             Own(unit),

@@ -20,7 +20,8 @@ const LIKE_ROWS: &str =
     ": a field in quotation marks runs over several lines that look like rows.\nIf each line should be a row of its own, delete the quotation marks.\n";
 
 /// What is said of a number of rows that is not a number, and what to do.
-const NO_DIGITS: &str = "{} is not in digits; the number of these rows in the file is {}";
+const NO_DIGITS: &str =
+    "{} is not a whole number in digits; the number of these rows in the file is {}";
 
 const NUMBER: &str = "Write the number in digits.";
 
