@@ -38,14 +38,14 @@ row_grown rows row old mid new first put text =
     grown rows (row ∷ []) old mid new first (record { text = put ∙ ap (λ (t : List ℕ). mid ++ t) (simp (text_of_rows-cons, text_of_rows-nil, append-nil)); are_text = (text, tt) })
 
 -- the projects so far, and the next
-pub projects_more : (votes : List ℕ) (selected : List Bool) (further : List Fields) (place : ℕ) (projects : List ProjectView) (i j : ℕ) (p : ProjectView) → i < length projects → p ≡ get_or projects i p → place + i ≡ j
-    → projects_from votes selected further place (take (suc i) projects)
-    ≡ projects_from votes selected further place (take i projects) ++ project_row p (slice_index votes j) (slice_index_or selected j false) (slice_index_or further j []) ∷ []
-projects_more votes selected further place [] i j p below is at = absurd (omega (arith, below))
-projects_more votes selected further place (q ∷ projects) zero j p below is at =
+pub projects_more : (votes : List ℕ) (selected : List Bool) (more_of : ℕ → Fields) (place : ℕ) (projects : List ProjectView) (i j : ℕ) (p : ProjectView) → i < length projects → p ≡ get_or projects i p → place + i ≡ j
+    → projects_from votes selected more_of place (take (suc i) projects)
+    ≡ projects_from votes selected more_of place (take i projects) ++ project_row p (slice_index votes j) (slice_index_or selected j false) (more_of j) ∷ []
+projects_more votes selected more_of place [] i j p below is at = absurd (omega (arith, below))
+projects_more votes selected more_of place (q ∷ projects) zero j p below is at =
     let same : place ≡ j = omega (arith, at) in
-    ap (λ (r : ProjectView). project_row r (slice_index votes place) (slice_index_or selected place false) (slice_index_or further place []) ∷ []) (sym is)
-    ∙ ap (λ n. project_row p (slice_index votes n) (slice_index_or selected n false) (slice_index_or further n []) ∷ []) same
-projects_more votes selected further place (q ∷ projects) (suc i) j p below is at =
-    ap (λ (rows : List Fields). project_row q (slice_index votes place) (slice_index_or selected place false) (slice_index_or further place []) ∷ rows)
-    (projects_more votes selected further (place + 1) projects i j p (omega (arith, below)) is (omega (arith, at)))
+    ap (λ (r : ProjectView). project_row r (slice_index votes place) (slice_index_or selected place false) (more_of place) ∷ []) (sym is)
+    ∙ ap (λ n. project_row p (slice_index votes n) (slice_index_or selected n false) (more_of n) ∷ []) same
+projects_more votes selected more_of place (q ∷ projects) (suc i) j p below is at =
+    ap (λ (rows : List Fields). project_row q (slice_index votes place) (slice_index_or selected place false) (more_of place) ∷ rows)
+    (projects_more votes selected more_of (place + 1) projects i j p (omega (arith, below)) is (omega (arith, at)))

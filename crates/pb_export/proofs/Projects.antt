@@ -14,6 +14,7 @@ use Rattle.pb_read.specs.Rows.{head_of, is_blank, rows_of}
 use Rattle.pb_read.specs.StandsFor.{GivesAllButVoters, GivesProject, IsMeta, meta_for}
 use Rattle.pb_export.specs.FileRows.{amount_text, project_row, projects_rows}
 use Rattle.pb_export.specs.declared.further.Further.{Further}
+use Rattle.pb_export.specs.Inner.Behind.{of_project}
 use Rattle.pb_export.specs.Inner.Parts.{is_section_word, projects_from}
 use Rattle.pb_export.proofs.Headers.{both_fields, project_header}
 use Rattle.pb_export.proofs.Metas.{amount_back}
@@ -62,15 +63,15 @@ module _ (reads_back : (h : ℕ) → h ≤ largest_money → money_of (money_tex
   }
 
   gives_from : (place : ℕ) (projects : List ProjectView) → AllByRecursion IsWritable projects →
-      AllByRecursion (λ row. head_of row ≡ None) (rows_of (projects_from votes selected further.projects.items place projects)) × AllZip Gives (rows_of (projects_from votes selected further.projects.items place projects)) projects
+      AllByRecursion (λ row. head_of row ≡ None) (rows_of (projects_from votes selected (of_project further) place projects)) × AllZip Gives (rows_of (projects_from votes selected (of_project further) place projects)) projects
   gives_from place [] are = (tt, tt)
   gives_from place (p ∷ projects) are =
       let count = slice_index votes place in
       let elected = slice_index_or selected place false in
-      let more = slice_index_or further.projects.items place [] in
+      let more = of_project further place in
       let others : Fields = amount_text p.cost ∷ decimal count ∷ p.name ∷ cond elected (codes "1") (codes "0") ∷ more in
       let rest = gives_from (place + 1) projects are.1 in
-      rw (row_kept p.id others (projects_from votes selected further.projects.items (place + 1) projects) are.0.tidy_id are.0.has_id)
+      rw (row_kept p.id others (projects_from votes selected (of_project further) (place + 1) projects) are.0.tidy_id are.0.has_id)
       ((plain_row p.id others are.0.tidy_id are.0.no_head, rest.0), (gives_project p count elected more are.0, rest.1))
 
   -- after META
@@ -79,4 +80,4 @@ module _ (reads_back : (h : ℕ) → h ≤ largest_money → money_of (money_tex
   unfolding head_of trim_start trim_end chars encode
   gives_projects e front before are =
       let from = gives_from 0 e.projects are in
-      (_, rows_of (projects_from votes selected further.projects.items 0 e.projects), (front, _, refl, before, refl, (refl, from.0)), project_header further.project_names, from.1)
+      (_, rows_of (projects_from votes selected (of_project further) 0 e.projects), (front, _, refl, before, refl, (refl, from.0)), project_header further.project_names, from.1)

@@ -21,8 +21,8 @@ use Rattle.pb_read.specs.StandsFor.{GivesAll, StandsFor}
 use Rattle.pb_export.specs.Export.{has_comma, has_comma_in_vote, has_section_word}
 use Rattle.pb_export.specs.FileRows.{file_rows, key_rows, meta_rows, projects_rows, votes_rows}
 use Rattle.pb_export.specs.Further.{KeyView}
-use Rattle.pb_export.specs.OfVoter.{of_voter}
 use Rattle.pb_export.specs.declared.further.Further.{Further}
+use Rattle.pb_export.specs.Inner.Behind.{of_project, of_voter}
 use Rattle.pb_export.specs.Inner.Parts.{is_section_word, projects_from, vote_row}
 use Rattle.pb_export.proofs.OfFile.{IsOfFile}
 use Rattle.pb_export.proofs.FurtherKeys.{few_keys, key_rows_fields}
@@ -48,10 +48,10 @@ meta_fields e rule comment keys small = go e.max_length
     go None = ((omega arith, (omega arith, (omega arith, (omega arith, (omega arith, (omega arith, (omega arith, (omega arith, behind)))))))), omega (arith, few))
     go (Some most) = ((omega arith, (omega arith, (omega arith, (omega arith, (omega arith, (omega arith, (omega arith, (omega arith, (omega arith, behind))))))))), omega (arith, few))
 
-project_fields : (counts : List ℕ) (selected : List Bool) (further : List Fields) (place : ℕ) (ps : List ProjectView) → AllByRecursion HasField (projects_from counts selected further place ps) × (length (projects_from counts selected further place ps) ≡ length ps)
-project_fields counts selected further place [] = (tt, refl)
-project_fields counts selected further place (p ∷ ps) =
-    let rest = project_fields counts selected further (place + 1) ps in
+project_fields : (counts : List ℕ) (selected : List Bool) (more_of : ℕ → Fields) (place : ℕ) (ps : List ProjectView) → AllByRecursion HasField (projects_from counts selected more_of place ps) × (length (projects_from counts selected more_of place ps) ≡ length ps)
+project_fields counts selected more_of place [] = (tt, refl)
+project_fields counts selected more_of place (p ∷ ps) =
+    let rest = project_fields counts selected more_of (place + 1) ps in
     ((omega arith, rest.0), ap suc rest.1)
 
 vote_fields : (ids : List (List ℕ)) (more_of : List ℕ → Fields) (vs : List VoterView) → AllByRecursion HasField (map (vote_row ids more_of) vs)
@@ -72,11 +72,11 @@ record IsId (id : List ℕ) : Type 0 where
   tidy : trim id ≡ id
   text : IsUtf8 id
 
-ids_are : (counts : List ℕ) (selected : List Bool) (further : List Fields) (place : ℕ) (ps : List ProjectView) → AllByRecursion AllText (projects_from counts selected further place ps) → AllByRecursion projects.IsWritable ps → AllByRecursion IsId (map (λ (p : ProjectView). p.id) ps)
+ids_are : (counts : List ℕ) (selected : List Bool) (more_of : ℕ → Fields) (place : ℕ) (ps : List ProjectView) → AllByRecursion AllText (projects_from counts selected more_of place ps) → AllByRecursion projects.IsWritable ps → AllByRecursion IsId (map (λ (p : ProjectView). p.id) ps)
 unfolding AllText
-ids_are counts selected further place [] texts are = tt
-ids_are counts selected further place (p ∷ ps) texts are =
-    (record { some = are.0.has_id; tidy = are.0.tidy_id; text = texts.0.0 }, ids_are counts selected further (place + 1) ps texts.1 are.1)
+ids_are counts selected more_of place [] texts are = tt
+ids_are counts selected more_of place (p ∷ ps) texts are =
+    (record { some = are.0.has_id; tidy = are.0.tidy_id; text = texts.0.0 }, ids_are counts selected more_of (place + 1) ps texts.1 are.1)
 
 ballot_pieces : (ids : List (List ℕ)) → All IsId ids → (ballot : List ℕ) → All (λ place. place < length ids) ballot → list_any (λ place. has_comma (slice_index_or ids place [])) ballot ≡ false →
     AllByRecursion IsPiece (map (λ place. slice_index_or ids place []) ballot)
@@ -120,7 +120,7 @@ module _ (come_back : (rows : List Fields) → ComeBack rows → records_of (tex
   middle_texts = AllByRecursion-right AllText metas middle (AllByRecursion-left AllText (metas ++ middle) last texts)
 
   ids : All IsId (project_ids e)
-  ids = All-from_recursion IsId (project_ids e) (ids_are counts selected further.projects.items 0 e.projects middle_texts.1.1 writable_projects)
+  ids = All-from_recursion IsId (project_ids e) (ids_are counts selected (of_project further) 0 e.projects middle_texts.1.1 writable_projects)
 
   size : length (project_ids e) ≡ length e.projects
   size = length-map e.projects (λ (p : ProjectView). p.id)
@@ -142,7 +142,7 @@ module _ (come_back : (rows : List Fields) → ComeBack rows → records_of (tex
   fields : AllByRecursion HasField rows
   fields =
       AllByRecursion-append HasField (metas ++ middle) last
-      (AllByRecursion-append HasField metas middle (meta_fields e rule comment further.keys small).0 (omega arith, (omega arith, (project_fields counts selected further.projects.items 0 e.projects).0)))
+      (AllByRecursion-append HasField metas middle (meta_fields e rule comment further.keys small).0 (omega arith, (omega arith, (project_fields counts selected (of_project further) 0 e.projects).0)))
       (omega arith, (omega arith, vote_fields (project_ids e) (of_voter further) e.voters))
 
   back : records_of (text_of_rows rows) ≡ rows
@@ -158,7 +158,7 @@ module _ (come_back : (rows : List Fields) → ComeBack rows → records_of (tex
 
   few : length rows ≤ 2000000
   few =
-      omega (arith, length-append (metas ++ middle) last, length-append metas middle, (meta_fields e rule comment further.keys small).1, (project_fields counts selected further.projects.items 0 e.projects).1, length-map e.voters (vote_row (project_ids e) (of_voter further)), is.few_projects, is.few_voters)
+      omega (arith, length-append (metas ++ middle) last, length-append metas middle, (meta_fields e rule comment further.keys small).1, (project_fields counts selected (of_project further) 0 e.projects).1, length-map e.voters (vote_row (project_ids e) (of_voter further)), is.few_projects, is.few_voters)
 
   pub stands : StandsFor (records_of (text_of_rows (file_rows e rule comment counts selected further))) e
   stands = subst (λ (records : List Fields). StandsFor records e) (sym back)

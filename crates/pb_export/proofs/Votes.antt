@@ -12,8 +12,8 @@ use Rattle.pb_read.specs.Inner.Fields.{trimmed}
 use Rattle.pb_read.specs.Rows.{head_of, rows_of}
 use Rattle.pb_read.specs.StandsFor.{GivesAll, GivesVoter}
 use Rattle.pb_export.specs.FileRows.{votes_rows}
-use Rattle.pb_export.specs.OfVoter.{of_voter}
 use Rattle.pb_export.specs.declared.further.Further.{Further}
+use Rattle.pb_export.specs.Inner.Behind.{of_voter}
 use Rattle.pb_export.specs.Inner.Parts.{is_section_word, vote_row, vote_text}
 use Rattle.pb_export.proofs.Headers.{both_fields, vote_header}
 use Rattle.pb_export.proofs.Pieces.{IsPiece, ballot_back, names_back, pieces_back}

@@ -1,8 +1,10 @@
 -- The rows of an exported file.
 use Rattle.std.specs.Prelude.{ℕ, ◌/◌, ◌%◌, ◌==◌, ◌&&◌, ◌||◌, Bool, false, not, if◌then◌else◌, List, [], ◌∷◌}
-use Rattle.std.specs.Prelude.{◌++◌, codes, decimal, filter, is_some, length, map, slice_index, slice_index_or}
-use Rattle.std.specs.List.{enumerate_from, join_with_byte, list_any}
-use Rattle.std.specs.Option.{option_to_list}
+use Rattle.std.specs.Prelude.{◌++◌, Option, codes, decimal, filter, is_some, length, map, slice_get, slice_index}
+use Rattle.std.specs.Prelude.{slice_index_or}
+use Rattle.std.specs.FinMap as finite
+use Rattle.std.specs.List.{enumerate_from, join_with_byte, list_any, range_with_len}
+use Rattle.std.specs.Option.{option_and_then, option_to_list, unwrap_or}
 use Rattle.std.specs.Str.{trim}
 use Rattle.pb_core.specs.Election.{ElectionView, ProjectView, VoterView, project_ids, terms_of}
 use Rattle.pb_core.specs.MoneyText.{money_text}
@@ -12,7 +14,6 @@ use Rattle.pb_read.specs.Rows.{head_of, is_word}
 use Rattle.pb_read.specs.declared.meta_key.MetaKey.TheVariants.{Budget, VoteType, MaxLength}
 use Rattle.pb_rows.specs.Reading.{Fields}
 use Rattle.pb_export.specs.Further.{KeyView}
-use Rattle.pb_export.specs.OfVoter.{of_voter}
 use Rattle.pb_export.specs.declared.further.Further.{Further}
 
 -- an amount; a whole one has no decimals
@@ -53,19 +54,23 @@ abbrev pub project_row : ProjectView → ℕ → Bool → Fields → Fields
 project_row p votes selected further =
     p.id ∷ amount_text p.cost ∷ decimal votes ∷ p.name ∷ (if selected then codes "1" else codes "0") ∷ further
 
+-- the fields of a row, if there is one, below further columns of these names; one that it lacks is empty
+abbrev pub below : Fields → Option Fields → Fields
+below names row = map (λ place. slice_index_or (unwrap_or row []) place []) (range_with_len 0 (length names))
+
 -- PROJECTS; the votes of each project, whether it is elected, and its further fields stand at its place
 abbrev pub projects_rows : List ℕ → List Bool → Further → List ProjectView → List Fields
 projects_rows votes selected further projects =
     (codes "PROJECTS" ∷ [])
     ∷ (codes "project_id" ∷ codes "cost" ∷ codes "votes" ∷ codes "name" ∷ codes "selected" ∷ further.project_names)
-    ∷ map (λ at. project_row at.1 (slice_index votes at.0) (slice_index_or selected at.0 false) (slice_index_or further.projects.items at.0 []))
-    (enumerate_from 0 projects)
+    ∷ map (λ at. project_row at.1 (slice_index votes at.0) (slice_index_or selected at.0 false)
+    (below further.project_names (slice_get further.projects.items at.0))) (enumerate_from 0 projects)
 
--- VOTES; a vote is the ids of the approved projects, with `,` between two
+-- VOTES; a vote is the ids of the approved projects, with `,` between two; further fields are found by the id
 abbrev pub votes_rows : List (List ℕ) → Further → List VoterView → List Fields
-votes_rows ids further voters =
-    (codes "VOTES" ∷ []) ∷ (codes "voter_id" ∷ codes "vote" ∷ further.voter_names)
-    ∷ map (λ v. v.id ∷ join_with_byte 44 (map (λ place. slice_index_or ids place []) v.ballot) ∷ of_voter further v.id) voters
+votes_rows ids f voters = (codes "VOTES" ∷ []) ∷ (codes "voter_id" ∷ codes "vote" ∷ f.voter_names)
+    ∷ map (λ v. v.id ∷ join_with_byte 44 (map (λ place. slice_index_or ids place []) v.ballot)
+    ∷ below f.voter_names (option_and_then (slice_get f.voters.items) (finite.get f.places v.id))) voters
 
 -- an exported file: the election, and beside it the rule, each project's votes and whether it is elected, and
 -- what is further

@@ -1,4 +1,5 @@
 -- Words that only private contracts and the invariants of private fields speak of: nobody has to believe
 -- them.
+pub mod Behind
 pub mod Growing
 pub mod Parts

@@ -2,6 +2,5 @@
 pub mod Export
 pub mod FileRows
 pub mod Further
-pub mod OfVoter
 pub mod ExportFault
 pub mod Inner

@@ -172,9 +172,6 @@ impl Carried {
                 drop(mem::replace(&mut self.of_votes, places));
                 let names = fields_at(self.alloc, record, self.of_votes.as_slice())?;
                 drop(mem::replace(&mut self.further.voter_names, names));
-                for _ in 0..self.of_votes.len() {
-                    self.further.empty.push(self.alloc, "")?;
-                }
                 Ok(())
             }
             Section::Votes => Ok(()),
@@ -255,10 +252,13 @@ fn new_places(alloc: Global, names: &ByteRecord, came: &mut Names) -> Result<Vec
     Ok(places)
 }
 
-/// The fields of a record at these places.
+/// The fields of a record at these places, which rise: as many of them as the record has.
 fn fields_at(alloc: Global, record: &ByteRecord, places: &[usize]) -> Result<TextRow, NoMemory> {
     let mut fields = TextRow::new(alloc);
     for place in places {
+        if *place >= record.len() {
+            break;
+        }
         fields.push(alloc, text_at(record, *place))?;
     }
     Ok(fields)

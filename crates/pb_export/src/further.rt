@@ -1,5 +1,6 @@
 //! What a file has that the count does not use.
 
+use crate::behind::Behind;
 use crate::keys::Keys;
 use crate::text_row::TextRow;
 use pb_ids::IdTable;
@@ -7,7 +8,8 @@ use std::alloc::Global;
 
 /// What a file has that the count does not use: its comment, further keys of META with their values, and
 /// further columns of PROJECTS and VOTES. The fields of a project are at its place, those of a voter are
-/// found by the voter's id.
+/// found by the voter's id. A row has as many fields as its row of the file has, which may be fewer than
+/// there are columns.
 #[derive(Drop)]
 pub struct Further {
     /// The value of META's `comment`; empty if there is none.
@@ -23,13 +25,11 @@ pub struct Further {
     pub(crate) places: IdTable,
     /// The fields of each voter.
     pub(crate) voters: Vec<TextRow>,
-    /// Those of a voter who is not among them.
-    pub(crate) empty: TextRow,
 }
 
 impl Further {
-    ghost use Rattle.std.specs.Prelude.{◌≡◌, [], map, slice_index_or, string_bytes};
-    ghost use Rattle.pb_export.specs.OfVoter.{of_voter};
+    ghost use Rattle.std.specs.Prelude.{◌≡◌, string_bytes};
+    ghost use Rattle.pb_export.specs.Inner.Behind.{behind, of_project, of_voter};
 
     /// Nothing further.
     pub fn none(alloc: Global) -> Further {
@@ -41,7 +41,6 @@ impl Further {
             voter_names: TextRow::new(alloc),
             places: IdTable::new(alloc),
             voters: Vec::new(alloc),
-            empty: TextRow::new(alloc),
         }
     }
 
@@ -52,26 +51,42 @@ impl Further {
         self.comment.as_str()
     }
 
-    /// The further fields of the project at a place.
-    pub(crate) fn of_project(&self, place: usize) -> &[String]
-        ensures { map string_bytes result.now ≡ slice_index_or self.now.projects.items place [] }
+    /// The names of the further columns of PROJECTS.
+    pub(crate) fn names_of_projects(&self) -> Behind<'_>
+        ensures { behind result ≡ self.now.project_names }
     {
-        match self.projects.get(place) {
-            Some(fields) => fields.texts(),
-            None => &[],
-        }
+        Behind::names(&self.project_names)
     }
 
-    /// The further fields of the voter with this id.
-    pub(crate) fn of_voter(&self, id: &str) -> &[String]
-        ensures { map string_bytes result.now ≡ of_voter self.now id.now }
+    /// The further fields of the project at a place.
+    pub(crate) fn of_project(&self, place: usize) -> Behind<'_>
+        ensures { behind result ≡ of_project self.now place }
     {
-        match self.places.get(id) {
+        let fields: &[String] = match self.projects.get(place) {
+            Some(fields) => fields.texts(),
+            None => &[],
+        };
+        Behind::below(&self.project_names, fields)
+    }
+
+    /// The names of the further columns of VOTES.
+    pub(crate) fn names_of_voters(&self) -> Behind<'_>
+        ensures { behind result ≡ self.now.voter_names }
+    {
+        Behind::names(&self.voter_names)
+    }
+
+    /// The further fields of the voter with this id; none has a text where the file does not have the voter.
+    pub(crate) fn of_voter(&self, id: &str) -> Behind<'_>
+        ensures { behind result ≡ of_voter self.now id.now }
+    {
+        let fields: &[String] = match self.places.get(id) {
             Some(place) => match self.voters.get(place as usize) {
                 Some(fields) => fields.texts(),
                 None => &[],
             },
-            None => self.empty.texts(),
-        }
+            None => &[],
+        };
+        Behind::below(&self.voter_names, fields)
     }
 }

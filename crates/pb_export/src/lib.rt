@@ -2,6 +2,7 @@
 #![tactic(auto)]
 
 mod amount;
+mod behind;
 pub mod carried;
 pub mod export_fault;
 pub mod further;

@@ -8,12 +8,14 @@ ghost use Rattle.pb_read.specs.StandsFor.{StandsFor};
 ghost use Rattle.pb_rows.specs.Reading.{records_of};
 ghost use Rattle.pb_rows.specs.Writing.{text_of_row, text_of_rows};
 ghost use Rattle.pb_export.specs.Export.{CanBeWritten, IsExportFault};
+ghost use Rattle.pb_export.specs.Inner.Behind.{behind};
 ghost use Rattle.pb_export.specs.Inner.Growing.{Grows};
 ghost use Rattle.pb_export.specs.Inner.Parts.{key_row, limit_rows, vote_text};
 ghost use Rattle.pb_export.specs.FileRows.{file_rows, key_rows, meta_rows, project_row, projects_rows};
 ghost use Rattle.pb_export.specs.FileRows.{terms_rows, votes_rows};
 
 use crate::amount::amount_text;
+use crate::behind::Behind;
 use crate::export_fault::ExportFault;
 use crate::further::Further;
 use crate::keys::Key;
@@ -183,7 +185,7 @@ fn put_projects(
 {
     rows.put_row(&["PROJECTS"])?;
     let names = ["project_id", "cost", "votes", "name", "selected"];
-    put_with(rows, alloc, &names, told.further.project_names.texts())?;
+    put_with(rows, alloc, &names, told.further.names_of_projects())?;
     for place in 0..projects.len() {
         let further = told.further.of_project(place);
         put_project(
@@ -203,12 +205,12 @@ fn put_project(
     alloc: Global,
     project: &Project,
     counted: (u32, bool),
-    further: &[String],
+    further: Behind<'_>,
 ) -> Result<(), NoMemory>
     ensures text { OnOk result (rows.new.text ≡ rows.old.text
-        ++ text_of_row (project_row project.now counted.0 counted.1 (map string_bytes further.now))) }
+        ++ text_of_row (project_row project.now counted.0 counted.1 (behind further.entry))) }
     ensures are_text { OnOk result
-        (AllText (project_row project.now counted.0 counted.1 (map string_bytes further.now))) }
+        (AllText (project_row project.now counted.0 counted.1 (behind further.entry))) }
 {
     let (votes, selected) = counted;
     let mut digits = Buffer::new();
@@ -239,7 +241,7 @@ fn put_votes(
         rows,
         alloc,
         &["voter_id", "vote"],
-        further.voter_names.texts(),
+        further.names_of_voters(),
     )?;
     let projects = election.projects();
     for voter in election.voters() {
@@ -256,16 +258,16 @@ fn put_with(
     rows: &mut RowsWriter,
     alloc: Global,
     own: &[&str],
-    further: &[String],
+    further: Behind<'_>,
 ) -> Result<(), NoMemory>
     ensures text { OnOk result (rows.new.text ≡ rows.old.text
-        ++ text_of_row (map (λ field. field.now) own.now ++ map string_bytes further.now)) }
-    ensures are_text { OnOk result (AllText (map string_bytes further.now)) }
+        ++ text_of_row (map (λ field. field.now) own.now ++ behind further.entry)) }
+    ensures are_text { OnOk result (AllText (behind further.entry)) }
 {
     let mut fields = Vec::new(alloc);
     fields.extend_from_slice(own)?;
-    for field in further {
-        fields.push(field.as_str())?;
+    for place in 0..further.columns {
+        fields.push(further.field(place))?;
     }
     rows.put_row(fields.as_slice())?;
     Ok(())

@@ -33,10 +33,10 @@ can_be_named terms = is_small terms.max_length
 abbrev pub limit_rows : Option ℕ → List Fields
 limit_rows max_length = map (λ most. key_text MaxLength ∷ decimal most ∷ []) (option_to_list max_length)
 
--- the rows of the projects from a place on
-abbrev pub projects_from : List ℕ → List Bool → List Fields → ℕ → List ProjectView → List Fields
-projects_from votes selected further place projects =
-    map (λ at. project_row at.1 (slice_index votes at.0) (slice_index_or selected at.0 false) (slice_index_or further at.0 []))
+-- the rows of the projects from a place on, with these further fields
+abbrev pub projects_from : List ℕ → List Bool → (ℕ → Fields) → ℕ → List ProjectView → List Fields
+projects_from votes selected more_of place projects =
+    map (λ at. project_row at.1 (slice_index votes at.0) (slice_index_or selected at.0 false) (more_of at.0))
     (enumerate_from place projects)
 
 -- the ids of the approved projects, with `,` between two

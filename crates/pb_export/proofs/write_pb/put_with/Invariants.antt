@@ -1,8 +1,10 @@
-use Rattle.std.proofs.Common.{◌≡◌, ◌++◌, map, string_bytes, take}
+use Rattle.std.proofs.Common.{◌≡◌, ◌++◌, map}
+use Rattle.std.specs.List.{range_with_len}
 use Rattle.csv.specs.Records.{AllText}
+use Rattle.pb_export.specs.Inner.Behind.{field_of}
 use Rattle.pb_export.proofs.write_pb.put_with.Given as goal
 
-abbrev pub invariant-loop-field : goal.invariant-loop-field
-invariant-loop-field l =
-    (map (λ field. field.now) l.fields.items ≡ map (λ field. field.now) l.fn.own ++ map string_bytes (take l.field-index l.further))
-    × AllText (map string_bytes (take l.field-index l.further))
+abbrev pub invariant-loop-place : goal.invariant-loop-place
+invariant-loop-place l =
+    (map (λ field. field.now) l.fields.items ≡ map (λ field. field.now) l.fn.own ++ map (field_of l.further) (range_with_len 0 l.place))
+    × AllText (map (field_of l.further) (range_with_len 0 l.place))
