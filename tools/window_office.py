@@ -126,17 +126,17 @@ def try_words(program, work):
     wordy = folder / 'wordy'
     wordy.write_text(WORDY.format(program))
     wordy.chmod(0o755)
-    with Window(wordy, folder) as window:
+    with Window(wordy, folder, options=['--min', 1]) as window:
         window.start()
         ann, words = Clerk(window), folder / 'city.journal.words'
         ann.sign_in('Ann')
         see('Entry 1 ' in ann.ask('cast', 'v1', ['12']).seen, 'a ballot beside many words')
-        see('no project has' in ann.ask('cast', 'v2', ['nowhere']).seen, 'a refusal')
+        see('too few projects' in ann.ask('cast', 'v2').seen, 'a refusal')
         window.kill_serve()
         see('Entry 2 ' in ann.ask('cast', 'v2', ['12']).seen, 'and started again, with as many words')
         said, status = window.end()
         text = words.read_bytes()
-        see(status == 0 and text.count(b'x') >= 2_000_000 and b'no project has the id "nowhere"' in text,
+        see(status == 0 and text.count(b'x') >= 2_000_000 and b'row 2' in text,
             'the words are in their file', said, len(text))
         see(stat.S_IMODE(words.stat().st_mode) == 0o600, 'for this account alone')
 
