@@ -1,5 +1,5 @@
 """Tries what somebody without a session does to the clerks' window, and a `serve` that is held or answers something else."""
-import concurrent.futures, contextlib, os, re, shutil, signal, socket, ssl, struct, subprocess, threading, time
+import concurrent.futures, contextlib, os, pathlib, re, shutil, signal, socket, ssl, struct, subprocess, threading, time
 
 from window_clerk import LIMIT, PYTHON, TOP, Clerk, Window
 from window_seen import CITY, NAMES, new_folder, see
@@ -86,6 +86,26 @@ def try_strangers(program, work):
         see(lines <= 50 * 2 * 3, 'with few lines a minute', lines, left)
         told = [it for it in window.log() if it['what'] in ('connection-failed', 'connection-unused')]
         see(all(it['address'] == '127.0.0.50' and it['kind'] for it in told), 'and its address', told[:1])
+
+
+def try_answered(program, work):
+    """Connections that end when a worker has their request: none ends a worker, with TLS and without."""
+    folder = new_folder(work, 'answered')
+    options, tls = certified(folder) if shutil.which('openssl') else ([], None)
+    whole, odd = b'GET /static/window.js HTTP/1.1\r\nHost: x\r\n\r\n', b'G\0T / HTTP/9.9\r\nA\r\n\r\n'
+    for given, client in (([], None), (options, tls)):
+        with Window(program, folder, options=given).start() as window:
+            ann = Clerk(window, tls=client)
+            ann.patience = PATIENCE
+            ann.sign_in('Ann')
+            for what, text, fail in (('a reset', whole, reset), ('a close', whole, socket.socket.close), ('a reset', odd, reset), ('a close', odd, socket.socket.close)):
+                for _ in range(200):
+                    fail(connected(window, '127.0.0.51', text, client))
+                lasted = seconds_of(lambda: ann.get('/'))
+                see(lasted < 1, f'200 times a whole request and {what}: the next clerk is served within a second', lasted, text)
+            threads = len(list(pathlib.Path(f'/proc/{window.child.pid}/task').iterdir()))
+            see(threads >= 64, 'all workers live', threads)
+            window.end()
 
 
 def try_crowds(program, work):

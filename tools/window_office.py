@@ -67,6 +67,14 @@ def try_roll(program, work):
         words = pathlib.Path(f'/proc/{asked[0]}/cmdline').read_text().split('\0')
         journal = pathlib.Path(words[words.index('--min') + 3])
         see(len(asked) == 1 and journal.read_text().strip() == 'journal;2', 'no voter stands in the journal beside', journal)
+        # Held, it tells nothing, and holds up no page; later it tells again, and of nobody what was asked of another.
+        os.kill(asked[0], signal.SIGSTOP)
+        begun = time.monotonic()
+        ann.patience = 15
+        see(all(warning not in ann.post('/voter', {'voter': voter}).seen for voter in ('annb', 'annc')) and time.monotonic() - begun < 4,
+            'a serve for the roll that is held holds up no page', time.monotonic() - begun)
+        os.kill(asked[0], signal.SIGCONT)
+        see(warning not in ann.post('/voter', {'voter': 'anna'}).seen and warning in ann.post('/voter', {'voter': 'annb'}).seen, 'and then it tells again')
         os.kill(asked[0], signal.SIGKILL)
         see(until(lambda: warning not in ann.post('/voter', {'voter': 'annb'}).seen), 'without it nothing is told')
         see('this voter is not on the roll' in ann.ask('cast', 'annb', ['12', '7']).seen, 'and serve decides')

@@ -153,7 +153,7 @@ class Desk:
                 self.settle(it.form, asked.clerk)
         self.end_first()
 
-    def keep_up(self, is_after_fault=False, seconds=1):
+    def keep_up(self, is_after_fault=False, seconds=PATIENCE):
         """Starts the child again where it has died without a word; after a fault only the head clerk does. Waits for that, some
         seconds at most: a start that is held goes on by itself."""
         if not (self.child or self.shut) and (is_after_fault or not self.fault):
@@ -188,6 +188,9 @@ class Desk:
         with self.sending, contextlib.suppress(OSError):
             if self.child:
                 self.child.stdin.close()
+        self.listener.join(HELD)
+        if self.listener.is_alive():
+            print('\npb_app serve has not ended yet, most likely since it waits for its disk. The window waits for it.', flush=True)
         self.listener.join()
 
     def number_of(self, voter):

@@ -102,7 +102,7 @@ def failed(why):
         return say(why.name, 'Nothing was sent to the desk.', why.code)
     if isinstance(why, election.Fault):
         return say('The program refused', str(why), 500)
-    office.log.write('failed', kind=type(why).__name__, where=traceback.format_tb(why.__traceback__)[-1].splitlines()[0].strip())
+    office.log.write('failed', address=request.remote_addr, clerk=g.get('clerk'), kind=type(why).__name__, where=traceback.format_tb(why.__traceback__)[-1].splitlines()[0].strip())
     return say('The window failed', 'Look at the voter again: it is not known whether anything was recorded.', 500)
 
 
@@ -209,7 +209,7 @@ def settle():
 
 @app.get('/head')
 def head(words='', status=200):
-    counts, clerks = office.desk.counts + office.log.refused, office.door.clerks()
+    counts, clerks = office.desk.counts.copy() + office.log.refused.copy(), office.door.clerks()
     told = [it for it in ANSWERS if it == 'done' or any(answer == it for _, answer in counts)]
     others = {it.clerk['number'] for it in list(office.sessions.values()) if not it.is_over(clerks)} - {0}
     return page('head', 'The head clerk', words=words, counts=counts, answers=told, others=others), status

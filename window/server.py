@@ -9,8 +9,8 @@ from cheroot.ssl import builtin
 
 # Bytes of a body and of the headers, seconds for each of them and for sending a page.
 BODY, HEADERS, SECONDS, SENDING = 65536, 16384, 10, 60
-# How many connections may have no whole request yet: of an address, and in all. How many whole requests of an address are
-# answered at a time, and by how many workers those of all.
+# How many connections may have no whole request yet, of an address and in all. How many whole requests of an address there may
+# be at a time (and as many in all), and how many workers answer them.
 CONNECTIONS, ALL, REQUESTS, WORKERS = 16, 400, 48, 64
 CROWDED, SLOW, CLOSED = 'too many connections', 'too slow', 'closed'
 LENGTH = re.compile(rb'(?i)\r\ncontent-length:[ \t]*(\d{1,9})[ \t]*\r\n')
@@ -134,7 +134,8 @@ class Server(wsgi.Server):
                 self.make_room(conn.remote_addr)
             if not conn.take():
                 return self.put_conn(conn)
-            if sum(it.is_whole and it.remote_addr == conn.remote_addr for it in list(self.open)) > REQUESTS:
+            whole = [it.remote_addr for it in list(self.open) if it.is_whole]
+            if whole.count(conn.remote_addr) > REQUESTS or len(whole) > ALL:
                 raise ConnectionError('too many requests at a time')
             super().process_conn(conn)
         except Exception as why:
@@ -163,7 +164,8 @@ class Server(wsgi.Server):
         while True:
             time.sleep(0.5)
             for conn in list(self.open):
-                if conn.until and conn.until < time.monotonic():
+                until = conn.until
+                if until and until < time.monotonic():
                     conn.cut(SLOW)
             self.log.tell_omitted()
 
