@@ -185,10 +185,23 @@ print(door.judge('Ann', 'right', 'there', lambda number: mark)[0]['number'], doo
 '''
 
 
+LONG = '''
+import clerks, time
+def lasted(passphrase):
+    begun = time.thread_time()
+    clerks.is_right(None, passphrase)
+    return time.thread_time() - begun
+short = min(lasted('wrong') for _ in range(3))
+print(min(lasted('a' + '\\u0315\\u0300' * 15000) for _ in range(3)) < 3 * short)
+'''
+
+
 def try_owner(program, work):
     """By a clock that is set: one wrong try a minute, for two hours, locks out nobody who has the right passphrase."""
     done = subprocess.run([PYTHON, '-B', '-c', DOOR, work / 'clerks.json'], cwd=TOP / 'window', capture_output=True, text=True)
     see(done.stdout == 'True True 1 None\n', 'one wrong try a minute locks nobody out', done)
+    done = subprocess.run([PYTHON, '-B', '-c', LONG], cwd=TOP / 'window', capture_output=True, text=True)
+    see(done.stdout == 'True\n', 'a long passphrase of marks takes no longer', done)
 
 
 def record_from(clerk, address, page):

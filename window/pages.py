@@ -8,6 +8,7 @@ from werkzeug.exceptions import HTTPException
 import desk, election
 
 app = Flask(__name__)
+app.logger.disabled = True      # What fails is said in the window's own log: nobody may read standard error.
 app.jinja_env.trim_blocks = app.jinja_env.lstrip_blocks = True
 office = None       # The day, which run.py puts here.
 KEY = os.urandom(32)
@@ -177,7 +178,7 @@ def show_ballot():
 def look():
     """What will be recorded, before it is sent."""
     wanted, seen = request.form.get('request'), request.form.get('seen', '')
-    if wanted not in ('cast', 'replace', 'withdraw') or not seen.isdecimal():
+    if wanted not in ('cast', 'replace', 'withdraw') or not (seen.isdecimal() and len(seen) < 10):
         abort(400)
     ids = election.ids_of(','.join(request.form.getlist('id'))) if wanted != 'withdraw' else []
     asked = desk.Request(g.clerk, wanted, asked_voter(), ids, int(seen))
