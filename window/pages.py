@@ -1,5 +1,5 @@
 """The pages: what a clerk sees, and what comes of each form."""
-import hashlib, hmac, os, secrets, traceback, unicodedata
+import hashlib, hmac, os, secrets, traceback
 
 from flask import Flask, Response, abort, g, make_response, redirect, render_template, request
 from markupsafe import Markup
@@ -8,6 +8,7 @@ from werkzeug.exceptions import HTTPException
 import desk, election
 
 app = Flask(__name__)
+app.logger.disabled = True      # What fails is said in the window's own log: nobody may read standard error.
 app.jinja_env.trim_blocks = app.jinja_env.lstrip_blocks = True
 office = None       # The day, which run.py puts here.
 KEY = os.urandom(32)
@@ -23,7 +24,7 @@ ANSWERS = {'done': 'Recorded.', 'already-cast': 'Not recorded: this voter has a 
            'UnknownId': 'Not recorded: no project has an id that the ballot names.',
            'NotOnRoll': 'Not recorded: this voter is not on the roll.',
            'TooFew': 'Not recorded: the ballot has too few projects.', 'changed': 'Nothing was sent.',
-           'stopped': 'Not recorded: nothing was sent.', 'unknown': 'It is not known whether this was recorded.'}
+           'stopped': 'Not recorded: nothing was sent.', 'held': 'Not recorded: nothing was sent.', 'unknown': 'It is not known whether this was recorded.'}
 STALE = 'The form is too old, or you were signed out. Nothing was sent to the desk just now. Look up the voter to see what is recorded.'
 
 
@@ -102,7 +103,7 @@ def failed(why):
         return say(why.name, 'Nothing was sent to the desk.', why.code)
     if isinstance(why, election.Fault):
         return say('The program refused', str(why), 500)
-    office.log.write('failed', kind=type(why).__name__, where=traceback.format_tb(why.__traceback__)[-1].splitlines()[0].strip())
+    office.log.write('failed', address=request.remote_addr, clerk=g.get('clerk'), kind=type(why).__name__, where=traceback.format_tb(why.__traceback__)[-1].splitlines()[0].strip())
     return say('The window failed', 'Look at the voter again: it is not known whether anything was recorded.', 500)
 
 
@@ -118,7 +119,8 @@ def start():
 @app.post('/sign-in')
 def sign_in():
     name, address = request.form.get('name', '').strip(), request.remote_addr
-    clerk, wait = office.door.judge(name, request.form.get('passphrase', ''), address, cookie('head'))
+    mark_in = lambda number: cookie(f'mark-{number}')
+    clerk, wait = office.door.judge(name, request.form.get('passphrase', ''), address, mark_in)
     if not clerk:
         office.log.write('not-signed-in', address=address, wait=round(wait))
         why = f'Wait {int(wait) + 2} seconds, and try again.' if wait else 'The name or the passphrase is wrong.'
@@ -126,9 +128,7 @@ def sign_in():
     office.log.write('signed-in', clerk=clerk['number'], address=address)
     office.sessions.pop(cookie('session'), None)
     answer = keep(redirect('/', 303), 'session', office.sessions.begin(clerk, office.door.clerks()))
-    if clerk['number'] == 0:
-        keep(answer, 'head', office.door.mark_of(secrets.token_hex(16)), 366 * 86400)
-    return answer
+    return keep(answer, f"mark-{clerk['number']}", office.door.mark_of(clerk, secrets.token_hex(16)), 366 * 86400)
 
 
 @app.post('/sign-out')
@@ -141,8 +141,9 @@ def sign_out():
 def asked_voter():
     """The voter's id of a form, trimmed as the desk does."""
     voter = request.form.get('voter', '').strip(election.SPACE)
-    if not voter or any(unicodedata.category(it) == 'Cc' for it in voter):
-        abort(make_response(say('No such id', 'A voter’s id has at least one character, and no control characters. Type it again.', 400)))
+    if not election.is_fit(voter):
+        abort(make_response(say('No such id', f'A voter’s id has at least one character, at most {election.LONGEST_ID} bytes, and only '
+                                              'characters that can be seen. Type it again.', 400)))
     return voter
 
 
@@ -177,7 +178,7 @@ def show_ballot():
 def look():
     """What will be recorded, before it is sent."""
     wanted, seen = request.form.get('request'), request.form.get('seen', '')
-    if wanted not in ('cast', 'replace', 'withdraw') or not seen.isdecimal():
+    if wanted not in ('cast', 'replace', 'withdraw') or not (seen.isdecimal() and len(seen) < 10):
         abort(400)
     ids = election.ids_of(','.join(request.form.getlist('id'))) if wanted != 'withdraw' else []
     asked = desk.Request(g.clerk, wanted, asked_voter(), ids, int(seen))
@@ -209,7 +210,7 @@ def settle():
 
 @app.get('/head')
 def head(words='', status=200):
-    counts, clerks = office.desk.counts + office.log.refused, office.door.clerks()
+    counts, clerks = office.desk.counts.copy() + office.log.refused.copy(), office.door.clerks()
     told = [it for it in ANSWERS if it == 'done' or any(answer == it for _, answer in counts)]
     others = {it.clerk['number'] for it in list(office.sessions.values()) if not it.is_over(clerks)} - {0}
     return page('head', 'The head clerk', words=words, counts=counts, answers=told, others=others), status

@@ -58,7 +58,7 @@ class Day:
         self.log = log.Log(f'{given.journal}.log')
         serve = [given.program, 'serve', '--by-id', *(['--roll', given.roll] if given.roll else []), f'--min={given.min}']
         self.roll = roll.Roll(given.program, given.roll) if given.roll else None
-        self.desk = desk.Desk(serve, given.file, given.journal, self.log, self.election.votes)
+        self.desk = desk.Desk(serve, given.file, given.journal, self.log, self.election)
         self.desk.start()
         if self.desk.shut:
             self.desk.end()
@@ -67,6 +67,7 @@ class Day:
         """Ends the child in order, and copies the journal that it leaves, with its digest. Answers in words what failed."""
         with self.ending:
             self.desk.end()
+            self.log.tell_omitted(is_last=True)
             try:
                 with open(self.given.journal, 'rb') as file:
                     text = file.read()
@@ -100,6 +101,8 @@ def main():
         pages.office = day = Day(given)
     except (election.Fault, OSError, ValueError) as why:
         sys.exit(f'run.py: {why}')
+    if day.election.unfit:
+        print(day.election.warning(), flush=True)
     web, stop = server.Server(given.address, pages.app, day.log), threading.Event()
     web.ssl_adapter = server.Tls(given.cert, given.key) if given.cert else None
     for number in (signal.SIGINT, signal.SIGTERM, signal.SIGHUP):
