@@ -17,6 +17,7 @@ pub mod VoterTold
 pub mod WinnerSums
 pub mod PlaceSums
 pub mod AllWinners
+pub mod TieQueue
 pub mod TiedRounds
 pub mod AllTies
 pub mod TieOrder

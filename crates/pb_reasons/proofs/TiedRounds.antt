@@ -1,7 +1,6 @@
 -- The ties of a round, project by project.
-use Rattle.std.proofs.Common.{◌≡◌, ℕ, zero, suc, ◌+◌, ◌<◌, ◌≤◌, Bool, true, false, cond, List, [], ◌∷◌, ◌++◌, length, set, take, map, Option, Some, None, refl, sym, ◌∙◌, ap, inl, inr, arith}
+use Rattle.std.proofs.Common.{◌≡◌, ℕ, zero, suc, ◌<◌, ◌≤◌, Bool, true, false, cond, List, [], ◌∷◌, ◌++◌, length, set, take, map, Option, Some, None, refl, sym, ◌∙◌, ap, inl, inr, arith}
 use Rattle.std.specs.Prelude.{◌==◌, filter, nat_le, not}
-use Rattle.std.specs.List.{range_with_len}
 use Rattle.std.specs.Option.{option_map_or}
 use Rattle.std.proofs.lemmas.Bool.{cases_Bool, cases_eq, leb-false, ne_eqb, false≢true, and_right}
 use Rattle.std.proofs.lemmas.List.{append-nil, append_assoc, get_or-set_same, get_or-set_other, length-set, length-take, map-append}
@@ -11,13 +10,12 @@ use Rattle.std.proofs.Math.Nat.{mul-le-mul_right}
 use Rattle.pb_price.specs.Price.{IsPrice, NoRestRises, price_at}
 use Rattle.pb_price.specs.Supporters.{SupportView, cost_at, supporters_at}
 use Rattle.pb_price.proofs.Bounds.{is_price_at}
-use Rattle.pb_price.proofs.BuiltLists.{range_with_len_more}
 use Rattle.pb_price.proofs.Payments.{price_from_is_price}
 use Rattle.pb_price.proofs.RestsFall.{no_price_falls, no_price_stays}
 use Rattle.pb_rounds.specs.Run.{ElectedView, is_elected}
 use Rattle.pb_rounds.specs.declared.measure.Measure.{Measure}
 use Rattle.pb_rounds.specs.declared.measure.Measure.TheVariants.{Votes, Cost}
-use Rattle.pb_reasons.specs.Inner.Rounds.{AreOpeningBounds, AreTieBounds, IsTieBound, scaled, target, ties_with}
+use Rattle.pb_reasons.specs.Inner.Rounds.{AreOpeningBounds, AreTieBounds, IsTieBound, scaled, target, ties_among}
 use Rattle.pb_reasons.specs.Ties.{is_as_good, is_tied}
 use Rattle.pb_reasons.specs.declared.tie.Tie.{Tie}
 
@@ -130,33 +128,27 @@ take_again (suc n) (x ∷ xs) ys = ap (λ zs. x ∷ zs) (take_again n xs ys)
 pub short_take : {X : Type 0} (n : ℕ) (xs ys : List X) → xs ≡ take n ys → length xs ≤ n
 short_take n xs ys same = rw same (omega (arith, length-take n ys))
 
-module _ (m : Measure) (s : SupportView) (elected : List ElectedView) (rests : List ℕ) (w : ElectedView) (round : ℕ) where
-  kept_more : (place : ℕ) → filter (is_tied m s elected rests w) (range_with_len 0 (place + 1))
-      ≡ filter (is_tied m s elected rests w) (range_with_len 0 place) ++ cond (is_tied m s elected rests w place) (place ∷ []) []
-  kept_more place =
-      ap (filter (is_tied m s elected rests w)) (range_with_len_more place)
-      ∙ filter-append (is_tied m s elected rests w) (range_with_len 0 place) (place ∷ [])
-
-  with_more : (place : ℕ) (b : Bool) → is_tied m s elected rests w place ≡ b → ties_with m s elected rests w round (place + 1)
-      ≡ ties_with m s elected rests w round place
+module _ (m : Measure) (s : SupportView) (elected : List ElectedView) (rests : List ℕ) (w : ElectedView) (round : ℕ) (places : List ℕ) (place : ℕ) where
+  with_more : (b : Bool) → is_tied m s elected rests w place ≡ b → ties_among m s elected rests w round (places ++ place ∷ [])
+      ≡ ties_among m s elected rests w round places
       ++ map (λ place. record { round = round; winner = w.place; other = place }) (cond b (place ∷ []) [])
-  with_more place b is =
-      ap (map (λ place. record { round = round; winner = w.place; other = place })) (kept_more place ∙ ap (λ b. filter (is_tied m s elected rests w) (range_with_len 0 place) ++ cond b (place ∷ []) []) is)
-      ∙ map-append (λ place. record { round = round; winner = w.place; other = place }) (filter (is_tied m s elected rests w) (range_with_len 0 place)) (cond b (place ∷ []) [])
+  with_more b is =
+      ap (map (λ place. record { round = round; winner = w.place; other = place })) (filter-append (is_tied m s elected rests w) places (place ∷ []) ∙ ap (λ b. filter (is_tied m s elected rests w) places ++ cond b (place ∷ []) []) is)
+      ∙ map-append (λ place. record { round = round; winner = w.place; other = place }) (filter (is_tied m s elected rests w) places) (cond b (place ∷ []) [])
 
-  pub tie_more : (place : ℕ) (old ties new : List Tie) → is_tied m s elected rests w place ≡ true
-      → ties ≡ take 100 (old ++ ties_with m s elected rests w round place)
+  pub tie_more : (old ties new : List Tie) → is_tied m s elected rests w place ≡ true
+      → ties ≡ take 100 (old ++ ties_among m s elected rests w round places)
       → new ≡ take 100 (ties ++ record { round = round; winner = w.place; other = place } ∷ [])
-      → new ≡ take 100 (old ++ ties_with m s elected rests w round (place + 1))
-  tie_more place old ties new is so_far put =
+      → new ≡ take 100 (old ++ ties_among m s elected rests w round (places ++ place ∷ []))
+  tie_more old ties new is so_far put =
       let tie : Tie = record { round = round; winner = w.place; other = place } in
-      let told = ties_with m s elected rests w round place in
+      let told = ties_among m s elected rests w round places in
       put ∙ ap (λ (xs : List Tie). take 100 (xs ++ tie ∷ [])) so_far
       ∙ take_again 100 (old ++ told) (tie ∷ [])
-      ∙ ap (λ (xs : List Tie). take 100 xs) (append_assoc old told (tie ∷ []) ∙ ap (λ (xs : List Tie). old ++ xs) (sym (with_more place true is)))
+      ∙ ap (λ (xs : List Tie). take 100 xs) (append_assoc old told (tie ∷ []) ∙ ap (λ (xs : List Tie). old ++ xs) (sym (with_more true is)))
 
-  pub no_tie_more : (place : ℕ) (old ties : List Tie) → is_tied m s elected rests w place ≡ false
-      → ties ≡ take 100 (old ++ ties_with m s elected rests w round place)
-      → ties ≡ take 100 (old ++ ties_with m s elected rests w round (place + 1))
-  no_tie_more place old ties is so_far =
-      so_far ∙ ap (λ (xs : List Tie). take 100 (old ++ xs)) (sym (with_more place false is ∙ append-nil (ties_with m s elected rests w round place)))
+  pub no_tie_more : (old ties : List Tie) → is_tied m s elected rests w place ≡ false
+      → ties ≡ take 100 (old ++ ties_among m s elected rests w round places)
+      → ties ≡ take 100 (old ++ ties_among m s elected rests w round (places ++ place ∷ []))
+  no_tie_more old ties is so_far =
+      so_far ∙ ap (λ (xs : List Tie). take 100 (old ++ xs)) (sym (with_more false is ∙ append-nil (ties_among m s elected rests w round places)))

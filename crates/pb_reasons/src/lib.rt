@@ -22,6 +22,7 @@ mod room;
 mod rounds;
 pub mod rule_row;
 pub mod tie;
+mod tie_queue;
 mod tied_round;
 mod ties;
 pub mod totals;

@@ -1,17 +1,24 @@
 //! The ties of one round.
 
-ghost use Rattle.std.specs.Prelude.{◌≡◌, ◌++◌, ◌∷◌, [], ◌<◌, ◌≤◌, OnOk, Some, length, nat_le, take};
+ghost use Rattle.std.specs.Prelude.{◌≡◌, ◌++◌, ◌∷◌, [], ◌<◌, ◌≤◌, All, OnOk, Some, length, nat_le, take};
 ghost use Rattle.pb_price.specs.Price.{AreRests};
-ghost use Rattle.pb_reasons.specs.Inner.Rounds.{AreTieBounds, IsTieBound, scaled, target, ties_with};
+ghost use Rattle.pb_reasons.specs.Inner.Rounds.{AreTieBounds, IsTieBound, scaled, target, ties_among};
+ghost use Rattle.pb_reasons.specs.Inner.Rounds.{ties_with};
+ghost use Rattle.pb_reasons.specs.Inner.TieQueue.{AreQueued, limit_of};
 ghost use Rattle.pb_reasons.specs.Ties.{is_as_good, is_tied};
+ghost use Rattle.pb_rounds.specs.Run.{weight_of};
 
 use crate::tie::Tie;
+use crate::tie_queue::{put_bound, take_due, weight_of};
 use pb_core::money::Money;
 use pb_core::no_memory::NoMemory;
 use pb_price::next_bound;
 use pb_price::supporters::Supporters;
+use pb_rounds::key::Key;
 use pb_rounds::measure::Measure;
 use pb_rounds::outcome::Elected;
+use std::alloc::Global;
+use std::collections::BTreeSet;
 
 /// The most ties that are told.
 const MOST_TIES: usize = 100;
@@ -146,21 +153,36 @@ impl<'a> TiedRound<'a> {
         }
     }
 
+    /// What a lower bound that leaves room for a tie does not come after.
+    fn limit(&self) -> Key
+        requires { self.now.winner.place < length self.now.supporters.now.costs }
+        ensures limit { result ≡ limit_of self.now.measure self.now.supporters.now self.now.winner }
+        ensures positive { 1 ≤ weight_of self.now.measure self.now.supporters.now self.now.winner.place }
+    {
+        let weight = weight_of(self.measure, self.supporters, self.winner.place);
+        Key::new(self.winner.price, weight, self.supporters.projects())
+    }
+
     /// Puts the ties of this round behind those of the rounds before it, as far as so many are told, and
-    /// makes the lower bounds better.
+    /// makes the lower bounds better. It looks only at projects whose lower bounds leave room for a tie.
     pub(crate) fn find(
         &self,
+        alloc: Global,
         rests: &[Money],
         bounds: &mut Vec<Option<Money>>,
+        queue: &mut BTreeSet<Key>,
         ties: &mut Vec<Tie>,
     ) -> Result<(), NoMemory>
         requires winner { self.now.winner.place < length self.now.supporters.now.costs }
         requires rests { AreRests self.now.supporters.now.voters rests.now }
         requires bounds { AreTieBounds self.now.supporters.now self.now.elected.now rests.now
             bounds.old.items }
+        requires queued { AreQueued self.now.measure self.now.supporters.now [] bounds.old.items queue.old.keys }
         requires few { length ties.old.items ≤ 100 }
         ensures bounds { OnOk result
             (AreTieBounds self.now.supporters.now self.now.elected.now rests.now bounds.new.items) }
+        ensures queued { OnOk result
+            (AreQueued self.now.measure self.now.supporters.now [] bounds.new.items queue.new.keys) }
         ensures ties { OnOk result (ties.new.items ≡ take 100 (ties.old.items
             ++ ties_with self.now.measure self.now.supporters.now self.now.elected.now rests.now
             self.now.winner
@@ -169,11 +191,44 @@ impl<'a> TiedRound<'a> {
         if ties.len() == MOST_TIES {
             return Ok(());
         }
-        for place in 0..self.supporters.projects() {
-            let look = self.look(rests, place, bounds[place as usize]);
-            bounds[place as usize] = look.bound;
+        let due = take_due(alloc, queue, self.limit())?;
+        let looked = self.look_at(rests, due.as_slice(), bounds, queue, ties);
+        drop(due);
+        looked
+    }
+
+    /// Looks at the projects at these places, which are not in the queue: puts their ties behind the others,
+    /// and those that may tie later into the queue.
+    fn look_at(
+        &self,
+        rests: &[Money],
+        due: &[u32],
+        bounds: &mut Vec<Option<Money>>,
+        queue: &mut BTreeSet<Key>,
+        ties: &mut Vec<Tie>,
+    ) -> Result<(), NoMemory>
+        requires winner { self.now.winner.place < length self.now.supporters.now.costs }
+        requires rests { AreRests self.now.supporters.now.voters rests.now }
+        requires known { All (λ place. place < length self.now.supporters.now.costs) due.now }
+        requires bounds { AreTieBounds self.now.supporters.now self.now.elected.now rests.now
+            bounds.old.items }
+        requires queued { AreQueued self.now.measure self.now.supporters.now due.now bounds.old.items
+            queue.old.keys }
+        requires few { length ties.old.items ≤ 100 }
+        ensures bounds { OnOk result
+            (AreTieBounds self.now.supporters.now self.now.elected.now rests.now bounds.new.items) }
+        ensures queued { OnOk result
+            (AreQueued self.now.measure self.now.supporters.now [] bounds.new.items queue.new.keys) }
+        ensures ties { OnOk result (ties.new.items ≡ take 100 (ties.old.items
+            ++ ties_among self.now.measure self.now.supporters.now self.now.elected.now rests.now
+            self.now.winner self.now.number due.now)) }
+    {
+        for place in due {
+            let look = self.look(rests, *place, bounds[*place as usize]);
+            bounds[*place as usize] = look.bound;
+            put_bound(queue, self.measure, self.supporters, *place, look.bound)?;
             if look.is_tied {
-                tell(ties, self.tie(place))?;
+                tell(ties, self.tie(*place))?;
             }
         }
         Ok(())

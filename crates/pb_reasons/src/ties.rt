@@ -11,6 +11,7 @@ ghost use Rattle.pb_reasons.specs.Ties.{ties_in, ties_of};
 use crate::counted::Counted;
 use crate::replay::pay;
 use crate::tie::Tie;
+use crate::tie_queue::opening_queue;
 use crate::tied_round::TiedRound;
 use pb_core::election::Election;
 use pb_core::money::Money;
@@ -24,8 +25,8 @@ use std::alloc::Global;
 /// decided, in order of the rounds and then of the file: where a project that is not elected in the end had a
 /// price in a round as good as that of the project that the round elected. The first hundred are told.
 ///
-/// It replays the rounds. A project is priced in a round only where its last known price, which never falls,
-/// is not already above a tie.
+/// It replays the rounds. In a round it looks only at projects whose last known price, which never falls, is
+/// not already above a tie: a queue has them by that price.
 pub fn ties_of(
     alloc: Global,
     election: &Election,
@@ -57,6 +58,7 @@ fn replay_ties(
         (ties_in measure supporters.now share elected.now) (range_with_len 0 (length elected.now)))) }
 {
     let mut bounds = opening_bounds(alloc, elected, supporters.projects() as usize)?;
+    let mut queue = opening_queue(alloc, measure, supporters)?;
     let mut rests = opening_rests(alloc, share, supporters.voters())?;
     let mut ties = Vec::new(alloc);
     for (before, winner) in elected.iter().enumerate() {
@@ -67,7 +69,7 @@ fn replay_ties(
             winner: *winner,
             number: before + 1,
         };
-        round.find(&rests, &mut bounds, &mut ties)?;
+        round.find(alloc, &rests, &mut bounds, &mut queue, &mut ties)?;
         let _paid = pay(alloc, supporters.of(winner.place), winner.price, &mut rests)?;
     }
     Ok(ties)

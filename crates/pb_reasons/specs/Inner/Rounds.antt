@@ -38,9 +38,14 @@ pub record AreOpeningBounds (projects : ℕ) (elected : List ElectedView) (bound
   pub each : (place : ℕ) → place < projects
       → slice_index_or bounds place None ≡ (if is_elected elected place then None else Some 0)
 
--- the ties among the first projects with the winner of a round, from 1, at these rests
+-- the ties among these projects with the winner of a round, from 1, at these rests
+abbrev pub ties_among : Measure → SupportView → (elected : List ElectedView) (rests : List ℕ) (winner : ElectedView)
+    → (round : ℕ) (places : List ℕ) → List Tie
+ties_among m s elected rests winner round places =
+    map (λ place. record { round = round; winner = winner.place; other = place })
+    (filter (is_tied m s elected rests winner) places)
+
+-- those among the first projects
 abbrev pub ties_with : Measure → SupportView → (elected : List ElectedView) (rests : List ℕ) (winner : ElectedView)
     → (round projects : ℕ) → List Tie
-ties_with m s elected rests winner round projects =
-    map (λ place. record { round = round; winner = winner.place; other = place })
-    (filter (is_tied m s elected rests winner) (range_with_len 0 projects))
+ties_with m s elected rests winner round projects = ties_among m s elected rests winner round (range_with_len 0 projects)

@@ -11,6 +11,7 @@ use Rattle.pb_reasons.specs.Ties.{ties_in}
 use Rattle.pb_reasons.specs.declared.tie.Tie.{Tie}
 use Rattle.pb_reasons.proofs.AllTies.{rests_more, round_more}
 use Rattle.pb_reasons.proofs.Paying.{whole_part}
+use Rattle.pb_reasons.proofs.TieQueue.{opening_queued}
 use Rattle.pb_reasons.proofs.TiedRounds.{opening_are_bounds, short_take, tie_bounds_fall}
 use Rattle.pb_reasons.proofs.ties.replay_ties.Goals as goal
 
@@ -25,6 +26,7 @@ loop-before-init c =
       rests = rests;
       are_rests = rw rests (opening_rests s c.args.share c.requires.small);
       bounds = opening_are_bounds s c.args.elected.now c.in_ok-rests.rests.items c.in_ok-bounds.bounds.items (rw c.projects.ensures.projects at c.in_ok-bounds.ensures);
+      queued = opening_queued c.args.measure s c.args.elected.now c.in_ok-bounds.bounds.items c.in_ok-queue.queue.keys (rw c.projects.ensures.projects at c.in_ok-bounds.ensures) c.in_ok-queue.ensures;
       ties = c.new-ties.ensures.items;
     }
 
@@ -84,6 +86,7 @@ loop-before-preserved c =
       are_rests = rw (whole, charged_is) (AreRests-charged s.voters (supporters_at s w.place) w.price rests c.loop-before.invariant.are_rests);
       bounds = rw (whole, charged_is) (tie_bounds_fall s elected rests (charged (supporters_at s w.place) w.price rests) (charged_falls (supporters_at s w.place) w.price rests)
           _ (rw c.deref.ensures.value at c.in_ok-find.ensures.bounds));
+      queued = c.in_ok-find.ensures.queued;
       ties = round_more c.args.measure s c.args.share elected c.loop-before.before w c.loop-before-test.true c.index-elected-before.is rests c.loop-before.invariant.rests
           c.loop-before.ties.items _ c.loop-before.invariant.ties
           ((rw c.deref.ensures.value at c.in_ok-find.ensures.ties)

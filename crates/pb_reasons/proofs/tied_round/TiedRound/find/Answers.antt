@@ -1,48 +1,39 @@
-use Rattle.std.proofs.Common.{◌<◌, ◌∙◌, None, length, take, ap, subst, sym, arith}
-use Rattle.std.proofs.lemmas.List.{append-nil, get_or_default, take_all, take_at}
-use Rattle.pb_reasons.specs.Inner.Rounds.{IsTieBound}
+use Rattle.std.proofs.Common.{◌≡◌, ◌++◌, ◌<◌, List, ℕ, ap, length, subst, sym, take, ◌∙◌, arith}
+use Rattle.std.specs.Prelude.{All, OnOk}
+use Rattle.std.proofs.lemmas.List.{take_at}
+use Rattle.pb_rounds.specs.Key.{KeyView}
+use Rattle.pb_reasons.specs.Inner.Rounds.{ties_among}
+use Rattle.pb_reasons.specs.Inner.TieQueue.{AreQueued, TakesDue}
 use Rattle.pb_reasons.specs.declared.tie.Tie.{Tie}
-use Rattle.pb_reasons.proofs.TiedRounds.{no_tie_more, one_bound, short_take, tie_more}
+use Rattle.pb_reasons.proofs.TieQueue.{due_known, rest_queued, ties_are_due}
 use Rattle.pb_reasons.proofs.tied_round.TiedRound.find.Goals as goal
-use Rattle.pb_reasons.proofs.tied_round.TiedRound.find.Goals.{then-look+in_ok-tell, else-look}
 
 pub returns-then-len-eq-MOST_TIES-clause-ties : goal.returns-then-len-eq-MOST_TIES-clause-ties
 returns-then-len-eq-MOST_TIES-clause-ties c =
     sym (take_at c.args.ties.now.items _ 100 (omega (arith, c.if-len-eq-MOST_TIES.true, c.len.ensures, c.args.ties.now.ok.0)))
 
-pub loop-place-init : goal.loop-place-init
-loop-place-init c = record {
-  bounds = c.requires.bounds;
-  ties = sym (take_all 100 c.args.ties.now.items c.requires.few) ∙ ap (take {A = Tie} 100) (sym (append-nil c.args.ties.now.items));
-}
-
-pub tell-requires : goal.tell-requires
-tell-requires c = short_take 100 c.loop-place.ties.items _ c.loop-place.invariant.ties
-
-pub loop-place-preserved : goal.loop-place-preserved
-loop-place-preserved c =
+pub look_at-looked-requires-clause-known : goal.look_at-looked-requires-clause-known
+look_at-looked-requires-clause-known c =
     let r = c.args.self.now in
-    let s = r.supporters.now in
-    let place = c.loop-place.place in
-    let known : place < length s.costs = omega (arith, c.loop-place-test.true, c.projects-place-end.ensures.projects) in
-    record {
-      bounds = one_bound s r.elected.now c.args.rests.now c.loop-place.bounds.items c.loop-place.invariant.bounds place known _ c.look-look.ensures.bound;
-      ties = elim c.if-look.branch [
-        | then-look+in_ok-tell w ↦
-            rw w.ties-is (tie_more r.measure s r.elected.now c.args.rests.now r.winner r.number place c.args.ties.now.items c.loop-place.ties.items _
-            (sym c.look-look.ensures.tied ∙ w.if-look.true) c.loop-place.invariant.ties (rw w.tie.ensures at w.in_ok-tell.ensures))
-        | else-look w ↦
-            rw w.ties-is (no_tie_more r.measure s r.elected.now c.args.rests.now r.winner r.number place c.args.ties.now.items c.loop-place.ties.items
-            (sym c.look-look.ensures.tied ∙ w.if-look.false) c.loop-place.invariant.ties)
-      ];
-    }
+    let takes = subst (λ (k : KeyView). TakesDue k c.args.queue.now.keys c.take_due.new.queue.keys c.in_ok-due.due.items) c.limit.ensures.limit c.in_ok-due.ensures in
+    subst (All (λ (place : ℕ). place < length r.supporters.now.costs)) (sym c.as_slice.ensures.value)
+    (due_known r.measure r.supporters.now r.elected.now c.args.rests.now r.winner c.limit.ensures.positive c.args.bounds.now.items c.requires.bounds
+    c.args.queue.now.keys c.take_due.new.queue.keys c.in_ok-due.due.items c.requires.queued takes)
 
-pub look-look-requires-clause-bound : goal.look-look-requires-clause-bound
-look-look-requires-clause-bound c =
+pub look_at-looked-requires-clause-queued : goal.look_at-looked-requires-clause-queued
+look_at-looked-requires-clause-queued c =
     let r = c.args.self.now in
-    let place = c.loop-place.place in
-    let bounds = c.loop-place.bounds.items in
-    let are = c.loop-place.invariant.bounds in
-    let known : place < length r.supporters.now.costs = omega (arith, c.loop-place-test.true, c.projects-place-end.ensures.projects) in
-    let there : place < length bounds = omega (arith, known, are.one_each) in
-    subst (IsTieBound r.supporters.now r.elected.now c.args.rests.now place) (sym (c.index.ensures ∙ get_or_default bounds place c.index.result.now None there)) (are.each place known)
+    let takes = subst (λ (k : KeyView). TakesDue k c.args.queue.now.keys c.take_due.new.queue.keys c.in_ok-due.due.items) c.limit.ensures.limit c.in_ok-due.ensures in
+    subst (λ (due : List ℕ). AreQueued r.measure r.supporters.now due c.args.bounds.now.items c.take_due.new.queue.keys) (sym c.as_slice.ensures.value)
+    (rest_queued r.measure r.supporters.now r.elected.now c.args.rests.now r.winner c.limit.ensures.positive c.args.bounds.now.items c.requires.bounds
+    c.args.queue.now.keys c.take_due.new.queue.keys c.in_ok-due.due.items c.requires.queued takes)
+
+pub returns-clause-ties : goal.returns-clause-ties
+returns-clause-ties c =
+    let r = c.args.self.now in
+    let takes = subst (λ (k : KeyView). TakesDue k c.args.queue.now.keys c.take_due.new.queue.keys c.in_ok-due.due.items) c.limit.ensures.limit c.in_ok-due.ensures in
+    subst (λ (told : List Tie). OnOk c.look_at-looked.result (c.look_at-looked.new.ties.items ≡ take 100 (c.args.ties.now.items ++ told)))
+    (ap (ties_among r.measure r.supporters.now r.elected.now c.args.rests.now r.winner r.number) c.as_slice.ensures.value
+    ∙ ties_are_due r.measure r.supporters.now r.elected.now c.args.rests.now r.winner c.limit.ensures.positive c.args.bounds.now.items c.requires.bounds
+    c.args.queue.now.keys c.take_due.new.queue.keys c.in_ok-due.due.items c.requires.queued takes r.number)
+    c.look_at-looked.ensures.ties
