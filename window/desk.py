@@ -162,7 +162,7 @@ class Desk:
                     self.starting = threading.Thread(target=self.start_again, args=(is_after_fault,), daemon=True)
                     self.begun = time.monotonic()
                     self.starting.start()
-            self.starting.join(seconds)
+            self.starting.join(0 if self.held() else seconds)
 
     def start_again(self, is_after_fault):
         with self.sending:
@@ -237,7 +237,7 @@ class Desk:
                 asked.outcome, asked.number, asked.sent = Outcome('unknown'), self.sent, time.monotonic()
                 self.busy.add(asked.voter)
                 self.waiting.append(asked)
-                with contextlib.suppress(OSError):  # Where the child has ended, whoever listens to it ends the request.
+                with contextlib.suppress(OSError, ValueError):  # Where the child has ended, whoever listens to it ends the request.
                     send(self.child, asked.clerk, asked.request, asked.voter, ','.join(asked.ids))
             return asked.outcome
 
