@@ -16,7 +16,7 @@ class Roll:
         file, journal = os.path.join(os.path.dirname(__file__), 'nobody.pb'), os.path.join(self.folder.name, 'journal')
         command = [program, 'serve', '--roll', path, '--min', '1', file, journal]
         self.child, rows = desk.started(command, subprocess.DEVNULL)
-        self.sent, self.told = 0, 0     # The numbers of the last row that was sent, and of the last one that was answered.
+        self.sent, self.told = 0, 0     # The numbers of the last rows that were sent, and answered.
         threading.Thread(target=self.listen, args=(rows,), daemon=True).start()
 
     def listen(self, rows):
