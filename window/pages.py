@@ -24,7 +24,8 @@ ANSWERS = {'done': 'Recorded.', 'already-cast': 'Not recorded: this voter has a 
            'UnknownId': 'Not recorded: no project has an id that the ballot names.',
            'NotOnRoll': 'Not recorded: this voter is not on the roll.',
            'TooFew': 'Not recorded: the ballot has too few projects.', 'changed': 'Nothing was sent.',
-           'stopped': 'Not recorded: nothing was sent.', 'held': 'Not recorded: nothing was sent.', 'unknown': 'It is not known whether this was recorded.'}
+           'stopped': 'Not recorded: nothing was sent.', 'held': 'Not recorded: nothing was sent.',
+           'unknown': 'It is not known whether this was recorded.'}
 STALE = 'The form is too old, or you were signed out. Nothing was sent to the desk just now. Look up the voter to see what is recorded.'
 
 
@@ -103,7 +104,9 @@ def failed(why):
         return say(why.name, 'Nothing was sent to the desk.', why.code)
     if isinstance(why, election.Fault):
         return say('The program refused', str(why), 500)
-    office.log.write('failed', address=request.remote_addr, clerk=g.get('clerk'), kind=type(why).__name__, where=traceback.format_tb(why.__traceback__)[-1].splitlines()[0].strip())
+    where = traceback.format_tb(why.__traceback__)[-1].splitlines()[0].strip()
+    kind, clerk = type(why).__name__, g.get('clerk')
+    office.log.write('failed', address=request.remote_addr, clerk=clerk, kind=kind, where=where)
     return say('The window failed', 'Look at the voter again: it is not known whether anything was recorded.', 500)
 
 
@@ -128,7 +131,8 @@ def sign_in():
     office.log.write('signed-in', clerk=clerk['number'], address=address)
     office.sessions.pop(cookie('session'), None)
     answer = keep(redirect('/', 303), 'session', office.sessions.begin(clerk, office.door.clerks()))
-    return keep(answer, f"mark-{clerk['number']}", office.door.mark_of(clerk, secrets.token_hex(16)), 366 * 86400)
+    mark = office.door.mark_of(clerk, secrets.token_hex(16))
+    return keep(answer, f"mark-{clerk['number']}", mark, 366 * 86400)
 
 
 @app.post('/sign-out')
@@ -142,8 +146,9 @@ def asked_voter():
     """The voter's id of a form, trimmed as the desk does."""
     voter = request.form.get('voter', '').strip(election.SPACE)
     if not election.is_fit(voter):
-        abort(make_response(say('No such id', f'A voter’s id has at least one character, at most {election.LONGEST_ID} bytes, and only '
-                                              'characters that can be seen. Type it again.', 400)))
+        words = (f'A voter’s id has at least one character, at most {election.LONGEST_ID} bytes, and only '
+                 'characters that can be seen. Type it again.')
+        abort(make_response(say('No such id', words, 400)))
     return voter
 
 
