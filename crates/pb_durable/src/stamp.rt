@@ -7,7 +7,7 @@ use std::os::unix::fs::MetadataExt;
 /// How many bytes a file has, and when it was changed last.
 #[derive(Clone, Copy, PartialEq, Eq)]
 pub(crate) struct Stamp {
-    size: u64,
+    pub(crate) size: u64,
     seconds: i64,
     nanoseconds: i64,
 }

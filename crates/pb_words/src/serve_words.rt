@@ -72,7 +72,7 @@ Find the file under its new name: it has every request that got an answer.\n";
 pub fn overwritten_words(alloc: Global, path: &str, kept: &str) -> Said {
     said(
         alloc,
-        "{} was overwritten or edited while `pb_app serve` was using it.\nThe whole journal is now in {}, with every request that got an answer. {} was left as it was found.\nFind out what wrote to {}, and keep a copy of it. Then give {} the name {}. Run `serve` again. Then send each request that got no answer.\n",
+        "{} was overwritten or edited while `pb_app serve` was using it.\nThe whole journal is now in {}, with every request that got an answer. `serve` did not repair {}.\nFind out what wrote to {}, and keep a copy of it. Then give {} the name {}. Run `serve` again. Then send each request that got no answer.\n",
         &[
             Name(Some(path)),
             Name(Some(kept)),
