@@ -20,7 +20,7 @@ SHIM = r'''
 #include <unistd.h>
 
 /* What is written down of a call: o opened and perhaps made, w written, c cut, s synced, r renamed, a answered; the file, j the
-   journal, t what is kept beside, f what says which file it belongs to, d a folder; where it was written, or how long the file became; and how many bytes follow. */
+   journal, t what is kept beside, f what says which file it belongs to, both under their first names, d a folder; where it was written, or how long the file became; and how many bytes follow. */
 struct event { char what, file; char pad[6]; int64_t at, size; };
 
 static struct { long calls, refused, allocations; } *seen;
@@ -65,11 +65,16 @@ static int fails(char letter, int with) {
     return 0;
 }
 
-static int opened(int folder, const char *path, int flags, mode_t mode) {
+/* The file that a path names. */
+static char named(const char *path) {
     size_t length = strlen(path);
-    char file = length > 5 && !strcmp(path + length - 5, ".torn") ? 't'
+    return length > 9 && !strcmp(path + length - 9, ".torn.new") ? 't'
         : length > 9 && !strcmp(path + length - 9, ".file.new") ? 'f'
         : length > 8 && !strcmp(path + length - 8, ".journal") ? 'j' : 0;
+}
+
+static int opened(int folder, const char *path, int flags, mode_t mode) {
+    char file = named(path);
     if (file && (flags & O_CREAT)) {
         if (fails('o', EACCES)) return -1;
         note('o', file, (flags & O_TRUNC) != 0, 0, 0);
@@ -150,7 +155,7 @@ int fdatasync(int fd) { return synced(fd); }
 
 int rename(const char *from, const char *to) {
     if (meets('r')) { errno = EIO; return -1; }
-    note('r', 'f', 0, 0, 0);
+    note('r', named(from), 0, 0, 0);
     return syscall(SYS_rename, from, to);
 }
 
@@ -221,42 +226,39 @@ def torn_write(chance, old, at, new):
 def left_by(chance, events, journal, torn, named, lies=None):
     """What a power cut may leave of the journal, of what is kept beside it and of what names its file, after these events, the
     last of which was begun. `lies` says which of the journal's syncs were none."""
-    synced = {'j': journal, 't': torn}
-    made = {name for name in synced if synced[name] is not None}
-    known, since, syncs = set(made), {'j': [], 't': []}, 0
+    synced, since, syncs = journal, [], 0
+    is_made = is_known = journal is not None
     for event in events[:-1]:
-        if event.file == 'f':
-            continue
         if event.what == 's' and event.file == 'd':
-            known = set(made)
+            is_known = is_made
+        elif event.file != 'j':
+            continue
         elif event.what == 's':
-            syncs += event.file == 'j'
-            if event.file == 'j' and lies and lies(syncs):
-                continue
-            synced[event.file] = whole(synced[event.file], since[event.file])
-            since[event.file] = []
-        elif event.what != 'a':
-            made.add(event.file)
-            since[event.file].append(event)
+            syncs += 1
+            if not (lies and lies(syncs)):
+                synced, since = whole(synced, since), []
+        else:
+            is_made = True
+            since.append(event)
     last = events[-1]
-    if last.what in 'wc' and last.file != 'f':
-        since[last.file].append(last)
-    return [part(chance, synced[name], since[name], name in known) for name in 'jt'] + [named_by(chance, events, named)]
+    if last.what in 'wc' and last.file == 'j':
+        since.append(last)
+    return [part(chance, synced, since, is_known), renamed(chance, events, torn, 't'), renamed(chance, events, named, 'f')]
 
 
-def named_by(chance, events, named):
-    """What a power cut may leave under the name of what names a journal's file: what stood there, or a new file that got the
-    name since the folder was synced last, of which what was not synced may be torn."""
-    left, fresh, since = [(named, [])], b'', []
+def renamed(chance, events, old, file):
+    """What a power cut may leave under the name of a file that is written under another name first: what stood there, or a new
+    file that got the name since the folder was synced last, of which what was not synced may be torn."""
+    left, fresh, since = [(old, [])], b'', []
     for at, event in enumerate(events):
         is_begun = at + 1 == len(events)
-        if event.file == 'f' and event.what == 'o':
+        if event.file == file and event.what == 'o':
             fresh, since = b'', []
-        elif event.file == 'f' and event.what == 'w':
+        elif event.file == file and event.what == 'w':
             since = [*since, event]
-        elif event.file == 'f' and event.what == 's' and not is_begun:
+        elif event.file == file and event.what == 's' and not is_begun:
             fresh, since = whole(fresh, since), []
-        elif event.file == 'f' and event.what == 'r':
+        elif event.file == file and event.what == 'r':
             left.append((fresh, since))
         elif event.file == 'd' and event.what == 's' and not is_begun:
             left = left[-1:]

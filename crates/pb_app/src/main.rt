@@ -9,6 +9,7 @@ mod ballots;
 mod check;
 mod export;
 mod journal;
+mod kept;
 mod kinship;
 mod output_words;
 mod page;
@@ -167,7 +168,7 @@ fn write_line<R: Print>(rt: &R, refusal: &Refusal) -> u8 {
         Refusal::Journal(_) | Refusal::Beside(_) | Refusal::FileUnkept(_) => {
             write_fault(rt, AppFault::Write)
         }
-        Refusal::Moved(_) => write_fault(rt, AppFault::Serving(ServingFault::Moved)),
+        Refusal::Changed(..) => write_fault(rt, AppFault::Serving(ServingFault::Moved)),
         Refusal::Words(fault) => {
             let refusal = refusal_of(fault);
             let _ = refusal.write_line(&mut io::writer(rt));

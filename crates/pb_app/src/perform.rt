@@ -7,6 +7,7 @@ use crate::ballots::ballots;
 use crate::check::check;
 use crate::export::export;
 use crate::journal::{alone, open_with_journal};
+use crate::kept::Kept;
 use crate::kinship::Kinship;
 use crate::page::page;
 use crate::serve::serve;
@@ -20,6 +21,7 @@ use pb_commands::run_desk::run_admitted_desk;
 use pb_commands::run_table::run_table;
 use pb_commands::{AppFault, Counting, Inputs, ServingFault, Table, WhatIfFault};
 use pb_core::gate::NoGate;
+use pb_durable::Change;
 use pb_page::WordsFault;
 use pb_read::{ReadFault, read_pb};
 use pb_streams::{Bar, Output, Progress, Shown, Unplaced, open_both, open_shown};
@@ -59,9 +61,8 @@ pub(crate) enum Refusal {
     Journal(Error),
     /// What is cut off the journal could not be kept beside it, for this reason.
     Beside(Error),
-    /// The journal's name leads elsewhere. Its text is kept in the file of this number beside it, or could
-    /// not be kept.
-    Moved(Result<u32, Error>),
+    /// Somebody has moved the journal or written over it, and this became of its text.
+    Changed(Change, Kept),
     /// The file with the words of a page is refused.
     Words(WordsFault),
     /// All rows were answered, and some were refused.

@@ -1,6 +1,7 @@
 //! The command `serve`: a desk that stands on a file.
 
 use crate::admitted::{RefusalNotice, rules_of};
+use crate::kept::Kept;
 use crate::kinship::{Kinship, standing_of};
 use crate::perform::{Notes, Refusal, RefusedRows};
 use crate::typing::{TypedReader, Typing};
@@ -12,7 +13,10 @@ use pb_core::election::Election;
 use pb_core::project::Project;
 use pb_durable::file_beside::{name_file, read_file_beside};
 use pb_durable::file_device::{FileDevice, FileFailure, FileFault, fault_of, keep_beside};
-use pb_durable::{Belonging, Beside, Device, DeviceFault, DurableDesk, JournalFile, Opened};
+use pb_durable::moved::keep_text;
+use pb_durable::{
+    Belonging, Beside, Change, Device, DeviceFault, DurableDesk, JournalFile, Opened,
+};
 use pb_read::read_pb_watched;
 use pb_rows::read_number;
 use pb_script::{Admission, ROOM, RequestRows};
@@ -22,6 +26,7 @@ use pb_streams::{Digested, open_file};
 use pb_witness::witness::Witness;
 use std::cell::Cell;
 use std::fs::File;
+use std::io;
 use std::io::{Error, ErrorKind, Write};
 use std::rt::{Clock, Files};
 
@@ -42,7 +47,7 @@ impl<R: Files<File = File> + Eprint + AllocGlobal> Beside for TornFile<'_, R> {
 
     fn keep(&mut self, bytes: &[u8]) -> Result<(), DeviceFault> {
         let path = format!(in self.rt.alloc(); "{}.torn", self.journal)?;
-        let kept = keep_beside(self.rt, self.journal, path.as_str(), bytes);
+        let kept = keep_beside(self.rt, self.rt.alloc(), self.journal, path.as_str(), bytes);
         if kept.is_ok() {
             words::say_torn(self.rt, path.as_str(), bytes);
         }
@@ -144,23 +149,17 @@ where
         journal: serving.journal,
         failure: &beside,
     };
-    let served = match open_on(serving.rt, election, device, &mut torn) {
-        Ok((desk, torn)) => match keep_file(serving, standing) {
-            Ok(()) => serve_desk(serving, desk, torn, writer),
-            Err(refusal) => {
-                drop(desk);
-                return Err(refusal);
-            }
-        },
-        Err(fault) => Err(fault),
-    };
-    match served {
-        Ok(0) => Ok(()),
-        Ok(all) => {
+    let (desk, torn) = open_on(serving.rt, election, device, &mut torn)?;
+    if let Err(refusal) = keep_file(serving, standing) {
+        drop(desk);
+        return Err(refusal);
+    }
+    match serve_desk(serving, desk, torn, failure, writer)? {
+        0 => Ok(()),
+        all => {
             let bad = all.saturating_sub(serving.notice.by_rule().all());
             Err(Refusal::BadRows(RefusedRows { all, bad }))
         }
-        Err(fault) => Err(refusal_of(fault, failure.get(), beside.get())),
     }
 }
 
@@ -178,7 +177,7 @@ where
         Ok(bytes) => bytes,
         Err(fault) => {
             let why = device.failure().get();
-            return Err(refusal_of(AppFault::from(fault), why, None));
+            return Err(refusal_of(AppFault::from(fault), why, None, Kept::Unopened));
         }
     };
     let digest = kinship.file.get();
@@ -285,30 +284,83 @@ fn say_like_a_place<R: Eprint + AllocGlobal>(rt: &R, projects: &[Project]) {
 }
 
 /// Opens the desk of an election on a device. Answers how many bytes were cut off, too.
-fn open_on<'a, R, B: Beside>(
+fn open_on<'a, R>(
     rt: &R,
     election: Election,
     device: FileDevice<'a, R>,
-    beside: &mut B,
-) -> Result<(DurableDesk<FileDevice<'a, R>>, usize), AppFault>
+    beside: &mut TornFile<'_, R>,
+) -> Result<(DurableDesk<FileDevice<'a, R>>, usize), Refusal>
 where
-    R: Files<File = File> + AllocGlobal,
+    R: Files<File = File> + Eprint + AllocGlobal,
 {
     let alloc = rt.alloc();
     let mut file = JournalFile::on(alloc, device);
     match pb_durable::open(alloc, &mut file, election, ROOM, beside) {
         Ok(Opened { desk, torn }) => Ok((DurableDesk::on(desk, file), torn)),
         Err(fault) => {
-            drop(file);
-            Err(AppFault::from(fault))
+            let mut device = file.into_device();
+            let why = device.failure().get();
+            // No desk has the text of a journal that was moved before it was opened.
+            let kept = match why {
+                Some(FileFailure::Changed(Change::Moved)) => Kept::of(device.keep_moved()),
+                _ => Kept::Unopened,
+            };
+            drop(device);
+            let beside = beside.failure.get();
+            Err(refusal_of(AppFault::from(fault), why, beside, kept))
         }
     }
 }
 
-/// Serves the requests of standard input on a desk that was opened.
+/// Keeps the text of a desk's journal in a new file beside the journal, up to the last request that was
+/// answered.
+fn keep_text_of<R>(
+    serving: &Serving<'_, '_, R>,
+    desk: &DurableDesk<FileDevice<'_, R>>,
+) -> io::Result<u32>
+where
+    R: Files<File = File> + AllocGlobal,
+{
+    let (rt, alloc) = (serving.rt, serving.rt.alloc());
+    let Ok(text) = desk.durable_text(alloc) else {
+        return Err(Error::from(ErrorKind::OutOfMemory));
+    };
+    let kept = keep_text(rt, alloc, serving.journal, text.as_slice());
+    drop(text);
+    kept
+}
+
+/// Serves the requests of standard input on a desk that was opened. Where somebody has moved its journal or
+/// written over it, its text is kept.
 fn serve_desk<R, W: Write>(
     serving: &Serving<'_, '_, R>,
     mut desk: DurableDesk<FileDevice<'_, R>>,
+    torn: usize,
+    failure: &Cell<Option<FileFailure>>,
+    writer: &mut W,
+) -> Result<u64, Refusal>
+where
+    R: Files<File = File> + Input + Eprint + AllocGlobal,
+{
+    let served = match serve_rows(serving, &mut desk, torn, writer) {
+        Ok(refused) => Ok(refused),
+        Err(fault) => {
+            let why = failure.get();
+            let kept = match why {
+                Some(FileFailure::Changed(_)) => Kept::of(keep_text_of(serving, &desk)),
+                _ => Kept::Unopened,
+            };
+            Err(refusal_of(fault, why, None, kept))
+        }
+    };
+    drop(desk);
+    served
+}
+
+/// Serves the requests of standard input.
+fn serve_rows<R, W: Write>(
+    serving: &Serving<'_, '_, R>,
+    desk: &mut DurableDesk<FileDevice<'_, R>>,
     torn: usize,
     writer: &mut W,
 ) -> Result<u64, AppFault>
@@ -321,22 +373,18 @@ where
     }
     typing.opens(desk.desk().is_shut());
     let at_hand = AtHand::new();
-    let served = match Paced::new(rt.alloc(), TypedReader::new(rt, typing), &at_hand) {
-        Ok(input) => {
-            let mut rows = RequestRows::new(rt.alloc(), input);
-            let session = Session {
-                torn,
-                pace: &at_hand,
-                admission: serving.admission,
-                notice: &serving.notice,
-            };
-            let served = run_serve(rt.alloc(), &mut desk, &mut rows, &session, writer);
-            drop(rows);
-            served
-        }
-        Err(_) => Err(AppFault::Memory),
+    let Ok(input) = Paced::new(rt.alloc(), TypedReader::new(rt, typing), &at_hand) else {
+        return Err(AppFault::Memory);
     };
-    drop(desk);
+    let mut rows = RequestRows::new(rt.alloc(), input);
+    let session = Session {
+        torn,
+        pace: &at_hand,
+        admission: serving.admission,
+        notice: &serving.notice,
+    };
+    let served = run_serve(rt.alloc(), desk, &mut rows, &session, writer);
+    drop(rows);
     served
 }
 
@@ -352,12 +400,20 @@ fn unopened(fault: FileFault) -> Refusal {
     }
 }
 
-/// Why a run has ended early, where the journal or what is beside it may have failed.
-fn refusal_of(fault: AppFault, journal: Option<FileFailure>, beside: Option<Error>) -> Refusal {
+/// Why a run has ended early, where the journal or what is beside it may have failed. Where somebody has
+/// changed the journal, this became of its text.
+fn refusal_of(
+    fault: AppFault,
+    journal: Option<FileFailure>,
+    beside: Option<Error>,
+    kept: Kept,
+) -> Refusal {
     match (fault, journal, beside) {
         (AppFault::Write, _, Some(error)) => Refusal::Beside(error),
         (AppFault::Write, Some(FileFailure::Failed(error)), None) => Refusal::Journal(error),
-        (AppFault::Write, Some(FileFailure::Moved(kept)), None) => Refusal::Moved(kept),
+        (AppFault::Write, Some(FileFailure::Changed(change)), None) => {
+            Refusal::Changed(change, kept)
+        }
         (fault, ..) => Refusal::Fault(fault),
     }
 }

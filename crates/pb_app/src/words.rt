@@ -1,5 +1,6 @@
 //! What is said on standard error, beside what programs read.
 
+use crate::kept::Kept;
 use crate::output_words::{
     beside_output_words, journal_output_words, read_output_words, served_output_words,
 };
@@ -10,6 +11,7 @@ use crate::worded::words_file_words;
 use pb_command_line::{Asked, BallotsRun, OneChange, Source, Task, WhatIfRun};
 use pb_commands::{AppFault, ServingFault, WhatIfFault};
 use pb_desk::desk::MOST_CLERKS;
+use pb_durable::Change;
 use pb_durable::file_beside::{file_path, read_file_beside};
 use pb_durable::moved::kept_path;
 use pb_export::ExportFault;
@@ -25,8 +27,9 @@ use pb_words::read_words::{list_words, read_words};
 use pb_words::refused_words::{RefusedRow, like_a_place_words, refused_words, roll_words};
 use pb_words::script_words::{Taking, script_words};
 use pb_words::serve_words::{
-    bad_rows_words, locked_words, lost_words, moved_words, open_desk_words, spelling_words,
-    torn_words, unanswered_words, unkept_words, unopened_words,
+    bad_rows_words, changed_words, locked_words, lost_words, moved_words, open_desk_words,
+    overwritten_words, spelling_words, torn_words, unanswered_words, unkept_text_words,
+    unkept_words, unopened_words,
 };
 use pb_words::tally_words::{by_rule_words, no_ballot_words, tally_words};
 use pb_words::warning_words::{swallowing_words, warning_words};
@@ -118,14 +121,36 @@ fn words_of_serve(alloc: Global, task: &Task<'_>, refusal: &Refusal) -> Result<S
     match refusal {
         Refusal::NoJournal(reason) => unopened_words(alloc, path, reason),
         Refusal::Journal(reason) => unkept_words(alloc, path, reason),
-        Refusal::Moved(Err(reason)) => lost_words(alloc, path, reason),
+        Refusal::Changed(change, kept) => words_of_change(alloc, path, *change, kept),
         Refusal::BadRows(rows) => bad_rows_words(alloc, rows.bad),
         refusal => words_of_file_beside(alloc, path, refusal),
     }
 }
 
-/// Words where a file beside the journal with this path can't be read or written, or keeps the journal's
-/// text.
+/// Words where somebody has moved the journal with this path or written over it.
+fn words_of_change(
+    alloc: Global,
+    path: &str,
+    change: Change,
+    kept: &Kept,
+) -> Result<String, AllocError> {
+    match (change, kept) {
+        (_, Kept::Unopened) => changed_words(alloc, path),
+        (Change::Moved, Kept::Unwritten(reason)) => lost_words(alloc, path, reason),
+        (Change::Overwritten, Kept::Unwritten(reason)) => unkept_text_words(alloc, path, reason),
+        (change, Kept::In(number)) => {
+            let beside = kept_path(alloc, path, *number)?;
+            let words = match change {
+                Change::Moved => moved_words(alloc, path, beside.as_str()),
+                Change::Overwritten => overwritten_words(alloc, path, beside.as_str()),
+            };
+            drop(beside);
+            words
+        }
+    }
+}
+
+/// Words where a file beside the journal with this path can't be read or written.
 fn words_of_file_beside(
     alloc: Global,
     path: &str,
@@ -133,7 +158,6 @@ fn words_of_file_beside(
 ) -> Result<String, AllocError> {
     let beside = match refusal {
         Refusal::Beside(_) => format!(in alloc; "{path}.torn"),
-        Refusal::Moved(Ok(number)) => kept_path(alloc, path, *number),
         _ => file_path(alloc, path),
     }?;
     let words = match refusal {
@@ -141,7 +165,6 @@ fn words_of_file_beside(
         Refusal::FileUnkept(reason) | Refusal::Beside(reason) => {
             unkept_words(alloc, beside.as_str(), reason)
         }
-        Refusal::Moved(Ok(_)) => moved_words(alloc, path, beside.as_str()),
         // No other reason comes here.
         _ => Err(AllocError),
     };

@@ -68,6 +68,41 @@ Find the file under its new name: it has every request that got an answer.\n";
     failed(alloc, path, Some(reason), "", remedy)
 }
 
+/// Words for a journal that somebody has written over, and whose own text is kept in this file.
+pub fn overwritten_words(alloc: Global, path: &str, kept: &str) -> Said {
+    said(
+        alloc,
+        "{} was overwritten or edited while `pb_app serve` was using it.\nThe whole journal is now in {}, with every request that got an answer. `serve` did not repair {}.\nFind out what wrote to {}, and keep a copy of it. Then give {} the name {}. Run `serve` again. Then send each request that got no answer.\n",
+        &[
+            Name(Some(path)),
+            Name(Some(kept)),
+            Name(Some(path)),
+            Name(Some(path)),
+            Name(Some(kept)),
+            Name(Some(path)),
+        ],
+    )
+}
+
+/// Words for a journal that somebody has written over, and whose own text could not be kept beside it, for
+/// this reason.
+pub fn unkept_text_words(alloc: Global, path: &str, reason: &Error) -> Said {
+    let remedy =
+        "The journal was overwritten or edited while `pb_app serve` was using it, and its own text \
+        could not be saved beside it.
+Keep the answers of this run: they are the journal's last rows. Get the rows before them from last evening's copy.\n";
+    failed(alloc, path, Some(reason), "", remedy)
+}
+
+/// Words for a journal that somebody has written over while it was opened.
+pub fn changed_words(alloc: Global, path: &str) -> Said {
+    said(
+        alloc,
+        "{} was overwritten or edited while `pb_app serve` was opening it.\nNo request was answered. Find out what wrote to the file, and compare it with last evening's copy. Then run `serve` again.\n",
+        &[Name(Some(path))],
+    )
+}
+
 /// Words for an answer that could not be written, for this reason.
 pub fn unanswered_words(alloc: Global, reason: Option<&Error>) -> Said {
     let otherwise = ": an answer could not be written.\n";
