@@ -92,7 +92,7 @@ class Cleaner:
     def __init__(self, table, given):
         self.keys, self.rows, self.given = table.keys, table.rows, given
         self.is_cut = any(it[2] == 'separator' for it in table.reading)
-        self.log, self.first_text = collections.defaultdict(list), {}
+        self.log, self.first = collections.defaultdict(list), {}
         self.added, self.refusals, self.differ, self.unknown = {}, [], [], collections.defaultdict(list)
         # Of each section: its rows, what LOG calls its fields, its columns. Of META the rows of the keys that a count needs.
         self.places, self.labels, self.columns, self.meta = {}, {}, {}, {}
@@ -103,7 +103,8 @@ class Cleaner:
 
     def edit(self, at, column, what, after, section=None):
         row = self.rows[at]
-        self.first_text.setdefault(at, row_text(row))
+        if at not in self.first:
+            self.first[at] = row[:]
         self.log[at].append((label_of(self.labels.get(section, []), column), what, row[column], after))
         row[column] = after
 
@@ -114,7 +115,7 @@ class Cleaner:
 
     def drop(self, at, what):
         """Leaves a row out. LOG shows it as it was, and no former change of it."""
-        self.log[at] = [('', what, self.first_text.get(at) or row_text(self.rows[at]), '')]
+        self.log[at] = [('', what, row_text(self.first.get(at, self.rows[at])), '')]
         self.rows[at] = None
 
     def rows_of(self, section):
@@ -307,7 +308,7 @@ class Cleaner:
     def clean_votes(self):
         """Mends each vote, and joins or chooses among the rows of a voter."""
         voter, vote = (self.columns['votes'].get(it, 1 << 30) if 'votes' in self.columns else 0 for it in ('voter_id', 'vote'))
-        is_single, rows, good, joined = self.is_single_choice(), {}, {''}, {}
+        is_single, rows, good, joined = self.is_single_choice(), {}, {'': None}, {}
         for at, row in self.rows_of('votes'):
             if max(voter, vote) >= len(row):
                 continue
@@ -316,6 +317,8 @@ class Cleaner:
                 self.edit_unseen(at, voter, 'votes')
             if row[vote] not in good:
                 self.clean_vote(at, vote, good)
+            elif good[row[vote]]:
+                self.edit(at, vote, *good[row[vote]], 'votes')
             if is_single and len({*map(trimmed, row[vote].split(','))}) > 1:
                 self.refuse(at, 'the vote names several projects, so the file is not choose-1')
             if '+' in name or ':' in name:
@@ -378,13 +381,16 @@ class Cleaner:
         return pieces, list(kinds)
 
     def clean_vote(self, at, column, good):
+        """Mends a vote. `good` gets what a vote needs that names projects alone."""
         text = self.rows[at][column]
         pieces, kinds = self.pieces_of(text)
         left = [it for it in pieces if it not in self.ids]
-        if not kinds and not left:
-            good.add(text)
-        if kinds:
-            self.edit(at, column, ', '.join(kinds), ','.join(pieces), 'votes')
+        mended = (', '.join(kinds), ','.join(pieces)) if kinds else None
+        if mended:
+            self.edit(at, column, *mended, 'votes')
+        if not left:
+            good[text] = mended
+            return
         unknown = [it for it in dict.fromkeys(left) if it not in self.zero]
         for piece, cause in ((it, self.cause_of(it)) for it in unknown):
             if cause or not self.given.drop_unknown:
