@@ -93,7 +93,9 @@ class Cleaner:
         self.keys, self.rows, self.given = table.keys, table.rows, given
         self.is_cut = any(it[2] == 'separator' for it in table.reading)
         self.log, self.first = collections.defaultdict(list), {}
-        self.added, self.refusals, self.differ, self.unknown = {}, [], [], collections.defaultdict(list)
+        self.added, self.refusals, self.unknown = {}, [], collections.defaultdict(list)
+        # Rows that are told in the summary: joined ones that differ, column names that are there twice.
+        self.differ, self.twice = [], []
         # Of each section: its rows, what LOG calls its fields, its columns. Of META the rows of the keys that a count needs.
         self.places, self.labels, self.columns, self.meta = {}, {}, {}, {}
         self.is_long = False
@@ -184,6 +186,8 @@ class Cleaner:
                 self.is_long = True
                 self.edit(at, names.index('project_id'), 'heading of rows to join', 'vote')
                 names[names.index('project_id')] = 'vote'
+            if any(names.count(it) > 1 for it in ('project_id', 'cost', 'voter_id', 'vote')):
+                self.twice.append(at)
             self.labels[section] = labels_of(row)
             self.columns[section] = {it: names.index(it) for it in names}
         for at, row in self.rows_of('meta'):
