@@ -298,7 +298,7 @@ class Cleaner:
     # Projects
     def clean_projects(self):
         """Mends the ids of projects, and drops projects of cost 0 where the option asks for it."""
-        self.ids, self.zero, self.called = {}, set(), {}
+        self.ids, self.zero, self.called, self.causes = {}, set(), {}, {}
         column, cost, name = (self.columns['projects'].get(it, 1 << 30)
                               for it in ('project_id', 'cost', 'name'))
         for at, row in self.rows_of('projects'):
@@ -428,7 +428,10 @@ class Cleaner:
             good[text] = mended
             return
         unknown = [it for it in dict.fromkeys(left) if it not in self.zero]
-        for piece, cause in ((it, self.cause_of(it)) for it in unknown):
+        for piece in unknown:
+            cause = self.causes.get(piece)
+            if cause is None:
+                cause = self.causes[piece] = self.cause_of(piece)
             if cause or not self.given.drop_unknown:
                 self.unknown[piece, cause].append(at)
         kept = [it for it in pieces if it not in self.zero]
