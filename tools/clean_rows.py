@@ -1,16 +1,17 @@
-"""How tools/pb_clean mends the rows of an election: what has only one reading, what an option decides, what is refused."""
+"""How tools/pb_clean mends the rows of an election: by itself, by an option, and what it refuses."""
 import collections, fractions, itertools, re
 
 ORDER = ['meta', 'projects', 'votes']
 # White space as docs/formats.md has it, and what nobody sees besides: controls, formats, fillers.
-WHITE = ''.join(map(chr, [*range(0x9, 0xE), 0x20, 0x85, 0xA0, 0x1680, *range(0x2000, 0x200B), 0x2028, 0x2029, 0x202F,
-                          0x205F, 0x3000]))
-EDGES = WHITE + ''.join(map(chr, [*range(0x20), *range(0x7F, 0xA0), 0xAD, 0x34F, 0x61C, 0x115F, 0x1160, 0x180E,
-                                  *range(0x200B, 0x2010), *range(0x202A, 0x202F), *range(0x2060, 0x2070), 0x3164, 0xFEFF,
-                                  0xFFA0, *range(0xFE00, 0xFE10), *range(0xFFF9, 0xFFFC), *range(0xE0000, 0xE0080)]))
+WHITE = ''.join(map(chr, [*range(0x9, 0xE), 0x20, 0x85, 0xA0, 0x1680, *range(0x2000, 0x200B), 0x2028, 0x2029,
+                          0x202F, 0x205F, 0x3000]))
+EDGES = WHITE + ''.join(map(chr, [*range(0x20), *range(0x7F, 0xA0), 0xAD, 0x34F, 0x61C, 0x115F, 0x1160,
+                                  0x180E, *range(0x200B, 0x2010), *range(0x202A, 0x202F),
+                                  *range(0x2060, 0x2070), 0x3164, 0xFEFF, 0xFFA0, *range(0xFE00, 0xFE10),
+                                  *range(0xFFF9, 0xFFFC), *range(0xE0000, 0xE0080)]))
 QUOTES = '\'"`´‘’‚‛“”„‟«»‹›'
 BRACKETS = {'[': ']', '(': ')', '{': '}'}
-# Groups of thousands by one mark: the mark, further groups, the mark of decimals. The same by spaces or apostrophes.
+# Groups of thousands by one mark: the mark, further groups, the mark of decimals. Then by spaces or apostroph
 GROUPS = re.compile(r'[1-9][0-9]{0,2}([.,])[0-9]{3}((?:\1[0-9]{3})*)(?:(?!\1)([.,])[0-9]+)?')
 SPACES = ' \u00a0\u2009\u202f\'’'
 SPACED = re.compile(f'[1-9][0-9]{{0,2}}([{SPACES}])[0-9]{{3}}(?:\\1[0-9]{{3}})*(?:[.,][0-9]+)?')
@@ -18,37 +19,46 @@ DECIMALS = re.compile(f'[0-9{SPACES}]*[0-9]([.,])[0-9]+')
 SHORTENED = re.compile(r'[0-9]+(?:[.,][0-9]+)?E\+[0-9]+', re.I)
 # A date as a workbook's cell has it, and as a spreadsheet writes it.
 CELL_DATE = re.compile(r'[0-9]{4}-[0-9]{2}-[0-9]{2}T[0-9:.]+|[0-9]{2}:[0-9]{2}:[0-9]{2}(?:\.[0-9]+)?')
-DATE = re.compile(r'[0-9]{1,4}[-./][0-9]{1,2}[-./][0-9]{1,4}|[0-9]{1,2}[-. ]+[A-Za-z]{3,9}\.?|[A-Za-z]{3,9}[-. ]+[0-9]{1,4}')
+DATE = re.compile(r'[0-9]{1,4}[-./][0-9]{1,2}[-./][0-9]{1,4}|[0-9]{1,2}[-. ]+[A-Za-z]{3,9}\.?|'
+                  r'[A-Za-z]{3,9}[-. ]+[0-9]{1,4}')
 POINTS = {'points', 'point', 'score', 'scores', 'rank', 'ranks', 'ranking', 'weight', 'weights'}
 # What programs write where there is no value.
 NOTHING = {'nan', 'none', 'null', 'nil', 'na', 'n/a', '-', '\\n'}
 # What changes are called. Those that an option decided come first.
-DECIDED = ['--encoding', '--drop-unknown', '--drop-zero-cost', '--round', '--repeated-voters', '--single-choice', '--marks']
-UNSEEN, GROUPED, DUST, JOINED = "characters that can't be seen", 'groups of thousands', 'float dust', 'rows joined'
-KNOWN = {*DECIDED, UNSEEN, GROUPED, DUST, JOINED, 'encoding', 'separator', 'spaces before quotation marks', 'workbook',
-         'row added', 'empty row', 'text above META', 'text above the columns', 'heading of rows to join', 'brackets',
-         'quotation marks', 'bars', 'point and zero'}
+DECIDED = ['--encoding', '--drop-unknown', '--drop-zero-cost', '--round', '--repeated-voters',
+           '--single-choice', '--marks']
+UNSEEN, GROUPED = "characters that can't be seen", 'groups of thousands'
+DUST, JOINED = 'float dust', 'rows joined'
+KNOWN = {*DECIDED, UNSEEN, GROUPED, DUST, JOINED, 'encoding', 'separator', 'spaces before quotation marks',
+         'workbook', 'row added', 'empty row', 'text above META', 'text above the columns',
+         'heading of rows to join', 'brackets', 'quotation marks', 'bars', 'point and zero'}
 # What to do about a fault that is left, by its name.
 REMEDIES = {
     'NoSection': 'a section is missing, or the file does not begin with META',
     'SectionOrder': 'the sections are META, PROJECTS and VOTES, in this order and each once',
     'NoHeader': "the row of column names below the section's heading is missing",
-    'MissingColumn': 'PROJECTS needs the columns project_id and cost; VOTES needs voter_id and vote, or voter_id and '
-                     'project_id with a row for each vote',
-    'MissingField': 'the row ends before a needed column: complete it, or delete it if it is a total or a note',
+    'MissingColumn': 'PROJECTS needs the columns project_id and cost; VOTES needs voter_id and vote, or '
+                     'voter_id and project_id with a row for each vote',
+    'MissingField': 'the row ends before a needed column: complete it, or delete it if it is a total or a '
+                    'note',
     'MissingKey': 'META needs budget;AMOUNT and vote_type;approval',
-    'VoteType': 'only approval ballots can be counted; if each voter picks one project (choose-1), name `--single-choice`',
-    'BadMoney': 'an amount is digits, with at most one point or comma: no currency, no minus sign, no letters',
-    'MoneyTooFine': 'more than two decimals: if that is meant, name `--round half-up`, `--round down` or `--round up`',
+    'VoteType': 'only approval ballots can be counted; if each voter picks one project (choose-1), name '
+                '`--single-choice`',
+    'BadMoney': 'an amount is digits, with at most one point or comma: no currency, no minus sign, no '
+                'letters',
+    'MoneyTooFine': 'more than two decimals: if that is meant, name `--round half-up`, `--round down` or '
+                    '`--round up`',
     'MoneyTooLarge': 'the amount has too many digits',
-    'ZeroCost': 'the project costs 0: write its cost, or name `--drop-zero-cost`, which drops it and the votes for it',
+    'ZeroCost': 'the project costs 0: write its cost, or name `--drop-zero-cost`, which drops it and the '
+                'votes for it',
     'EmptyId': 'the id is empty: fill it in, or delete the row if it is a total or a note',
     'RepeatedProject': 'an earlier row has the same project id: give one of the two projects another id',
-    'RepeatedVoter': 'an earlier row has the same voter id. If the rows are one ballot, name `--repeated-voters merge`; if '
-                     'they are different people, `distinct`; if only the first or last row is valid, `first` or `last`',
+    'RepeatedVoter': 'an earlier row has the same voter id. If the rows are one ballot, name '
+                     '`--repeated-voters merge`; if they are different people, `distinct`; if only the '
+                     'first or last row is valid, `first` or `last`',
     'BadLength': 'max_length is a number without decimals, or empty'}
 
-# The rows of a file: a key for each (by which LOG names it), their fields, and LOG's rows on how the file was read.
+# The rows of a file: a key for each, as LOG names it, their fields, LOG's rows on how the file was read.
 Table = collections.namedtuple('Table', 'keys rows reading')
 
 class Refused(Exception):
@@ -70,13 +80,15 @@ def row_text(fields):
     """A row as it is written."""
     text = ';'.join(fields)
     if '"' in text or '\n' in text or '\r' in text or text.count(';') != len(fields) - 1:
-        text = ';'.join('"' + it.replace('"', '""') + '"' if re.search('[;"\r\n]', it) else it for it in fields)
+        text = ';'.join('"' + it.replace('"', '""') + '"' if re.search('[;"\r\n]', it) else it
+                        for it in fields)
     return text or '""'
 
 def labels_of(names):
     """What LOG calls the fields of a row: a column's name if it is there once, else its number."""
     names = [trimmed(it).lower() for it in names]
-    return [it if it and names.count(it) == 1 and not it.isdigit() else str(at) for at, it in enumerate(names, 1)]
+    return [it if it and names.count(it) == 1 and not it.isdigit() else str(at)
+            for at, it in enumerate(names, 1)]
 
 def label_of(labels, column):
     return labels[column] if column < len(labels) else str(column + 1)
@@ -84,26 +96,31 @@ def label_of(labels, column):
 def is_columns(fields, section):
     """Whether these are the column names of PROJECTS or VOTES."""
     names = {seen(seen(it).strip(QUOTES)).lower() for it in fields}
-    return {'project_id', 'cost'} <= names if section == 'projects' else 'voter_id' in names and bool({'vote', 'project_id'} & names)
+    if section == 'projects':
+        return {'project_id', 'cost'} <= names
+    return 'voter_id' in names and not names.isdisjoint({'vote', 'project_id'})
 
 # How rows are mended
 class Cleaner:
-    """The rows of an election, which it mends, and its log: for each row that changes, the field, what, before and after."""
+    """Mends the rows of an election. Its log has for each row that changes the field, what, before, after."""
     def __init__(self, table, given):
         self.keys, self.rows, self.given = table.keys, table.rows, given
         self.is_cut = any(it[2] == 'separator' for it in table.reading)
-        self.log, self.first_text = collections.defaultdict(list), {}
-        self.added, self.refusals, self.differ, self.unknown = {}, [], [], collections.defaultdict(list)
-        # Of each section: its rows, what LOG calls its fields, its columns. Of META the rows of the keys that a count needs.
+        self.log, self.first = collections.defaultdict(list), {}
+        self.added, self.refusals, self.unknown = {}, [], collections.defaultdict(list)
+        # Rows that are told in the summary: joined ones that differ, column names that are there twice.
+        self.differ, self.twice = [], []
+        # Of each section: its rows, what LOG calls its fields, its columns. Of META: the rows of needed keys.
         self.places, self.labels, self.columns, self.meta = {}, {}, {}, {}
-        self.is_long = False
+        self.is_long, self.voters = False, set()
 
     def refuse(self, at, words):
         self.refusals.append((at, words))
 
     def edit(self, at, column, what, after, section=None):
         row = self.rows[at]
-        self.first_text.setdefault(at, row_text(row))
+        if at not in self.first:
+            self.first[at] = row[:]
         self.log[at].append((label_of(self.labels.get(section, []), column), what, row[column], after))
         row[column] = after
 
@@ -114,7 +131,7 @@ class Cleaner:
 
     def drop(self, at, what):
         """Leaves a row out. LOG shows it as it was, and no former change of it."""
-        self.log[at] = [('', what, self.first_text.get(at) or row_text(self.rows[at]), '')]
+        self.log[at] = [('', what, row_text(self.first.get(at, self.rows[at])), '')]
         self.rows[at] = None
 
     def rows_of(self, section):
@@ -143,7 +160,8 @@ class Cleaner:
                 self.edit_unseen(at, 0)
         if list(heads) != ORDER:
             lost = ', '.join(it.upper() for it in ORDER if it not in heads)
-            words = f'the file has no heading {lost} on a row of its own' if lost else REMEDIES['SectionOrder']
+            words = f'the file has no heading {lost} on a row of its own'
+            words = words if lost else REMEDIES['SectionOrder']
             return self.refuse(max(heads.values(), default=0), words)
         for at in range(heads['meta']):
             if self.rows[at] and seen(self.rows[at][0]).lower() in ('budget', 'vote_type', 'max_length'):
@@ -159,10 +177,12 @@ class Cleaner:
         """The sections of two tables: rows of projects, and rows of votes."""
         middle = next((at for at, key in enumerate(self.keys) if key.startswith('votes')), len(self.keys))
         limit = [f'max_length;{self.given.max_length}'] if self.given.max_length is not None else []
-        self.added = {0: ['META', 'key;value', f'budget;{self.given.budget}', 'vote_type;approval', *limit, 'PROJECTS'],
+        self.added = {0: ['META', 'key;value', f'budget;{self.given.budget}', 'vote_type;approval', *limit,
+                          'PROJECTS'],
                       middle: ['VOTES'] + ['voter_id;vote'] * (middle == len(self.keys))}
         for section, begin, end in [('projects', 0, middle), ('votes', middle, len(self.keys))]:
-            head = next((at for at in range(begin, end) if self.rows[at] and is_columns(self.rows[at], section)), None)
+            head = next((at for at in range(begin, end) if self.rows[at]
+                         and is_columns(self.rows[at], section)), None)
             if head is None and begin < end:
                 return self.refuse(begin, REMEDIES['MissingColumn'])
             for at in range(begin, head or begin):
@@ -183,6 +203,8 @@ class Cleaner:
                 self.is_long = True
                 self.edit(at, names.index('project_id'), 'heading of rows to join', 'vote')
                 names[names.index('project_id')] = 'vote'
+            if any(names.count(it) > 1 for it in ('project_id', 'cost', 'voter_id', 'vote')):
+                self.twice.append(at)
             self.labels[section] = labels_of(row)
             self.columns[section] = {it: names.index(it) for it in names}
         for at, row in self.rows_of('meta'):
@@ -197,15 +219,18 @@ class Cleaner:
         for section in ('projects', 'votes') if self.is_cut else ():
             for at, row in self.rows_of(section):
                 if any(map(seen, row[len(self.labels[section]):])):
-                    self.refuse(at, 'the row has more fields than there are column names: put quotation marks around the '
-                                    'field that has the separator in it')
+                    self.refuse(at, 'the row has more fields than there are column names: put quotation '
+                                'marks around the field that has the separator in it')
         for at in self.meta.values() if self.is_cut else ():
             if any(map(seen, self.rows[at][2:])):
-                self.refuse(at, 'the value has the separator in it: put quotation marks around it, or leave the mark out')
+                self.refuse(at, 'the value has the separator in it: put quotation marks around it, or leave '
+                            'the mark out')
         for column in [it for name, it in self.columns.get('votes', {}).items() if name in POINTS]:
-            said = [at for at, row in self.rows_of('votes') if len(row) > column and seen(row[column]) not in ('', '1')]
+            said = [at for at, row in self.rows_of('votes') if len(row) > column
+                    and seen(row[column]) not in ('', '1')]
             if said:
-                self.refuse(said[0], 'the votes have points or ranks, which are no approvals: they can not be counted')
+                self.refuse(said[0], 'the votes have points or ranks, which are no approvals: they can not '
+                            'be counted')
 
     # Amounts
     def clean_amounts(self):
@@ -221,7 +246,8 @@ class Cleaner:
         for mark in '.,':
             pair = sorted(roles[it] for it in [(mark, 'thousands'), (mark, 'decimals')] if it in roles)
             if len(pair) == 2:
-                self.refuse(pair[1], f'`{mark}` marks thousands in one amount and decimals in another (record '
+                self.refuse(pair[1], f'`{mark}` marks thousands in one amount and decimals in another '
+                                     '(record '
                                      f'{self.keys[pair[0]]}): write all amounts alike')
         for at, column, section in places:
             self.clean_groups(at, column, section, roles)
@@ -247,7 +273,8 @@ class Cleaner:
         shows = {it: roles.get((mark, it)) for it in ('thousands', 'decimals')}
         other = {'thousands': 'decimals', 'decimals': 'thousands'}.get(marks)
         if marks and shows[other] is not None:
-            self.refuse(at, f'`{mark}` marks {other} in record {self.keys[shows[other]]}, whatever `--marks {marks}` says')
+            self.refuse(at, f'`{mark}` marks {other} in record {self.keys[shows[other]]}, whatever `--marks '
+                        f'{marks}` says')
         elif shows['thousands'] is not None or marks == 'thousands':
             what = GROUPED if shows['thousands'] is not None else '--marks'
             self.edit(at, column, what, text.replace(mark, ''), section)
@@ -256,28 +283,31 @@ class Cleaner:
                             '`--marks thousands` or `--marks decimals`')
 
     def clean_decimals(self, at, column, section):
-        """Rounds an amount of more than two decimals: what a computer's sum left, or what the option asks for."""
+        """Rounds more than two decimals: those that a computer's sum left, or if the option asks for it."""
         parts = re.fullmatch('([0-9]{1,20})([.,])([0-9]{3,40})', trimmed(self.rows[at][column]))
         if parts and parts[3][2:].strip('0'):
             exact = fractions.Fraction(int(parts[1] + parts[3]), 10 ** (len(parts[3]) - 2))
             near = int(exact + fractions.Fraction(1, 2))
             is_dust = abs(exact - near) * 10**6 <= 1
             if is_dust or self.given.round:
-                amount = near if is_dust else {'half-up': near, 'down': int(exact), 'up': -int(-exact // 1)}[self.given.round]
+                amount = near if is_dust else {'half-up': near, 'down': int(exact),
+                                               'up': -int(-exact // 1)}[self.given.round]
                 text = f'{amount // 100}{parts[2]}{amount % 100:02}'
                 self.edit(at, column, DUST if is_dust else '--round', text, section)
 
     # Projects
     def clean_projects(self):
         """Mends the ids of projects, and drops projects of cost 0 where the option asks for it."""
-        self.ids, self.zero, self.called = {}, set(), {}
-        column, cost, name = (self.columns['projects'].get(it, 1 << 30) for it in ('project_id', 'cost', 'name'))
+        self.ids, self.zero, self.called, self.causes = {}, set(), {}, {}
+        column, cost, name = (self.columns['projects'].get(it, 1 << 30)
+                              for it in ('project_id', 'cost', 'name'))
         for at, row in self.rows_of('projects'):
             if max(column, cost) >= len(row):
                 continue
             project = seen(row[column])
             if project != trimmed(row[column]) and project in self.ids:
-                self.refuse(at, f'the id differs from that of record {self.keys[self.ids[project]]} only by {UNSEEN}')
+                self.refuse(at, f'the id differs from that of record {self.keys[self.ids[project]]} only by '
+                            f'{UNSEEN}')
             self.edit_unseen(at, column, 'projects')
             self.judge_id(at, project)
             was_zero = not any(what in (DUST, '--round') for _, what, _, _ in self.log.get(at, ()))
@@ -295,19 +325,21 @@ class Cleaner:
 
     def judge_id(self, at, text):
         if SHORTENED.fullmatch(text) or CELL_DATE.fullmatch(text):
-            self.refuse(at, f'a spreadsheet changed the id {shown(text)} (a shortened number, or a date): no row can be told '
+            self.refuse(at, f'a spreadsheet changed the id {shown(text)} (a shortened number, or a date): '
+                        'no row can be told '
                             'from another; get the ids again, as text')
 
     @staticmethod
     def plain(project):
-        """The id without what people and spreadsheets change: case, white space, zeros at its front, `.0` at its end."""
+        """The id without what gets changed: case, white space, zeros at its front, `.0` at its end."""
         return re.sub(r'\.0$', '', re.sub(r'\s', '', project).casefold()).lstrip('0') or '0'
 
     # Votes
     def clean_votes(self):
         """Mends each vote, and joins or chooses among the rows of a voter."""
-        voter, vote = (self.columns['votes'].get(it, 1 << 30) if 'votes' in self.columns else 0 for it in ('voter_id', 'vote'))
-        is_single, rows, good, joined = self.is_single_choice(), {}, {''}, {}
+        voter, vote = (self.columns['votes'].get(it, 1 << 30) if 'votes' in self.columns else 0
+                       for it in ('voter_id', 'vote'))
+        is_single, rows, good, joined = self.is_single_choice(), {}, {'': None}, {}
         for at, row in self.rows_of('votes'):
             if max(voter, vote) >= len(row):
                 continue
@@ -316,6 +348,8 @@ class Cleaner:
                 self.edit_unseen(at, voter, 'votes')
             if row[vote] not in good:
                 self.clean_vote(at, vote, good)
+            elif good[row[vote]]:
+                self.edit(at, vote, *good[row[vote]], 'votes')
             if is_single and len({*map(trimmed, row[vote].split(','))}) > 1:
                 self.refuse(at, 'the vote names several projects, so the file is not choose-1')
             if '+' in name or ':' in name:
@@ -351,8 +385,10 @@ class Cleaner:
             self.drop(at if way == 'first' else first, '--repeated-voters')
             rows[name] = first if way == 'first' else at
         elif way == 'distinct':
-            self.voters = getattr(self, 'voters', None) or {seen(row[voter]) for _, row in self.rows_of('votes') if voter < len(row)}
-            other = next(it for it in (f'{name}-{number}' for number in itertools.count(2)) if it not in self.voters)
+            if not self.voters:
+                self.voters = {seen(row[voter]) for _, row in self.rows_of('votes') if voter < len(row)}
+            other = next(it for it in (f'{name}-{number}' for number in itertools.count(2))
+                         if it not in self.voters)
             self.voters.add(other)
             self.edit(at, voter, '--repeated-voters', other, 'votes')
 
@@ -363,30 +399,39 @@ class Cleaner:
             return pieces, []
         body, pieces = seen(text), []
         kinds = {UNSEEN: 1} if body != trimmed(text) else {}
-        if body[:1] in BRACKETS and body[-1] == BRACKETS[body[0]] and self.is_free[body[0]] and self.is_free[body[-1]]:
+        ends = body[:1], body[-1:]
+        if BRACKETS.get(ends[0]) == ends[1] and self.is_free[ends[0]] and self.is_free[ends[1]]:
             body, kinds['brackets'] = body[1:-1], 1
         if '|' in body and self.is_free['|']:
             body, kinds['bars'] = body.replace('|', ','), 1
         for piece in map(trimmed, body.split(',')):
             if piece not in self.ids and seen(piece) != piece:
                 piece, kinds[UNSEEN] = seen(piece), 1
-            if piece and piece not in self.ids and all(it in QUOTES and self.is_free[it] for it in (piece[0], piece[-1])):
+            if piece and piece not in self.ids and all(it in QUOTES and self.is_free[it]
+                                                       for it in (piece[0], piece[-1])):
                 piece, kinds['quotation marks'] = seen(piece.strip(QUOTES)), 1
-            if piece not in self.ids and re.fullmatch(r'[0-9]+\.0', piece) and piece[:-2] in self.ids and '0' not in self.ids:
+            is_float = re.fullmatch(r'[0-9]+\.0', piece) and piece[:-2] in self.ids and '0' not in self.ids
+            if is_float and piece not in self.ids:
                 piece, kinds['point and zero'] = piece[:-2], 1
             pieces += [piece] if piece else []
         return pieces, list(kinds)
 
     def clean_vote(self, at, column, good):
+        """Mends a vote. `good` gets what a vote needs that names projects alone."""
         text = self.rows[at][column]
         pieces, kinds = self.pieces_of(text)
         left = [it for it in pieces if it not in self.ids]
-        if not kinds and not left:
-            good.add(text)
-        if kinds:
-            self.edit(at, column, ', '.join(kinds), ','.join(pieces), 'votes')
+        mended = (', '.join(kinds), ','.join(pieces)) if kinds else None
+        if mended:
+            self.edit(at, column, *mended, 'votes')
+        if not left:
+            good[text] = mended
+            return
         unknown = [it for it in dict.fromkeys(left) if it not in self.zero]
-        for piece, cause in ((it, self.cause_of(it)) for it in unknown):
+        for piece in unknown:
+            cause = self.causes.get(piece)
+            if cause is None:
+                cause = self.causes[piece] = self.cause_of(piece)
             if cause or not self.given.drop_unknown:
                 self.unknown[piece, cause].append(at)
         kept = [it for it in pieces if it not in self.zero]
@@ -396,7 +441,7 @@ class Cleaner:
             self.edit(at, column, '--drop-unknown', ','.join(it for it in kept if it in self.ids), 'votes')
 
     def cause_of(self, piece):
-        """What an unknown id probably is, if it is more than the id of a project that is gone. Then it is never dropped."""
+        """What an unknown id is, if it is hardly that of a project that is gone. Then it is never dropped."""
         parts = [it for it in re.split(r'[\W_]+', piece) if it]
         has_known = any(it in self.ids for it in parts)
         length = next(iter(self.lengths)) if len(self.lengths) == 1 else 3
@@ -404,23 +449,31 @@ class Cleaner:
         like = self.alike.get(self.plain(piece))
         causes = [
             (not self.ids, 'PROJECTS has no projects: get its rows first'),
-            (re.search('[\r\n]', piece), 'it goes over several lines: a quotation mark is not closed, or is too many'),
+            (re.search('[\r\n]', piece), 'it goes over several lines: a quotation mark is not closed, or is '
+             'too many'),
             (SHORTENED.fullmatch(piece), 'a spreadsheet shortened it: get the ids again, as text'),
-            (CELL_DATE.fullmatch(piece) or DATE.fullmatch(piece), 'a spreadsheet made a date of it: get the votes again, as text'),
+            (CELL_DATE.fullmatch(piece) or DATE.fullmatch(piece),
+             'a spreadsheet made a date of it: get the votes again, as text'),
             (re.fullmatch('[0-9]+[.][0-9]+', piece) and has_known,
-             'a spreadsheet read ids with a comma as one number, so ids are lost: get the votes again, as text'),
-            (like, f'the project {shown(like or "")} differs only by case, zeros, a point or white space: correct one of both'),
-            (len(parts) > 1 and has_known, 'it has the id of a project and more: write `,` between ids, and nothing else; '
-                                           'points and ranks are no approvals'),
+             'a spreadsheet read ids with a comma as one number, so ids are lost: get the votes again, as '
+             'text'),
+            (like, f'the project {shown(like or "")} differs only by case, zeros, a point or white space: '
+             'correct one of both'),
+            (len(parts) > 1 and has_known, 'it has the id of a project and more: write `,` between ids, and '
+             'nothing else; points and ranks are no approvals'),
             (length > 1 and len(cut) > 1 and piece.isdigit() and all(it in self.ids for it in cut),
              'it is made of ids whose commas are lost: get the votes again, as text'),
-            (piece in self.called, f'it is the name of the project {shown(self.called.get(piece, ""))}: write its id')]
+            (piece in self.called, f'it is the name of the project {shown(self.called.get(piece, ""))}: '
+             'write its id')]
         return next((words for holds, words in causes if holds), '')
 
     def say_unknown(self):
         for (piece, cause), places in self.unknown.items():
-            more = f' (and in {len(places) - 1} more votes, such as record {self.keys[places[1]]})' if len(places) > 1 else ''
+            more = f' (and in {len(places) - 1} more votes, such as record {self.keys[places[1]]})' \
+                if len(places) > 1 else ''
             advice = 'if the project was withdrawn, `--drop-unknown` takes its id out of the votes'
             if piece.lower() in NOTHING:
-                advice = 'if it says that nothing was voted for, `--drop-unknown` leaves a ballot that approves nothing'
-            self.refuse(places[0], f'the vote names {shown(piece)}, which no project has{more}: {cause or advice}')
+                advice = 'if it says that nothing was voted for, `--drop-unknown` leaves a ballot that ' \
+                         'approves nothing'
+            self.refuse(places[0], f'the vote names {shown(piece)}, which no project has{more}: '
+                        f'{cause or advice}')
