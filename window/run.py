@@ -1,36 +1,58 @@
 #!/usr/bin/python3
 """The clerks' window: web pages on which clerks cast, replace and withdraw ballots. README.md says how an office uses it."""
-import argparse, datetime, hashlib, ipaddress, os, shlex, signal, sys, threading
+import argparse, csv, ipaddress, os, shlex, signal, sys, threading
 
 sys.dont_write_bytecode = True
+import copies, desk, election, log, overnight, roll, sessions, settings, sign_in
 try:
-    import desk, election, log, pages, roll, server, sessions, sign_in
-except ImportError as why:
-    sys.exit(f"run.py: {why}. Install Debian's python3-flask and python3-cheroot, and run it by /usr/bin/python3")
+    import pages, server
+except ImportError as why:      # A copy is made and put back without these.
+    pages, LACKS = None, f"{why}. Install Debian's python3-flask and python3-cheroot, and run it by /usr/bin/python3"
 
 OPTIONS = {
-    '--clerks': dict(metavar='CLERKS', required=True, help='the file that clerks.py makes'),
+    '--clerks': dict(metavar='CLERKS', help='the file that clerks.py makes; the window needs it'),
     '--listen': dict(metavar='ADDRESS:PORT', default='127.0.0.1:8080', help='where the window listens; 127.0.0.1:8080 if not given'),
     '--name': dict(metavar='HOST', action='append', default=[], help='a name that clerks type into the browser; may be given several times'),
     '--cert': dict(metavar='PEM', help='the certificate for TLS'),
     '--key': dict(metavar='PEM', help='its key'),
-    '--backup': dict(metavar='FOLDER', help='copies the journal and its digest there in the evening'),
+    '--backup': dict(metavar='FOLDER', help='makes whole copies there: in the evening, at a shut, and every so many minutes'),
+    '--backup-every': dict(metavar='MINUTES', type=int, default=60, help='how many minutes; 60 if not given'),
+    '--copy': dict(action='store_true', help='makes a copy in the folder of --backup now, and opens no window'),
+    '--restore': dict(metavar='COPY', help='puts an office back into this folder, which is empty, from a copy, and opens no window'),
     '--roll': dict(metavar='ROLL', help='takes requests only for the voters in this file'),
     '--min': dict(metavar='N', type=int, default=0, help='the smallest number of projects that a new ballot may name'),
     '--title': dict(metavar='TEXT', help='the title of the page of the result'),
+    '--language': dict(metavar='WORDS', help='the file of words for the page of the result, such as words/de.words'),
+    '--currency': dict(metavar='TEXT', help='the currency on the page of the result'),
     '--count': dict(metavar='OPTIONS', default='', help='the options of the count in one word, such as --count="--measure cost"'),
     '--program': dict(metavar='PATH', default='pb_app', help='where pb_app is, if it is not on the PATH'),
 }
 
 
 def arguments():
-    """What the command line asks for."""
-    parser = argparse.ArgumentParser(prog='run.py', description="The clerks' window: web pages on which clerks take ballots.")
-    parser.add_argument('file', metavar='FILE', help='the election')
-    parser.add_argument('journal', metavar='JOURNAL', help='the journal of its desk; created if it does not exist')
+    """What the command line asks for, or the file of settings that it names."""
+    parser = argparse.ArgumentParser(prog='run.py', description="The clerks' window: web pages on which clerks take ballots.",
+                                     usage='run.py FILE JOURNAL --clerks CLERKS [OPTION..]\n       run.py OFFICE.toml\n       run.py --restore COPY')
+    parser.add_argument('file', metavar='FILE', nargs='?', help='the election; or alone, a file of settings, OFFICE.toml')
+    parser.add_argument('journal', metavar='JOURNAL', nargs='?', help='the journal of its desk; created if it does not exist')
     for option, words in OPTIONS.items():
         parser.add_argument(option, **words)
-    given = parser.parse_args()
+    given, path, known = parser.parse_args(), None, None
+    if given.file and not given.journal:
+        path, more = given.file, [it for it in sys.argv[1:] if it != given.file]
+        try:
+            known = settings.load(path) | {'the command line': [it for it in more if it not in ('--copy', '--other-file')]}
+            options, names = settings.arguments_of(path)
+        except ValueError as why:
+            parser.exit(2, f'run.py: {why}\n')
+        given = parser.parse_args([*options, *more, '--', *names])
+    given.settings, given.known = path, known
+    if not given.restore and not given.file:
+        parser.error('name FILE and JOURNAL, or a file of settings, or --restore COPY')
+    if not given.restore and not given.clerks and not given.copy:
+        parser.error('--clerks: name the file that clerks.py makes')
+    if given.backup_every < 1:
+        parser.error('--backup-every takes a number of minutes, 1 or more')
     host, _, port = given.listen.rpartition(':')
     try:
         address, given.address = ipaddress.ip_address(host.strip('[]')), (host.strip('[]'), int(port))
@@ -41,7 +63,9 @@ def arguments():
     if address.is_unspecified and not given.name:
         parser.error('give --name: the name that clerks type to reach the window')
     if given.backup and not os.access(given.backup, os.W_OK | os.X_OK):
-        parser.error('--backup: this is not a folder in which you may write')
+        parser.error(f'--backup: {given.backup} is not a folder in which you may write. If it is on a stick, put that in')
+    if given.copy and not given.backup:
+        parser.error('--copy needs --backup: the folder for the copy')
     given.scheme = 'https' if given.cert else 'http'
     names = given.name + [host] + ['localhost'] * address.is_loopback
     given.hosts = [f'{name}:{port}' for name in names] + names * (int(port) == (443 if given.cert else 80))
@@ -56,46 +80,67 @@ class Day:
         self.door, self.sessions, self.ending = sign_in.Door(given.clerks), sessions.Sessions(), threading.Lock()
         self.election = election.Election(given.program, given.file, given.min)
         self.log = log.Log(f'{given.journal}.log')
+        self.keeper = overnight.Keeper(given, self.log)
+        self.keeper.compare(self.door.known[0])
         serve = [given.program, 'serve', '--by-id', *(['--roll', given.roll] if given.roll else []), f'--min={given.min}']
         self.roll = roll.Roll(given.program, given.roll) if given.roll else None
         self.desk = desk.Desk(serve, given.file, given.journal, self.log, self.election.votes)
         self.desk.start()
+        self.keeper.try_to_keep(is_copied=False)
         if self.desk.shut:
             self.desk.end()
+        threading.Thread(target=self.keeper.watch, daemon=True).start()
 
-    def end(self):
-        """Ends the child in order, and copies the journal that it leaves, with its digest. Answers in words what failed."""
+    def end(self, is_over=False):
+        """Ends the child in order, and makes the copy of the evening. Answers in words what failed."""
         with self.ending:
             self.desk.end()
+            if is_over:
+                self.keeper.is_over.set()
             try:
-                with open(self.given.journal, 'rb') as file:
-                    text = file.read()
-                digest, entries = hashlib.sha256(text).hexdigest(), self.desk.newest.number
+                digest, entries = overnight.file_digest(self.given.journal), self.desk.newest.number
                 self.log.write('ended', entries=entries, digest=digest)
-                print(f'\nEntries: {entries}, sha256 {digest}: write both down', flush=True)
-                name = f'{os.path.basename(self.given.journal)}.{datetime.datetime.now(datetime.timezone.utc):%Y%m%dT%H%M%S%fZ}'
-                for end, data in (('', text), ('.sha256', f'{digest}  {name}\n'.encode())) if self.given.backup else ():
-                    with open(os.path.join(self.given.backup, name + end), 'xb') as file:
-                        file.write(data)
-                        file.flush()
-                        os.fsync(file.fileno())
-                    print(f'Copied to {file.name}', flush=True)
-            except OSError as why:
-                self.log.write('not-copied', why=str(why))
-                return f'The journal was not copied: {why}. Copy it by hand. If it was moved, it is in {self.given.journal}.kept.'
+                if digest:
+                    print(f'\nEntries: {entries}, sha256 {digest}: write both down', flush=True)
+                whole = self.keeper.keep(is_evening=True)
+                if whole:
+                    print(f'Copied to {whole}', flush=True)
+            except (OSError, ValueError, csv.Error, election.Fault) as why:
+                self.keeper.tell(f'No copy was made: {why}')
+                return f'No copy was made: {why}. Copy the folder by hand. If {self.given.journal} was moved, look for {self.given.journal}.kept.'
 
     def result(self):
         """The report of the shut desk with its digests, and the page of the result, by the names of their files."""
         given, rule = self.given, shlex.split(self.given.count)
-        title = ['--title', given.title] if given.title else []
+        shows = {'--title': given.title, '--words': given.language, '--currency': given.currency}
+        shows = [word for option, value in shows.items() if value for word in (option, value)]
         report = [given.program, 'audit', given.file, given.journal, '--digests', '--require-shut', *rule]
-        shown = [given.program, 'page', given.file, '--journal', given.journal, *title, *rule]
+        shown = [given.program, 'page', given.file, '--journal', given.journal, *shows, *rule]
         return {'report.txt': election.told_by(*report), 'result.html': election.told_by(*shown)}
+
+
+def copied_or_restored(given):
+    """Makes a copy, or puts one back, without a window; gives in words what was done."""
+    if given.restore:
+        more = 'Leave the other machine switched off. Then start the window as each morning.'
+        return [*copies.restore(given.restore, given.program), more]
+    keeper = overnight.Keeper(given, None)
+    whole = keeper.copies.make(keeper.files()[0])
+    keeper.warn(whole)
+    return [f'Copied to {whole}']
 
 
 def main():
     given = arguments()
     os.umask(0o077)
+    if given.restore or given.copy:
+        try:
+            print(*copied_or_restored(given), sep='\n')
+        except (election.Fault, OSError, ValueError, csv.Error) as why:
+            sys.exit(f'run.py: {why}')
+        return
+    if not pages:
+        sys.exit(f'run.py: {LACKS}')
     try:
         pages.office = day = Day(given)
     except (election.Fault, OSError, ValueError) as why:
@@ -113,7 +158,7 @@ def main():
         web.stop()
     except OSError as why:
         print(f'run.py: {why}', file=sys.stderr)
-    sys.exit(day.end())
+    sys.exit(day.end(is_over=True))
 
 
 if __name__ == '__main__':
