@@ -1,5 +1,5 @@
 """Tries what keeps an office through its days: whole copies and the way back, settings, and what changed overnight."""
-import hashlib, json, os, pathlib, pty, re, select, shutil, signal, stat, subprocess, time
+import hashlib, os, pty, re, select, shutil, signal, socket, stat, subprocess, time
 
 from window_clerk import LIMIT, PYTHON, RUN, TOP, Clerk, Window, passphrase_of
 from window_office import until
@@ -15,34 +15,37 @@ import run
 run.main()
 '''
 
-# Runs run.py until the call with this number of one that changes a disk, and dies there. What was not synced is lost by half,
-# and a folder gets its name only when all of its files are synced.
+# Runs run.py until the call with this number of those that change a disk, and dies there. What was not synced is lost by half; and
+# a folder gets the name of a copy only when all of its files, and it, are synced.
 KILLED = f'''import os, signal, sys
 sys.dont_write_bytecode = True
 sys.path.insert(0, {str(TOP / 'window')!r})
 at, count, synced = int(sys.argv.pop(1)), 0, set()
-def counted(name):
-    real = getattr(os, name)
-    def call(*words, **more):
-        global count
-        count += 1
-        if name == 'fsync':
-            path = os.readlink(f'/proc/self/fd/{{words[0]}}')
-            if count == at and os.path.isfile(path):
-                os.truncate(path, os.path.getsize(path) // 2)
-            synced.add(path)
-        if name == 'rename' and os.path.isdir(words[0]) and '.2' in os.path.basename(words[1]) and words[1][0] != '.' \\
-                and not os.path.basename(words[1]).startswith('.'):
-            lacking = [it for it in os.listdir(words[0]) if os.path.abspath(os.path.join(words[0], it)) not in synced]
-            if lacking or os.path.abspath(words[0]) not in synced:
-                print('not synced:', *lacking, flush=True)
-        if count == at:
-            os.kill(os.getpid(), signal.SIGKILL)
-        return real(*words, **more)
-    setattr(os, name, call)
-for name in ('open', 'mkdir', 'fdopen', 'fsync', 'rename', 'unlink', 'rmdir'):
-    counted(name)
+def counted():
+    global count
+    count += 1
+    if count == at:
+        os.kill(os.getpid(), signal.SIGKILL)
+def changes(event, words):
+    if event == 'open' and words[2] & (os.O_WRONLY | os.O_RDWR | os.O_CREAT) or event in ('os.mkdir', 'os.rename', 'os.remove', 'os.rmdir'):
+        if event == 'os.rename' and os.path.isdir(words[0]) and not os.path.basename(words[1]).startswith('.'):
+            names = [words[0], *(os.path.join(words[0], it) for it in os.listdir(words[0]))]
+            print('not synced:' * any(os.path.abspath(it) not in synced for it in names), flush=True)
+        counted()
+def fsync(number):
+    path = os.readlink(f'/proc/self/fd/{{number}}')
+    if count + 1 == at and os.path.isfile(path):
+        os.truncate(path, os.path.getsize(path) // 2)
+    counted()
+    synced.add(path)
+    real[0](number)
+def fdopen(*words, **more):
+    counted()
+    return real[1](*words, **more)
+real = os.fsync, os.fdopen
+os.fsync, os.fdopen = fsync, fdopen
 import run
+sys.addaudithook(changes)
 run.main()
 '''
 
@@ -404,3 +407,69 @@ def try_changed(window, folder, path, text):
         ended(window)
     done = run(window.program, folder, 'city.pb', 'city.journal', '--clerks', 'clerks.json', '--listen', f'127.0.0.1:{window.port}')
     see(done.returncode == 1 and 'today began without one' in done.stderr, 'a day without the settings is told', done)
+
+
+def try_failed_starts(program, work):
+    """A start that fails says why in words, without a traceback; its status is not 0, and it leaves no folder behind."""
+    folder, left = new_folder(work, 'failed'), work / 'temporary'
+    left.mkdir()
+    (folder / 'voters.csv').write_text('voter_id\nv1\n')
+    (folder / 'broken.pem').write_text('nothing\n')
+    (folder / 'bad.journal').write_text('journal;2\n1;1;cost;v1;0;done\n')
+    taken = socket.socket()
+    taken.bind(('127.0.0.1', 0))
+    taken.listen()
+    port = taken.getsockname()[1]
+    words = ['city.pb', 'city.journal', '--clerks', 'clerks.json', '--program', program, '--roll', 'voters.csv']
+    start = lambda *more: subprocess.run([str(it) for it in (PYTHON, '-B', RUN, *words, *more)], cwd=folder, capture_output=True, text=True,
+                                         stdin=subprocess.DEVNULL, timeout=LIMIT, env={**os.environ, 'TMPDIR': str(left)})
+    for more, said in ((['--listen', f'127.0.0.1:{port}'], f'--listen 127.0.0.1:{port}: another program has port {port}'),
+                       (['--listen', '127.0.0.1:8080', '--roll', 'nowhere.csv'], 'nowhere.csv: No such file'),
+                       (['--program', folder / 'nowhere'], 'is not a program that can be run'),
+                       (['--cert', 'broken.pem', '--key', 'broken.pem'], 'the certificate broken.pem with the key broken.pem cannot be used'),
+                       (['--clerks', 'nobody.json'], 'nobody.json: No such file')):
+        done = start('--listen', '127.0.0.1:0', *more)
+        see(done.returncode == 1 and said in done.stderr and 'Traceback' not in done.stderr and 'open at' not in done.stdout, said, done)
+        see(not list(left.iterdir()) and not done.stdout, f'{said}: nothing is left', *left.iterdir())
+    see(not (folder / 'city.journal').exists(), 'no journal was made by a start that failed')
+    words[1] = 'bad.journal'
+    done = start('--listen', '127.0.0.1:0')
+    see(done.returncode == 1 and 'fault;audit;2;BadRow;1' in done.stderr and 'field request: "cost" is not a request' in done.stderr
+        and '.words' not in done.stderr and not list(left.iterdir()), 'words and not the name of their file', done)
+    # Ended while it starts: here it waits for another run's lock.
+    words[1] = 'city.journal'
+    with subprocess.Popen([program, 'serve', folder / 'city.pb', folder / 'city.journal'], stdin=subprocess.PIPE, stdout=subprocess.PIPE,
+                          stderr=subprocess.DEVNULL) as serve:
+        serve.stdout.readline()
+        for number in (signal.SIGINT, signal.SIGTERM):
+            child = subprocess.Popen([str(it) for it in (PYTHON, '-B', RUN, *words, '--listen', '127.0.0.1:0')], cwd=folder, text=True,
+                                     stdout=subprocess.PIPE, stderr=subprocess.STDOUT, env={**os.environ, 'TMPDIR': str(left)})
+            until(lambda: list(left.iterdir()))
+            time.sleep(1)
+            child.send_signal(number)
+            said = child.communicate(timeout=LIMIT)[0]
+            see(child.returncode == 1 and 'it was ended before the window was open' in said and 'Traceback' not in said
+                and until(lambda: not list(left.iterdir()), 5), f'ended by {number.name} while it starts', said, *left.iterdir())
+        serve.communicate()
+    taken.close()
+    # After all that the first day begins.
+    with Window(program, folder).start() as window:
+        see('Entries in the journal: 0.' in window.first, 'and then the day begins', window.first)
+        window.end()
+        (folder / 'city.pb').write_text(CITY.replace('Library', 'Theatre'))
+        told, status = at_terminal(window, passphrase_of('Head'))
+        see(status is None and 'city.pb has changed since' in told, 'another file is taken while the journal has no entry', told)
+        ann = Clerk(window)
+        ann.sign_in('Ann'), ann.ask('cast', 'v1', ['12'])
+        ended(window)
+        (folder / 'city.pb').write_text(CITY.replace('Library', 'Museum'))
+        told, status = at_terminal(window, passphrase_of('Head'))
+        see(status == 1 and 'fault;other-file' in told and 'give `--other-file`' in told, 'and refused afterwards', told)
+        window.options = ['--other-file']
+        told, status = at_terminal(window, passphrase_of('Head'))
+        see(status is None and 'Entries in the journal: 1.' in told, 'but for --other-file', told)
+        ended(window)
+        window.options = []
+        window.start()
+        see('Entries in the journal: 1.' in window.first, 'which is said once', window.first)
+        window.end()

@@ -61,12 +61,13 @@ class Desk:
             raise Fault(self.lacking(self.log.entries, 0))
         first = []
         while first[:1] != ['entries']:
+            begin = os.fstat(self.words).st_size
             child, rows = started(self.command, self.words)
             first = next((row for row in rows if row[0] != 'torn'), [])
             if first[:1] != ['entries']:
                 child.communicate()
                 if first[:2] != ['fault', 'locked'] or time.monotonic() > until:
-                    raise Fault(f"{';'.join(first) or 'pb_app serve did not start'}; its words are in {journal}.words")
+                    raise Fault(f"{';'.join(first) or 'pb_app serve did not start'}\n{self.words_from(begin)}".strip())
                 time.sleep(0.2)
         lacking = self.read_journal(int(first[1]))
         if lacking:
@@ -88,6 +89,12 @@ class Desk:
         if count < self.log.entries or before not in entries:
             self.newest = before
             return self.lacking(before.number or self.log.entries, count)
+
+    def words_from(self, begin):
+        """What `serve` has written on standard error since then."""
+        with open(f'{self.files[1]}.words', encoding='utf-8', errors='replace') as file:
+            file.seek(begin)
+            return file.read(4096)
 
     def lacking(self, number, count):
         """What is wrong with a journal that has not all that was answered, and what to do."""

@@ -1,13 +1,15 @@
 #!/usr/bin/python3
 """The clerks' window: web pages on which clerks cast, replace and withdraw ballots. README.md says how an office uses it."""
-import argparse, csv, ipaddress, os, shlex, signal, sys, threading
+import argparse, csv, errno, ipaddress, os, shlex, shutil, signal, socket, sys, threading
 
 sys.dont_write_bytecode = True
 import copies, desk, election, log, overnight, roll, sessions, settings, sign_in
 try:
-    import pages, server
-except ImportError as why:      # A copy is made and put back without these.
-    pages, LACKS = None, f"{why}. Install Debian's python3-flask and python3-cheroot, and run it by /usr/bin/python3"
+    # A copy is made and put back without these.
+    if not {'--copy', '--restore'} & {it.split('=')[0] for it in sys.argv}:
+        import pages, server
+except ImportError as why:
+    sys.exit(f"run.py: {why}. Install Debian's python3-flask and python3-cheroot, and run it by /usr/bin/python3")
 
 OPTIONS = {
     '--clerks': dict(metavar='CLERKS', help='the file that clerks.py makes; the window needs it'),
@@ -20,6 +22,7 @@ OPTIONS = {
     '--copy': dict(action='store_true', help='makes a copy in the folder of --backup now, and opens no window'),
     '--restore': dict(metavar='COPY', help='puts an office back into this folder, which is empty, from a copy, and opens no window'),
     '--roll': dict(metavar='ROLL', help='takes requests only for the voters in this file'),
+    '--other-file': dict(action='store_true', help='goes on with a journal that was made with another FILE; once, as with pb_app serve'),
     '--min': dict(metavar='N', type=int, default=0, help='the smallest number of projects that a new ballot may name'),
     '--title': dict(metavar='TEXT', help='the title of the page of the result'),
     '--language': dict(metavar='WORDS', help='the file of words for the page of the result, such as words/de.words'),
@@ -82,7 +85,7 @@ class Day:
         self.log = log.Log(f'{given.journal}.log')
         self.keeper = overnight.Keeper(given, self.log)
         self.keeper.compare(self.door.known[0])
-        serve = [given.program, 'serve', '--by-id', *(['--roll', given.roll] if given.roll else []), f'--min={given.min}']
+        serve = [given.program, 'serve', '--by-id', *['--other-file'] * given.other_file, *(['--roll', given.roll] if given.roll else []), f'--min={given.min}']
         self.roll = roll.Roll(given.program, given.roll) if given.roll else None
         self.desk = desk.Desk(serve, given.file, given.journal, self.log, self.election.votes)
         self.desk.start()
@@ -130,23 +133,56 @@ def copied_or_restored(given):
     return [f'Copied to {whole}']
 
 
+def words_of(why):
+    """What failed, in words."""
+    return f'{why.filename}: {why.strerror}' if isinstance(why, OSError) and why.filename else str(why)
+
+
+def tls_of(given):
+    """The TLS of the window, if it has a certificate. A Fault where this, its key or the address cannot be used."""
+    host, port = given.address
+    try:
+        with socket.socket(socket.AF_INET6 if ':' in host else socket.AF_INET) as it:
+            it.setsockopt(socket.SOL_SOCKET, socket.SO_REUSEADDR, 1)
+            it.bind(given.address)
+    except OSError as why:
+        more = {errno.EADDRINUSE: f'another program has port {port}: end it, or choose another port',
+                errno.EADDRNOTAVAIL: f'this machine does not have the address {host}',
+                errno.EACCES: f'port {port} is for root alone: choose one above 1023'}
+        raise election.Fault(f'--listen {given.listen}: {more.get(why.errno, why.strerror)}') from None
+    try:
+        return server.Tls(given.cert, given.key) if given.cert else None
+    except (OSError, ValueError) as why:
+        raise election.Fault(f'the certificate {given.cert} with the key {given.key} cannot be used: {words_of(why)}') from None
+
+
+def opened(given):
+    """The day and its TLS. A start that fails ends with its words, and leaves nothing in the temporary folder."""
+    def end_early(*_):
+        raise election.Fault('it was ended before the window was open')
+    for number in (signal.SIGINT, signal.SIGTERM, signal.SIGHUP):
+        signal.signal(number, end_early)
+    if not shutil.which(given.program):
+        raise election.Fault(f'--program: {given.program} is not a program that can be run')
+    if given.restore or given.copy:
+        return print(*copied_or_restored(given), sep='\n')
+    tls = tls_of(given)
+    return Day(given), tls
+
+
 def main():
     given = arguments()
     os.umask(0o077)
-    if given.restore or given.copy:
-        try:
-            print(*copied_or_restored(given), sep='\n')
-        except (election.Fault, OSError, ValueError, csv.Error) as why:
-            sys.exit(f'run.py: {why}')
-        return
-    if not pages:
-        sys.exit(f'run.py: {LACKS}')
     try:
-        pages.office = day = Day(given)
-    except (election.Fault, OSError, ValueError) as why:
-        sys.exit(f'run.py: {why}')
+        made = opened(given)
+    except (election.Fault, OSError, ValueError, csv.Error) as why:
+        sys.exit(f'run.py: {words_of(why)}')
+    if not made:
+        return
+    pages.office, tls = made
+    day, failure = pages.office, None
     web, stop = server.Server(given.address, pages.app, day.log), threading.Event()
-    web.ssl_adapter = server.Tls(given.cert, given.key) if given.cert else None
+    web.ssl_adapter = tls
     for number in (signal.SIGINT, signal.SIGTERM, signal.SIGHUP):
         signal.signal(number, lambda *_: stop.set())
     try:
@@ -157,8 +193,9 @@ def main():
         stop.wait()
         web.stop()
     except OSError as why:
-        print(f'run.py: {why}', file=sys.stderr)
-    sys.exit(day.end(is_over=True))
+        failure = f'run.py: {words_of(why)}'
+        print(failure, file=sys.stderr)
+    sys.exit(day.end(is_over=True) or (1 if failure else None))
 
 
 if __name__ == '__main__':
