@@ -409,6 +409,82 @@ def try_changed(window, folder, path, text):
     see(done.returncode == 1 and 'today began without one' in done.stderr, 'a day without the settings is told', done)
 
 
+# A log on a full disk: a line is whole or not there, and what had to stand there first is not done.
+HALVES = '''
+import log, os, resource, signal, sys
+signal.signal(signal.SIGXFSZ, signal.SIG_IGN)
+it = log.Log(sys.argv[1])
+it.write('asked', True, form='one')
+size = os.path.getsize(sys.argv[1])
+resource.setrlimit(resource.RLIMIT_FSIZE, (size + 20, resource.RLIM_INFINITY))
+it.write('answered', form='one')
+try:
+    it.write('asked', True, form='two')
+except log.Unwritten as why:
+    print('refused', os.path.getsize(sys.argv[1]) == size, it.failure)
+resource.setrlimit(resource.RLIMIT_FSIZE, (resource.RLIM_INFINITY, resource.RLIM_INFINITY))
+print(it.why_not())
+it.write('asked', True, form='three')
+print([line[:10] for line in open(sys.argv[1])].count('{"time": "'), *log.Log(sys.argv[1]).asked)
+os.write(it.file, b'{"time": "2026-11-03T10:0')
+print(*log.Log(sys.argv[1]).asked)
+'''
+
+
+def try_full(program, work):
+    """The disk is full: what fails is told in words, and the desk goes on when there is room."""
+    done = subprocess.run([PYTHON, '-B', '-c', HALVES, work / 'log'], cwd=TOP / 'window', capture_output=True, text=True)
+    lines = done.stdout.splitlines()
+    see(lines == ['refused True No space left on device', 'None', '3 one three', 'one three']
+        and done.stderr.count('cannot be written') == 1 and done.stderr.count('ended in half a line') == 1,
+        'a line of the log is whole or not there', done)
+    disk = work / 'disk'
+    disk.mkdir()
+    if subprocess.run(['mount', '-t', 'tmpfs', '-o', 'size=1m', 'tmpfs', disk], capture_output=True).returncode:
+        print('try_window: no disk can be mounted here, so a full one was not tried')
+        return
+    try:
+        try_full_disk(program, work, disk)
+    finally:
+        subprocess.run(['umount', '-l', disk], check=True)
+
+
+def try_full_disk(program, work, disk):
+    folder, copies = new_folder(work, 'full'), work / 'copies'
+    copies.mkdir()
+    for it in folder.iterdir():
+        shutil.copy(it, disk)
+    window = Window(program, disk, options=['--backup', copies])
+    with window.start():
+        ann, head = Clerk(window), Clerk(window)
+        ann.sign_in('Ann'), head.sign_in('Head')
+        see('Entry 1 ' in ann.ask('cast', 'v1', ['12']).seen, 'a ballot while there is room')
+        form, filler = ann.look('cast', 'v2', ['12']), disk / 'filler'
+        with open(filler, 'wb', buffering=0) as file:
+            try:
+                while file.write(bytes(512)):
+                    pass
+            except OSError:
+                pass
+        # The last block of the log's file has room for some lines.
+        see(until(lambda: (head.get('/'), head.post('/show', {'voter': 'v1'}))[1].status == 503), 'a look that cannot be logged shows nothing')
+        page = ann.record(form)
+        see(page.status == 503 and 'Nothing was sent to the desk just now' in page.seen and len(window.entries()) == 1,
+            'a full disk: nothing is sent, and the page says so', page.seen)
+        words = 'The window cannot write its log (No space left on device), so the desk takes no requests.'
+        see(words in page.seen or words in ann.get('/').seen, 'and each page says why', ann.get('/').seen)
+        see(words in head.get('/head').seen and 'Make room on its disk' in head.get('/head').seen, "also the head clerk's", head.get('/head').seen)
+        filler.unlink()
+        see('cannot write its log' not in ann.get('/').seen, 'once there is room nothing is said')
+        see('Entry 2 ' in ann.record(form).seen, 'and the same form is sent')
+        said, status = window.end()
+        see(status == 0 and 'city.journal.log cannot be written: No space left on device' in said and 'Traceback' not in said,
+            'the terminal said so', said)
+    see(window.audit().stdout == 'entries;2;open\n' and is_whole(copies_of(copies)[-1]), 'the journal is audited', window.audit())
+    for line in (disk / 'city.journal.log').read_text().splitlines():
+        see(line.startswith('{"time": ') and line.endswith('}'), 'each line of the log is whole', line)
+
+
 def try_failed_starts(program, work):
     """A start that fails says why in words, without a traceback; its status is not 0, and it leaves no folder behind."""
     folder, left = new_folder(work, 'failed'), work / 'temporary'

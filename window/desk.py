@@ -123,6 +123,8 @@ class Desk:
         with self.sending:
             self.child = None
             self.log.write('ended', status=child.returncode, fault=self.fault)
+            if self.fault:
+                print(f'run.py: the desk has stopped: {self.fault}. The head clerk’s page says what to do.', flush=True)
             while self.waiting:
                 self.unknown[self.waiting[0].form] = self.waiting[0]
                 self.end_first()
